@@ -1,0 +1,218 @@
+-- Depth and bits: splits at the middle take a bit, so no tree grows too deep.
+use Rattle.std.proofs.Common.{◌*◌, ◌≡◌, refl, ℕ, zero, suc, ◌+◌, ◌/◌, ◌<◌, ◌≤◌, ◌^◌, List, [], ◌∷◌, ◌++◌, Option, Some, None, arith, length, set, ⊎_elim, length-append}
+use Rattle.std.proofs.Math.IntN.{ℤ, pos, ◌+ℤ◌}
+use Rattle.std.proofs.Math.Nat.{pow-suc, pow-le-pow_right}
+use Rattle.std.specs.Prelude.{◌≤ℤ◌, ◌<ℤ◌, All}
+use Rattle.std.specs.List.{AllByRecursion}
+use Rattle.std.specs.Int.{int_gap}
+use Rattle.std.proofs.lemmas.Int.{ints}
+use Rattle.std.proofs.lemmas.Nat.{pow_pos, leading_length}
+use Rattle.std.proofs.lemmas.Bool.{cases_lt}
+use Rattle.std.proofs.lemmas.List.Sums.{sum_by-set, sum_by-cons}
+use Rattle.std.proofs.lemmas.List.Elements.{All-append, All-weaker, recursion_from_All}
+use Rattle.bp_theory.specs.Program.{Program, span_at}
+use Rattle.bp_theory.specs.Bound.{plain_proof}
+use Rattle.bp_theory.specs.Trees.{IsProper, IsSubspan, IsSubzone, IsSoundSplit, HasSoundSplits, low_part, high_part, depth}
+use Rattle.bp_theory.specs.declared.Span.{Span}
+use Rattle.bp_theory.specs.declared.Proof.{Proof}
+use Rattle.bp_theory.proofs.CoverProof.{split_var_there}
+use Rattle.bp_theory.proofs.ClassProof.{split_shrinks_lem}
+use Rattle.search_laws.specs.declared.Side.{Side}
+use Rattle.search_laws.specs.declared.Side.TheVariants.{Low, High}
+use Rattle.search_laws.specs.Grove.{GrowingTree, live, shut, fork, GrowingLeaf, leaves_below, growing_leaves, LiveLeaf, live_at, zone_at, put_at, certificate_tree}
+use Rattle.search_laws.specs.GroveFacts.{digits_among, binary_digits, span_bits, zone_bits, middle, KeepsDepth, IsShallow, IsSized, IsTimelySplit}
+use Rattle.search_laws.specs.Laws.{DigitsAreFewest, DigitsByZeros, MiddleTakesABit, StaysShallow}
+use Rattle.search_laws.proofs.Places.{recursion_parts, leaf_at_path, leaves_put}
+use Rattle.search_laws.proofs.GroveProof.{All-one, zone_is_proper}
+
+few_digits : (most n k : ℕ) → n ≤ most → n < 2 ^ k → digits_among most n ≤ k
+few_digits zero n k l h = omega arith
+few_digits (suc most) zero k l h = omega arith
+few_digits (suc most) (suc n) zero l h = absurd (omega arith)
+few_digits (suc most) (suc n) (suc k) l h = omega (arith, few_digits most (suc n / 2) k (omega arith) (omega (arith, h, pow-suc 2 k)))
+
+below_by_digits : (most n k : ℕ) → n ≤ most → digits_among most n ≤ k → n < 2 ^ k
+below_by_digits zero n k l h = omega (arith, pow_pos k)
+below_by_digits (suc most) zero k l h = pow_pos k
+below_by_digits (suc most) (suc n) zero l h = absurd (omega arith)
+below_by_digits (suc most) (suc n) (suc k) l h = omega (arith, below_by_digits most (suc n / 2) k (omega arith) (omega arith), pow-suc 2 k)
+
+pub digits_are_fewest_lem : DigitsAreFewest
+unfolding binary_digits
+digits_are_fewest_lem n k = (λ h. few_digits n n k (omega arith) h, λ h. below_by_digits n n k (omega arith) h)
+
+-- a smaller number has no more digits
+digits_grow : (m n : ℕ) → m ≤ n → binary_digits m ≤ binary_digits n
+digits_grow m n l =
+    (digits_are_fewest_lem m (binary_digits n)).0 (omega (arith, l, (digits_are_fewest_lem n (binary_digits n)).1 (omega arith)))
+
+-- half of a number has a digit less
+half_has_less : (m n : ℕ) → 0 < n → m ≤ n / 2 → binary_digits m < binary_digits n
+half_has_less m n positive l = by (binary_digits n) ((digits_are_fewest_lem n (binary_digits n)).1 (omega arith))
+  where
+    by : (k : ℕ) → n < 2 ^ k → binary_digits m < k
+    by zero h = absurd (omega arith)
+    by (suc k) h = omega (arith, (digits_are_fewest_lem m k).0 (omega (arith, l, h, pow-suc 2 k)))
+
+-- a smaller span has no more bits
+span_bits_grow : (s t : Span) → IsSubspan s t → span_bits s ≤ span_bits t
+span_bits_grow s t inside = digits_grow (int_gap s.lo s.hi) (int_gap t.lo t.hi) (gaps s.lo s.hi t.lo t.hi inside.above inside.below)
+  where
+    gaps : (a b c d : ℤ) → c ≤ℤ a → b ≤ℤ d → int_gap a b ≤ int_gap c d
+    gaps a b c d h k = grind (arith, ints)
+
+zone_bits_grow : (small large : List Span) → IsSubzone small large → zone_bits small ≤ zone_bits large
+zone_bits_grow [] [] h = omega arith
+zone_bits_grow [] (t ∷ ts) h = absurd h
+zone_bits_grow (s ∷ ss) [] h = absurd h
+zone_bits_grow (s ∷ ss) (t ∷ ts) h =
+    omega (arith, sum_by-cons span_bits s ss, sum_by-cons span_bits t ts, span_bits_grow s t h.0, zone_bits_grow ss ts h.1)
+
+-- a zone whose span at a place loses a bit
+loses_bit : (zone : List Span) (v : ℕ) (s : Span) → v < length zone → span_bits s < span_bits (span_at zone v)
+    → zone_bits (set zone v s) < zone_bits zone
+loses_bit zone v s l h = omega (arith, h, sum_by-set span_bits zone v s (record { lo = pos 0; hi = pos 0 }) l)
+
+low_half : (s : Span) (at : ℤ) → s.lo ≤ℤ at → at <ℤ s.hi → at ≡ middle s → span_bits (record { lo = s.lo; hi = at }) < span_bits s
+low_half s at above below e =
+    half_has_less (int_gap s.lo at) (int_gap s.lo s.hi) (apart s.lo s.hi at above below) (half s.lo at (int_gap s.lo s.hi / 2) e)
+  where
+    apart : (a b at : ℤ) → a ≤ℤ at → at <ℤ b → 0 < int_gap a b
+    apart a b at h k = grind (arith, ints)
+
+    half : (a at : ℤ) (n : ℕ) → at ≡ a +ℤ pos n → int_gap a at ≤ n
+    half a at n e = grind (arith, ints)
+
+high_half : (s : Span) (at : ℤ) → s.lo ≤ℤ at → at <ℤ s.hi → at ≡ middle s → span_bits (record { lo = at +ℤ pos 1; hi = s.hi }) < span_bits s
+high_half s at above below e =
+    half_has_less (int_gap (at +ℤ pos 1) s.hi) (int_gap s.lo s.hi) (apart s.lo s.hi at above below) (half s.lo s.hi at (int_gap s.lo s.hi) above below refl e)
+  where
+    apart : (a b at : ℤ) → a ≤ℤ at → at <ℤ b → 0 < int_gap a b
+    apart a b at h k = grind (arith, ints)
+
+    half : (a b at : ℤ) (n : ℕ) → a ≤ℤ at → at <ℤ b → n ≡ int_gap a b → at ≡ a +ℤ pos (n / 2) → int_gap (at +ℤ pos 1) b ≤ n / 2
+    half a b at n h k g e = grind (arith, ints)
+
+pub middle_takes_a_bit_lem : MiddleTakesABit
+middle_takes_a_bit_lem = record {
+  low = λ zone v at split e.
+      loses_bit zone v (record { lo = (span_at zone v).lo; hi = at }) (split_var_there zone v at split) (low_half (span_at zone v) at split.above split.below e);
+  high = λ zone v at split e.
+      loses_bit zone v (record { lo = at +ℤ pos 1; hi = (span_at zone v).hi }) (split_var_there zone v at split) (high_half (span_at zone v) at split.above split.below e);
+  smaller = zone_bits_grow;
+}
+
+-- the zone at a path has no more bits than the root zone
+zone_at_bits : (t : GrowingTree) (zone : List Span) (path : List Side) (leaf : LiveLeaf) → live_at t path ≡ Some leaf
+    → HasSoundSplits (certificate_tree t) zone → IsProper zone → zone_bits (zone_at t zone path) ≤ zone_bits zone
+zone_at_bits t zone [] leaf h sound proper = omega arith
+zone_at_bits (live proof bound) zone (side ∷ path) leaf h sound proper = absurd (cc)
+zone_at_bits (shut proof) zone (side ∷ path) leaf h sound proper = absurd (cc)
+zone_at_bits (fork v at low high) zone (Low ∷ path) leaf h sound proper =
+    let part = split_shrinks_lem.low zone v at sound.0 proper in
+    omega (arith, zone_at_bits low (low_part zone v at) path leaf h sound.1 part.0, zone_bits_grow (low_part zone v at) zone part.1)
+zone_at_bits (fork v at low high) zone (High ∷ path) leaf h sound proper =
+    let part = split_shrinks_lem.high zone v at sound.0 proper in
+    omega (arith, zone_at_bits high (high_part zone v at) path leaf h sound.2 part.0, zone_bits_grow (high_part zone v at) zone part.1)
+
+-- a part of a timely split is no deeper, with its bits, than is allowed
+part_is_shallow : (depth whole part : ℕ) → depth + whole ≤ 8256 → whole ≤ 8192 → part ≤ whole → (64 ≤ depth → part < whole)
+    → depth + 1 + part ≤ 8256
+part_is_shallow depth whole part h k l m = ⊎_elim
+    (λ early. omega (arith, h, k, l, early))
+    (λ late. omega (arith, h, l, m late))
+    (cases_lt depth 64)
+
+planted_is_shallow : (bound : ℤ) (p : Program) (proof : Proof) → IsSized p → All IsShallow (growing_leaves (live proof bound) p.spans)
+planted_is_shallow bound p proof sized =
+    All-one IsShallow (record { path = []; zone = p.spans; proof = proof; bound = Some bound }) (omega (arith, sized.bits))
+
+shut_is_shallow : (zone : List Span) (t : GrowingTree) (path : List Side) (leaf : LiveLeaf) (proof : Proof)
+    → live_at t path ≡ Some leaf → All IsShallow (growing_leaves t zone) → All IsShallow (growing_leaves (put_at t path (shut proof)) zone)
+shut_is_shallow zone t path leaf proof h all =
+    leaves_put IsShallow t zone path leaf (shut proof) h all
+    (All-one IsShallow (record { path = path; zone = zone_at t zone path; proof = proof; bound = None })
+    (lower (length path) (zone_bits (zone_at t zone path)) (leaf_at_path IsShallow t zone path leaf h all)))
+  where
+    lower : (d n : ℕ) → d + n ≤ 8256 → d ≤ 8256
+    lower d n h = omega arith
+
+forked_is_shallow : (p : Program) (t : GrowingTree) (path : List Side) (leaf : LiveLeaf) (v : ℕ) (at : ℤ) (proof : Proof) (bound : ℤ)
+    → IsSized p → HasSoundSplits (certificate_tree t) p.spans → live_at t path ≡ Some leaf
+    → IsSoundSplit (zone_at t p.spans path) v at → IsTimelySplit (length path) (zone_at t p.spans path) v at
+    → All IsShallow (growing_leaves t p.spans)
+    → All IsShallow (growing_leaves (put_at t path (fork v at (live proof bound) (live proof bound))) p.spans)
+forked_is_shallow p t path leaf v at proof bound sized sound h split timely all =
+    let here : List Span = zone_at t p.spans path in
+    let proper : IsProper here = zone_is_proper t p.spans path leaf h sound sized.proper in
+    let now : length path + zone_bits here ≤ 8256 = leaf_at_path IsShallow t p.spans path leaf h all in
+    let few : zone_bits here ≤ zone_bits p.spans = zone_at_bits t p.spans path leaf h sound sized.proper in
+    let small : zone_bits here ≤ 8192 = omega (arith, few, sized.bits) in
+    leaves_put IsShallow t p.spans path leaf (fork v at (live proof bound) (live proof bound)) h all
+    (All-append IsShallow (leaves_below (live proof bound) (path ++ Low ∷ []) (low_part here v at))
+    (leaves_below (live proof bound) (path ++ High ∷ []) (high_part here v at))
+    (part Low (low_part here v at)
+    (part_is_shallow (length path) (zone_bits here) (zone_bits (low_part here v at)) now small
+    (zone_bits_grow (low_part here v at) here (split_shrinks_lem.low here v at split proper).1)
+    (λ late. middle_takes_a_bit_lem.low here v at split (timely late))))
+    (part High (high_part here v at)
+    (part_is_shallow (length path) (zone_bits here) (zone_bits (high_part here v at)) now small
+    (zone_bits_grow (high_part here v at) here (split_shrinks_lem.high here v at split proper).1)
+    (λ late. middle_takes_a_bit_lem.high here v at split (timely late)))))
+  where
+    part : (side : Side) (zone : List Span) → length path + 1 + zone_bits zone ≤ 8256
+        → All IsShallow (leaves_below (live proof bound) (path ++ side ∷ []) zone)
+    part side zone l =
+        All-one IsShallow (record { path = path ++ side ∷ []; zone = zone; proof = proof; bound = Some bound })
+        (omega (arith, l, length-append path (side ∷ [])))
+
+-- a leaf's depth alone
+depth_of_shallow : (depth : ℕ) (zone : List Span) (bound : Option ℤ) → KeepsDepth depth zone bound → depth ≤ 8256
+depth_of_shallow depth zone None h = h
+depth_of_shallow depth zone (Some bound) h = omega (arith, h)
+
+-- the depth of a tree is that of its deepest leaf
+depth_by_leaves : (t : GrowingTree) (path : List Side) (zone : List Span) (most : ℕ)
+    → AllByRecursion (λ (leaf : GrowingLeaf). length leaf.path ≤ most) (leaves_below t path zone)
+    → length path + depth (certificate_tree t) ≤ most
+depth_by_leaves (live proof bound) path zone most all = omega (arith, all.0)
+depth_by_leaves (shut proof) path zone most all = omega (arith, all.0)
+depth_by_leaves (fork v at low high) path zone most all =
+    let parts = recursion_parts (λ (leaf : GrowingLeaf). length leaf.path ≤ most) (leaves_below low (path ++ Low ∷ []) (low_part zone v at))
+    (leaves_below high (path ++ High ∷ []) (high_part zone v at)) all in
+    omega (
+      arith,
+      depth_by_leaves low (path ++ Low ∷ []) (low_part zone v at) most parts.0,
+      depth_by_leaves high (path ++ High ∷ []) (high_part zone v at) most parts.1,
+      length-append path (Low ∷ []),
+      length-append path (High ∷ []),
+    )
+
+pub stays_shallow_lem : StaysShallow
+stays_shallow_lem = record {
+  planted = λ p v sized. planted_is_shallow v p plain_proof sized;
+  shut = λ p t path leaf proof h all. shut_is_shallow p.spans t path leaf proof h all;
+  forked = forked_is_shallow;
+  depth = λ t zone all.
+      let found : length {A = Side} [] + depth (certificate_tree t) ≤ 8256 = depth_by_leaves t [] zone 8256
+      (recursion_from_All (λ (leaf : GrowingLeaf). length leaf.path ≤ 8256) (growing_leaves t zone)
+      (All-weaker IsShallow (λ (leaf : GrowingLeaf). length leaf.path ≤ 8256)
+      (λ leaf h. depth_of_shallow (length leaf.path) leaf.zone leaf.bound h) (growing_leaves t zone) all)) in
+      omega (arith, found);
+}
+
+pub digits_by_zeros_lem : DigitsByZeros
+digits_by_zeros_lem n l =
+    let found = leading_length 64 n l in
+    let most : binary_digits n ≤ found.0 = (digits_are_fewest_lem n found.0).0 found.2 in
+    let below : n < 2 ^ binary_digits n = (digits_are_fewest_lem n (binary_digits n)).1 (omega arith) in
+    omega (arith, found.1, most, least found.0 (binary_digits n) below found.3)
+  where
+    grows : (i j : ℕ) → i ≤ j → 2 ^ i ≤ 2 ^ j
+    grows i j l = pow-le-pow_right (pow_pos 1) l
+
+    least : (m k : ℕ) → n < 2 ^ k → 2 ^ m ≤ 2 * n + 1 → m ≤ k
+    least m k h g = ⊎_elim
+        (λ less. absurd (omega (arith, h, g, pow-suc 2 k, grows (suc k) m (omega (arith, less)))))
+        (λ more. more)
+        (cases_lt k m)

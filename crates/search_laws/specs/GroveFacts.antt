@@ -1,0 +1,113 @@
+-- What a growing tree keeps at every moment of a search.
+use Rattle.std.specs.Prelude.{ℕ, zero, suc, ◌+◌, ◌/◌, ◌^◌, ◌<◌, ◌≤◌, ◌≡◌, List, ◌++◌, length, Option, Some, None, option_map, option_to_list, IfSome, ℤ, pos, ◌+ℤ◌, ◌≤ℤ◌, unsigned_abs, sum_by, All, Contains}
+use Rattle.std.specs.Int.{int_gap}
+use Rattle.bp_theory.specs.Program.{Program, IsFeasible, cost, span_at}
+use Rattle.bp_theory.specs.Blocking.{Blocking}
+use Rattle.bp_theory.specs.Bound.{SignsFit, Fits}
+use Rattle.bp_theory.specs.Trees.{HasSoundSplits, IsProper}
+use Rattle.bp_theory.specs.Claims.{Holds, Empties}
+use Rattle.bp_theory.specs.declared.Span.{Span}
+use Rattle.bp_theory.specs.declared.Proof.{Proof}
+use Rattle.search_laws.specs.Grove.{GrowingTree, GrowingLeaf, growing_leaves, certificate_tree, live_bounds}
+
+-- a proof fits and has fitting signs
+pub record IsSoundProof (b : Blocking) (proof : Proof) : Type 0 where
+  pub fits : Fits b proof
+  pub signs : SignsFit b proof
+
+-- a live leaf's proof has a positive scale and holds in its zone for its bound, which is below 2 to the 62 in magnitude
+pub record KeepsBound (b : Blocking) (zone : List Span) (proof : Proof) (bound : ℤ) : Type 0 where
+  pub scale : 0 < proof.scale
+  pub holds : Holds b zone proof bound
+  pub size : unsigned_abs bound < 2 ^ 62
+
+-- what each leaf keeps: a sound proof, and a live leaf its bound
+pub record IsKept (b : Blocking) (leaf : GrowingLeaf) : Type 0 where
+  pub sound : IsSoundProof b leaf.proof
+  pub bound : IfSome leaf.bound (KeepsBound b leaf.zone leaf.proof)
+
+-- the facts of a growing tree: its splits are sound, and each leaf keeps its own
+pub record IsGrove (b : Blocking) (zone : List Span) (t : GrowingTree) : Type 0 where
+  pub splits : HasSoundSplits (certificate_tree t) zone
+  pub leaves : All (IsKept b) (growing_leaves t zone)
+
+-- a proof settles a zone against the best cost: it holds for it, or where there is none it empties the zone
+abbrev pub Settles : Blocking → Option ℤ → List Span → Proof → Type 0
+Settles b None zone proof = Empties b zone proof
+Settles b (Some z) zone proof = Holds b zone proof z
+
+-- a leaf, if it is shut, is settled against the best cost
+abbrev pub SettlesIfShut : Blocking → Option ℤ → List Span → Proof → Option ℤ → Type 0
+SettlesIfShut b best zone proof None = Settles b best zone proof
+SettlesIfShut b best zone proof (Some bound) = Unit {0}
+
+-- a shut leaf is settled against the best cost
+abbrev pub IsSettled : Blocking → Option ℤ → GrowingLeaf → Type 0
+IsSettled b best leaf = SettlesIfShut b best leaf.zone leaf.proof leaf.bound
+
+-- how many binary digits a number has, 0 having none, among this many
+abbrev pub digits_among : ℕ → ℕ → ℕ
+digits_among zero n = 0
+digits_among (suc most) zero = 0
+digits_among (suc most) (suc n) = suc (digits_among most (suc n / 2))
+
+-- how many binary digits a number has, 0 having none
+unfoldable pub binary_digits : ℕ → ℕ
+binary_digits n = digits_among n n
+
+-- the binary digits of a span's length
+abbrev pub span_bits : Span → ℕ
+span_bits s = binary_digits (int_gap s.lo s.hi)
+
+-- the bits of a zone: the binary digits of its spans' lengths together
+abbrev pub zone_bits : List Span → ℕ
+zone_bits zone = sum_by span_bits zone
+
+-- the middle of a span, rounded down
+abbrev pub middle : Span → ℤ
+middle s = s.lo +ℤ pos (int_gap s.lo s.hi / 2)
+
+-- a leaf's depth, and at a live leaf the bits of its zone with it, stay at most 8,256
+abbrev pub KeepsDepth : ℕ → List Span → Option ℤ → Type 0
+KeepsDepth depth zone None = depth ≤ 8256
+KeepsDepth depth zone (Some bound) = depth + zone_bits zone ≤ 8256
+
+-- a leaf is not too deep
+abbrev pub IsShallow : GrowingLeaf → Type 0
+IsShallow leaf = KeepsDepth (length leaf.path) leaf.zone leaf.bound
+
+-- a split that the depth allows: from depth 64 on it is at the middle
+abbrev pub IsTimelySplit : ℕ → List Span → ℕ → ℤ → Type 0
+IsTimelySplit depth zone v at = 64 ≤ depth → at ≡ middle (span_at zone v)
+
+-- the cost of the best point, where there is one
+abbrev pub best_cost : Program → Option (List ℤ) → Option ℤ
+best_cost p best = option_map (cost p) best
+
+-- a best cost is no dearer than another, where none counts as dearest
+abbrev pub IsNoDearer : Option ℤ → Option ℤ → Type 0
+IsNoDearer y None = Unit {0}
+IsNoDearer None (Some z) = ⊥
+IsNoDearer (Some y) (Some z) = y ≤ℤ z
+
+-- a program's spans have numbers and at most 8,192 bits together
+pub record IsSized (p : Program) : Type 0 where
+  pub proper : IsProper p.spans
+  pub bits : zone_bits p.spans ≤ 8192
+
+-- a number is one of a list's and none of them is less
+pub record IsLeastOf (zs : List ℤ) (v : ℤ) : Type 0 where
+  pub reached : Contains zs v
+  pub least : All (λ z. v ≤ℤ z) zs
+
+-- a bound for what is still to come: the least of the live bounds and the best cost
+abbrev pub IsRemainingBound : Program → GrowingTree → Option (List ℤ) → ℤ → Type 0
+IsRemainingBound p t best v = IsLeastOf (live_bounds t ++ option_to_list (best_cost p best)) v
+
+-- the facts of a search: the best point is feasible, the tree keeps its facts and no leaf is too
+-- deep, and each shut leaf is settled against the best cost
+pub record IsSearch (p : Program) (b : Blocking) (t : GrowingTree) (best : Option (List ℤ)) : Type 0 where
+  pub feasible : IfSome best (IsFeasible p)
+  pub grove : IsGrove b p.spans t
+  pub shallow : All IsShallow (growing_leaves t p.spans)
+  pub settled : All (IsSettled b (best_cost p best)) (growing_leaves t p.spans)
