@@ -1,7 +1,9 @@
-// The core definitions of a certifying branch-and-price solver, with their laws.
+//! The definitions of a certifying branch-and-price solver and their laws: integer programs, blocks, weak Lagrangian
+//! bounds, branch trees, certificates and their judgement. Every crate above speaks in these words.
 #![tactic(auto)]
 
 ghost use Rattle.std.specs.Prelude.{◌≡◌, [], ◌∷◌, ◌++◌, length, OnOk, OnErr};
+ghost use Rattle.bp_theory.specs.Digits.{DigitsAreFewest, DigitsByZeros};
 ghost use Rattle.bp_theory.specs.Laws.{Duality, Cover, Older, ValidIsTrue, OneBound, Shrink, AddingUpIsFaithful, DecompositionIsFaithful, CutsAreMet, CertifiedIsTrue, SamePriceAlike, LeastOverBox, Judged, RoundedHolds, PartsAddUp, StandsWhereNonzero, CopiesOfEach, LinksCancel, OnePointCloses, SplitShrinks};
 
 use std::alloc::{AllocError, Global};
@@ -237,4 +239,14 @@ pub fn copies_of_each()
 // Link rows cancel at each point.
 pub fn links_cancel()
     ensures { LinksCancel }
+{}
+
+// Binary digits are the fewest that suffice.
+pub fn digits_are_fewest()
+    ensures { DigitsAreFewest }
+{}
+
+// Binary digits by leading zeros.
+pub fn digits_by_zeros()
+    ensures { DigitsByZeros }
 {}

@@ -20,53 +20,12 @@ use Rattle.bp_theory.proofs.ClassProof.{split_shrinks_lem}
 use Rattle.search_laws.specs.declared.Side.{Side}
 use Rattle.search_laws.specs.declared.Side.TheVariants.{Low, High}
 use Rattle.search_laws.specs.Grove.{GrowingTree, live, shut, fork, GrowingLeaf, leaves_below, growing_leaves, LiveLeaf, live_at, zone_at, put_at, certificate_tree}
-use Rattle.search_laws.specs.GroveFacts.{digits_among, binary_digits, span_bits, zone_bits, middle, KeepsDepth, IsShallow, IsSized, IsTimelySplit}
-use Rattle.search_laws.specs.Laws.{DigitsAreFewest, DigitsByZeros, MiddleTakesABit, StaysShallow}
+use Rattle.bp_theory.specs.Digits.{binary_digits, span_bits, zone_bits, middle}
+use Rattle.bp_theory.proofs.DigitsProof.{half_has_less, zone_bits_grow}
+use Rattle.search_laws.specs.GroveFacts.{KeepsDepth, IsShallow, IsSized, IsTimelySplit}
+use Rattle.search_laws.specs.Laws.{MiddleTakesABit, StaysShallow}
 use Rattle.search_laws.proofs.Places.{recursion_parts, leaf_at_path, leaves_put}
 use Rattle.search_laws.proofs.GroveProof.{All-one, zone_is_proper}
-
-few_digits : (most n k : ℕ) → n ≤ most → n < 2 ^ k → digits_among most n ≤ k
-few_digits zero n k l h = omega arith
-few_digits (suc most) zero k l h = omega arith
-few_digits (suc most) (suc n) zero l h = absurd (omega arith)
-few_digits (suc most) (suc n) (suc k) l h = omega (arith, few_digits most (suc n / 2) k (omega arith) (omega (arith, h, pow-suc 2 k)))
-
-below_by_digits : (most n k : ℕ) → n ≤ most → digits_among most n ≤ k → n < 2 ^ k
-below_by_digits zero n k l h = omega (arith, pow_pos k)
-below_by_digits (suc most) zero k l h = pow_pos k
-below_by_digits (suc most) (suc n) zero l h = absurd (omega arith)
-below_by_digits (suc most) (suc n) (suc k) l h = omega (arith, below_by_digits most (suc n / 2) k (omega arith) (omega arith), pow-suc 2 k)
-
-pub digits_are_fewest_lem : DigitsAreFewest
-unfolding binary_digits
-digits_are_fewest_lem n k = (λ h. few_digits n n k (omega arith) h, λ h. below_by_digits n n k (omega arith) h)
-
--- a smaller number has no more digits
-digits_grow : (m n : ℕ) → m ≤ n → binary_digits m ≤ binary_digits n
-digits_grow m n l =
-    (digits_are_fewest_lem m (binary_digits n)).0 (omega (arith, l, (digits_are_fewest_lem n (binary_digits n)).1 (omega arith)))
-
--- half of a number has a digit less
-half_has_less : (m n : ℕ) → 0 < n → m ≤ n / 2 → binary_digits m < binary_digits n
-half_has_less m n positive l = by (binary_digits n) ((digits_are_fewest_lem n (binary_digits n)).1 (omega arith))
-  where
-    by : (k : ℕ) → n < 2 ^ k → binary_digits m < k
-    by zero h = absurd (omega arith)
-    by (suc k) h = omega (arith, (digits_are_fewest_lem m k).0 (omega (arith, l, h, pow-suc 2 k)))
-
--- a smaller span has no more bits
-span_bits_grow : (s t : Span) → IsSubspan s t → span_bits s ≤ span_bits t
-span_bits_grow s t inside = digits_grow (int_gap s.lo s.hi) (int_gap t.lo t.hi) (gaps s.lo s.hi t.lo t.hi inside.above inside.below)
-  where
-    gaps : (a b c d : ℤ) → c ≤ℤ a → b ≤ℤ d → int_gap a b ≤ int_gap c d
-    gaps a b c d h k = grind (arith, ints)
-
-zone_bits_grow : (small large : List Span) → IsSubzone small large → zone_bits small ≤ zone_bits large
-zone_bits_grow [] [] h = omega arith
-zone_bits_grow [] (t ∷ ts) h = absurd h
-zone_bits_grow (s ∷ ss) [] h = absurd h
-zone_bits_grow (s ∷ ss) (t ∷ ts) h =
-    omega (arith, sum_by-cons span_bits s ss, sum_by-cons span_bits t ts, span_bits_grow s t h.0, zone_bits_grow ss ts h.1)
 
 -- a zone whose span at a place loses a bit
 loses_bit : (zone : List Span) (v : ℕ) (s : Span) → v < length zone → span_bits s < span_bits (span_at zone v)
@@ -200,19 +159,3 @@ stays_shallow_lem = record {
       (λ leaf h. depth_of_shallow (length leaf.path) leaf.zone leaf.bound h) (growing_leaves t zone) all)) in
       omega (arith, found);
 }
-
-pub digits_by_zeros_lem : DigitsByZeros
-digits_by_zeros_lem n l =
-    let found = leading_length 64 n l in
-    let most : binary_digits n ≤ found.0 = (digits_are_fewest_lem n found.0).0 found.2 in
-    let below : n < 2 ^ binary_digits n = (digits_are_fewest_lem n (binary_digits n)).1 (omega arith) in
-    omega (arith, found.1, most, least found.0 (binary_digits n) below found.3)
-  where
-    grows : (i j : ℕ) → i ≤ j → 2 ^ i ≤ 2 ^ j
-    grows i j l = pow-le-pow_right (pow_pos 1) l
-
-    least : (m k : ℕ) → n < 2 ^ k → 2 ^ m ≤ 2 * n + 1 → m ≤ k
-    least m k h g = ⊎_elim
-        (λ less. absurd (omega (arith, h, g, pow-suc 2 k, grows (suc k) m (omega (arith, less)))))
-        (λ more. more)
-        (cases_lt k m)

@@ -10,7 +10,7 @@ use Rattle.search_laws.specs.declared.Side.TheVariants.{Low, High}
 use Rattle.search_laws.specs.declared.Column.{Column}
 use Rattle.search_laws.specs.declared.UsedColumn.{UsedColumn}
 use Rattle.search_laws.specs.Grove.{GrowingTree, zone_at, live_at, planted, shut_at, fork_at, certificate_tree, live_count, live_bounds}
-use Rattle.search_laws.specs.GroveFacts.{binary_digits, zone_bits, middle}
+use Rattle.bp_theory.specs.Digits.{binary_digits, zone_bits, middle}
 use Rattle.search_laws.specs.Crew.{Crew, free_count, holder_count}
 use Rattle.search_laws.specs.Master.{column_price, gap, short}
 use Rattle.search_laws.specs.Parts.{doubles, rest_part, chosen_sum}

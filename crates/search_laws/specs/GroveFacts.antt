@@ -8,6 +8,7 @@ use Rattle.bp_theory.specs.Trees.{HasSoundSplits, IsProper}
 use Rattle.bp_theory.specs.Claims.{Holds, Empties}
 use Rattle.bp_theory.specs.declared.Span.{Span}
 use Rattle.bp_theory.specs.declared.Proof.{Proof}
+use Rattle.bp_theory.specs.Digits.{binary_digits, span_bits, zone_bits, middle}
 use Rattle.search_laws.specs.Grove.{GrowingTree, GrowingLeaf, growing_leaves, certificate_tree, live_bounds}
 
 -- a proof fits and has fitting signs
@@ -44,28 +45,6 @@ SettlesIfShut b best zone proof (Some bound) = Unit {0}
 -- a shut leaf is settled against the best cost
 abbrev pub IsSettled : Blocking → Option ℤ → GrowingLeaf → Type 0
 IsSettled b best leaf = SettlesIfShut b best leaf.zone leaf.proof leaf.bound
-
--- how many binary digits a number has, 0 having none, among this many
-abbrev pub digits_among : ℕ → ℕ → ℕ
-digits_among zero n = 0
-digits_among (suc most) zero = 0
-digits_among (suc most) (suc n) = suc (digits_among most (suc n / 2))
-
--- how many binary digits a number has, 0 having none
-unfoldable pub binary_digits : ℕ → ℕ
-binary_digits n = digits_among n n
-
--- the binary digits of a span's length
-abbrev pub span_bits : Span → ℕ
-span_bits s = binary_digits (int_gap s.lo s.hi)
-
--- the bits of a zone: the binary digits of its spans' lengths together
-abbrev pub zone_bits : List Span → ℕ
-zone_bits zone = sum_by span_bits zone
-
--- the middle of a span, rounded down
-abbrev pub middle : Span → ℤ
-middle s = s.lo +ℤ pos (int_gap s.lo s.hi / 2)
 
 -- a leaf's depth, and at a live leaf the bits of its zone with it, stay at most 8,256
 abbrev pub KeepsDepth : ℕ → List Span → Option ℤ → Type 0

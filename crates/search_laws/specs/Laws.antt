@@ -1,6 +1,5 @@
 -- The laws of the search.
 use Rattle.std.specs.Prelude.{ℕ, ◌+◌, ◌<◌, ◌≤◌, ◌^◌, ◌≡◌, ◌≢◌, ◌↔◌, List, [], ◌∷◌, ◌++◌, Option, Some, None, ℤ, pos, ◌+ℤ◌, ◌*ℤ◌, ◌≤ℤ◌, zip, unsigned_abs, length, map, count_by, sum, is_some, Bool, All}
-use Rattle.std.specs.Int.{w64, leading_zeros}
 use Rattle.bp_theory.specs.Program.{Program, IsInside, IsFeasible, IsBest, cost, span_at}
 use Rattle.bp_theory.specs.Blocking.{Blocking, IsFaithful, AddsUp}
 use Rattle.bp_theory.specs.Decomposition.{Decomposition, IsClosed, HasPlaces, full_row, proof_rows, blocking_of}
@@ -16,7 +15,8 @@ use Rattle.bp_theory.specs.declared.Cut.{Cut}
 use Rattle.search_laws.specs.declared.Side.{Side}
 use Rattle.search_laws.specs.declared.Side.TheVariants.{Low, High}
 use Rattle.search_laws.specs.Grove.{GrowingTree, LiveLeaf, growing_leaves, planted, live_at, zone_at, put_at, shut_at, fork_at, live_count, live_bounds, certificate_tree}
-use Rattle.search_laws.specs.GroveFacts.{IsGrove, IsSoundProof, KeepsBound, IsShallow, IsTimelySplit, IsSized, zone_bits, middle, binary_digits, IsSearch, Settles, IsNoDearer, best_cost, IsLeastOf, IsRemainingBound}
+use Rattle.bp_theory.specs.Digits.{zone_bits, middle}
+use Rattle.search_laws.specs.GroveFacts.{IsGrove, IsSoundProof, KeepsBound, IsShallow, IsTimelySplit, IsSized, IsSearch, Settles, IsNoDearer, best_cost, IsLeastOf, IsRemainingBound}
 use Rattle.search_laws.specs.declared.Next.{Next}
 use Rattle.search_laws.specs.declared.Verdict.{Verdict}
 use Rattle.search_laws.specs.Verdicts.{IsVerdict, better, grown}
@@ -58,10 +58,6 @@ pub record StaysShallow : Type 0 where
       → IsSoundSplit (zone_at t p.spans path) v at → IsTimelySplit (length path) (zone_at t p.spans path) v at
       → All IsShallow (growing_leaves t p.spans) → All IsShallow (growing_leaves (fork_at t path v at proof bound) p.spans)
   pub depth : (t : GrowingTree) (zone : List Span) → All IsShallow (growing_leaves t zone) → depth (certificate_tree t) ≤ 8256
-
--- a number's binary digits are the fewest for which it is below that power of 2
-abbrev pub DigitsAreFewest : Type 0
-DigitsAreFewest = (n k : ℕ) → n < 2 ^ k ↔ binary_digits n ≤ k
 
 -- a split at the middle takes at least one bit from the zones of both parts, and no sound split adds one
 pub record MiddleTakesABit : Type 0 where
@@ -321,7 +317,3 @@ pub record QueueKeeps : Type 0 where
       → IsQueue (fork_at t path v at proof bound) after (made + 2)
   pub first : (t : GrowingTree) (entry : Queue) (made n : ℕ) (z : ℤ) (path : List Side) → IsQueue t entry made → IsFirstEntry entry z n path
       → IsLeastOf (live_bounds t) z
-
--- a 64-bit number's binary digits are those behind its leading zeros
-abbrev pub DigitsByZeros : Type 0
-DigitsByZeros = (n : ℕ) → n < 2 ^ 64 → binary_digits n + leading_zeros w64 n ≡ 64

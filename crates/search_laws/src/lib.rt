@@ -1,7 +1,7 @@
 // The laws of a certifying branch-and-price search.
 #![tactic(auto)]
 
-ghost use Rattle.search_laws.specs.Laws.{PlantKeeps, ShutKeeps, ForkKeeps, CountsChangeByOne, DigitsAreFewest, MiddleTakesABit, StaysShallow, SearchKeeps, LeastBoundIsThere, SearchIsRight, ReadOffIsValid, ReadOffIsCertified, VerdictsKeep, EventsKeep, RunsKeep, CrewIsRight, GapBounds, ShortIsNone, LoadKeeps, ResumeAgrees, PartsSuffice, LiveLeavesChange, LeastByPaths, EventsTell, FreeIsTheRest, SpreadFits, DecompositionHasAll, FurtherCutsKeep, DigitsByZeros, QueueKeeps};
+ghost use Rattle.search_laws.specs.Laws.{PlantKeeps, ShutKeeps, ForkKeeps, CountsChangeByOne, MiddleTakesABit, StaysShallow, SearchKeeps, LeastBoundIsThere, SearchIsRight, ReadOffIsValid, ReadOffIsCertified, VerdictsKeep, EventsKeep, RunsKeep, CrewIsRight, GapBounds, ShortIsNone, LoadKeeps, ResumeAgrees, PartsSuffice, LiveLeavesChange, LeastByPaths, EventsTell, FreeIsTheRest, SpreadFits, DecompositionHasAll, FurtherCutsKeep, QueueKeeps};
 
 use bp_theory::{Items, Proof};
 
@@ -88,11 +88,6 @@ pub fn fork_keeps()
 // A step changes each count by one.
 pub fn counts_change_by_one()
     ensures { CountsChangeByOne }
-{}
-
-// Binary digits are the fewest that suffice.
-pub fn digits_are_fewest()
-    ensures { DigitsAreFewest }
 {}
 
 // A split at the middle takes a bit.
@@ -208,11 +203,6 @@ pub fn decomposition_has_all()
 // Further cuts keep the facts of a search.
 pub fn further_cuts_keep()
     ensures { FurtherCutsKeep }
-{}
-
-// Binary digits by leading zeros.
-pub fn digits_by_zeros()
-    ensures { DigitsByZeros }
 {}
 
 // The queue of live leaves is kept.

@@ -1,0 +1,26 @@
+// What an LP text is refused for.
+ghost use Rattle.std.specs.Prelude.{◌≡◌};
+ghost use Rattle.lp_read.specs.declared.fault.LpFault.TheVariants.{NoMemory};
+
+use lp_token::LpKind;
+use std::alloc::AllocError;
+use thiserror::Error;
+
+/// Why a text has no model.
+#[derive(Clone, Copy, Debug, PartialEq, Eq, Error)]
+pub enum LpFault {
+    /// The text's first fault. The line is 1 plus the number of line feeds before it, or 0 for a text that is too long.
+    #[error("line {line}: {kind:?}")]
+    At { line: u32, kind: LpKind },
+    /// Want of memory.
+    #[error("want of memory")]
+    NoMemory,
+}
+
+impl From<AllocError> for LpFault {
+    ghost from_gives = { λ _ fault. fault ≡ NoMemory };
+
+    fn from(_: AllocError) -> Self {
+        LpFault::NoMemory
+    }
+}
