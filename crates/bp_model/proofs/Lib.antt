@@ -1,0 +1,5 @@
+pub mod NameLemmas
+pub mod PointLemmas
+pub mod TidyLemmas
+pub mod MakeLemmas
+pub mod DecLemmas

@@ -1,2 +1,5 @@
 pub mod Named
 pub mod Parts
+pub mod Miss
+pub mod Tidy
+pub mod Dec

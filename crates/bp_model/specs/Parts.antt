@@ -72,6 +72,13 @@ pub data IsOverLimit (parts : Parts) : Type 0 where
   terms : 65536 < written_terms parts → IsOverLimit parts
   ends : (All HasSmallEnds parts.spans → ⊥) → IsOverLimit parts
 
+-- the numbers of variables, rows and written terms and the spans' ends keep the limits
+pub record IsWithinLimits (parts : Parts) : Type 0 where
+  pub variables : length parts.spans ≤ 4096
+  pub rows : length parts.rows ≤ 8192
+  pub terms : written_terms parts ≤ 65536
+  pub ends : All HasSmallEnds parts.spans
+
 -- the first fault of parts, in order: a crossed span, the bits, an activity (of the objective first), a limit
 abbrev pub HasModelFault : Parts → ModelFault → Type 0
 HasModelFault parts (Crossed v) = IsFirstCrossed parts.spans v

@@ -2,11 +2,20 @@
 //! A model keeps its limits, so that no sum over its points leaves 62 bits.
 #![tactic(auto)]
 
+mod dec;
+mod limits;
 mod model;
 mod names;
 mod parts;
+mod points;
+#[cfg(test)]
+mod tests;
+mod tidy;
 
 pub use bp_theory::{Items, Row, Sense, Span, Term};
+pub use dec::Dec;
+pub use limits::{MAX_BITS, MAX_NUMBER, MAX_ROWS, MAX_TERMS, MAX_VARS};
 pub use model::Model;
 pub use names::Names;
 pub use parts::{ModelFault, Parts};
+pub use points::{Miss, activity, first_missed, first_outside, meets};

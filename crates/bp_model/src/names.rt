@@ -1,17 +1,88 @@
 // Names of variables or rows, each once and in order.
+mod by_bytes;
+
+ghost use Rattle.std.specs.Prelude.{◌≡◌, ◌≢◌, ◌+◌, ◌<◌, ◌^◌, ◌↔◌, ◌++◌, ◌∷◌, [], length, slice_get, Contains, IfOk, IfSome, IfNone, OnErr, IsTrue, MatchBool, Some};
+ghost use Rattle.std.specs.List.{IsDistinct};
+ghost use Rattle.std.specs.Str.{bytes_eq};
+
 use indexmap::IndexSet;
+use std::alloc::{AllocError, Global};
 use std::marker::Model;
 
-/// Names, each once, numbered from 0 in the order in which they came. Contracts see the list of their bytes.
+/// Names, each once, numbered from 0 in the order in which they came: fewer than `2^32`.
+/// Contracts see the list of their bytes.
 #[derive(Drop)]
 pub struct Names {
     table: IndexSet<String>,
 }
 
 impl Model for Names {
-    ghost use Rattle.std.specs.Prelude.{ℕ, List, map, string_bytes};
+    ghost use Rattle.std.specs.Prelude.{ℕ, List, map, string_bytes, length, ◌<◌, ◌^◌};
+    ghost use Rattle.std.specs.List.{IsDistinct};
+    ghost use Rattle.std.specs.Str.{bytes_eq};
 
     ghost Value = { List (List ℕ) };
 
     ghost view = { λ n. map string_bytes n.table.keys };
+
+    ghost invariant = { λ n. IsDistinct bytes_eq (map string_bytes n.table.keys) × (length n.table.keys < 2 ^ 32) };
+}
+
+impl Names {
+    /// No names yet.
+    pub fn new(alloc: Global) -> Names
+        ensures { result ≡ [] }
+    {
+        Names {
+            table: IndexSet::new(alloc),
+        }
+    }
+
+    /// How many names there are.
+    pub fn len(&self) -> u32
+        ensures len { result ≡ length self.now }
+        ensures distinct { IsDistinct bytes_eq self.now }
+    {
+        self.table.len() as u32
+    }
+
+    /// Whether there is no name.
+    pub fn is_empty(&self) -> bool
+        ensures { IsTrue result ↔ (self.now ≡ []) }
+    {
+        self.len() == 0
+    }
+
+    /// The name of a number.
+    pub fn get(&self, number: u32) -> &str
+        requires { number < length self.now }
+        ensures { slice_get self.now number ≡ Some result.now }
+    {
+        self.table.as_slice()[number as usize].as_str()
+    }
+
+    /// The number of a name, where it is there.
+    pub fn place_of(&self, name: &str) -> Option<u32>
+        ensures found { IfSome result (λ number. slice_get self.now number ≡ Some name.now) }
+        ensures absent { IfNone result (¬ (Contains self.now name.now)) }
+    {
+        let place = self.table.get_index_of(name)?;
+        Some(place as u32)
+    }
+
+    /// The number of a name, and whether it is new: then it goes last.
+    pub fn add(&mut self, alloc: Global, name: &str) -> Result<(u32, bool), AllocError>
+        requires { length self.old + 1 < 2 ^ 32 }
+        ensures number { IfOk result (λ added. slice_get self.new added.0 ≡ Some name.now) }
+        ensures names { IfOk result (λ added. MatchBool added.1 (self.new ≡ self.old ++ name.now ∷ []) (self.new ≡ self.old)) }
+        ensures is_new { IfOk result (λ added. IsTrue added.1 ↔ (¬ (Contains self.old name.now))) }
+        ensures err { OnErr result (self.new ≡ self.old) }
+    {
+        if let Some(place) = self.place_of(name) {
+            return Ok((place, false));
+        }
+        let place = self.len();
+        self.table.insert(String::from_str(alloc, name)?)?;
+        Ok((place, true))
+    }
 }

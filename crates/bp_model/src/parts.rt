@@ -1,4 +1,7 @@
 // What a model is made of, and what it is refused for.
+ghost use Rattle.std.specs.Prelude.{◌↔◌, ◌<◌, ◌^◌, length, All, IsTrue};
+ghost use Rattle.bp_theory.specs.Decomposition.{HasVariablesBelow};
+
 use crate::names::Names;
 use bp_theory::{Items, Row, Span, Term};
 
@@ -34,4 +37,54 @@ pub enum ModelFault {
     Limit,
     /// Want of memory.
     NoMemory,
+}
+
+impl Parts {
+    ghost use Rattle.std.specs.Prelude.{◌↔◌, IsTrue};
+    ghost use Rattle.bp_model.specs.Parts.{AreFitting};
+
+    /// Whether the parts fit together: as many names as spans and as rows, fewer than `2^32` of each,
+    /// and the terms' variables are there.
+    pub fn are_fitting(&self) -> bool
+        ensures { IsTrue result ↔ AreFitting self.now }
+    {
+        let vars = self.spans.len();
+        let rows = self.rows.len();
+        self.names.len() as usize == vars
+            && self.row_names.len() as usize == rows
+            && is_few(vars)
+            && is_few(rows)
+            && is_few(self.costs.len())
+            && have_few_terms(self.rows.as_slice())
+            && are_below(vars, self.costs.as_slice())
+            && have_terms_below(vars, self.rows.as_slice())
+    }
+}
+
+// Whether a count is below `2^32`.
+fn is_few(count: usize) -> bool
+    ensures { IsTrue result ↔ (count < 2 ^ 32) }
+{
+    count < 1 << 32
+}
+
+// Whether each row has fewer than `2^32` terms.
+fn have_few_terms(rows: &[Row]) -> bool
+    ensures { IsTrue result ↔ All (λ row. length row.terms < 2 ^ 32) rows.now }
+{
+    rows.iter().all(|row| is_few(row.terms.len()))
+}
+
+// Whether the terms' variables are below a number.
+fn are_below(vars: usize, terms: &[Term]) -> bool
+    ensures { IsTrue result ↔ HasVariablesBelow vars terms.now }
+{
+    terms.iter().all(|term| (term.var as usize) < vars)
+}
+
+// Whether the variables of the rows' terms are below a number.
+fn have_terms_below(vars: usize, rows: &[Row]) -> bool
+    ensures { IsTrue result ↔ All (λ row. HasVariablesBelow vars row.terms) rows.now }
+{
+    rows.iter().all(|row| are_below(vars, row.terms.as_slice()))
 }

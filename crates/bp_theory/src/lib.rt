@@ -2,14 +2,14 @@
 //! bounds, branch trees, certificates and their judgement. Every crate above speaks in these words.
 #![tactic(auto)]
 
-ghost use Rattle.std.specs.Prelude.{◌≡◌, [], ◌∷◌, ◌++◌, length, OnOk, OnErr};
+ghost use Rattle.std.specs.Prelude.{◌≡◌, [], ◌∷◌, ◌++◌, length, OnOk, OnErr, IfOk, IsTrue, ◌↔◌};
 ghost use Rattle.bp_theory.specs.Digits.{DigitsAreFewest, DigitsByZeros};
 ghost use Rattle.bp_theory.specs.Laws.{Duality, Cover, Older, ValidIsTrue, OneBound, Shrink, AddingUpIsFaithful, DecompositionIsFaithful, CutsAreMet, CertifiedIsTrue, SamePriceAlike, LeastOverBox, Judged, RoundedHolds, PartsAddUp, StandsWhereNonzero, CopiesOfEach, LinksCancel, OnePointCloses, SplitShrinks};
 
 use std::alloc::{AllocError, Global};
 use std::marker::Model;
 
-// A vector that contracts see as its list.
+/// A vector that contracts see as its list.
 #[derive(Drop)]
 pub struct Items<T> {
     inside: Vec<T>,
@@ -24,7 +24,7 @@ impl<T> Model for Items<T> {
 }
 
 impl<T: Drop> Items<T> {
-    // No elements yet.
+    /// No elements yet.
     pub fn new(alloc: Global) -> Items<T>
         ensures { result ≡ [] }
     {
@@ -33,7 +33,29 @@ impl<T: Drop> Items<T> {
         }
     }
 
-    // One element more at the end.
+    /// No elements yet, and room for some.
+    pub fn with_capacity(alloc: Global, room: usize) -> Result<Items<T>, AllocError>
+        ensures { IfOk result (λ a. a ≡ []) }
+    {
+        let inside = Vec::with_capacity(alloc, room)?;
+        Ok(Items { inside })
+    }
+
+    /// The elements of a vector.
+    pub fn from_vec(inside: Vec<T>) -> Items<T>
+        ensures { result ≡ inside.items }
+    {
+        Items { inside }
+    }
+
+    /// The vector of the elements.
+    pub fn into_vec(self) -> Vec<T>
+        ensures { result.items ≡ self }
+    {
+        self.inside
+    }
+
+    /// One element more at the end.
     pub fn push(&mut self, x: T) -> Result<(), AllocError>
         ensures added { OnOk result (self.new ≡ self.old ++ x ∷ []) }
         ensures same { OnErr result (self.new ≡ self.old) }
@@ -42,36 +64,43 @@ impl<T: Drop> Items<T> {
         Ok(())
     }
 
-    // The elements as a slice.
+    /// The elements as a slice.
     pub fn as_slice(&self) -> &[T]
         ensures { result.now ≡ self.now }
     {
         self.inside.as_slice()
     }
 
-    // How many elements there are.
+    /// How many elements there are.
     pub fn len(&self) -> usize
         ensures { result ≡ length self.now }
     {
         self.inside.len()
     }
+
+    /// Whether there are no elements.
+    pub fn is_empty(&self) -> bool
+        ensures { IsTrue result ↔ (self.now ≡ []) }
+    {
+        self.inside.is_empty()
+    }
 }
 
-// The whole numbers from `lo` to `hi`.
+/// The whole numbers from `lo` to `hi`.
 #[derive(Clone, Copy)]
 pub struct Span {
     pub lo: i64,
     pub hi: i64,
 }
 
-// A variable with its coefficient.
+/// A variable with its coefficient.
 #[derive(Clone, Copy)]
 pub struct Term {
     pub var: u32,
     pub coef: i64,
 }
 
-// How a row's sum compares with its sides: at most, at least, equal, between.
+/// How a row's sum compares with its sides: at most, at least, equal, between.
 #[derive(Clone, Copy)]
 pub enum Sense {
     Le,
@@ -80,7 +109,7 @@ pub enum Sense {
     In,
 }
 
-// A row of a program or of a block, with two sides, equal but for `In`.
+/// A row of a program or of a block, with two sides, equal but for `In`.
 #[derive(Drop)]
 pub struct Row {
     pub sense: Sense,
@@ -89,7 +118,7 @@ pub struct Row {
     pub terms: Items<Term>,
 }
 
-// What a proof needs of a row that it gives a multiplier.
+/// What a proof needs of a row that it gives a multiplier.
 #[derive(Clone, Copy)]
 pub struct MasterRow {
     pub sense: Sense,
@@ -97,14 +126,14 @@ pub struct MasterRow {
     pub rhs: i64,
 }
 
-// The blocks that a proof prices over their points, by number.
+/// The blocks that a proof prices over their points, by number.
 #[derive(Drop)]
 pub enum Picked {
     Every,
     These(Items<u32>),
 }
 
-// A scale, multipliers of rows by the rows' numbers, and the picked blocks.
+/// A scale, multipliers of rows by the rows' numbers, and the picked blocks.
 #[derive(Drop)]
 pub struct Proof {
     pub scale: u32,
@@ -112,15 +141,15 @@ pub struct Proof {
     pub picked: Picked,
 }
 
-// A rounding cut: a divisor, and multipliers of rows by the rows' numbers.
+/// A rounding cut: a divisor, and multipliers of rows by the rows' numbers.
 #[derive(Drop)]
 pub struct Cut {
     pub q: u32,
     pub rows: Items<(u32, i64)>,
 }
 
-// What a certificate claims, in the text's own sense: the best value, that no point is feasible,
-// or that none betters a value, and the value of a known point where there is one.
+/// What a certificate claims, in the text's own sense: the best value, that no point is feasible,
+/// or that none betters a value, and the value of a known point where there is one.
 #[derive(Clone, Copy)]
 pub enum Claim {
     Optimal(i64),
@@ -128,7 +157,7 @@ pub enum Claim {
     Bound(i64, Option<i64>),
 }
 
-// What is wrong with a line of a certificate.
+/// What is wrong with a line of a certificate.
 #[derive(Clone, Copy)]
 pub enum CheckKind {
     PointBound,
@@ -141,112 +170,112 @@ pub enum CheckKind {
     Cut,
 }
 
-// Weak Lagrangian duality.
+/// Weak Lagrangian duality.
 pub fn duality()
     ensures { Duality }
 {}
 
-// Each point of the root zone lies in exactly one leaf.
+/// Each point of the root zone lies in exactly one leaf.
 pub fn cover()
     ensures { Cover }
 {}
 
-// What holds for a cost holds for each smaller one, and what empties a zone holds for every cost.
+/// What holds for a cost holds for each smaller one, and what empties a zone holds for every cost.
 pub fn older()
     ensures { Older }
 {}
 
-// A valid certificate's claim is true.
+/// A valid certificate's claim is true.
 pub fn valid_is_true()
     ensures { ValidIsTrue }
 {}
 
-// A proof has one bound in a proper zone.
+/// A proof has one bound in a proper zone.
 pub fn one_bound()
     ensures { OneBound }
 {}
 
-// In a smaller zone the bound is endless or no smaller.
+/// In a smaller zone the bound is endless or no smaller.
 pub fn shrink()
     ensures { Shrink }
 {}
 
-// A blocking that adds up to a program is faithful.
+/// A blocking that adds up to a program is faithful.
 pub fn adding_up_is_faithful()
     ensures { AddingUpIsFaithful }
 {}
 
-// The blocking of a decomposition with cuts adds up to the program.
+/// The blocking of a decomposition with cuts adds up to the program.
 pub fn decomposition_is_faithful()
     ensures { DecompositionIsFaithful }
 {}
 
-// Each feasible point meets the row of each fitting cut.
+/// Each feasible point meets the row of each fitting cut.
 pub fn cuts_are_met()
     ensures { CutsAreMet }
 {}
 
-// What a valid certificate claims is true, whatever the decomposition and the cuts.
+/// What a valid certificate claims is true, whatever the decomposition and the cuts.
 pub fn certified_is_true()
     ensures { CertifiedIsTrue }
 {}
 
-// Blocks that are the same in a zone have the same least reduced cost.
+/// Blocks that are the same in a zone have the same least reduced cost.
 pub fn same_price_alike()
     ensures { SamePriceAlike }
 {}
 
-// The least over a box is that of the better ends.
+/// The least over a box is that of the better ends.
 pub fn least_over_box()
     ensures { LeastOverBox }
 {}
 
-// The parts of a sound split lie in the zone.
+/// The parts of a sound split lie in the zone.
 pub fn split_shrinks()
     ensures { SplitShrinks }
 {}
 
-// A zone of one point can always be shut.
+/// A zone of one point can always be shut.
 pub fn one_point_closes()
     ensures { OnePointCloses }
 {}
 
-// A certificate is valid or has a first fault.
+/// A certificate is valid or has a first fault.
 pub fn judged()
     ensures { Judged }
 {}
 
-// A bound holds for its quotient by the scale, rounded up.
+/// A bound holds for its quotient by the scale, rounded up.
 pub fn rounded_holds()
     ensures { RoundedHolds }
 {}
 
-// The blocks' parts add up to the bound.
+/// The blocks' parts add up to the bound.
 pub fn parts_add_up()
     ensures { PartsAddUp }
 {}
 
-// A variable stands in a tidy row where its coefficient isn't 0.
+/// A variable stands in a tidy row where its coefficient isn't 0.
 pub fn stands_where_nonzero()
     ensures { StandsWhereNonzero }
 {}
 
-// Each variable has copies, no two in one block.
+/// Each variable has copies, no two in one block.
 pub fn copies_of_each()
     ensures { CopiesOfEach }
 {}
 
-// Link rows cancel at each point.
+/// Link rows cancel at each point.
 pub fn links_cancel()
     ensures { LinksCancel }
 {}
 
-// Binary digits are the fewest that suffice.
+/// Binary digits are the fewest that suffice.
 pub fn digits_are_fewest()
     ensures { DigitsAreFewest }
 {}
 
-// Binary digits by leading zeros.
+/// Binary digits by leading zeros.
 pub fn digits_by_zeros()
     ensures { DigitsByZeros }
 {}
