@@ -1,0 +1,400 @@
+// The cut of a text.
+ghost use Rattle.std.specs.Prelude.{◌≡◌, ◌+◌, ◌-◌, ◌^◌, ◌≤◌, ◌<◌, ◌||◌, ◌&&◌, ℕ, if◌then◌else◌, length, drop, slice_range, IsTrue, IsFalse, IsSome, IsNone, IfSome, IfNone, IfOk, IfErr, All};
+ghost use Rattle.std.specs.List.{list_all};
+ghost use Rattle.lp_token.specs.Lexeme.{begins, is_name_byte as specs_is_name_byte};
+ghost use Rattle.lp_token.specs.Word.{is_space};
+ghost use Rattle.lp_token.specs.Scan.{IsPlace, is_tab_or_space, ends_word, BreaksHere};
+ghost use Rattle.lp_token.specs.Cut.{Cut, IsCutFault, IsGap, IsSlice, IsToken, in_comment, is_blank, is_white, is_line_feed, goes_on, kind_at, colon_follows as specs_colon_follows, is_long as specs_is_long, is_end as specs_is_end, section_at as specs_section_at};
+
+use crate::word::{is_space_byte, section_of};
+use crate::{LpFault, LpKind, Section, Tok, TokKind, plain_end, run_end};
+use std::alloc::Global;
+
+/// The longest name.
+const LONGEST_NAME: usize = 255;
+
+/// A place in a text: its line, and whether nothing but white space stands before it there.
+#[derive(Clone, Copy)]
+struct Place {
+    at: usize,
+    line: u32,
+    fresh: bool,
+}
+
+/// Whether a byte is white space.
+fn is_white_byte(b: u8) -> bool
+    ensures { result ≡ is_white b }
+{
+    b == b' ' || b == b'\t' || b == b'\r' || b == b'\n'
+}
+
+/// Whether the byte is of a comment, by whether the one before it is.
+fn is_comment_byte(comment: bool, b: u8) -> bool
+    ensures { result ≡ goes_on comment b }
+{
+    b != b'\n' && (comment || b == b'\\')
+}
+
+/// The line behind a byte.
+fn line_behind(line: u32, b: u8) -> u32
+    requires { line < 2 ^ 32 - 1 }
+    ensures { result ≡ (if is_line_feed b then line + 1 else line) }
+{
+    if b == b'\n' { line + 1 } else { line }
+}
+
+/// Whether nothing but white space stands in the line behind a byte.
+fn fresh_behind(fresh: bool, b: u8) -> bool
+    ensures { result ≡ (is_line_feed b || (fresh && is_white b)) }
+{
+    b == b'\n' || (fresh && is_white_byte(b))
+}
+
+/// The first place from a place on that is no white space and in no comment, or the text's end.
+fn skip_blanks(bytes: &[u8], from: Place) -> Place
+    requires size { length bytes.now ≤ 2 ^ 24 }
+    requires place { IsPlace bytes.now from }
+    requires clear { IsFalse (in_comment bytes.now from.at) }
+    ensures place { IsPlace bytes.now result }
+    ensures gap { IsGap bytes.now from.at result.at }
+    ensures seen { result.at < length bytes.now → IsFalse (is_blank bytes.now result.at) }
+    ensures clear { result.at < length bytes.now → IsFalse (in_comment bytes.now result.at) }
+{
+    let mut at = from.at;
+    let mut line = from.line;
+    let mut fresh = from.fresh;
+    let mut comment = false;
+    while at < bytes.len() {
+        let b = bytes[at];
+        let next = is_comment_byte(comment, b);
+        if !next && !is_white_byte(b) {
+            return Place { at, line, fresh };
+        }
+        comment = next;
+        line = line_behind(line, b);
+        fresh = fresh_behind(fresh, b);
+        at += 1;
+    }
+    Place { at, line, fresh }
+}
+
+/// Where the spaces end that stand at a place.
+fn spaces_end(bytes: &[u8], from: usize) -> usize
+    requires { from ≤ length bytes.now }
+    ensures ordered { from ≤ result }
+    ensures inside { result ≤ length bytes.now }
+    ensures run { IsTrue (list_all is_space (slice_range bytes.now from result)) }
+    ensures stop { IsFalse (begins is_space (drop result bytes.now)) }
+{
+    let mut at = from;
+    while at < bytes.len() {
+        let b = bytes[at];
+        if !is_space_byte(b) {
+            return at;
+        }
+        at += 1;
+    }
+    at
+}
+
+fn is_tab_or_space_byte(b: u8) -> bool
+    ensures { result ≡ is_tab_or_space b }
+{
+    b == b' ' || b == b'\t'
+}
+
+/// Whether, after spaces and tabs, a colon stands at a place.
+fn colon_follows(bytes: &[u8], from: usize) -> bool
+    requires { from ≤ length bytes.now }
+    ensures { result ≡ specs_colon_follows bytes.now from }
+{
+    let mut at = from;
+    while at < bytes.len() {
+        let b = bytes[at];
+        if !is_tab_or_space_byte(b) {
+            return b == b':';
+        }
+        at += 1;
+    }
+    false
+}
+
+/// Whether a slice that no name goes on behind is a section word, by what it is and what follows it.
+fn is_word(bytes: &[u8], from: usize, to: usize) -> bool
+    requires ordered { from ≤ to }
+    requires inside { to ≤ length bytes.now }
+    requires stop { IsFalse (begins specs_is_name_byte (drop to bytes.now)) }
+    ensures { result ≡ ends_word bytes.now from to }
+{
+    section_of(&bytes[from..to]).is_some() && !colon_follows(bytes, to)
+}
+
+/// Where the longest section word ends that a line begins with at a place, if one does.
+fn word_end(bytes: &[u8], from: usize) -> Option<usize>
+    requires { from ≤ length bytes.now }
+    ensures found { IfSome result (λ end. (end ≤ length bytes.now) × IsTrue (ends_word bytes.now from end)) }
+    ensures longest { IfSome result (λ end. (to : ℕ) → to ≤ length bytes.now → IsTrue (ends_word bytes.now from to) → to ≤ end) }
+    ensures none { IfNone result ((to : ℕ) → to ≤ length bytes.now → IsFalse (ends_word bytes.now from to)) }
+{
+    let first = run_end(bytes, from);
+    let gap = spaces_end(bytes, first);
+    let second = run_end(bytes, gap);
+    if gap > first && is_word(bytes, from, second) {
+        Some(second)
+    } else if is_word(bytes, from, first) {
+        Some(first)
+    } else {
+        None
+    }
+}
+
+/// The kind and the end of the longest token at a place, if one stands there.
+fn token_end(bytes: &[u8], place: Place) -> Option<(TokKind, usize)>
+    requires inside { place.at < length bytes.now }
+    requires place { IsPlace bytes.now place }
+    requires clear { IsFalse (in_comment bytes.now place.at) }
+    ensures found { IfSome result (λ t. (t.1 ≤ length bytes.now) × (kind_at bytes.now place.at t.1 ≡ Some t.0)) }
+    ensures longest { IfSome result (λ t. (to : ℕ) → to ≤ length bytes.now → IsSome (kind_at bytes.now place.at to) → to ≤ t.1) }
+    ensures none { IfNone result ((to : ℕ) → to ≤ length bytes.now → IsNone (kind_at bytes.now place.at to)) }
+{
+    if place.fresh {
+        if let Some(end) = word_end(bytes, place.at) {
+            return Some((TokKind::Word, end));
+        }
+    }
+    plain_end(bytes, place.at)
+}
+
+/// Whether a token is a name that is too long.
+#[tactic(auto, unfolding(crate::specs::Cut::is_long))]
+fn is_long(token: &Tok) -> bool
+    requires { token.now.from ≤ token.now.to }
+    ensures { result ≡ specs_is_long token.now }
+{
+    match token.kind {
+        TokKind::Name => token.to - token.from > LONGEST_NAME,
+        _ => false,
+    }
+}
+
+/// The token at a place, or its fault.
+fn next_token(bytes: &[u8], place: Place) -> Result<Tok, LpFault>
+    requires inside { place.at < length bytes.now }
+    requires place { IsPlace bytes.now place }
+    requires seen { IsFalse (is_blank bytes.now place.at) }
+    requires clear { IsFalse (in_comment bytes.now place.at) }
+    ensures token { IfOk result (λ token. (token.from ≡ place.at) × IsToken bytes.now token × IsFalse (specs_is_long token)) }
+    ensures fault { IfErr result (BreaksHere bytes.now place.at) }
+{
+    let (kind, to) = match token_end(bytes, place) {
+        Some(found) => found,
+        None => return Err(LpFault::At {
+            line: place.line,
+            kind: LpKind::BadByte,
+        }),
+    };
+    let token = Tok {
+        line: place.line,
+        from: place.at,
+        to,
+        kind,
+    };
+    if is_long(&token) {
+        return Err(LpFault::At {
+            line: place.line,
+            kind: LpKind::LongName,
+        });
+    }
+    Ok(token)
+}
+
+/// The section that a token begins, if it is a section word.
+#[tactic(auto, unfolding(crate::specs::Cut::section_at))]
+pub fn section_at(bytes: &[u8], token: &Tok) -> Option<Section>
+    requires ordered { token.now.from ≤ token.now.to }
+    requires inside { token.now.to ≤ length bytes.now }
+    ensures { result ≡ specs_section_at bytes.now token.now }
+{
+    match token.kind {
+        TokKind::Word => section_of(&bytes[token.from..token.to]),
+        _ => None,
+    }
+}
+
+/// Whether a token is the section word `end`.
+#[tactic(auto, unfolding(crate::specs::Cut::is_end))]
+fn is_end(bytes: &[u8], token: &Tok) -> bool
+    requires ordered { token.now.from ≤ token.now.to }
+    requires inside { token.now.to ≤ length bytes.now }
+    ensures { result ≡ specs_is_end bytes.now token.now }
+{
+    match section_at(bytes, token) {
+        Some(Section::End) => true,
+        _ => false,
+    }
+}
+
+/// The tokens of a text of at most 2^24 bytes, up to the section word `end` or the text's end, in one pass; or the first
+/// place that can't be cut: a byte that begins no token (`BadByte`), or a name of more than 255 characters (`LongName`).
+pub fn tokens(alloc: Global, bytes: &[u8]) -> Result<Vec<Tok>, LpFault>
+    requires { length bytes.now ≤ 2 ^ 24 }
+    ensures cut { IfOk result (λ found. Cut bytes.now found.items) }
+    ensures slices { IfOk result (λ found. All (IsSlice bytes.now) found.items) }
+    ensures fault { IfErr result (IsCutFault bytes.now) }
+{
+    let mut found = Vec::new(alloc);
+    let mut place = Place {
+        at: 0,
+        line: 1,
+        fresh: true,
+    };
+    loop {
+        let here = skip_blanks(bytes, place);
+        if here.at == bytes.len() {
+            return Ok(found);
+        }
+        let token = next_token(bytes, here)?;
+        found.push(token)?;
+        if is_end(bytes, &token) {
+            return Ok(found);
+        }
+        place = Place {
+            at: token.to,
+            line: here.line,
+            fresh: false,
+        };
+    }
+}
+
+#[cfg(test)]
+mod tests {
+    use super::*;
+    use std::test::Fail;
+
+    fn tok(line: u32, from: usize, to: usize, kind: TokKind) -> Tok {
+        Tok {
+            line,
+            from,
+            to,
+            kind,
+        }
+    }
+
+    #[test]
+    fn marks_numbers_and_names_are_cut_by_longest_match(rt: HostRuntime) -> Result<(), Fail> {
+        let found = tokens(rt.alloc(), b"2<=x\n->1.5e+2e9 .5y =>3.")?;
+        let expected = [
+            tok(1, 0, 1, TokKind::Number),
+            tok(1, 1, 3, TokKind::Mark),
+            tok(1, 3, 4, TokKind::Name),
+            tok(2, 5, 7, TokKind::Mark),
+            tok(2, 7, 13, TokKind::Number),
+            tok(2, 13, 15, TokKind::Name),
+            tok(2, 16, 18, TokKind::Number),
+            tok(2, 18, 19, TokKind::Name),
+            tok(2, 20, 22, TokKind::Mark),
+            tok(2, 22, 24, TokKind::Number),
+        ];
+        assert_eq!(rt; found.as_slice(), expected.as_slice());
+        Ok(())
+    }
+
+    #[test]
+    fn section_words_stand_first_in_their_line_and_before_no_colon(
+        rt: HostRuntime,
+    ) -> Result<(), Fail> {
+        let found = tokens(
+            rt.alloc(),
+            b"max\\ c\n such\t that\nst : x st\nSubject To:\nEnd x",
+        )?;
+        let expected = [
+            tok(1, 0, 3, TokKind::Word),
+            tok(2, 8, 18, TokKind::Word),
+            tok(3, 19, 21, TokKind::Name),
+            tok(3, 22, 23, TokKind::Mark),
+            tok(3, 24, 25, TokKind::Name),
+            tok(3, 26, 28, TokKind::Name),
+            tok(4, 29, 36, TokKind::Name),
+            tok(4, 37, 39, TokKind::Name),
+            tok(4, 39, 40, TokKind::Mark),
+            tok(5, 41, 44, TokKind::Word),
+        ];
+        assert_eq!(rt; found.as_slice(), expected.as_slice());
+        Ok(())
+    }
+
+    #[test]
+    fn words_are_of_their_sections_in_any_case_of_letters(rt: HostRuntime) -> Result<(), Fail> {
+        assert_eq!(rt;
+            section_of(b"LAZY \t CONSTRAINTS"),
+            Some(Section::Unsupported)
+        );
+        assert_eq!(rt; section_of(b"s.T."), Some(Section::Rows));
+        assert_eq!(rt; section_of(b"generalss"), None);
+        let word = Tok {
+            line: 2,
+            from: 1,
+            to: 4,
+            kind: TokKind::Word,
+        };
+        assert_eq!(rt; section_at(b"\nBINx", &word), Some(Section::Binaries));
+        Ok(())
+    }
+
+    #[test]
+    fn a_text_ends_with_the_word_end_or_where_it_ends(rt: HostRuntime) -> Result<(), Fail> {
+        let nothing = tokens(rt.alloc(), b" \\ no \0 token")?;
+        assert_eq!(rt; nothing.len(), 0);
+        let found = tokens(rt.alloc(), b"end\n\0")?;
+        assert_eq!(rt; found.as_slice(), [tok(1, 0, 3, TokKind::Word)].as_slice());
+        Ok(())
+    }
+
+    #[test]
+    fn bytes_of_no_token_are_refused_with_their_line(rt: HostRuntime) -> Result<(), Fail> {
+        let zero = tokens(rt.alloc(), b"max\n x\n\0");
+        assert_eq!(rt; zero.is_ok(), false);
+        let fault = LpFault::At {
+            line: 3,
+            kind: LpKind::BadByte,
+        };
+        if let Err(first) = zero {
+            assert_eq!(rt; first, fault);
+        }
+        let point = tokens(rt.alloc(), b"x\n .e3");
+        assert_eq!(rt; point.is_ok(), false);
+        if let Err(first) = point {
+            assert_eq!(rt;
+                first,
+                LpFault::At {
+                    line: 2,
+                    kind: LpKind::BadByte
+                }
+            );
+        }
+        Ok(())
+    }
+
+    #[test]
+    fn names_have_at_most_255_characters(rt: HostRuntime) -> Result<(), Fail> {
+        let mut name = vec![in rt.alloc(); b'x'; 255]?;
+        let found = tokens(rt.alloc(), &name)?;
+        assert_eq!(rt;
+            found.as_slice(),
+            [tok(1, 0, 255, TokKind::Name)].as_slice()
+        );
+        name.push(b'y')?;
+        let refused = tokens(rt.alloc(), &name);
+        assert_eq!(rt; refused.is_ok(), false);
+        if let Err(first) = refused {
+            assert_eq!(rt;
+                first,
+                LpFault::At {
+                    line: 1,
+                    kind: LpKind::LongName
+                }
+            );
+        }
+        Ok(())
+    }
+}
