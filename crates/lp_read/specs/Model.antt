@@ -1,39 +1,24 @@
 -- The named program that a text means: the model of its tree, with terms in place of rows of coefficients.
 use Rattle.std.specs.Prelude.{◌≡◌, ℕ, List, ℤ, pos, slice_index_or}
 use Rattle.std.specs.List.{AllZip}
-use Rattle.bp_theory.specs.Program.{Program, coefficient}
+use Rattle.bp_theory.specs.Program.{coefficient}
 use Rattle.bp_theory.specs.Decomposition.{IsTidyFrom}
-use Rattle.bp_theory.specs.declared.Span.{Span}
 use Rattle.bp_theory.specs.declared.Term.{Term}
-use Rattle.bp_theory.specs.declared.Sense.{Sense}
-use Rattle.bp_theory.specs.declared.Sense.TheVariants.{Le, Ge, Eq, In}
 use Rattle.bp_theory.specs.declared.Row.{Row}
 use Rattle.bp_model.specs.Named.{NamedProgram}
-use Rattle.lp_token.specs.declared.LpKind.{LpKind}
-use Rattle.lp_read.specs.Meaning.{Model, ModelRow, le, ge, eq, within}
-use Rattle.lp_read.specs.Meaning as meaning
+use Rattle.lp_read.specs.Meaning.{Model, ModelRow}
 use Rattle.lp_read.specs.Reading.{Reads, HasFault}
-use Rattle.lp_read.specs.declared.fault.LpFault.{LpFault}
-use Rattle.lp_read.specs.declared.fault.LpFault.TheVariants.{At, NoMemory}
+use Rattle.lp_token.specs.declared.fault.LpFault.{LpFault}
+use Rattle.lp_token.specs.declared.fault.LpFault.TheVariants.{At, NoMemory}
 
 -- terms give these coefficients: in order of variables and without zeros
 pub record HasCoefficients (coefficients : List ℤ) (terms : List Term) : Type 0 where
   pub tidy : IsTidyFrom 0 terms
   pub each : (v : ℕ) → coefficient terms v ≡ slice_index_or coefficients v (pos 0)
 
-abbrev pub sense_as : meaning.Sense → Sense
-sense_as le = Le
-sense_as ge = Ge
-sense_as eq = Eq
-sense_as within = In
-
--- a span of a meaning as a span of a program
-abbrev pub span_as : meaning.Span → Span
-span_as s = record { lo = s.lo; hi = s.hi }
-
 -- a row of a program is a row of a meaning
 pub record IsRowOf (meant : ModelRow) (row : Row) : Type 0 where
-  pub sense : row.sense ≡ sense_as meant.sense
+  pub sense : row.sense ≡ meant.sense
   pub low : row.low ≡ meant.low
   pub rhs : row.rhs ≡ meant.rhs
   pub terms : HasCoefficients meant.coefficients row.terms
@@ -41,7 +26,7 @@ pub record IsRowOf (meant : ModelRow) (row : Row) : Type 0 where
 -- a named program is a meaning's
 pub record IsProgramOf (meant : Model) (m : NamedProgram) : Type 0 where
   pub names : m.names ≡ meant.names
-  pub spans : AllZip (λ s t. t ≡ span_as s) meant.spans m.program.spans
+  pub spans : m.program.spans ≡ meant.spans
   pub row_names : m.row_names ≡ meant.row_names
   pub rows : AllZip IsRowOf meant.rows m.program.rows
   pub costs : HasCoefficients meant.costs m.program.costs

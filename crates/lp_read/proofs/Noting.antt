@@ -1,0 +1,245 @@
+-- What is noted of tokens with one token more.
+use Rattle.std.proofs.Common.{◌≡◌, ℕ, zero, suc, ◌+◌, ◌<◌, ◌≤◌, ◌⊎◌, Bool, true, false, not, cond, ◌||◌, List, [], ◌∷◌, ◌++◌, map, take, drop, length, refl, sym, ◌∙◌, ap, subst, inl, inr, arith, Option, None, Some, add-one, length-append}
+use Rattle.std.proofs.lemmas.Bool.{cases_Bool, or_cases, or_left, or_right, or_parts, or_from, both_ways, false_from_ne_true, true_from_ne_false, cond-true, cond-false}
+use Rattle.std.proofs.lemmas.List.{append-nil, map-append}
+use Rattle.std.proofs.lemmas.List.Elements.{filter-append, filter_map-append}
+use Rattle.std.proofs.lemmas.List.Folds.{list_any-append}
+use Rattle.std.specs.Prelude.{filter, filter_map, count_by, nat_lt, slice_get}
+use Rattle.std.specs.List.{list_any, cons_option}
+use Rattle.std.proofs.lemmas.List.Sums.{length-filter}
+use Rattle.std.specs.Str.{bytes_eq}
+use Rattle.lp_token.specs.declared.LpKind.{LpKind}
+use Rattle.lp_token.specs.declared.LpKind.TheVariants.{RowTwice, Limit}
+use Rattle.lp_read.specs.declared.notes.Notes.{Notes}
+use Rattle.lp_read.specs.Tree.{Name, Symbol, Site, objective_first, objective_more, row_first, row_more, listed, other}
+use Rattle.lp_read.specs.Meaning.{has_name}
+use Rattle.lp_read.specs.Reading.{place_of, row_places}
+use Rattle.lp_read.specs.Roles.{Seen, seen, first_of_symbols, variable_of, counts_as_term, row_of, label_of, firsts, has_twice, names_from, variables, row_names, term_count, is_over_limit, role_fault}
+use Rattle.lp_read.specs.Noted.{with_name, with_token, names_with, tokens_with, row_name, rows_with, row_tokens_with, is_repeated, is_repeated_in, terms_with, with_rows, with_variables, noted, are_too_many, AreNoted}
+use Rattle.lp_read.proofs.NameLists.{itself, firsts_has, firsts_push, rows_push, once_push, twice_push}
+
+-- what a token names
+abbrev names : Seen → Option Name
+names t = variable_of t.site t.symbol t.next
+
+abbrev row_at : Seen → Option (Option Name)
+row_at t = row_of t.site t.symbol t.next
+
+-- all that tokens name
+abbrev named : List Seen → List Name
+named tokens = filter_map names tokens
+
+-- one more element of a filter_map
+one_more : {A B : Type 0} (f : A → Option B) (xs : List A) (x : A) → filter_map f (xs ++ x ∷ []) ≡ filter_map f xs ++ filter_map f (x ∷ [])
+one_more f xs x = filter_map-append f xs (x ∷ [])
+
+variables_push : (tokens : List Seen) (t : Seen) → variables (tokens ++ t ∷ []) ≡ names_with (variables tokens) (names t)
+unfolding variables
+variables_push tokens t = ap firsts (one_more names tokens t) ∙ go (names t)
+  where
+    go : (o : Option Name) → firsts (named tokens ++ cons_option o []) ≡ names_with (firsts (named tokens)) o
+    go None = ap firsts (append-nil (named tokens))
+    go (Some n) = firsts_push (named tokens) n
+
+row_names_push : (tokens : List Seen) (t : Seen) → row_names (tokens ++ t ∷ []) ≡ rows_with (row_names tokens) (row_at t)
+unfolding row_names
+row_names_push tokens t = ap (names_from 1) (one_more row_at tokens t) ∙ go (row_at t)
+  where
+    go : (o : Option (Option Name)) → names_from 1 (filter_map row_at tokens ++ cons_option o []) ≡ rows_with (names_from 1 (filter_map row_at tokens)) o
+    go None = ap (names_from 1) (append-nil (filter_map row_at tokens))
+    go (Some label) = rows_push 1 (filter_map row_at tokens) label
+
+-- a token that names n
+abbrev names_it : Name → Option Name → Bool
+names_it n o = elim o [ None ↦ false | Some m ↦ bytes_eq n m ]
+
+-- the first token of a name that is there stays the first
+place_known : (n : Name) (tokens : List Seen) (t : Seen) → has_name (named tokens) n ≡ true → place_of n (tokens ++ t ∷ []) ≡ place_of n tokens
+place_known n [] t h = absurd cc
+place_known n (s ∷ tokens) t h = go (names s) h (place_known n tokens t)
+  where
+    go : (o : Option Name) → has_name (cons_option o (named tokens)) n ≡ true → (has_name (named tokens) n ≡ true → place_of n (tokens ++ t ∷ []) ≡ place_of n tokens)
+        → cond (names_it n o) 0 (place_of n (tokens ++ t ∷ []) + 1) ≡ cond (names_it n o) 0 (place_of n tokens + 1)
+    go None h f = ap (λ k. k + 1) (f h)
+    go (Some m) h f = elim (or_cases (bytes_eq n m) (has_name (named tokens) n) h) [
+      | inl e ↦ cond-true _ _ _ e ∙ sym (cond-true _ _ _ e)
+      | inr e ↦ ap (λ k. cond (bytes_eq n m) 0 (k + 1)) (f e)
+    ]
+
+-- a new name's first token is the last
+place_new : (n : Name) (tokens : List Seen) (t : Seen) → has_name (named tokens) n ≡ false → names_it n (names t) ≡ true → place_of n (tokens ++ t ∷ []) ≡ length tokens
+place_new n [] t h e = cond-true _ _ _ e
+place_new n (s ∷ tokens) t h e = go (names s) h (λ g. place_new n tokens t g e)
+  where
+    go : (o : Option Name) → has_name (cons_option o (named tokens)) n ≡ false → (has_name (named tokens) n ≡ false → place_of n (tokens ++ t ∷ []) ≡ length tokens)
+        → cond (names_it n o) 0 (place_of n (tokens ++ t ∷ []) + 1) ≡ suc (length tokens)
+    go None h f = ap (λ k. k + 1) (f h) ∙ add-one (length tokens)
+    go (Some m) h f =
+        let p : (bytes_eq n m ≡ false) × (has_name (named tokens) n ≡ false) = or_parts _ _ h in
+        cond-false _ _ _ p.0 ∙ ap (λ k. k + 1) (f p.1) ∙ add-one (length tokens)
+
+-- two maps that agree on a list's names
+maps_agree : (f g : Name → ℕ) (ns : List Name) → ((n : Name) → has_name ns n ≡ true → f n ≡ g n) → map f ns ≡ map g ns
+maps_agree f g [] h = refl
+maps_agree f g (n ∷ ns) h =
+    ap (λ k. k ∷ map f ns) (h n (or_left (bytes_eq n n) _ (itself n))) ∙ ap (λ l. g n ∷ l) (maps_agree f g ns (λ m e. h m (or_right (bytes_eq m n) _ e)))
+
+places_same : (tokens : List Seen) (t : Seen) → map (λ n. place_of n (tokens ++ t ∷ [])) (variables tokens) ≡ map (λ n. place_of n tokens) (variables tokens)
+unfolding variables
+places_same tokens t = maps_agree (λ n. place_of n (tokens ++ t ∷ [])) (λ n. place_of n tokens) (firsts (named tokens)) (λ n e. place_known n tokens t (sym (firsts_has (named tokens) n) ∙ e))
+
+first_tokens_push : (tokens : List Seen) (t : Seen) → map (λ n. place_of n (tokens ++ t ∷ [])) (variables (tokens ++ t ∷ [])) ≡ tokens_with (variables tokens) (map (λ n. place_of n tokens) (variables tokens)) (length tokens) (names t)
+unfolding variables
+first_tokens_push tokens t = ap (map (λ n. place_of n (tokens ++ t ∷ []))) (variables_push tokens t) ∙ go (names t) refl
+  where
+    all : List Name
+    all = firsts (named tokens)
+
+    place : Name → ℕ
+    place n = place_of n (tokens ++ t ∷ [])
+
+    pick : (n : Name) → names t ≡ Some n → (has_name (firsts (named tokens)) n ≡ true) ⊎ (has_name (firsts (named tokens)) n ≡ false)
+        → map (λ n. place_of n (tokens ++ t ∷ [])) (with_name (firsts (named tokens)) n) ≡ with_token (firsts (named tokens)) (map (λ n. place_of n tokens) (firsts (named tokens))) n (length tokens)
+    pick n e (inl h) = ap (map (λ n. place_of n (tokens ++ t ∷ []))) (cond-true _ _ _ h) ∙ places_same tokens t ∙ sym (cond-true _ _ _ h)
+    pick n e (inr h) =
+        let last : place_of n (tokens ++ t ∷ []) ≡ length tokens = place_new n tokens t (sym (firsts_has (named tokens) n) ∙ h) (ap (names_it n) e ∙ itself n) in
+        ap (map (λ n. place_of n (tokens ++ t ∷ []))) (cond-false _ _ _ h)
+        ∙ map-append (λ n. place_of n (tokens ++ t ∷ [])) (firsts (named tokens)) (n ∷ [])
+        ∙ ap (λ l. l ++ place_of n (tokens ++ t ∷ []) ∷ []) (places_same tokens t)
+        ∙ ap (λ k. map (λ n. place_of n tokens) (firsts (named tokens)) ++ k ∷ []) last
+        ∙ sym (cond-false _ _ _ h)
+
+    go : (o : Option Name) → names t ≡ o → map (λ n. place_of n (tokens ++ t ∷ [])) (names_with (firsts (named tokens)) o) ≡ tokens_with (firsts (named tokens)) (map (λ n. place_of n tokens) (firsts (named tokens))) (length tokens) o
+    go None e = places_same tokens t
+    go (Some n) e = pick n e (cases_Bool (has_name (firsts (named tokens)) n))
+
+-- the first tokens of rows
+row_tokens_push : (i : ℕ) (tokens : List Seen) (t : Seen) → row_places i (tokens ++ t ∷ []) ≡ row_tokens_with (row_places i tokens) (i + length tokens) (row_at t)
+row_tokens_push i [] t = go t.site
+  where
+    go : (s : Site) → (elim s [ row_first ↦ i ∷ [] | _ ↦ [] ]) ≡ row_tokens_with [] (i + 0) (row_of s t.symbol t.next)
+    go row_first = ap (λ k. k ∷ []) (let e : i ≡ i + 0 = omega arith in e)
+    go objective_first = refl
+    go objective_more = refl
+    go row_more = refl
+    go listed = refl
+    go other = refl
+row_tokens_push i (s ∷ tokens) t = go s.site (row_at t) (row_tokens_push (i + 1) tokens t)
+  where
+    shift : i + 1 + length tokens ≡ i + suc (length tokens)
+    shift = omega arith
+
+    push : (o : Option (Option Name)) (at : ℕ) (k : ℕ) (l : List ℕ) → k ∷ row_tokens_with l at o ≡ row_tokens_with (k ∷ l) at o
+    push None at k l = refl
+    push (Some label) at k l = refl
+
+    go : (x : Site) (o : Option (Option Name)) → row_places (i + 1) (tokens ++ t ∷ []) ≡ row_tokens_with (row_places (i + 1) tokens) (i + 1 + length tokens) o
+        → (elim x [ row_first ↦ i ∷ row_places (i + 1) (tokens ++ t ∷ []) | _ ↦ row_places (i + 1) (tokens ++ t ∷ []) ]) ≡ row_tokens_with (elim x [ row_first ↦ i ∷ row_places (i + 1) tokens | _ ↦ row_places (i + 1) tokens ]) (i + suc (length tokens)) o
+    go row_first o e = ap (λ l. i ∷ l) (e ∙ ap (λ k. row_tokens_with (row_places (i + 1) tokens) k o) shift) ∙ push o (i + suc (length tokens)) i (row_places (i + 1) tokens)
+    go objective_first o e = e ∙ ap (λ k. row_tokens_with (row_places (i + 1) tokens) k o) shift
+    go objective_more o e = e ∙ ap (λ k. row_tokens_with (row_places (i + 1) tokens) k o) shift
+    go row_more o e = e ∙ ap (λ k. row_tokens_with (row_places (i + 1) tokens) k o) shift
+    go listed o e = e ∙ ap (λ k. row_tokens_with (row_places (i + 1) tokens) k o) shift
+    go other o e = e ∙ ap (λ k. row_tokens_with (row_places (i + 1) tokens) k o) shift
+
+abbrev counts : Seen → Bool
+counts t = counts_as_term t.site t.symbol t.next
+
+-- how many terms there are
+terms_push : (tokens : List Seen) (t : Seen) → term_count (tokens ++ t ∷ []) ≡ terms_with (term_count tokens) (counts_as_term t.site t.symbol t.next)
+unfolding term_count
+terms_push tokens t =
+    sym (length-filter counts (tokens ++ t ∷ [])) ∙ ap length (filter-append counts tokens (t ∷ [])) ∙ length-append (filter counts tokens) (filter counts (t ∷ []))
+    ∙ ap (λ k. k + length (filter counts (t ∷ []))) (length-filter counts tokens) ∙ go (count_by counts tokens) (counts t)
+  where
+    go : (n : ℕ) (b : Bool) → n + length (cond b (t ∷ []) []) ≡ terms_with n b
+    go n true = refl
+    go n false = omega arith
+
+-- what is noted, with one token more
+pub notes_more : (tokens : List Seen) (r : Notes) (t : Seen) → AreNoted tokens r → AreNoted (tokens ++ t ∷ []) (noted r (length tokens) t)
+notes_more tokens r t h = record {
+  names = ap (λ l. names_with l (names t)) h.names ∙ sym (variables_push tokens t);
+  first_tokens = ap (λ l. tokens_with l r.first_tokens (length tokens) (names t)) h.names ∙ ap (λ l. tokens_with (variables tokens) l (length tokens) (names t)) h.first_tokens ∙ sym (first_tokens_push tokens t);
+  row_names = ap (λ l. rows_with l (row_at t)) h.row_names ∙ sym (row_names_push tokens t);
+  row_tokens = ap (λ l. row_tokens_with l (length tokens) (row_at t)) h.row_tokens ∙ sym (row_tokens_push 0 tokens t ∙ ap (λ k. row_tokens_with (row_places 0 tokens) k (row_at t)) (let e : 0 + length tokens ≡ length tokens = omega arith in e));
+  terms = ap (λ k. terms_with k (counts_as_term t.site t.symbol t.next)) h.terms ∙ sym (terms_push tokens t);
+}
+
+-- no fault by names and counts
+pub no_fault : (tokens : List Seen) → has_twice (row_names tokens) ≡ false → is_over_limit tokens ≡ false → role_fault tokens ≡ None
+unfolding role_fault
+no_fault tokens a b = cond-false _ _ _ a ∙ cond-false _ _ _ b
+
+pub twice_fault : (tokens : List Seen) → has_twice (row_names tokens) ≡ true → role_fault tokens ≡ Some RowTwice
+unfolding role_fault
+twice_fault tokens a = cond-true _ _ _ a
+
+pub limit_fault : (tokens : List Seen) → has_twice (row_names tokens) ≡ false → is_over_limit tokens ≡ true → role_fault tokens ≡ Some Limit
+unfolding role_fault
+limit_fault tokens a b = cond-false _ _ _ a ∙ cond-true _ _ _ b
+
+-- then no row has an earlier one's name
+pub sound_rows : (tokens : List Seen) → role_fault tokens ≡ None → has_twice (row_names tokens) ≡ false
+unfolding role_fault
+sound_rows tokens h = go (has_twice (row_names tokens)) _ h
+  where
+    go : (b : Bool) (o : Option LpKind) → cond b (Some RowTwice) o ≡ None → b ≡ false
+    go false o h = refl
+    go true o h = absurd cc
+
+-- the counts are those noted
+counts_same : (tokens : List Seen) (r : Notes) → AreNoted tokens r → are_too_many r ≡ is_over_limit tokens
+unfolding is_over_limit
+counts_same tokens r h =
+    ap (λ l. nat_lt 4096 (length l) || (nat_lt 8192 (length r.row_names) || nat_lt 65536 r.terms)) h.names
+    ∙ ap (λ l. nat_lt 4096 (length (variables tokens)) || (nat_lt 8192 (length l) || nat_lt 65536 r.terms)) h.row_names
+    ∙ ap (λ k. nat_lt 4096 (length (variables tokens)) || (nat_lt 8192 (length (row_names tokens)) || nat_lt 65536 k)) h.terms
+
+-- whether a name stands twice, with one row more
+rows_once : (rows : List Name) (o : Option (Option Name)) → has_twice rows ≡ false → is_repeated rows o ≡ false → has_twice (rows_with rows o) ≡ false
+rows_once rows None h e = h
+rows_once rows (Some label) h e = once_push rows (row_name (length rows + 1) label) h e
+
+rows_twice : (rows : List Name) (o : Option (Option Name)) → is_repeated rows o ≡ true → has_twice (rows_with rows o) ≡ true
+rows_twice rows None e = absurd cc
+rows_twice rows (Some label) e = twice_push rows (row_name (length rows + 1) label) e
+
+-- one token more without a fault
+pub sound_more : (tokens : List Seen) (r : Notes) (t : Seen) → AreNoted tokens r → role_fault tokens ≡ None → is_repeated_in r t ≡ false → are_too_many (noted r (length tokens) t) ≡ false → role_fault (tokens ++ t ∷ []) ≡ None
+sound_more tokens r t h e a b =
+    no_fault (tokens ++ t ∷ [])
+    (ap has_twice (row_names_push tokens t) ∙ rows_once (row_names tokens) (row_at t) (sound_rows tokens e) (ap (λ l. is_repeated l (row_at t)) (sym h.row_names) ∙ a))
+    (sym (counts_same (tokens ++ t ∷ []) (noted r (length tokens) t) (notes_more tokens r t h)) ∙ b)
+
+-- one token more with a row's name that an earlier one has
+pub twice_more : (tokens : List Seen) (r : Notes) (t : Seen) → AreNoted tokens r → is_repeated_in r t ≡ true → role_fault (tokens ++ t ∷ []) ≡ Some RowTwice
+twice_more tokens r t h a =
+    twice_fault (tokens ++ t ∷ []) (ap has_twice (row_names_push tokens t) ∙ rows_twice (row_names tokens) (row_at t) (ap (λ l. is_repeated l (row_at t)) (sym h.row_names) ∙ a))
+
+-- one token too many
+pub limit_more : (tokens : List Seen) (r : Notes) (t : Seen) → AreNoted tokens r → role_fault tokens ≡ None → is_repeated_in r t ≡ false → are_too_many (noted r (length tokens) t) ≡ true → role_fault (tokens ++ t ∷ []) ≡ Some Limit
+limit_more tokens r t h e a b =
+    limit_fault (tokens ++ t ∷ [])
+    (ap has_twice (row_names_push tokens t) ∙ rows_once (row_names tokens) (row_at t) (sound_rows tokens e) (ap (λ l. is_repeated l (row_at t)) (sym h.row_names) ∙ a))
+    (sym (counts_same (tokens ++ t ∷ []) (noted r (length tokens) t) (notes_more tokens r t h)) ∙ b)
+
+-- one symbol more in its site
+pub seen_more : (sites : List Site) (all : List Symbol) (site : Site) (s : Symbol) → slice_get all (length sites) ≡ Some s
+    → seen (sites ++ site ∷ []) all ≡ seen sites all ++ record { site = site; symbol = s; next = first_of_symbols (drop (suc (length sites)) all) } ∷ []
+seen_more [] [] site s h = absurd cc
+seen_more [] (a ∷ all) site s h = ap (λ x. record { site = site; symbol = x; next = first_of_symbols all } ∷ []) (same a s h)
+  where
+    same : (a b : Symbol) → Some a ≡ Some b → a ≡ b
+    same a b h = cc
+seen_more (x ∷ sites) [] site s h = absurd cc
+seen_more (x ∷ sites) (a ∷ all) site s h = ap (λ l. record { site = x; symbol = a; next = first_of_symbols all } ∷ l) (seen_more sites all site s h)
+
+-- nothing is noted of no tokens
+pub no_tokens : role_fault [] ≡ None
+unfolding role_fault row_names is_over_limit variables term_count
+no_tokens = refl
+
+pub none_noted : AreNoted [] (record { names = []; first_tokens = []; row_names = []; row_tokens = []; terms = 0 })
+unfolding row_names variables term_count
+none_noted = record { names = refl; first_tokens = refl; row_names = refl; row_tokens = refl; terms = refl }

@@ -1,0 +1,258 @@
+-- What reading one symbol more shows.
+use Rattle.std.proofs.Common.{◌≡◌, ℕ, zero, suc, ◌+◌, ◌<◌, ◌≤◌, ◌⊎◌, Bool, true, false, ◌||◌, List, [], ◌∷◌, ◌++◌, map, take, drop, length, refl, sym, ◌∙◌, ap, subst, inl, inr, arith, Option, None, Some, add-one}
+use Rattle.std.proofs.lemmas.List.{map-append, length-take-le, take_all}
+use Rattle.std.proofs.lemmas.Option.{slice_get_within}
+use Rattle.std.proofs.lemmas.Bool.{cases_Bool, or_cases}
+use Rattle.std.specs.Prelude.{slice_get, get_or, IsFalse, Result, Ok, Err, IfOk, IfErr}
+use Rattle.lp_token.specs.declared.Section.TheVariants as sections
+use Rattle.lp_token.specs.declared.LpKind.{LpKind}
+use Rattle.lp_token.specs.declared.LpKind.TheVariants.{Syntax, RowTwice, Limit}
+use Rattle.lp_read.specs.declared.symbol as rust
+use Rattle.lp_read.specs.declared.stage.Stage as stages
+use Rattle.lp_read.specs.declared.stage.Stage.TheVariants as variants
+use Rattle.lp_read.specs.declared.tree.Tree as trees
+use Rattle.lp_read.specs.declared.stage.ObjectiveStage.TheVariants as objectives
+use Rattle.lp_read.specs.declared.stage.RowStage.TheVariants as rows
+use Rattle.lp_read.specs.declared.stage.BoundStage.TheVariants as bounds
+use Rattle.lp_read.specs.declared.notes.Notes.{Notes}
+use Rattle.lp_read.specs.declared.notes.ParseFault.{ParseFault}
+use Rattle.lp_read.specs.declared.notes.ParseFault.TheVariants.{At, NoEnd, NoMemory}
+use Rattle.lp_read.specs.declared.parse.State.{State}
+use Rattle.lp_read.specs.declared.parse.Parsed.{Parsed}
+use Rattle.lp_read.specs.Tree.{Symbol, word, Site, Tree, Written, IsText, spelling, sites}
+use Rattle.lp_read.specs.TreeIn.{symbol_in, next_in, tree_in}
+use Rattle.lp_read.specs.StageIn.{stage_in, step_in}
+use Rattle.lp_read.specs.Parser.{Stage, start, done, Step, step, Leads}
+use Rattle.lp_read.specs.Roles.{Seen, seen, first_of_symbols, role_fault}
+use Rattle.lp_read.specs.Meaning.{tokens_of}
+use Rattle.lp_read.specs.Reading.{own_fault, StandsAt, AreSound, is_ended, is_end_word}
+use Rattle.lp_read.specs.Noted.{seen_in, noted, is_repeated_in, are_too_many, IsRoleFault, AreNoted}
+use Rattle.lp_read.specs.Parsing.{HasRead, IsReadBy, IsRead, IsNext, IsParseFault, IsParsed, ReadsOn, StopsAt}
+use Rattle.lp_read.proofs.Noting.{notes_more, sound_more, twice_more, limit_more, seen_more, no_tokens}
+use Rattle.lp_read.proofs.Reader.{reads_start, reads_more, own_stands, stuck_stands, role_stands, reads_sound, reads_text}
+use Rattle.lp_read.proofs.Total.{map_length, end_done, past_end, is_end}
+
+-- as many sites as symbols read
+site_count : (all : List Symbol) (n : ℕ) (x : Stage) (ws : List Written) → HasRead all n x ws → n ≤ length all → length (map (λ w. w.site) ws) ≡ n
+site_count all n x ws h l = map_length (λ w. w.site) (λ w. w.symbol) ws ∙ ap length h.symbols ∙ length-take-le n all l
+
+seen-length : (sites : List Site) (all : List Symbol) → length sites ≤ length all → length (seen sites all) ≡ length sites
+seen-length [] all l = refl
+seen-length (x ∷ sites) [] l = absurd (omega arith)
+seen-length (x ∷ sites) (a ∷ all) l = ap suc (seen-length sites all (omega arith))
+
+-- the place of the next symbol is in the list
+within : (text : List ℕ) (all : List Symbol) (n : ℕ) (symbol : rust.Symbol.Symbol) (next : Option rust.Symbol.Symbol) → IsNext text all n symbol next → n < length all
+within text all n symbol next h = slice_get_within all n (symbol_in text symbol) h.here
+
+sound_so_far : (text : List ℕ) (all : List Symbol) (n : ℕ) (state : State) (ws : List Written) → n ≤ length all → IsReadBy text all n state ws → AreSound all n
+sound_so_far text all n state ws l h = reads_sound all n (stage_in text state.stage) ws h.read l h.sound
+
+-- a fault of its own
+pub own_at : (text : List ℕ) (all : List Symbol) (n : ℕ) (state : State) (symbol : rust.Symbol.Symbol) (next : Option rust.Symbol.Symbol) (kind : LpKind) → own_fault (symbol_in text symbol) ≡ Some kind
+    → IsRead text all n state → IsNext text all n symbol next → IsParseFault all (At n kind)
+own_at text all n state symbol next kind e h g =
+    let l : n < length all = within text all n symbol next g in
+    (sound_so_far text all n state h.0 (omega arith) h.1, own_stands all n (symbol_in text symbol) kind g.here e)
+
+-- no text goes on so
+pub stuck_at : (text : List ℕ) (all : List Symbol) (n : ℕ) (state : State) (symbol : rust.Symbol.Symbol) (next : Option rust.Symbol.Symbol) → own_fault (symbol_in text symbol) ≡ None → step (stage_in text state.stage) (symbol_in text symbol) ≡ None
+    → IsRead text all n state → IsNext text all n symbol next → IsParseFault all (At n Syntax)
+stuck_at text all n state symbol next o e h g =
+    let l : n < length all = within text all n symbol next g in
+    (sound_so_far text all n state h.0 (omega arith) h.1, stuck_stands all n (stage_in text state.stage) h.0 (symbol_in text symbol) h.1.read g.here o e)
+
+-- the tokens with one more
+one_seen : (text : List ℕ) (all : List Symbol) (n : ℕ) (state : State) (symbol : rust.Symbol.Symbol) (next : Option rust.Symbol.Symbol) (site : Site) (ws : List Written) → IsReadBy text all n state ws → IsNext text all n symbol next
+    → seen (map (λ w. w.site) (ws ++ record { symbol = symbol_in text symbol; site = site } ∷ [])) all ≡ seen (map (λ w. w.site) ws) all ++ seen_in text site symbol next ∷ []
+one_seen text all n state symbol next site ws h g =
+    let l : n < length all = within text all n symbol next g in
+    let count : length (map (λ w. w.site) ws) ≡ n = site_count all n (stage_in text state.stage) ws h.read (omega arith) in
+    let behind : first_of_symbols (drop (suc (length (map (λ w. w.site) ws))) all) ≡ next_in text next
+    = ap (λ k. first_of_symbols (drop (suc k) all)) count ∙ ap (λ k. first_of_symbols (drop k all)) (sym (add-one n)) ∙ g.behind in
+    ap (λ s. seen s all) (map-append (λ w. w.site) ws (record { symbol = symbol_in text symbol; site = site } ∷ []))
+    ∙ seen_more (map (λ w. w.site) ws) all site (symbol_in text symbol) (ap (slice_get all) count ∙ g.here)
+    ∙ ap (λ x. seen (map (λ w. w.site) ws) all ++ record { site = site; symbol = symbol_in text symbol; next = x } ∷ []) behind
+
+-- how many tokens are noted
+noted_count : (text : List ℕ) (all : List Symbol) (n : ℕ) (state : State) (ws : List Written) → IsReadBy text all n state ws → n ≤ length all → length (seen (map (λ w. w.site) ws) all) ≡ n
+noted_count text all n state ws h l =
+    let count : length (map (λ w. w.site) ws) ≡ n = site_count all n (stage_in text state.stage) ws h.read l in
+    seen-length (map (λ w. w.site) ws) all (omega arith) ∙ count
+
+-- one symbol more is read
+pub read_on : (text : List ℕ) (all : List Symbol) (n : ℕ) (state more : State) (symbol : rust.Symbol.Symbol) (next : Option rust.Symbol.Symbol) (site : Site)
+    → step (stage_in text state.stage) (symbol_in text symbol) ≡ Some (site, stage_in text more.stage)
+    → more.notes ≡ noted state.notes n (seen_in text site symbol next) → is_repeated_in state.notes (seen_in text site symbol next) ≡ false → are_too_many more.notes ≡ false
+    → IsRead text all n state → IsNext text all n symbol next → IsRead text all (n + 1) more
+read_on text all n state more symbol next site e f a b h g =
+    let l : n < length all = within text all n symbol next g in
+    let tokens : List Seen = seen (map (λ w. w.site) h.0) all in
+    let count : length (seen (map (λ w. w.site) h.0) all) ≡ n = noted_count text all n state h.0 h.1 (omega arith) in
+    let w : Written = record { symbol = symbol_in text symbol; site = site } in
+    let whole : seen (map (λ w. w.site) (h.0 ++ w ∷ [])) all ≡ tokens ++ seen_in text site symbol next ∷ [] = one_seen text all n state symbol next site h.0 h.1 g in
+    let same : more.notes ≡ noted state.notes (length tokens) (seen_in text site symbol next) = f ∙ ap (λ k. noted state.notes k (seen_in text site symbol next)) (sym count) in (
+      h.0 ++ w ∷ [],
+      record {
+        read = reads_more all n (stage_in text state.stage) (stage_in text more.stage) h.0 (symbol_in text symbol) site h.1.read g.here e;
+        notes = subst (λ (x : List Seen). AreNoted x more.notes) (sym whole) (subst (λ (r : Notes). AreNoted (tokens ++ seen_in text site symbol next ∷ []) r) (sym same) (notes_more tokens state.notes (seen_in text site symbol next) h.1.notes));
+        sound = ap role_fault whole ∙ sound_more tokens state.notes (seen_in text site symbol next) h.1.notes h.1.sound a (ap are_too_many (sym same) ∙ b);
+      },
+    )
+
+-- a fault by names and counts
+pub role_at : (text : List ℕ) (all : List Symbol) (n : ℕ) (state : State) (y : stages.Stage) (symbol : rust.Symbol.Symbol) (next : Option rust.Symbol.Symbol) (site : Site) (f : ParseFault) → own_fault (symbol_in text symbol) ≡ None
+    → step (stage_in text state.stage) (symbol_in text symbol) ≡ Some (site, stage_in text y) → IsRoleFault state.notes n (seen_in text site symbol next) f
+    → IsRead text all n state → IsNext text all n symbol next → IsParseFault all f
+role_at text all n state y symbol next site NoMemory o e r h g = tt
+role_at text all n state y symbol next site NoEnd o e r h g = absurd r
+role_at text all n state y symbol next site (At i kind) o e r h g =
+    let l : n < length all = within text all n symbol next g in
+    subst (λ k. AreSound all k × StandsAt all k kind) (sym r.0) (
+      sound_so_far text all n state h.0 (omega arith) h.1,
+      role_stands all n (stage_in text y) (h.0 ++ record { symbol = symbol_in text symbol; site = site } ∷ []) (symbol_in text symbol) kind
+          (reads_more all n (stage_in text state.stage) (stage_in text y) h.0 (symbol_in text symbol) site h.1.read g.here e) g.here o
+          (ap role_fault (one_seen text all n state symbol next site h.0 h.1 g) ∙ fault r.1),
+    )
+  where
+    tokens : List Seen
+    tokens = seen (map (λ w. w.site) h.0) all
+
+    count : n < length all → length (seen (map (λ w. w.site) h.0) all) ≡ n
+    count l = noted_count text all n state h.0 h.1 (omega arith)
+
+    fault : ((kind ≡ RowTwice) × (is_repeated_in state.notes (seen_in text site symbol next) ≡ true)) ⊎ ((kind ≡ Limit) × (is_repeated_in state.notes (seen_in text site symbol next) ≡ false) × (are_too_many (noted state.notes n (seen_in text site symbol next)) ≡ true))
+        → role_fault (seen (map (λ w. w.site) h.0) all ++ seen_in text site symbol next ∷ []) ≡ Some kind
+    fault (inl a) = twice_more (seen (map (λ w. w.site) h.0) all) state.notes (seen_in text site symbol next) h.1.notes a.1 ∙ ap Some (sym a.0)
+    fault (inr a) =
+        limit_more (seen (map (λ w. w.site) h.0) all) state.notes (seen_in text site symbol next) h.1.notes h.1.sound a.1
+        (ap (λ k. are_too_many (noted state.notes k (seen_in text site symbol next))) (count (within text all n symbol next g)) ∙ a.2) ∙ ap Some (sym a.0)
+
+-- nothing is read yet
+pub read_none : (text : List ℕ) (all : List Symbol) (state : State) → state.stage ≡ variants.Start → AreNoted [] state.notes → IsRead text all 0 state
+read_none text all state e h = ([], record { read = subst (λ (x : stages.Stage). HasRead all 0 (stage_in text x) []) (sym e) (reads_start all); notes = h; sound = no_tokens })
+
+-- all is read, up to the end
+pub read_whole : (text : List ℕ) (all : List Symbol) (n : ℕ) (state : State) (p : Parsed) → length all ≤ n → n ≤ length all → IsRead text all n state → state.stage ≡ variants.Done p.tree → p.notes ≡ state.notes → IsParsed text all p
+unfolding tokens_of
+read_whole text all n state p l m h e f =
+    let k : n ≡ length all = omega arith in
+    let last : HasRead all (length all) (done (tree_in text p.tree)) h.0 = subst (λ (x : stages.Stage). HasRead all (length all) (stage_in text x) h.0) e (subst (λ i. HasRead all i (stage_in text state.stage) h.0) k h.1.read) in
+    let r : IsText (tree_in text p.tree) × (spelling (tree_in text p.tree) ≡ all) × (sites (tree_in text p.tree) ≡ map (λ w. w.site) h.0) = reads_text all (tree_in text p.tree) h.0 last in
+    let same : seen (sites (tree_in text p.tree)) (spelling (tree_in text p.tree)) ≡ seen (map (λ w. w.site) h.0) all = ap (λ x. seen x (spelling (tree_in text p.tree))) r.2 ∙ ap (seen (map (λ w. w.site) h.0)) r.1 in
+    record {
+      grammar = r.0;
+      spelled = r.1;
+      roles = ap role_fault same ∙ h.1.sound;
+      notes = subst (λ (x : List Seen). AreNoted x p.notes) (sym same) (subst (λ (x : Notes). AreNoted (seen (map (λ w. w.site) h.0) all) x) (sym f) h.1.notes);
+    }
+
+-- the word `end` leads to the end
+ends : (x z : Stage) (ws : List Written) → Leads x ws z → is_ended (map (λ w. w.symbol) ws) ≡ true → (t : Tree) × (z ≡ done t)
+ends x z [] l h = absurd cc
+ends x z (w ∷ ws) l h = elim (or_cases (is_end_word w.symbol) (is_ended (map (λ w. w.symbol) ws)) h) [
+  | inr k ↦ ends l.0 z ws l.2 k
+  | inl k ↦ here (end_done x (w.site, l.0) (ap (step x) (sym (is_end w.symbol k)) ∙ l.1))
+]
+  where
+    here : (t : Tree) × (l.0 ≡ done t) → (t : Tree) × (z ≡ done t)
+    here t =
+        let none : ws ≡ [] = past_end t.0 ws z (subst (λ y. Leads y ws z) t.1 l.2) in
+        let same : l.0 ≡ z = subst (λ us. Leads l.0 us z) none l.2 in
+        (t.0, sym same ∙ t.1)
+
+-- a stage that is none of the end
+not_done : (text : List ℕ) (s : stages.Stage) (t : Tree) → ((tree : trees.Tree) → s ≡ variants.Done tree → ⊥) → stage_in text s ≡ done t → ⊥
+not_done text variants.Start t h e = cc
+not_done text (variants.Objective b objectives.Word) t h e = cc
+not_done text (variants.Objective b (objectives.Name n)) t h e = cc
+not_done text (variants.Objective b (objectives.Open label gap)) t h e = cc
+not_done text (variants.Objective b (objectives.Number label gap k)) t h e = cc
+not_done text (variants.Objective b (objectives.Sum label sum)) t h e = cc
+not_done text (variants.Row f rows.Start) t h e = cc
+not_done text (variants.Row f (rows.Name n)) t h e = cc
+not_done text (variants.Row f (rows.Signs label signs)) t h e = cc
+not_done text (variants.Row f (rows.Number label signs k)) t h e = cc
+not_done text (variants.Row f (rows.Open label sum s signs)) t h e = cc
+not_done text (variants.Row f (rows.Factor label sum s signs k)) t h e = cc
+not_done text (variants.Row f (rows.Sum label sum)) t h e = cc
+not_done text (variants.Row f (rows.Compared label sum c signs)) t h e = cc
+not_done text (variants.Row f (rows.NumberOpen label v c gap)) t h e = cc
+not_done text (variants.Row f (rows.NumberFactor label v c gap k)) t h e = cc
+not_done text (variants.Row f (rows.NumberSum label v c sum)) t h e = cc
+not_done text (variants.Row f (rows.NumberCompared label v d sum signs)) t h e = cc
+not_done text (variants.Generals f parts names) t h e = cc
+not_done text (variants.Binaries f parts names) t h e = cc
+not_done text (variants.Bounds w bounds.Start) t h e = cc
+not_done text (variants.Bounds w (bounds.Signs signs)) t h e = cc
+not_done text (variants.Bounds w (bounds.Value v)) t h e = cc
+not_done text (variants.Bounds w (bounds.Compared v c)) t h e = cc
+not_done text (variants.Bounds w (bounds.Half v c n)) t h e = cc
+not_done text (variants.Bounds w (bounds.Between v d n signs)) t h e = cc
+not_done text (variants.Bounds w (bounds.Name n)) t h e = cc
+not_done text (variants.Bounds w (bounds.Named n c signs)) t h e = cc
+not_done text (variants.Done tree) t h e = h tree refl
+
+-- all is read, and no word `end` stands there
+pub read_unended : (text : List ℕ) (all : List Symbol) (n : ℕ) (state : State) → length all ≤ n → n ≤ length all → IsRead text all n state → ((tree : trees.Tree) → state.stage ≡ variants.Done tree → ⊥) → IsParseFault all NoEnd
+read_unended text all n state l m h e =
+    let k : n ≡ length all = omega arith in
+    let whole : map (λ w. w.symbol) h.0 ≡ all = h.1.read.symbols ∙ take_all n all l in
+    (subst (λ i. AreSound all i) k (sound_so_far text all n state h.0 m h.1), go (cases_Bool (is_ended all)) whole)
+  where
+    go : (is_ended all ≡ true) ⊎ (is_ended all ≡ false) → map (λ w. w.symbol) h.0 ≡ all → is_ended all ≡ false
+    go (inr f) whole = f
+    go (inl f) whole =
+        let t : (t : Tree) × (stage_in text state.stage ≡ done t) = ends start (stage_in text state.stage) h.0 h.1.read.leads (ap is_ended whole ∙ f) in
+        absurd (not_done text state.stage t.0 e t.1)
+
+-- the first of what stands from a place on
+pub first_from : (f : rust.Symbol.Symbol → Symbol) (xs : List rust.Symbol.Symbol) (k : ℕ) (d : rust.Symbol.Symbol) → k < length xs → first_of_symbols (drop k (map f xs)) ≡ Some (f (get_or xs k d))
+first_from f [] k d l = absurd (omega arith)
+first_from f (x ∷ xs) zero d l = refl
+first_from f (x ∷ xs) (suc k) d l = first_from f xs k d (omega arith)
+
+pub none_from : (f : rust.Symbol.Symbol → Symbol) (xs : List rust.Symbol.Symbol) (k : ℕ) → length xs ≤ k → first_of_symbols (drop k (map f xs)) ≡ None
+none_from f [] zero l = refl
+none_from f [] (suc k) l = refl
+none_from f (x ∷ xs) zero l = absurd (omega arith)
+none_from f (x ∷ xs) (suc k) l = none_from f xs k (omega arith)
+
+-- the same, whatever the symbols are
+pub reads_on : (text : List ℕ) (n : ℕ) (state more : State) (symbol : rust.Symbol.Symbol) (next : Option rust.Symbol.Symbol) (site : Site)
+    → step (stage_in text state.stage) (symbol_in text symbol) ≡ Some (site, stage_in text more.stage)
+    → more.notes ≡ noted state.notes n (seen_in text site symbol next) → is_repeated_in state.notes (seen_in text site symbol next) ≡ false → are_too_many more.notes ≡ false
+    → ReadsOn text n symbol next state more
+unfolding ReadsOn
+reads_on text n state more symbol next site e f a b = λ all h g. read_on text all n state more symbol next site e f a b h g
+
+pub stops_own : (text : List ℕ) (n : ℕ) (state : State) (symbol : rust.Symbol.Symbol) (next : Option rust.Symbol.Symbol) (kind : LpKind) → own_fault (symbol_in text symbol) ≡ Some kind → StopsAt text n symbol next state (At n kind)
+unfolding StopsAt
+stops_own text n state symbol next kind e = λ all h g. own_at text all n state symbol next kind e h g
+
+pub stops_stuck : (text : List ℕ) (n : ℕ) (state : State) (symbol : rust.Symbol.Symbol) (next : Option rust.Symbol.Symbol) → own_fault (symbol_in text symbol) ≡ None → step (stage_in text state.stage) (symbol_in text symbol) ≡ None → StopsAt text n symbol next state (At n Syntax)
+unfolding StopsAt
+stops_stuck text n state symbol next o e = λ all h g. stuck_at text all n state symbol next o e h g
+
+pub stops_role : (text : List ℕ) (n : ℕ) (state : State) (y : stages.Stage) (symbol : rust.Symbol.Symbol) (next : Option rust.Symbol.Symbol) (site : Site) (f : ParseFault) → own_fault (symbol_in text symbol) ≡ None
+    → step (stage_in text state.stage) (symbol_in text symbol) ≡ Some (site, stage_in text y) → IsRoleFault state.notes n (seen_in text site symbol next) f → StopsAt text n symbol next state f
+unfolding StopsAt
+stops_role text n state y symbol next site f o e r = λ all h g. role_at text all n state y symbol next site f o e r h g
+
+pub stops_memory : (text : List ℕ) (n : ℕ) (state : State) (symbol : rust.Symbol.Symbol) (next : Option rust.Symbol.Symbol) → StopsAt text n symbol next state NoMemory
+unfolding StopsAt
+stops_memory text n state symbol next = λ all h g. tt
+
+-- what advancing gives
+pub advanced : (text : List ℕ) (n : ℕ) (state : State) (y : stages.Stage) (symbol : rust.Symbol.Symbol) (next : Option rust.Symbol.Symbol) (site : Site) (r : Result State ParseFault)
+    → step (stage_in text state.stage) (symbol_in text symbol) ≡ Some (site, stage_in text y)
+    → IfOk r (λ more. more.stage ≡ y) → IfOk r (λ more. more.notes ≡ noted state.notes n (seen_in text site symbol next))
+    → IfOk r (λ more. (is_repeated_in state.notes (seen_in text site symbol next) ≡ false) × (are_too_many more.notes ≡ false))
+    → IfOk r (λ more. ReadsOn text n symbol next state more)
+advanced text n state y symbol next site (Ok more) e a b s = reads_on text n state more symbol next site (e ∙ ap (λ (x : stages.Stage). Some (site, stage_in text x)) (sym a)) b s.0 s.1
+advanced text n state y symbol next site (Err f) e a b s = tt
+
+pub stopped : (text : List ℕ) (n : ℕ) (state : State) (y : stages.Stage) (symbol : rust.Symbol.Symbol) (next : Option rust.Symbol.Symbol) (site : Site) (r : Result State ParseFault) → own_fault (symbol_in text symbol) ≡ None
+    → step (stage_in text state.stage) (symbol_in text symbol) ≡ Some (site, stage_in text y) → IfErr r (IsRoleFault state.notes n (seen_in text site symbol next)) → IfErr r (λ f. StopsAt text n symbol next state f)
+stopped text n state y symbol next site (Ok more) o e h = tt
+stopped text n state y symbol next site (Err f) o e h = stops_role text n state y symbol next site f o e h

@@ -1,0 +1,8 @@
+-- A name names a variable where no colon follows.
+use Rattle.lp_read.proofs.notes.unless_label.Goals as goal
+
+pub returns-then-is_colon-clause-same : goal.returns-then-is_colon-clause-same
+returns-then-is_colon-clause-same c = λ text. rw (c.in-Name.is, ← c.is_colon.ensures text, c.if-is_colon.true)
+
+pub returns-else-is_colon-clause-same : goal.returns-else-is_colon-clause-same
+returns-else-is_colon-clause-same c = λ text. rw (c.in-Name.is, ← c.is_colon.ensures text, c.if-is_colon.false)

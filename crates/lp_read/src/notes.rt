@@ -1,0 +1,319 @@
+// What the tokens of a text name and count as.
+ghost use Rattle.std.specs.Prelude.{◌≡◌, ℕ, ◌+◌, ◌<◌, ◌^◌, ◌≤◌, List, [], ◌++◌, ◌∷◌, length, IfOk, IfErr, IfSome, IsTrue, IsFalse, Option, Some, false, true};
+ghost use Rattle.lp_token.specs.declared.LpKind.TheVariants.{RowTwice, Limit};
+ghost use Rattle.std.specs.Option.{ForSome};
+ghost use Rattle.lp_token.specs.Lexeme.{is_name};
+ghost use Rattle.lp_read.specs.Tree as plain;
+ghost use Rattle.lp_read.specs.Tree.{row_first, listed};
+ghost use Rattle.lp_read.specs.TreeIn.{IsNamed, symbol_in, next_in, name_in, label_in};
+ghost use Rattle.lp_read.specs.Roles.{label_of, is_colon as specs_is_colon, is_name as specs_is_name, variable_of as specs_variable_of, counts_as_term as specs_counts_as_term, row_of as specs_row_of};
+ghost use Rattle.lp_read.specs.Noted.{seen_in, with_name, with_token, names_with, tokens_with, row_name, rows_with, row_tokens_with, is_repeated, terms_with, with_rows, with_variables, noted, is_repeated_in, are_too_many, HaveRoom, HaveRoomForVariables, IsTwice, IsRowFault, IsRoleFault};
+ghost use Rattle.lp_read.specs.declared.symbol.Symbol.TheVariants as symbols;
+ghost use Rattle.lp_read.specs.Meaning.{has_name};
+ghost use Rattle.lp_read.specs.declared.notes.ParseFault.TheVariants.{At, NoMemory};
+
+use crate::symbol::Symbol;
+use crate::tree::{Place, Site, name_at};
+use bp_model::Names;
+use bp_theory::Items;
+use lp_token::LpKind;
+use std::alloc::{AllocError, Global};
+
+/// The most variables of a model.
+const MOST_VARIABLES: u32 = 4096;
+
+/// The most rows of a model.
+const MOST_ROWS: u32 = 8192;
+
+/// The most terms of a model.
+const MOST_TERMS: u32 = 65536;
+
+/// Why tokens are no text.
+#[derive(Clone, Copy, Debug, PartialEq, Eq)]
+pub enum ParseFault {
+    /// The first token at fault.
+    At { token: usize, kind: LpKind },
+    /// The tokens end without the word `end`.
+    NoEnd,
+    /// Want of memory.
+    NoMemory,
+}
+
+impl From<AllocError> for ParseFault {
+    ghost from_gives = { λ _ fault. fault ≡ NoMemory };
+
+    fn from(_: AllocError) -> Self {
+        ParseFault::NoMemory
+    }
+}
+
+/// The variables and the rows so far with the tokens where they first stand, and how many terms there are.
+#[derive(Drop)]
+pub struct Notes {
+    pub names: Names,
+    pub first_tokens: Items<usize>,
+    pub row_names: Names,
+    pub row_tokens: Items<usize>,
+    pub terms: u32,
+}
+
+/// Nothing yet.
+pub fn no_notes(alloc: Global) -> Notes
+    ensures { result ≡ record { names = []; first_tokens = []; row_names = []; row_tokens = []; terms = 0 } }
+{
+    Notes {
+        names: Names::new(alloc),
+        first_tokens: Items::new(alloc),
+        row_names: Names::new(alloc),
+        row_tokens: Items::new(alloc),
+        terms: 0,
+    }
+}
+
+/// Whether a colon follows.
+fn is_colon(next: Option<Symbol>) -> bool
+    ensures { (text : List ℕ) → result ≡ specs_is_colon (next_in text next) }
+{
+    match next {
+        Some(Symbol::Colon) => true,
+        _ => false,
+    }
+}
+
+/// Whether a name follows.
+fn is_name_next(next: Option<Symbol>) -> bool
+    ensures { (text : List ℕ) → result ≡ specs_is_name (next_in text next) }
+{
+    match next {
+        Some(Symbol::Name(_)) => true,
+        _ => false,
+    }
+}
+
+/// The variable that a name names where a label may stand.
+fn unless_label(symbol: Symbol, next: Option<Symbol>) -> Option<Place>
+    ensures same { (text : List ℕ) → label_in text result ≡ specs_variable_of row_first (symbol_in text symbol) (next_in text next) }
+    ensures named { IfSome result (λ name. symbol ≡ symbols.Name name) }
+{
+    match symbol {
+        Symbol::Name(name) => { if is_colon(next) { None } else { Some(name) } }
+        _ => None,
+    }
+}
+
+/// The name that a symbol is.
+fn name_of(symbol: Symbol) -> Option<Place>
+    ensures same { (text : List ℕ) (next : Option plain.Symbol) → label_in text result ≡ specs_variable_of listed (symbol_in text symbol) next }
+    ensures named { IfSome result (λ name. symbol ≡ symbols.Name name) }
+{
+    match symbol {
+        Symbol::Name(name) => Some(name),
+        _ => None,
+    }
+}
+
+/// The variable that a symbol names.
+fn variable_of(site: Site, symbol: Symbol, next: Option<Symbol>) -> Option<Place>
+    ensures same { (text : List ℕ) → label_in text result ≡ specs_variable_of site (symbol_in text symbol) (next_in text next) }
+    ensures named { IfSome result (λ name. symbol ≡ symbols.Name name) }
+{
+    match site {
+        Site::Other => None,
+        Site::ObjectiveFirst => unless_label(symbol, next),
+        Site::RowFirst => unless_label(symbol, next),
+        Site::ObjectiveMore => name_of(symbol),
+        Site::RowMore => name_of(symbol),
+        Site::Listed => name_of(symbol),
+    }
+}
+
+/// Whether a symbol counts as a term: a variable's name, and in the objective a number that no name follows.
+fn counts_as_term(site: Site, symbol: Symbol, next: Option<Symbol>) -> bool
+    ensures { (text : List ℕ) → result ≡ specs_counts_as_term site (symbol_in text symbol) (next_in text next) }
+{
+    match (site, symbol) {
+        (Site::ObjectiveFirst, Symbol::Number(_)) => !is_name_next(next),
+        (Site::ObjectiveMore, Symbol::Number(_)) => !is_name_next(next),
+        (Site::ObjectiveFirst, Symbol::Name(_)) => !is_colon(next),
+        (Site::RowFirst, Symbol::Name(_)) => !is_colon(next),
+        (Site::ObjectiveMore, Symbol::Name(_)) => true,
+        (Site::RowMore, Symbol::Name(_)) => true,
+        _ => false,
+    }
+}
+
+/// The label of a row's first symbol.
+fn row_label(symbol: Symbol, next: Option<Symbol>) -> Option<Place>
+    ensures same { (text : List ℕ) → label_in text result ≡ label_of row_first (symbol_in text symbol) (next_in text next) }
+    ensures named { IfSome result (λ name. symbol ≡ symbols.Name name) }
+{
+    match symbol {
+        Symbol::Name(name) => { if is_colon(next) { Some(name) } else { None } }
+        _ => None,
+    }
+}
+
+/// With a row of this name more, unless an earlier one has it.
+fn add_row(alloc: Global, notes: Notes, at: usize, name: &str) -> Result<Notes, ParseFault>
+    requires { HaveRoom notes }
+    ensures new { IfOk result (λ r. has_name notes.row_names name.now ≡ false) }
+    ensures added { IfOk result (λ r. r ≡ record notes { row_names = notes.row_names ++ name.now ∷ []; row_tokens = notes.row_tokens ++ at ∷ [] }) }
+    ensures fault { IfErr result (IsTwice notes.row_names name.now at) }
+{
+    let mut notes = notes;
+    let added = notes.row_names.add(alloc, name)?;
+    if added.1 {
+        notes.row_tokens.push(at)?;
+        Ok(notes)
+    } else {
+        Err(ParseFault::At {
+            token: at,
+            kind: LpKind::RowTwice,
+        })
+    }
+}
+
+/// With the row of this label, or of none, more.
+fn add_labelled_row(
+    alloc: Global,
+    bytes: &[u8],
+    notes: Notes,
+    at: usize,
+    label: Option<Place>,
+) -> Result<Notes, ParseFault>
+    requires room { HaveRoom notes }
+    requires named { ForSome label (λ place. IsTrue (is_name (name_in bytes.now place))) }
+    ensures added { IfOk result (λ r. r ≡ record notes { row_names = rows_with notes.row_names (Some (label_in bytes.now label)); row_tokens = notes.row_tokens ++ at ∷ [] }) }
+    ensures new { IfOk result (λ r. is_repeated notes.row_names (Some (label_in bytes.now label)) ≡ false) }
+    ensures fault { IfErr result (IsTwice notes.row_names (row_name (length notes.row_names + 1) (label_in bytes.now label)) at) }
+{
+    match label {
+        Some(place) => add_row(alloc, notes, at, name_at(bytes, place)),
+        None => {
+            let position = notes.row_names.len() + 1;
+            let name = format!(in alloc; "c{position}")?;
+            add_row(alloc, notes, at, name.as_str())
+        }
+    }
+}
+
+/// With the row that begins at a symbol, if one does.
+fn note_row(
+    alloc: Global,
+    bytes: &[u8],
+    notes: Notes,
+    at: usize,
+    site: Site,
+    symbol: Symbol,
+    next: Option<Symbol>,
+) -> Result<Notes, ParseFault>
+    requires room { HaveRoom notes }
+    requires named { IsNamed bytes.now symbol }
+    ensures added { IfOk result (λ r. r ≡ with_rows notes at (seen_in bytes.now site symbol next)) }
+    ensures new { IfOk result (λ r. is_repeated_in notes (seen_in bytes.now site symbol next) ≡ false) }
+    ensures fault { IfErr result (IsRowFault notes at (seen_in bytes.now site symbol next)) }
+{
+    match site {
+        Site::RowFirst => {
+            let label = row_label(symbol, next);
+            add_labelled_row(alloc, bytes, notes, at, label)
+        }
+        _ => Ok(notes),
+    }
+}
+
+/// With this variable, if it is new.
+fn add_variable(alloc: Global, notes: Notes, at: usize, name: &str) -> Result<Notes, AllocError>
+    requires { HaveRoomForVariables notes }
+    ensures { IfOk result (λ r. r ≡ record notes { names = with_name notes.names name.now; first_tokens = with_token notes.names notes.first_tokens name.now at }) }
+{
+    let mut notes = notes;
+    let added = notes.names.add(alloc, name)?;
+    if added.1 {
+        notes.first_tokens.push(at)?;
+        Ok(notes)
+    } else {
+        Ok(notes)
+    }
+}
+
+/// With the variable that a symbol names, if it names one.
+fn note_variable(
+    alloc: Global,
+    bytes: &[u8],
+    notes: Notes,
+    at: usize,
+    site: Site,
+    symbol: Symbol,
+    next: Option<Symbol>,
+) -> Result<Notes, AllocError>
+    requires room { HaveRoomForVariables notes }
+    requires named { IsNamed bytes.now symbol }
+    ensures { IfOk result (λ r. r ≡ with_variables notes at (seen_in bytes.now site symbol next)) }
+{
+    match variable_of(site, symbol, next) {
+        None => Ok(notes),
+        Some(place) => add_variable(alloc, notes, at, name_at(bytes, place)),
+    }
+}
+
+/// With the term that a symbol counts as, if it does.
+fn note_term(notes: Notes, counts: bool) -> Notes
+    requires { notes.terms ≤ 65536 }
+    ensures { result ≡ record notes { terms = terms_with notes.terms counts } }
+{
+    let mut notes = notes;
+    if counts {
+        notes.terms += 1;
+    }
+    notes
+}
+
+/// Whether there is a variable, a row or a term too many.
+fn too_many(notes: &Notes) -> bool
+    ensures { result ≡ are_too_many notes.now }
+{
+    notes.names.len() > MOST_VARIABLES
+        || notes.row_names.len() > MOST_ROWS
+        || notes.terms > MOST_TERMS
+}
+
+/// The notes, unless there are too many.
+fn within_limits(notes: Notes, at: usize) -> Result<Notes, ParseFault>
+    ensures same { IfOk result (λ r. r ≡ notes) }
+    ensures room { IfOk result HaveRoom }
+    ensures few { IfOk result (λ r. are_too_many notes ≡ false) }
+    ensures fault { IfErr result (λ f. (f ≡ At at Limit) × (are_too_many notes ≡ true)) }
+{
+    if too_many(&notes) {
+        Err(ParseFault::At {
+            token: at,
+            kind: LpKind::Limit,
+        })
+    } else {
+        Ok(notes)
+    }
+}
+
+/// Notes a token in its site, by the symbol behind it.
+pub fn note(
+    alloc: Global,
+    bytes: &[u8],
+    notes: Notes,
+    at: usize,
+    site: Site,
+    symbol: Symbol,
+    next: Option<Symbol>,
+) -> Result<Notes, ParseFault>
+    requires room { HaveRoom notes }
+    requires named { IsNamed bytes.now symbol }
+    ensures added { IfOk result (λ r. r ≡ noted notes at (seen_in bytes.now site symbol next)) }
+    ensures sound { IfOk result (λ r. (is_repeated_in notes (seen_in bytes.now site symbol next) ≡ false) × (are_too_many r ≡ false)) }
+    ensures room { IfOk result HaveRoom }
+    ensures fault { IfErr result (IsRoleFault notes at (seen_in bytes.now site symbol next)) }
+{
+    let notes = note_row(alloc, bytes, notes, at, site, symbol, next)?;
+    let notes = note_variable(alloc, bytes, notes, at, site, symbol, next)?;
+    let notes = note_term(notes, counts_as_term(site, symbol, next));
+    within_limits(notes, at)
+}

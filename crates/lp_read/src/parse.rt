@@ -1,0 +1,156 @@
+// Reading the symbols of a text, one by one, up to its tree or its first fault.
+ghost use Rattle.std.specs.Prelude.{◌≡◌, ℕ, ◌+◌, ◌<◌, List, map, drop, length, IfOk, IfErr, All, None, Some, false};
+ghost use Rattle.lp_read.specs.Tree as plain;
+ghost use Rattle.lp_read.specs.declared.tree.Tree.{Tree};
+ghost use Rattle.lp_read.specs.TreeIn.{IsNamed, symbol_in, next_in};
+ghost use Rattle.lp_read.specs.Roles.{first_of_symbols};
+ghost use Rattle.lp_read.specs.Reading.{own_fault as specs_own_fault};
+ghost use Rattle.lp_read.specs.Noted.{HaveRoom, seen_in, noted, is_repeated_in, are_too_many, IsRoleFault};
+ghost use Rattle.lp_read.specs.Parsing.{ReadsOn, StopsAt, IsParseFault, IsParsed};
+ghost use Rattle.lp_read.specs.declared.stage.Stage.TheVariants as stages;
+ghost use Rattle.lp_read.specs.declared.notes.ParseFault.TheVariants as faults;
+
+use crate::notes::{Notes, ParseFault, no_notes, note};
+use crate::stage::Stage;
+use crate::step::step;
+use crate::symbol::Symbol;
+use crate::tree::{Site, Tree};
+use lp_token::LpKind;
+use std::alloc::Global;
+
+/// What is read so far, and what is noted of it.
+#[derive(Drop)]
+pub struct State {
+    pub stage: Stage,
+    pub notes: Notes,
+}
+
+/// The tree of a text, and what is noted of its tokens.
+#[derive(Drop)]
+pub struct Parsed {
+    pub tree: Tree,
+    pub notes: Notes,
+}
+
+/// The fault that a symbol has by itself.
+fn own_fault(symbol: Symbol) -> Option<LpKind>
+    ensures { (text : List ℕ) → result ≡ specs_own_fault (symbol_in text symbol) }
+{
+    match symbol {
+        Symbol::Unfit(kind) => Some(kind),
+        _ => None,
+    }
+}
+
+/// Notes a symbol that leads to a stage.
+fn advance(
+    alloc: Global,
+    bytes: &[u8],
+    stage: Stage,
+    notes: Notes,
+    at: usize,
+    site: Site,
+    symbol: Symbol,
+    next: Option<Symbol>,
+) -> Result<State, ParseFault>
+    requires room { HaveRoom notes }
+    requires named { IsNamed bytes.now symbol }
+    ensures stage { IfOk result (λ r. r.stage ≡ stage) }
+    ensures notes { IfOk result (λ r. r.notes ≡ noted notes at (seen_in bytes.now site symbol next)) }
+    ensures sound { IfOk result (λ r. (is_repeated_in notes (seen_in bytes.now site symbol next) ≡ false) × (are_too_many r.notes ≡ false)) }
+    ensures room { IfOk result (λ r. HaveRoom r.notes) }
+    ensures fault { IfErr result (IsRoleFault notes at (seen_in bytes.now site symbol next)) }
+{
+    let notes = note(alloc, bytes, notes, at, site, symbol, next)?;
+    Ok(State { stage, notes })
+}
+
+/// Reads the next symbol, which has no fault of its own, by the one behind it.
+fn read_fit(
+    alloc: Global,
+    bytes: &[u8],
+    stage: Stage,
+    notes: Notes,
+    at: usize,
+    symbol: Symbol,
+    next: Option<Symbol>,
+) -> Result<State, ParseFault>
+    requires room { HaveRoom notes }
+    requires named { IsNamed bytes.now symbol }
+    requires fit { specs_own_fault (symbol_in bytes.now symbol) ≡ None }
+    ensures room { IfOk result (λ r. HaveRoom r.notes) }
+    ensures read { IfOk result (λ r. ReadsOn bytes.now at symbol next (record { stage = stage; notes = notes }) r) }
+    ensures fault { IfErr result (λ f. StopsAt bytes.now at symbol next (record { stage = stage; notes = notes }) f) }
+{
+    match step(alloc, bytes, stage, symbol) {
+        Err(_) => Err(ParseFault::NoMemory),
+        Ok(None) => Err(ParseFault::At {
+            token: at,
+            kind: LpKind::Syntax,
+        }),
+        Ok(Some((site, reached))) => advance(alloc, bytes, reached, notes, at, site, symbol, next),
+    }
+}
+
+/// Reads the next symbol, by the one behind it: its own fault stands first, then syntax, then what it names.
+fn read_symbol(
+    alloc: Global,
+    bytes: &[u8],
+    state: State,
+    at: usize,
+    symbol: Symbol,
+    next: Option<Symbol>,
+) -> Result<State, ParseFault>
+    requires room { HaveRoom state.notes }
+    requires named { IsNamed bytes.now symbol }
+    ensures room { IfOk result (λ r. HaveRoom r.notes) }
+    ensures read { IfOk result (λ r. ReadsOn bytes.now at symbol next state r) }
+    ensures fault { IfErr result (λ f. StopsAt bytes.now at symbol next state f) }
+{
+    let State { stage, notes } = state;
+    match own_fault(symbol) {
+        Some(kind) => Err(ParseFault::At { token: at, kind }),
+        None => read_fit(alloc, bytes, stage, notes, at, symbol, next),
+    }
+}
+
+/// The symbol behind a place.
+fn symbol_behind(symbols: &[Symbol], at: usize) -> Option<Symbol>
+    requires { at < length symbols.now }
+    ensures { (text : List ℕ) → first_of_symbols (drop (at + 1) (map (symbol_in text) symbols.now)) ≡ next_in text result }
+{
+    if at + 1 < symbols.len() {
+        Some(symbols[at + 1])
+    } else {
+        None
+    }
+}
+
+/// What is read at the end.
+fn finish(state: State) -> Result<Parsed, ParseFault>
+    ensures done { IfOk result (λ p. (state.stage ≡ stages.Done p.tree) × (p.notes ≡ state.notes)) }
+    ensures fault { IfErr result (λ f. (f ≡ faults.NoEnd) × ((tree : Tree) → state.stage ≡ stages.Done tree → ⊥)) }
+{
+    let State { stage, notes } = state;
+    match stage {
+        Stage::Done(tree) => Ok(Parsed { tree, notes }),
+        _ => Err(ParseFault::NoEnd),
+    }
+}
+
+/// The tree of a text's symbols, with what is noted of them; or their first fault.
+pub fn parse(alloc: Global, bytes: &[u8], symbols: &[Symbol]) -> Result<Parsed, ParseFault>
+    requires { All (IsNamed bytes.now) symbols.now }
+    ensures text { IfOk result (IsParsed bytes.now (map (symbol_in bytes.now) symbols.now)) }
+    ensures fault { IfErr result (IsParseFault (map (symbol_in bytes.now) symbols.now)) }
+{
+    let mut state = State {
+        stage: Stage::Start,
+        notes: no_notes(alloc),
+    };
+    for at in 0..symbols.len() {
+        let next = symbol_behind(symbols, at);
+        state = read_symbol(alloc, bytes, state, at, symbols[at], next)?;
+    }
+    finish(state)
+}

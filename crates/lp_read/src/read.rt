@@ -1,0 +1,129 @@
+// The model that an LP text means, or its first fault.
+ghost use Rattle.std.specs.Prelude.{◌≡◌, ◌+◌, ◌≤◌, ◌^◌, length, count_by, slice_index_or, IfOk, IfErr};
+ghost use Rattle.lp_token.specs.Cut.{Cut, is_line_feed, line_at};
+ghost use Rattle.lp_read.specs.Symbols.{symbols};
+ghost use Rattle.lp_read.specs.Reading.{line_of as specs_line_of};
+ghost use Rattle.lp_read.specs.Parsing.{IsParsed};
+ghost use Rattle.lp_read.specs.Model.{Means, IsFaultOf};
+
+use crate::meaning::{MeaningFault, model_of};
+use crate::notes::{Notes, ParseFault};
+use crate::parse::{Parsed, parse};
+use crate::symbol::symbols_of;
+use bp_model::Model;
+use bp_theory::Items;
+use lp_token::{LpFault, LpKind, Tok, tokens};
+use std::alloc::Global;
+
+/// The most bytes of a text.
+const GREATEST_SIZE: usize = 16_777_216;
+
+/// The model that an LP text means, or the text's first fault: its size, the first byte that can't be cut, the first
+/// token at fault, a lack of the word `end`, and then what the text means.
+pub fn read_lp(alloc: Global, bytes: &[u8]) -> Result<Model, LpFault>
+    ensures read { IfOk result (λ model. Means bytes.now model) }
+    ensures fault { IfErr result (λ fault. IsFaultOf bytes.now fault) }
+{
+    if bytes.len() > GREATEST_SIZE {
+        return Err(LpFault::At {
+            line: 0,
+            kind: LpKind::Limit,
+        });
+    }
+    match tokens(alloc, bytes) {
+        Ok(cut) => read_tokens(alloc, bytes, cut.as_slice()),
+        Err(fault) => Err(fault),
+    }
+}
+
+/// The model of a text's tokens, or their first fault.
+fn read_tokens(alloc: Global, bytes: &[u8], tokens: &[Tok]) -> Result<Model, LpFault>
+    requires size { length bytes.now ≤ 2 ^ 24 }
+    requires cut { Cut bytes.now tokens.now }
+    ensures read { IfOk result (λ model. Means bytes.now model) }
+    ensures fault { IfErr result (λ fault. IsFaultOf bytes.now fault) }
+{
+    let symbols = symbols_of(alloc, bytes, tokens)?;
+    match parse(alloc, bytes, symbols.as_slice()) {
+        Ok(parsed) => read_tree(alloc, bytes, tokens, parsed),
+        Err(ParseFault::At { token, kind }) => Err(LpFault::At {
+            line: line_of(tokens, token),
+            kind,
+        }),
+        Err(ParseFault::NoEnd) => Err(LpFault::At {
+            line: last_line(bytes),
+            kind: LpKind::NoEnd,
+        }),
+        Err(ParseFault::NoMemory) => Err(LpFault::NoMemory),
+    }
+}
+
+/// The model of a text's tree, or the tree's first fault.
+fn read_tree(alloc: Global, bytes: &[u8], tokens: &[Tok], parsed: Parsed) -> Result<Model, LpFault>
+    requires size { length bytes.now ≤ 2 ^ 24 }
+    requires cut { Cut bytes.now tokens.now }
+    requires parsed { IsParsed bytes.now (symbols bytes.now tokens.now) parsed }
+    ensures read { IfOk result (λ model. Means bytes.now model) }
+    ensures fault { IfErr result (λ fault. IsFaultOf bytes.now fault) }
+{
+    let Parsed { tree, notes } = parsed;
+    let Notes {
+        names,
+        first_tokens,
+        row_names,
+        row_tokens,
+        terms: _,
+    } = notes;
+    match model_of(alloc, bytes, &tree, names, row_names) {
+        Ok(model) => Ok(model),
+        Err(MeaningFault::At { variable, kind }) => Err(LpFault::At {
+            line: line_of(tokens, place_at(&first_tokens, variable)),
+            kind,
+        }),
+        Err(MeaningFault::Sums(None)) => Err(LpFault::At {
+            line: line_of(tokens, 0),
+            kind: LpKind::Activity,
+        }),
+        Err(MeaningFault::Sums(Some(row))) => Err(LpFault::At {
+            line: line_of(tokens, place_at(&row_tokens, row)),
+            kind: LpKind::Activity,
+        }),
+        Err(MeaningFault::NoMemory) => Err(LpFault::NoMemory),
+    }
+}
+
+/// The place of a number, 0 where there is none.
+fn place_at(places: &Items<usize>, number: u32) -> usize
+    ensures { result ≡ slice_index_or places.now number 0 }
+{
+    match places.as_slice().get(number as usize) {
+        Some(place) => *place,
+        None => 0,
+    }
+}
+
+/// The line of a token.
+fn line_of(tokens: &[Tok], place: usize) -> u32
+    ensures { result ≡ specs_line_of tokens.now place }
+{
+    match tokens.get(place) {
+        Some(token) => token.line,
+        None => 0,
+    }
+}
+
+/// How many line feeds a text has.
+fn line_feeds(bytes: &[u8]) -> usize
+    ensures count { result ≡ count_by is_line_feed bytes.now }
+    ensures few { result ≤ length bytes.now }
+{
+    bytes.iter().filter(|b| **b == b'\n').count()
+}
+
+/// The line of a text's end.
+fn last_line(bytes: &[u8]) -> u32
+    requires { length bytes.now ≤ 2 ^ 24 }
+    ensures { result ≡ line_at bytes.now (length bytes.now) }
+{
+    1 + line_feeds(bytes) as u32
+}
