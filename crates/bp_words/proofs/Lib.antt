@@ -1,0 +1,4 @@
+pub mod Stated
+pub mod Line
+pub mod Presence
+pub mod Taken

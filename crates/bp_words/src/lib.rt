@@ -1,0 +1,11 @@
+//! The words of the command line: the order that they give, or their refusal.
+#![tactic(auto)]
+
+mod command;
+mod order;
+mod read;
+mod text;
+
+pub use order::{Order, WordFault};
+pub use read::read_words;
+pub use text::Text;
