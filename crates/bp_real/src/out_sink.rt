@@ -1,0 +1,40 @@
+// The standard output as a sink.
+ghost use Rattle.std.specs.Prelude.{◌≡◌};
+
+use crate::whole::write_whole;
+use bp_shelf::{Sink, SinkFault};
+use std::io;
+
+/// The standard output. Each put that fails raises its count, which stays at its last value, `2^64 - 1`.
+#[derive(Drop)]
+pub struct OutSink<'a, R> {
+    rt: &'a R,
+    faults: u64,
+}
+
+impl<'a, R: Print> OutSink<'a, R> {
+    /// The output of a runtime, with no faults counted.
+    pub fn new(rt: &'a R) -> Self
+        ensures { result.faults ≡ 0 }
+    {
+        OutSink { rt, faults: 0 }
+    }
+}
+
+impl<R: Print> Sink for OutSink<'_, R> {
+    ghost use Rattle.std.specs.Prelude.{false, []};
+
+    ghost tells = { λ _. false };
+
+    ghost taken = { λ _. [] };
+
+    ghost faults = { λ sink. sink.faults };
+
+    fn put(&mut self, bytes: &[u8]) -> Result<(), SinkFault> {
+        if write_whole(&mut io::writer(self.rt), bytes).is_err() {
+            self.faults = self.faults.saturating_add(1);
+            return Err(SinkFault);
+        }
+        Ok(())
+    }
+}
