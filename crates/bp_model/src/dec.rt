@@ -1,12 +1,13 @@
 // The decomposition of a model into blocks, as a text tells it.
-ghost use Rattle.std.specs.Prelude.{◌≡◌, IfOk, None, map};
+ghost use Rattle.std.specs.Prelude.{◌≡◌, ◌<◌, ◌↔◌, All, IfOk, IsTrue, None, map};
+ghost use Rattle.bp_theory.specs.Decomposition.{IsPlace};
 
 use crate::model::Model;
 use bp_theory::{Items, Row};
 use std::alloc::{AllocError, Global};
 
 /// A decomposition: the number of its blocks, for each row its block or the master, and the listed variables with
-/// their places. It goes with the model that it was made for.
+/// their places, at most 4,096 blocks. It goes with the model that it was made for.
 #[derive(Drop)]
 pub struct Dec {
     blocks: u32,
@@ -20,16 +21,21 @@ impl std::marker::Model for Dec {
     ghost Value = { Decomposition };
 
     ghost view = { λ d. record { blocks = d.blocks; places = d.places; listed = d.listed } };
+
+    ghost use Rattle.std.specs.Prelude.{◌≤◌};
+
+    ghost invariant = { λ d. d.blocks ≤ 4096 };
 }
 
 impl Dec {
-    ghost use Rattle.std.specs.Prelude.{◌≡◌, ◌<◌, length, slice_get, Some, IfOk};
+    ghost use Rattle.std.specs.Prelude.{◌≡◌, ◌<◌, length, slice_get, Some, IfOk, IsTrue, ◌≤◌, ◌↔◌};
     ghost use Rattle.bp_theory.specs.Decomposition.{HasPlaces};
-    ghost use Rattle.bp_model.specs.Dec.{plain_of};
+    ghost use Rattle.bp_model.specs.Dec.{plain_of, GoesWith};
 
     /// The decomposition of so many blocks, with each row's block (none: the master), and the listed variables
     /// with their blocks (none: the master).
     pub fn make(blocks: u32, places: Items<Option<u32>>, listed: Items<(u32, Option<u32>)>) -> Dec
+        requires { blocks ≤ 4096 }
         ensures { result ≡ record { blocks = blocks; places = places; listed = listed } }
     {
         Dec {
@@ -52,9 +58,23 @@ impl Dec {
         })
     }
 
+    /// Whether the decomposition goes with a model: each row has a place, and blocks and variables are there.
+    pub fn goes_with(&self, model: &Model) -> bool
+        ensures { IsTrue result ↔ GoesWith model.now.program self.now }
+    {
+        if self.places.len() != model.rows() as usize {
+            return false;
+        }
+        if !are_places(self.blocks, self.places.as_slice()) {
+            return false;
+        }
+        are_listed(model.vars(), self.blocks, self.listed.as_slice())
+    }
+
     /// How many blocks there are.
     pub fn blocks(&self) -> u32
-        ensures { result ≡ self.now.blocks }
+        ensures blocks { result ≡ self.now.blocks }
+        ensures few { result ≤ 4096 }
     {
         self.blocks
     }
@@ -87,4 +107,38 @@ fn master_places(alloc: Global, rows: &[Row]) -> Result<Vec<Option<u32>>, AllocE
     ensures { IfOk result (λ places. places.items ≡ map (λ row. None) rows.now) }
 {
     rows.iter().map(|_| None).collect(alloc)
+}
+
+// Whether a place is the master or a block that is there.
+fn is_place(blocks: u32, place: &Option<u32>) -> bool
+    ensures { IsTrue result ↔ IsPlace blocks place.now }
+{
+    match place {
+        None => true,
+        Some(block) => *block < blocks,
+    }
+}
+
+// Whether each place is the master or a block that is there.
+fn are_places(blocks: u32, places: &[Option<u32>]) -> bool
+    ensures { IsTrue result ↔ All (IsPlace blocks) places.now }
+{
+    places.iter().all(|place| is_place(blocks, place))
+}
+
+// Whether a listed variable and its place are there.
+fn is_listed(vars: u32, blocks: u32, entry: &(u32, Option<u32>)) -> bool
+    ensures { IsTrue result ↔ ((entry.now.0 < vars) × IsPlace blocks entry.now.1) }
+{
+    if entry.0 >= vars {
+        return false;
+    }
+    is_place(blocks, &entry.1)
+}
+
+// Whether the listed variables and their places are there.
+fn are_listed(vars: u32, blocks: u32, listed: &[(u32, Option<u32>)]) -> bool
+    ensures { IsTrue result ↔ All (λ e. (e.0 < vars) × IsPlace blocks e.1) listed.now }
+{
+    listed.iter().all(|entry| is_listed(vars, blocks, entry))
 }
