@@ -10,10 +10,8 @@ use crate::answer::{Reply, reply_to};
 use crate::read::read_front;
 use bp_report::words_text;
 use bp_shelf::{Shelf, ShelfFault, Sink};
+use lp_read::MAX_TEXT;
 use std::alloc::Global;
-
-// The greatest size of an LP text.
-const MOST_BYTES: usize = 16_777_216;
 
 /// How a run ended: the status that the program ends with.
 #[derive(Drop)]
@@ -109,7 +107,7 @@ fn solve<F: Shelf, O: Sink>(alloc: Global, shelf: &mut F, out: &mut O, lp: &str)
     ensures cut_off { IsTrue (F.tells shelf.old) → IsTrue (O.tells out.old) →
         IsCutOff (Some (Solves lp.now)) (F.file shelf.old) result.status (O.taken out.old) (O.taken out.new) }
 {
-    match read_front(alloc, shelf, lp, MOST_BYTES + 1) {
+    match read_front(alloc, shelf, lp, MAX_TEXT + 1) {
         Ok(text) => match reply_to(alloc, &text) {
             Ok(reply) => print(out, &reply),
             Err(_) => Ended { status: 9 },

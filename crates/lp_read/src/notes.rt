@@ -14,19 +14,10 @@ ghost use Rattle.lp_read.specs.declared.notes.ParseFault.TheVariants.{At, NoMemo
 
 use crate::symbol::Symbol;
 use crate::tree::{Place, Site, name_at};
-use bp_model::Names;
+use bp_model::{MAX_ROWS, MAX_TERMS, MAX_VARS, Names};
 use bp_theory::Items;
 use lp_token::LpKind;
 use std::alloc::{AllocError, Global};
-
-/// The most variables of a model.
-const MOST_VARIABLES: u32 = 4096;
-
-/// The most rows of a model.
-const MOST_ROWS: u32 = 8192;
-
-/// The most terms of a model.
-const MOST_TERMS: u32 = 65536;
 
 /// Why tokens are no text.
 #[derive(Clone, Copy, Debug, PartialEq, Eq)]
@@ -273,9 +264,7 @@ fn note_term(notes: Notes, counts: bool) -> Notes
 fn too_many(notes: &Notes) -> bool
     ensures { result ≡ are_too_many notes.now }
 {
-    notes.names.len() > MOST_VARIABLES
-        || notes.row_names.len() > MOST_ROWS
-        || notes.terms > MOST_TERMS
+    notes.names.len() > MAX_VARS || notes.row_names.len() > MAX_ROWS || notes.terms > MAX_TERMS
 }
 
 /// The notes, unless there are too many.

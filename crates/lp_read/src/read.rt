@@ -15,8 +15,8 @@ use bp_theory::Items;
 use lp_token::{LpFault, LpKind, Tok, tokens};
 use std::alloc::Global;
 
-/// The most bytes of a text.
-const GREATEST_SIZE: usize = 16_777_216;
+/// The greatest number of bytes of a text.
+pub const MAX_TEXT: usize = 16_777_216;
 
 /// The model that an LP text means, or the text's first fault: its size, the first byte that can't be cut, the first
 /// token at fault, a lack of the word `end`, and then what the text means.
@@ -24,7 +24,7 @@ pub fn read_lp(alloc: Global, bytes: &[u8]) -> Result<Model, LpFault>
     ensures read { IfOk result (λ model. Means bytes.now model) }
     ensures fault { IfErr result (λ fault. IsFaultOf bytes.now fault) }
 {
-    if bytes.len() > GREATEST_SIZE {
+    if bytes.len() > MAX_TEXT {
         return Err(LpFault::At {
             line: 0,
             kind: LpKind::Limit,

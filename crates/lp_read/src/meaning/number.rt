@@ -5,7 +5,7 @@ ghost use Rattle.lp_read.specs.Fit.{IsKnown};
 ghost use Rattle.lp_read.specs.Numbered.{is_minus, is_negative, number_in};
 ghost use Rattle.lp_read.specs.TreeIn.{name_in};
 
-use crate::tree::{Place, Sign};
+use crate::tree::{Place, Sign, bytes_at};
 use bp_model::Names;
 
 /// Whether a sign is minus.
@@ -43,20 +43,11 @@ pub fn signed_number(turned: bool, signs: &[Sign], size: u64) -> i64
     }
 }
 
-// The bytes at a place.
-fn bytes_at<'a>(text: &'a [u8], place: &Place) -> &'a [u8]
-    ensures { result.now ≡ name_in text.now place.now }
-{
-    let to = place.to.min(text.len());
-    let from = place.from.min(to);
-    &text[from..to]
-}
-
 /// The number of the name at a place.
 pub fn number_of(text: &[u8], names: &Names, place: &Place) -> u32
     requires { IsKnown text.now names.now place.now }
     ensures number { result ≡ number_in names.now (name_in text.now place.now) }
     ensures there { result < length names.now }
 {
-    names.place_of_bytes(bytes_at(text, place)).unwrap()
+    names.place_of_bytes(bytes_at(text, *place)).unwrap()
 }

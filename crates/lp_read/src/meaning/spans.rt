@@ -10,12 +10,10 @@ ghost use Rattle.lp_read.specs.Reading.{ends_fault};
 use crate::meaning::MeaningFault;
 use crate::meaning::bounds::Stated;
 use crate::meaning::extended::{Ends, Extended, greater_of, is_at_most, lesser_of};
+use bp_model::MAX_BITS;
 use bp_theory::{Items, Span};
 use lp_token::LpKind;
 use std::alloc::{AllocError, Global};
-
-// The greatest number of binary digits of all spans together.
-const MOST_DIGITS: u32 = 8192;
 
 // The ends of a variable: a binary's are intersected with 0..1.
 fn ends_of(stated: &Stated) -> Ends
@@ -107,7 +105,7 @@ pub fn past_digits(spans: &[Span]) -> Option<u32>
     let mut digits = 0;
     for (number, span) in spans.iter().enumerate() {
         digits += bits_of(span);
-        if digits > MOST_DIGITS {
+        if digits > MAX_BITS {
             return Some(number as u32);
         }
     }
