@@ -1,26 +1,23 @@
 -- The coefficients of written terms by number are those by name.
-use Rattle.std.proofs.Common.{◌≡◌, ◌≢◌, ◌∙◌, refl, sym, ap, subst, ℕ, zero, suc, ◌+◌, ◌-◌, ◌*◌, ◌<◌, ◌≤◌, Bool, true, false, List, [], ◌∷◌, map, length, get_or, Option, Some, None, Contains, MatchOption, arith, if◌then◌else◌, nat_eq, ⊎_elim, add-zero, zero-add}
-use Rattle.std.specs.Prelude.{ℤ, pos, neg_ℤ, ◌+ℤ◌, unsigned_abs, sum_by, zip, unwrap_or, All}
+use Rattle.std.proofs.Common.{◌≡◌, ◌∙◌, refl, sym, ap, subst, ℕ, suc, ◌+◌, ◌-◌, ◌*◌, ◌<◌, ◌≤◌, Bool, true, false, List, [], ◌∷◌, map, length, get_or, Contains, arith, if◌then◌else◌, ⊎_elim, add-zero, zero-add}
+use Rattle.std.specs.Prelude.{ℤ, pos, ◌+ℤ◌, unsigned_abs, sum_by, zip, unwrap_or}
 use Rattle.std.specs.Str.{bytes_eq}
 use Rattle.std.specs.List.{IsDistinct, AllByRecursion}
 use Rattle.std.proofs.Math.IntN.{+ℤ_idl, +ℤ_idr}
 use Rattle.std.proofs.lemmas.Int.{ints}
 use Rattle.std.proofs.lemmas.Bool.{cases_lt, ne_eqb, eq-eqb}
-use Rattle.std.proofs.lemmas.Bool.Decides.{eqb_tells}
 use Rattle.std.proofs.lemmas.List.{get_or-map, get_or_past, length-map}
-use Rattle.std.proofs.lemmas.List.Elements.{recursion_from_All}
 use Rattle.std.proofs.lemmas.List.Sums.{sum_by-cons}
 use Rattle.bp_theory.specs.Program.{coefficient, span_at, reach}
 use Rattle.bp_theory.specs.Decomposition.{IsTidyFrom}
 use Rattle.bp_theory.specs.declared.Span.{Span}
 use Rattle.bp_theory.specs.declared.Term.{Term}
 use Rattle.bp_model.specs.Parts.{IsTidied}
-use Rattle.lp_read.specs.Tree as plain
-use Rattle.lp_read.specs.Tree.{Name, Sign, Item, term, constant}
+use Rattle.lp_read.specs.Tree.{Name, Item, term, constant}
 use Rattle.lp_read.specs.Meaning as meaning
 use Rattle.lp_read.specs.Meaning.{signed, minimised, total, share_of, with_sign, activity}
 use Rattle.lp_read.specs.Model.{HasCoefficients}
-use Rattle.lp_read.specs.Numbered.{number_in, raw_term, raw_item, raw_terms}
+use Rattle.lp_read.specs.Numbered.{raw_terms}
 use Rattle.lp_read.proofs.NameNumbers.{same_number}
 use Rattle.lp_read.proofs.TermLemmas.{zero_stays}
 

@@ -1,16 +1,13 @@
 -- All terms of a tree are counted.
-use Rattle.std.proofs.Common.{◌≡◌, ◌∙◌, refl, sym, ap, subst, ℕ, suc, ◌+◌, ◌<◌, ◌≤◌, ◌^◌, Bool, true, false, List, [], ◌∷◌, ◌++◌, map, length, Option, Some, None, MatchOption, Contains, arith, if◌then◌else◌}
-use Rattle.std.specs.Prelude.{filter_map, count_by, flat_map, option_to_list}
-use Rattle.std.specs.List.{cons_option, AllByRecursion}
+use Rattle.std.proofs.Common.{◌≡◌, ◌∙◌, refl, sym, ap, subst, ℕ, ◌+◌, ◌≤◌, true, false, List, [], ◌∷◌, ◌++◌, map, Option, Some, None, arith, if◌then◌else◌}
+use Rattle.std.specs.Prelude.{flat_map}
 use Rattle.std.specs.Option.{option_map}
-use Rattle.std.proofs.lemmas.List.{map-append, append_assoc}
+use Rattle.std.proofs.lemmas.List.{append_assoc}
 use Rattle.std.proofs.lemmas.List.Sums.{sum_by-cons}
-use Rattle.std.proofs.lemmas.List.Elements.{All-from_recursion}
 use Rattle.lp_read.specs.Tree as plain
 use Rattle.lp_read.specs.Tree.{Name, Sign, Symbol, word, name, number, infinity, sign, comparison, colon, unfit, Site, objective_first, objective_more, row_first, row_more, listed, other, Written, placed, headed, comparison_of, spelled_signs, spelled_signed, spelled_factor, spelled_term, spelled_item, spelled_value, spelled_sum, spelled_label, spelled_row, written_row, written_bound, written_part, written_objective, written_word, written, spelling, sites}
-use Rattle.lp_read.specs.Roles.{Seen, seen, first_of_symbols, is_colon, variable_of, counts_as_term}
-use Rattle.lp_read.specs.TreeIn.{name_in, term_in, item_in, sum_in, row_in, bound_in, part_in, label_in, tree_in}
-use Rattle.lp_read.specs.Fit.{IsKnown, IsSmall, IsFitTerm, IsFitItem, IsFitSum, IsFitRow, IsFitValue, IsFitBound, IsFitPart, IsFitTree}
+use Rattle.lp_read.specs.Roles.{is_colon, counts_as_term}
+use Rattle.lp_read.specs.TreeIn.{name_in, term_in, item_in, sum_in, row_in, part_in, label_in, tree_in}
 use Rattle.lp_read.specs.declared.tree.Place.{Place}
 use Rattle.lp_read.specs.declared.tree.Signed.{Signed}
 use Rattle.lp_read.specs.declared.tree.Term.{Term}
@@ -19,33 +16,12 @@ use Rattle.lp_read.specs.declared.tree.Item.TheVariants as items
 use Rattle.lp_read.specs.declared.tree.Sum.{Sum}
 use Rattle.lp_read.specs.declared.tree.Row.{Row}
 use Rattle.lp_read.specs.declared.tree.Row.TheVariants as rows
-use Rattle.lp_read.specs.declared.tree.Value.{Value}
-use Rattle.lp_read.specs.declared.tree.Value.TheVariants as values
-use Rattle.lp_read.specs.declared.tree.Bound.{Bound}
-use Rattle.lp_read.specs.declared.tree.Bound.TheVariants as bounds
-use Rattle.lp_read.specs.declared.tree.Part.{Part}
-use Rattle.lp_read.specs.declared.tree.Part.TheVariants as parts
 use Rattle.lp_read.specs.declared.tree.Tree.{Tree}
-use Rattle.std.specs.Prelude.{filter, unwrap_or, ◌-◌, not, ◌&&◌, nat_le, nat_lt, slice_range}
-use Rattle.std.specs.Str.{bytes_eq}
-use Rattle.std.specs.List.{list_any}
-use Rattle.std.proofs.lemmas.Bool.{leb-true, ltb-true, le-ltb, ltb-false, true≢false}
-use Rattle.std.proofs.lemmas.Slice.Eq.{bytes_eq-Decides}
+use Rattle.std.specs.Prelude.{not}
 use Rattle.std.proofs.lemmas.List.Folds.{flat_map-map}
-use Rattle.lp_token.specs.declared.Tok.{Tok}
-use Rattle.lp_token.specs.declared.TokKind.{TokKind}
-use Rattle.lp_token.specs.declared.TokKind.TheVariants as kinds
-use Rattle.lp_token.specs.declared.Section.{Section}
 use Rattle.lp_token.specs.declared.Section.TheVariants as sections
-use Rattle.lp_token.specs.declared.LpKind.TheVariants.{RowTwice, Limit, Feature, TooLarge, NotWhole}
-use Rattle.lp_token.specs.Word.{entry_of, section_of}
-use Rattle.lp_read.specs.Number.{is_whole, whole_value}
-use Rattle.lp_read.specs.Symbols.{greatest, infinite_from, number_symbol, name_symbol, mark_symbols, mark_symbol, word_symbol, symbol_of, stays_in_bounds, symbols_from, symbols}
-use Rattle.lp_read.specs.Roles.{firsts, has_twice, variables, row_names, term_count, is_over_limit, role_fault}
-use Rattle.lp_read.specs.Meaning.{tokens_of}
-use Rattle.lp_read.specs.Reading.{IsTextOf}
-use Rattle.lp_read.proofs.WalkLemmas.{follow, named, counted, counted-append, seen_named, seen_counted, IsSmallSymbol, Fine, fine_left, fine_right, placed-append, placed_left, placed_right, behind, IsPlain, IsHead, Counts, fit_name, fit_number, fit_signed, fit_term, fit_item, further, further_in, fit_more, head_term, head_constant, head_item, counted_term, weight_of, more_counted}
-use Rattle.lp_read.proofs.FitProof.{row_plain, row_counts, objective_plain, objective_counts, apart_more, apart_end, sum_size, row_size, item_weight, item_counted, length_weight, objective_symbols}
+use Rattle.lp_read.proofs.WalkLemmas.{follow, counted, counted-append, placed-append, Counts, further, further_in, counted_term, weight_of, more_counted}
+use Rattle.lp_read.proofs.FitProof.{row_counts, objective_counts, apart_more, apart_end, sum_size, row_size, item_weight, item_counted, length_weight, objective_symbols}
 use Rattle.std.specs.Prelude.{sum_by}
 
 -- what is counted of a part is counted of the whole

@@ -1,10 +1,10 @@
 -- The first fault of a tree's variables, by their numbers.
-use Rattle.std.proofs.Common.{◌≡◌, ◌∙◌, refl, sym, ap, subst, ℕ, zero, suc, ◌+◌, ◌<◌, ◌≤◌, Bool, true, false, not, List, [], ◌∷◌, map, take, length, get_or, Option, Some, None, All, arith, if◌then◌else◌, add-one, zero-add}
-use Rattle.std.specs.Prelude.{sum_by, nat_lt, filter}
+use Rattle.std.proofs.Common.{◌≡◌, ◌∙◌, refl, sym, ap, subst, ℕ, zero, suc, ◌+◌, ◌<◌, ◌≤◌, Bool, true, false, not, List, [], ◌∷◌, map, take, length, get_or, Option, Some, None, All, arith, if◌then◌else◌, add-one}
+use Rattle.std.specs.Prelude.{sum_by, filter}
 use Rattle.std.specs.Str.{bytes_eq}
 use Rattle.std.specs.List.{IsDistinct, AllByRecursion}
 use Rattle.std.proofs.lemmas.Bool.{lt-ltb, le-ltb}
-use Rattle.std.proofs.lemmas.List.{get_or-map, length-map, same_lists, take-map, get_or_default}
+use Rattle.std.proofs.lemmas.List.{get_or-map, length-map, same_lists, take-map}
 use Rattle.std.proofs.lemmas.List.Sums.{sum_by-cons}
 use Rattle.std.proofs.lemmas.List.Folds.{fold-map}
 use Rattle.bp_theory.specs.Digits.{span_bits, zone_bits}
@@ -13,7 +13,7 @@ use Rattle.lp_token.specs.declared.LpKind.{LpKind}
 use Rattle.lp_token.specs.declared.LpKind.TheVariants.{Limit}
 use Rattle.lp_read.specs.Tree.{Name, Tree}
 use Rattle.lp_read.specs.Roles.{firsts, variables}
-use Rattle.lp_read.specs.Meaning.{ends, is_listed, span_of, tokens_of}
+use Rattle.lp_read.specs.Meaning.{ends, span_of, tokens_of}
 use Rattle.lp_read.specs.Reading.{ends_fault, bounds_fault, variable_fault, digits_fault, place_of, first_found, first_past, or_else}
 use Rattle.lp_read.specs.Numbered.{ends_in, is_listed_in, fault_in, stated_at, table_of, unsaid, IsFirstFault, IsFirstPast}
 use Rattle.lp_read.specs.declared.meaning.bounds.Stated.{Stated}

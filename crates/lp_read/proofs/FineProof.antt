@@ -1,9 +1,9 @@
 -- A text names its variables, has numbers of texts and few terms.
-use Rattle.std.proofs.Common.{◌≡◌, ◌∙◌, refl, sym, ap, subst, ℕ, ◌+◌, ◌-◌, ◌<◌, ◌≤◌, ◌^◌, Bool, true, false, not, ◌||◌, ◌&&◌, List, [], ◌∷◌, map, length, Option, Some, None, Contains, arith, if◌then◌else◌, true≢false}
-use Rattle.std.specs.Prelude.{filter, filter_map, unwrap_or, nat_le, nat_lt, slice_range, codes}
+use Rattle.std.proofs.Common.{◌≡◌, ◌∙◌, refl, sym, ap, subst, ℕ, ◌≤◌, Bool, true, false, not, ◌||◌, ◌&&◌, List, [], ◌∷◌, map, length, Option, Some, None, Contains, arith, if◌then◌else◌}
+use Rattle.std.specs.Prelude.{filter, unwrap_or, nat_le, nat_lt, slice_range, codes}
 use Rattle.std.specs.Str.{bytes_eq, str_to_ascii_lowercase}
 use Rattle.std.specs.List.{list_any, AllByRecursion}
-use Rattle.std.proofs.lemmas.Bool.{leb-true, ltb-false, or_right, false_from_ne_true}
+use Rattle.std.proofs.lemmas.Bool.{leb-true, ltb-false, or_right}
 use Rattle.std.proofs.lemmas.Slice.Eq.{bytes_eq-Decides}
 use Rattle.std.proofs.lemmas.Map.Views.{Contains-from_any}
 use Rattle.lp_token.specs.declared.Tok.{Tok}
@@ -11,7 +11,6 @@ use Rattle.lp_token.specs.declared.TokKind.{TokKind}
 use Rattle.lp_token.specs.declared.TokKind.TheVariants as kinds
 use Rattle.lp_token.specs.declared.Section.{Section}
 use Rattle.lp_token.specs.declared.Section.TheVariants as sections
-use Rattle.lp_token.specs.declared.LpKind.{LpKind}
 use Rattle.lp_token.specs.declared.LpKind.TheVariants.{RowTwice, Limit, Feature, TooLarge, NotWhole}
 use Rattle.lp_token.specs.Word.{entry_of, section_of}
 use Rattle.lp_read.specs.Number.{is_whole, whole_value}

@@ -1,35 +1,31 @@
 -- The parts of a text's tree keep the limits of a model.
 use Rattle.std.proofs.Common.{◌≡◌, ◌∙◌, refl, sym, ap, subst, ℕ, ◌+◌, ◌<◌, ◌≤◌, ◌^◌, Bool, true, false, not, ◌||◌, ◌&&◌, List, [], ◌∷◌, ◌++◌, map, length, get_or, Option, Some, None, All, arith, if◌then◌else◌}
 use Rattle.std.specs.Prelude.{ℤ, pos, int_le, int_lt, unsigned_abs, flat_map, filter_map, sum_by, ◌≤ℤ◌}
-use Rattle.std.specs.List.{AllByRecursion, cons_option}
+use Rattle.std.specs.List.{AllByRecursion}
 use Rattle.std.specs.Option.{option_map}
 use Rattle.std.proofs.lemmas.Int.{ints}
 use Rattle.std.proofs.lemmas.List.{length-map}
-use Rattle.std.proofs.lemmas.List.Folds.{fold-map}
 use Rattle.std.proofs.lemmas.List.Sums.{sum_by-cons}
-use Rattle.std.proofs.lemmas.List.Elements.{All-from_recursion, recursion_from_All, All-map}
+use Rattle.std.proofs.lemmas.List.Elements.{recursion_from_All, All-map}
 use Rattle.bp_theory.specs.declared.Span.{Span}
-use Rattle.bp_theory.specs.declared.Term as theory
 use Rattle.bp_theory.specs.declared.Row as theory_row
 use Rattle.bp_model.specs.declared.parts.Parts.{Parts}
 use Rattle.bp_model.specs.Named.{HasSmallEnds}
-use Rattle.bp_model.specs.Parts.{NoneCrossed, written_terms, IsWithinLimits}
+use Rattle.bp_model.specs.Parts.{NoneCrossed, IsWithinLimits}
 use Rattle.lp_token.specs.declared.Tok.{Tok}
-use Rattle.lp_token.specs.declared.LpKind.{LpKind}
 use Rattle.lp_token.specs.declared.LpKind.TheVariants.{Crossed, Unbounded, Continuous}
 use Rattle.lp_read.specs.Tree as plain
 use Rattle.lp_read.specs.Tree.{Name, Sign, written}
 use Rattle.lp_read.specs.TreeIn.{name_in, term_in, item_in, sum_in, row_in, bound_in, part_in, tree_in}
 use Rattle.lp_read.specs.Roles.{variables, row_names, term_count}
-use Rattle.lp_read.specs.Meaning.{Extended, below, whole, above, extended_le, value_of, greater, lesser, Ends, end_value, span_of, Side, lower, upper, Statement, statements, part_statements, is_on, last_said, has_name, binary_names, stated_ends, ends, signed, tokens_of, as_items, items_of, objective_items}
-use Rattle.lp_read.specs.Reading.{IsTextOf, is_infinite, ends_fault}
+use Rattle.lp_read.specs.Meaning.{Extended, below, whole, above, extended_le, value_of, greater, lesser, Ends, end_value, span_of, Side, lower, upper, Statement, statements, part_statements, is_on, last_said, has_name, binary_names, stated_ends, ends, signed, tokens_of, as_items, items_of}
+use Rattle.lp_read.specs.Reading.{IsTextOf, ends_fault}
 use Rattle.lp_read.specs.Numbered.{turned_by, raw_term, raw_item, raw_terms, raw_row, ends_in, is_listed_in, fault_in}
-use Rattle.lp_read.specs.Fit.{IsSmall, IsFitValue, IsFitBound, IsFitPart}
+use Rattle.lp_read.specs.Fit.{IsFitValue, IsFitBound, IsFitPart}
 use Rattle.lp_read.specs.PartsOf.{ArePartsOf}
 use Rattle.lp_read.specs.declared.meaning.bounds.Stated.{Stated}
 use Rattle.lp_read.specs.declared.tree.Term.{Term}
 use Rattle.lp_read.specs.declared.tree.Item.{Item}
-use Rattle.lp_read.specs.declared.tree.Item.TheVariants as items
 use Rattle.lp_read.specs.declared.tree.Sum.{Sum}
 use Rattle.lp_read.specs.declared.tree.Row.{Row}
 use Rattle.lp_read.specs.declared.tree.Row.TheVariants as rows
@@ -41,7 +37,7 @@ use Rattle.lp_read.specs.declared.tree.Part.{Part}
 use Rattle.lp_read.specs.declared.tree.Part.TheVariants as parts
 use Rattle.lp_read.specs.declared.tree.Tree.{Tree}
 use Rattle.lp_read.proofs.SignLemmas.{size_stays}
-use Rattle.lp_read.proofs.WalkLemmas.{weight_of, counted}
+use Rattle.lp_read.proofs.WalkLemmas.{weight_of}
 use Rattle.lp_read.proofs.FitProof.{sum_size, row_size, item_weight, FitsWell}
 use Rattle.lp_read.proofs.FineProof.{within_limits, terms_are}
 use Rattle.lp_read.proofs.CountProof.{objective_count, terms_counted}

@@ -1,12 +1,12 @@
 -- The model that a tree's parts make is the tree's, and what the parts are refused for is the tree's first fault.
-use Rattle.std.proofs.Common.{◌≡◌, ◌∙◌, refl, sym, ap, subst, ℕ, zero, suc, ◌+◌, ◌<◌, ◌≤◌, ◌^◌, Bool, true, false, List, [], ◌∷◌, map, length, get_or, Option, Some, None, All, Contains, MatchOption, arith, if◌then◌else◌, ⊎_elim, ◌*◌}
-use Rattle.std.specs.Prelude.{ℤ, pos, unsigned_abs, sum_by, zip, nat_lt, max}
+use Rattle.std.proofs.Common.{◌≡◌, ◌∙◌, refl, sym, ap, subst, ℕ, zero, suc, ◌+◌, ◌<◌, ◌≤◌, ◌^◌, false, List, [], ◌∷◌, map, length, get_or, Option, Some, None, All, MatchOption, arith, if◌then◌else◌, ⊎_elim, ◌*◌}
+use Rattle.std.specs.Prelude.{pos, unsigned_abs, sum_by, zip, nat_lt, max}
 use Rattle.std.specs.Str.{bytes_eq}
 use Rattle.std.specs.List.{IsDistinct, AllByRecursion, AllZip}
 use Rattle.std.specs.Option.{option_map}
 use Rattle.std.proofs.lemmas.Bool.{lt-ltb, le-ltb, cases_lt}
 use Rattle.std.proofs.lemmas.List.{length-map}
-use Rattle.std.proofs.lemmas.List.Elements.{recursion_from_All, All-from_recursion}
+use Rattle.std.proofs.lemmas.List.Elements.{recursion_from_All}
 use Rattle.bp_theory.specs.Program.{Program, activity_limit, KeepsActivity, span_at, reach}
 use Rattle.bp_theory.specs.declared.Span.{Span}
 use Rattle.bp_theory.specs.declared.Term as theory
@@ -23,16 +23,16 @@ use Rattle.lp_token.specs.declared.LpKind.{LpKind}
 use Rattle.lp_token.specs.declared.LpKind.TheVariants.{Activity}
 use Rattle.lp_read.specs.Tree as plain
 use Rattle.lp_read.specs.Tree.{Name, Sign, Item, term, constant}
-use Rattle.lp_read.specs.TreeIn.{name_in, term_in, item_in, sum_in, row_in, tree_in}
+use Rattle.lp_read.specs.TreeIn.{term_in, item_in, sum_in, row_in, tree_in}
 use Rattle.lp_read.specs.Symbols.{greatest}
 use Rattle.lp_read.specs.Roles.{variables}
-use Rattle.lp_read.specs.Meaning.{ends, span_of, tokens_of, as_items, items_of, objective_items, minimised, total, constant_of, with_sign, coefficient, row_meaning, model_row, model_of, Model, ModelRow, activity, row_activity}
-use Rattle.lp_read.specs.Reading.{IsTextOf, greatest_size, first_found, or_else, row_places, activity_fault, variable_fault, digits_fault, meaning_fault}
-use Rattle.lp_read.specs.Numbered.{raw_terms, raw_row}
+use Rattle.lp_read.specs.Meaning.{ends, span_of, tokens_of, as_items, items_of, objective_items, minimised, with_sign, coefficient, row_meaning, model_row, model_of, Model, ModelRow, activity, row_activity}
+use Rattle.lp_read.specs.Reading.{IsTextOf, greatest_size, first_found, or_else, row_places, activity_fault, digits_fault, meaning_fault}
+use Rattle.lp_read.specs.Numbered.{raw_row}
 use Rattle.lp_read.specs.PartsOf.{ArePartsOf, AreVariablesSound, IsRefused, IsModelOf}
 use Rattle.lp_read.specs.declared.meaning.MeaningFault.TheVariants.{Sums}
 use Rattle.lp_read.specs.Fit.{IsFitTerm, IsFitItem, IsFitSum, IsFitRow}
-use Rattle.lp_read.specs.Model.{HasCoefficients, IsRowOf, IsProgramOf, Means}
+use Rattle.lp_read.specs.Model.{IsRowOf, IsProgramOf, Means}
 use Rattle.lp_token.specs.Cut.{Cut}
 use Rattle.lp_read.specs.declared.tree.Term.{Term}
 use Rattle.lp_read.specs.declared.tree.Item as read

@@ -1,10 +1,9 @@
 -- The numbers of names in a list that has each name once.
-use Rattle.std.proofs.Common.{◌≡◌, ◌∙◌, refl, sym, ap, subst, ℕ, zero, suc, ◌+◌, ◌-◌, ◌<◌, ◌≤◌, Bool, true, false, List, [], ◌∷◌, take, drop, length, min, arith, if◌then◌else◌, Some, None, slice_get, get_or, Contains, true≢false, ⊎_elim, nat_eq, Option, IfSome}
+use Rattle.std.proofs.Common.{◌≡◌, ◌∙◌, refl, sym, ap, subst, ℕ, zero, suc, ◌<◌, Bool, true, false, List, [], ◌∷◌, length, arith, if◌then◌else◌, Some, slice_get, get_or, Contains, true≢false, nat_eq, Option, IfSome}
 use Rattle.std.specs.List.{IsDistinct, AllByRecursion}
 use Rattle.std.specs.Str.{bytes_eq}
 use Rattle.std.proofs.lemmas.Slice.Eq.{bytes_eq-Decides}
-use Rattle.std.proofs.lemmas.Bool.{false_from_ne_true, cases_lt, eq-eqb, ne_eqb}
-use Rattle.std.proofs.lemmas.List.{take_all, drop_all, length-drop}
+use Rattle.std.proofs.lemmas.Bool.{false_from_ne_true, eq-eqb, ne_eqb}
 use Rattle.std.proofs.lemmas.Option.{slice_get_within, slice_get-get_or}
 use Rattle.lp_read.specs.Tree.{Name}
 use Rattle.lp_read.specs.Numbered.{number_in}

@@ -1,11 +1,10 @@
 -- What is noted of tokens with one token more.
-use Rattle.std.proofs.Common.{◌≡◌, ℕ, zero, suc, ◌+◌, ◌<◌, ◌≤◌, ◌⊎◌, Bool, true, false, not, cond, ◌||◌, List, [], ◌∷◌, ◌++◌, map, take, drop, length, refl, sym, ◌∙◌, ap, subst, inl, inr, arith, Option, None, Some, add-one, length-append}
-use Rattle.std.proofs.lemmas.Bool.{cases_Bool, or_cases, or_left, or_right, or_parts, or_from, both_ways, false_from_ne_true, true_from_ne_false, cond-true, cond-false}
+use Rattle.std.proofs.Common.{◌≡◌, ℕ, suc, ◌+◌, ◌⊎◌, Bool, true, false, cond, ◌||◌, List, [], ◌∷◌, ◌++◌, map, drop, length, refl, sym, ◌∙◌, ap, inl, inr, arith, Option, None, Some, add-one, length-append}
+use Rattle.std.proofs.lemmas.Bool.{cases_Bool, or_cases, or_left, or_right, or_parts, cond-true, cond-false}
 use Rattle.std.proofs.lemmas.List.{append-nil, map-append}
 use Rattle.std.proofs.lemmas.List.Elements.{filter-append, filter_map-append}
-use Rattle.std.proofs.lemmas.List.Folds.{list_any-append}
 use Rattle.std.specs.Prelude.{filter, filter_map, count_by, nat_lt, slice_get}
-use Rattle.std.specs.List.{list_any, cons_option}
+use Rattle.std.specs.List.{cons_option}
 use Rattle.std.proofs.lemmas.List.Sums.{length-filter}
 use Rattle.std.specs.Str.{bytes_eq}
 use Rattle.lp_token.specs.declared.LpKind.{LpKind}
@@ -14,8 +13,8 @@ use Rattle.lp_read.specs.declared.notes.Notes.{Notes}
 use Rattle.lp_read.specs.Tree.{Name, Symbol, Site, objective_first, objective_more, row_first, row_more, listed, other}
 use Rattle.lp_read.specs.Meaning.{has_name}
 use Rattle.lp_read.specs.Reading.{place_of, row_places}
-use Rattle.lp_read.specs.Roles.{Seen, seen, first_of_symbols, variable_of, counts_as_term, row_of, label_of, firsts, has_twice, names_from, variables, row_names, term_count, is_over_limit, role_fault}
-use Rattle.lp_read.specs.Noted.{with_name, with_token, names_with, tokens_with, row_name, rows_with, row_tokens_with, is_repeated, is_repeated_in, terms_with, with_rows, with_variables, noted, are_too_many, AreNoted}
+use Rattle.lp_read.specs.Roles.{Seen, seen, first_of_symbols, variable_of, counts_as_term, row_of, firsts, has_twice, names_from, variables, row_names, term_count, is_over_limit, role_fault}
+use Rattle.lp_read.specs.Noted.{with_name, with_token, names_with, tokens_with, row_name, rows_with, row_tokens_with, is_repeated, is_repeated_in, terms_with, noted, are_too_many, AreNoted}
 use Rattle.lp_read.proofs.NameLists.{itself, firsts_has, firsts_push, rows_push, once_push, twice_push}
 
 -- what a token names

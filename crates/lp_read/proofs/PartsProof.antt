@@ -1,10 +1,10 @@
 -- The parts of a text's tree fit together.
-use Rattle.std.proofs.Common.{◌≡◌, ◌∙◌, refl, sym, ap, subst, ℕ, suc, ◌+◌, ◌<◌, ◌≤◌, ◌^◌, Bool, true, false, List, [], ◌∷◌, ◌++◌, map, take, length, get_or, Option, Some, None, All, Contains, MatchOption, arith}
-use Rattle.std.specs.Prelude.{filter_map, option_to_list, ℤ}
+use Rattle.std.proofs.Common.{◌≡◌, ◌∙◌, refl, sym, ap, subst, ℕ, ◌+◌, ◌<◌, ◌≤◌, ◌^◌, Bool, false, List, [], ◌∷◌, map, length, Option, Some, None, All, Contains, MatchOption, arith}
+use Rattle.std.specs.Prelude.{filter_map}
 use Rattle.std.specs.List.{AllByRecursion, cons_option}
 use Rattle.std.specs.Option.{option_map}
-use Rattle.std.proofs.lemmas.List.{take_all, length-map, get_or-map}
-use Rattle.std.proofs.lemmas.List.Elements.{All-from_recursion, recursion_from_All, All-map}
+use Rattle.std.proofs.lemmas.List.{take_all, length-map}
+use Rattle.std.proofs.lemmas.List.Elements.{All-from_recursion, recursion_from_All}
 use Rattle.bp_theory.specs.declared.Term as theory
 use Rattle.bp_theory.specs.declared.Row as theory_row
 use Rattle.bp_theory.specs.declared.Span.{Span}
@@ -19,11 +19,11 @@ use Rattle.lp_read.specs.Tree as plain
 use Rattle.lp_read.specs.Tree.{Name, Sign, written}
 use Rattle.lp_read.specs.TreeIn.{name_in, term_in, item_in, sum_in, row_in, bound_in, part_in, tree_in}
 use Rattle.lp_read.specs.Roles.{variables, row_names}
-use Rattle.lp_read.specs.Meaning.{ends, span_of, tokens_of, as_items, items_of, objective_items, minimised, total, constant_of, with_sign, Statement, statements}
-use Rattle.lp_read.specs.Reading.{IsTextOf, variable_fault, digits_fault, activity_fault, meaning_fault, place_of, or_else}
-use Rattle.lp_read.specs.Numbered.{number_in, turned_by, raw_term, raw_item, raw_terms, raw_row, ends_in, fault_in, table_of, IsFirstFault, IsFirstPast}
+use Rattle.lp_read.specs.Meaning.{ends, span_of, tokens_of, as_items, items_of, objective_items, statements}
+use Rattle.lp_read.specs.Reading.{IsTextOf, variable_fault, digits_fault, activity_fault, meaning_fault, or_else}
+use Rattle.lp_read.specs.Numbered.{turned_by, raw_term, raw_item, raw_terms, raw_row, ends_in, fault_in, table_of, IsFirstPast}
 use Rattle.lp_read.specs.PartsOf.{ArePartsOf, AreVariablesSound, IsRefused, IsFaultOfTable}
-use Rattle.lp_read.specs.Fit.{IsKnown, IsFitTerm, IsFitItem, IsFitSum, IsFitRow, IsFitBound, IsFitPart, IsFitTree}
+use Rattle.lp_read.specs.Fit.{IsKnown, IsFitTerm, IsFitItem, IsFitSum, IsFitRow, IsFitBound, IsFitPart}
 use Rattle.lp_read.specs.declared.meaning.MeaningFault.{MeaningFault}
 use Rattle.lp_read.specs.declared.meaning.MeaningFault.TheVariants.{At, Sums, NoMemory}
 use Rattle.lp_read.specs.declared.meaning.bounds.Stated.{Stated}

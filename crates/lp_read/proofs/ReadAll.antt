@@ -1,6 +1,6 @@
 -- Reading all symbols of a text.
-use Rattle.std.proofs.Common.{◌≡◌, ℕ, zero, suc, ◌+◌, ◌<◌, ◌≤◌, List, [], ◌∷◌, map, drop, length, refl, sym, ◌∙◌, ap, subst, arith, Option, None, Some}
-use Rattle.std.specs.Prelude.{slice_get, get_or, All, Result, Ok, Err, IfOk, IfErr, IsErrAnd}
+use Rattle.std.proofs.Common.{◌≡◌, ℕ, zero, suc, ◌+◌, ◌<◌, ◌≤◌, List, [], ◌∷◌, map, drop, length, refl, sym, ap, subst, arith, Option, Some}
+use Rattle.std.specs.Prelude.{slice_get, get_or, Result, Ok, Err, IfOk, IfErr, IsErrAnd}
 use Rattle.lp_read.specs.declared.symbol as rust
 use Rattle.lp_read.specs.declared.stage.Stage.TheVariants as variants
 use Rattle.lp_read.specs.declared.tree.Tree as trees

@@ -1,10 +1,9 @@
 -- What reading one symbol more shows.
-use Rattle.std.proofs.Common.{◌≡◌, ℕ, zero, suc, ◌+◌, ◌<◌, ◌≤◌, ◌⊎◌, Bool, true, false, ◌||◌, List, [], ◌∷◌, ◌++◌, map, take, drop, length, refl, sym, ◌∙◌, ap, subst, inl, inr, arith, Option, None, Some, add-one}
+use Rattle.std.proofs.Common.{◌≡◌, ℕ, zero, suc, ◌+◌, ◌<◌, ◌≤◌, ◌⊎◌, true, false, List, [], ◌∷◌, ◌++◌, map, drop, length, refl, sym, ◌∙◌, ap, subst, inl, inr, arith, Option, None, Some, add-one}
 use Rattle.std.proofs.lemmas.List.{map-append, length-take-le, take_all}
 use Rattle.std.proofs.lemmas.Option.{slice_get_within}
 use Rattle.std.proofs.lemmas.Bool.{cases_Bool, or_cases}
-use Rattle.std.specs.Prelude.{slice_get, get_or, IsFalse, Result, Ok, Err, IfOk, IfErr}
-use Rattle.lp_token.specs.declared.Section.TheVariants as sections
+use Rattle.std.specs.Prelude.{slice_get, get_or, Result, Ok, Err, IfOk, IfErr}
 use Rattle.lp_token.specs.declared.LpKind.{LpKind}
 use Rattle.lp_token.specs.declared.LpKind.TheVariants.{Syntax, RowTwice, Limit}
 use Rattle.lp_read.specs.declared.symbol as rust
@@ -19,10 +18,10 @@ use Rattle.lp_read.specs.declared.notes.ParseFault.{ParseFault}
 use Rattle.lp_read.specs.declared.notes.ParseFault.TheVariants.{At, NoEnd, NoMemory}
 use Rattle.lp_read.specs.declared.parse.State.{State}
 use Rattle.lp_read.specs.declared.parse.Parsed.{Parsed}
-use Rattle.lp_read.specs.Tree.{Symbol, word, Site, Tree, Written, IsText, spelling, sites}
+use Rattle.lp_read.specs.Tree.{Symbol, Site, Tree, Written, IsText, spelling, sites}
 use Rattle.lp_read.specs.TreeIn.{symbol_in, next_in, tree_in}
-use Rattle.lp_read.specs.StageIn.{stage_in, step_in}
-use Rattle.lp_read.specs.Parser.{Stage, start, done, Step, step, Leads}
+use Rattle.lp_read.specs.StageIn.{stage_in}
+use Rattle.lp_read.specs.Parser.{Stage, start, done, step, Leads}
 use Rattle.lp_read.specs.Roles.{Seen, seen, first_of_symbols, role_fault}
 use Rattle.lp_read.specs.Meaning.{tokens_of}
 use Rattle.lp_read.specs.Reading.{own_fault, StandsAt, AreSound, is_ended, is_end_word}

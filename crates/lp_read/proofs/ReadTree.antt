@@ -1,6 +1,6 @@
 -- What is read of a text's tokens is its model, or its first fault.
-use Rattle.std.proofs.Common.{◌≡◌, ℕ, zero, suc, ◌+◌, ◌<◌, ◌≤◌, ◌^◌, List, [], ◌∷◌, map, length, refl, sym, ◌∙◌, ap, subst, arith, Option, None, Some, Result, Ok, Err, false}
-use Rattle.std.specs.Prelude.{slice_index_or, MatchResult, IfErr}
+use Rattle.std.proofs.Common.{◌≡◌, ℕ, zero, suc, ◌<◌, ◌≤◌, List, [], ◌∷◌, map, length, refl, ◌∙◌, ap, subst, arith, Option, None, Some, false}
+use Rattle.std.specs.Prelude.{slice_index_or}
 use Rattle.lp_token.specs.declared.Tok.{Tok}
 use Rattle.lp_token.specs.declared.LpKind.{LpKind}
 use Rattle.lp_token.specs.declared.LpKind.TheVariants.{Limit, NoEnd, Activity}
@@ -17,7 +17,7 @@ use Rattle.lp_read.specs.TreeIn.{tree_in}
 use Rattle.lp_read.specs.Symbols.{symbols}
 use Rattle.lp_read.specs.Roles.{variables}
 use Rattle.lp_read.specs.Meaning.{model_of, tokens_of}
-use Rattle.lp_read.specs.Reading.{AreSound, StandsAt, is_ended, meaning_fault, place_of, row_places, greatest_size, line_of, IsTextOf, Reads, HasFault, too_long, uncut, at_token, unended, in_meaning}
+use Rattle.lp_read.specs.Reading.{AreSound, StandsAt, is_ended, place_of, row_places, greatest_size, line_of, IsTextOf, HasFault, too_long, uncut, at_token, unended, in_meaning}
 use Rattle.lp_read.specs.Parsing.{IsParsed, IsParseFault}
 use Rattle.lp_read.specs.PartsOf.{IsModelOf, IsRefused}
 use Rattle.lp_read.specs.Model.{Means, IsFaultOf}

@@ -1,10 +1,10 @@
 -- As many rows are seen as a tree has.
-use Rattle.std.proofs.Common.{◌≡◌, ◌∙◌, refl, sym, ap, ℕ, suc, ◌+◌, List, [], ◌∷◌, ◌++◌, map, length, Option, Some, None, arith}
+use Rattle.std.proofs.Common.{◌≡◌, ◌∙◌, refl, ap, ℕ, suc, ◌+◌, List, [], ◌∷◌, ◌++◌, map, length, Option, Some, None, arith}
 use Rattle.std.specs.Prelude.{filter_map, flat_map}
-use Rattle.lp_read.specs.Tree.{Name, Symbol, word, name, number, sign, Sign, Site, objective_first, objective_more, row_first, row_more, listed, other, Written, placed, headed, Signed, Term, Sum, Row, expression_first, number_first, ranged, Bound, value_first, name_first, between, free, Part, bounds, generals, binaries, spelled_signs, spelled_factor, spelled_term, spelled_sum, spelled_signed, spelled_label, spelled_row, spelled_value, spelled_item, comparison, comparison_of, written_row, written_bound, written_part, written_objective, written_word, written, spelling, sites, Tree}
+use Rattle.lp_read.specs.Tree.{Name, Symbol, name, number, sign, Sign, Site, objective_first, objective_more, row_first, row_more, listed, other, Written, placed, headed, Signed, Term, Row, expression_first, number_first, ranged, Bound, value_first, name_first, between, free, Part, bounds, generals, binaries, spelled_signs, spelled_factor, spelled_term, spelled_sum, spelled_signed, spelled_label, spelled_row, spelled_value, spelled_item, comparison, comparison_of, written_row, written_bound, written_part, written_objective, written_word, written, spelling, sites, Tree}
 use Rattle.std.specs.List.{cons_option}
 use Rattle.lp_token.specs.declared.Section.TheVariants as sections
-use Rattle.lp_read.specs.Roles.{Seen, seen, first_of_symbols, row_of, label_of, names_from, row_names}
+use Rattle.lp_read.specs.Roles.{Seen, seen, first_of_symbols, row_of, names_from, row_names}
 use Rattle.lp_read.specs.Meaning.{tokens_of}
 use Rattle.lp_read.specs.Reading.{row_places}
 

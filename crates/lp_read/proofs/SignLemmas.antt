@@ -1,7 +1,7 @@
 -- Numbers under runs of signs: the product of signs is minus where the minuses are odd.
 use mathlib.Core.Bool.{beq}
-use Rattle.std.proofs.Common.{◌≡◌, ◌∙◌, refl, sym, ap, subst, ℕ, suc, ◌+◌, ◌%◌, ◌<◌, ◌^◌, Bool, true, false, not, List, [], ◌∷◌, arith, zero-add, if◌then◌else◌, nat_eq}
-use Rattle.std.specs.Prelude.{count_by, ℤ, pos, negsuc, neg_ℤ, int_lt, unsigned_abs}
+use Rattle.std.proofs.Common.{◌≡◌, ◌∙◌, refl, sym, ap, ℕ, ◌+◌, ◌%◌, Bool, true, false, not, List, [], ◌∷◌, arith, zero-add, if◌then◌else◌, nat_eq}
+use Rattle.std.specs.Prelude.{count_by, pos, neg_ℤ, int_lt, unsigned_abs}
 use Rattle.std.proofs.lemmas.List.Sums.{sum_by-cons}
 use Rattle.std.proofs.lemmas.Int.{ints}
 use Rattle.std.proofs.lemmas.Bool.Decides.{nat_tests}

@@ -1,5 +1,5 @@
 -- Steps of the automaton on symbols that are not of one kind.
-use Rattle.std.specs.Prelude.{◌≡◌, ℕ, Bool, List, [], ◌∷◌, Option, None, Some, refl}
+use Rattle.std.specs.Prelude.{◌≡◌, ℕ, Bool, List, [], Option, None, refl}
 use Rattle.lp_read.specs.declared.symbol.Symbol.{Symbol}
 use Rattle.lp_read.specs.declared.symbol.Symbol.TheVariants as symbols
 use Rattle.lp_read.specs.declared.tree.Place.{Place}

@@ -1,12 +1,10 @@
 -- Symbols that are names, and the symbols of tokens one by one.
-use Rattle.std.proofs.Common.{◌≡◌, ℕ, zero, suc, ◌+◌, ◌<◌, ◌≤◌, Bool, true, false, List, [], ◌∷◌, ◌++◌, map, drop, length, refl, sym, ◌∙◌, ap, subst, arith, Option, None, Some, append_assoc, add-one, get_or}
+use Rattle.std.proofs.Common.{◌≡◌, ℕ, zero, suc, ◌+◌, ◌<◌, ◌≤◌, Bool, true, false, List, [], ◌∷◌, ◌++◌, map, drop, length, refl, sym, ◌∙◌, ap, subst, arith, None, Some, append_assoc, add-one, get_or}
 use Rattle.std.proofs.lemmas.List.{map-append, append-nil, drop_all}
 use Rattle.std.proofs.lemmas.List.Elements.{All-append}
 use Rattle.std.proofs.lemmas.Option.{slice_get-get_or}
-use Rattle.std.proofs.lemmas.Bool.{cond-true, cond-false, cases_Bool}
-use Rattle.std.specs.Prelude.{slice_range, slice_get, All, MatchBool, IsTrue, if◌then◌else◌}
+use Rattle.std.specs.Prelude.{slice_range, slice_get, All, MatchBool, if◌then◌else◌}
 use Rattle.lp_token.specs.declared.Tok.{Tok}
-use Rattle.lp_token.specs.declared.TokKind.{TokKind}
 use Rattle.lp_token.specs.declared.TokKind.TheVariants as kinds
 use Rattle.lp_token.specs.Lexeme.{is_number, is_name, is_mark}
 use Rattle.lp_token.specs.Cut.{in_comment, is_word_at, kind_at, IsToken, is_end, CutFrom, Cut}
@@ -14,7 +12,7 @@ use Rattle.lp_read.specs.declared.symbol.Symbol.{Symbol}
 use Rattle.lp_read.specs.declared.symbol.Symbol.TheVariants as symbols
 use Rattle.lp_read.specs.declared.tree.Place.{Place}
 use Rattle.lp_read.specs.Symbols.{symbol_of, stays_in_bounds, symbols_from, symbols}
-use Rattle.lp_read.specs.TreeIn.{name_in, symbol_in, IsNamed, IsNameOf, IsNameAt, IsNoName}
+use Rattle.lp_read.specs.TreeIn.{symbol_in, IsNamed, IsNameOf, IsNameAt, IsNoName}
 
 pub no_name : (t : Tok) (s : Symbol) → IsNoName s → IsNameOf t s
 no_name t (symbols.Name place) h = absurd h

@@ -1,16 +1,16 @@
 -- What the sections of a tree say of a variable stands in the table at its number.
-use Rattle.std.proofs.Common.{◌≡◌, ◌∙◌, refl, sym, ap, subst, ℕ, ◌+◌, ◌<◌, ◌≤◌, Bool, true, false, ◌||◌, ◌&&◌, List, [], ◌∷◌, ◌++◌, map, fold, length, replicate, set, get_or, Contains, arith, if◌then◌else◌, nat_eq, get_or-set_same, get_or-set_other, length-set}
+use Rattle.std.proofs.Common.{◌≡◌, ◌∙◌, refl, sym, ap, ℕ, ◌<◌, Bool, true, false, ◌||◌, ◌&&◌, List, [], ◌∷◌, ◌++◌, fold, length, replicate, set, get_or, Contains, arith, if◌then◌else◌, nat_eq, get_or-set_same, get_or-set_other, length-set}
 use Rattle.std.specs.Prelude.{pos, flat_map}
 use Rattle.std.specs.Str.{bytes_eq}
-use Rattle.std.specs.List.{IsDistinct, AllByRecursion, list_any}
+use Rattle.std.specs.List.{IsDistinct, AllByRecursion}
 use Rattle.std.proofs.lemmas.Bool.{eqb-true, eqb-false}
-use Rattle.std.proofs.lemmas.List.{length-replicate, get_or-replicate, append-nil, append_assoc}
+use Rattle.std.proofs.lemmas.List.{length-replicate, get_or-replicate}
 use Rattle.std.proofs.lemmas.List.Folds.{list_any-append}
 use Rattle.lp_read.specs.Tree.{Name, Bound, Part, bounds, generals, binaries, Tree}
 use Rattle.lp_read.specs.Meaning.{Extended, whole, above, Side, lower, upper, Statement, statements, part_statements, general_names, binary_names, is_on, last_said, has_name, Ends, greater, lesser, stated_ends, ends, is_listed}
-use Rattle.lp_read.specs.Numbered.{number_in, unsaid, with_value, with_general, with_binary, stated_at, say_at, say, say_bound, list_general, list_binary, say_part, table_of, ends_in, is_listed_in}
+use Rattle.lp_read.specs.Numbered.{number_in, unsaid, with_value, with_general, with_binary, stated_at, say, say_bound, list_general, list_binary, say_part, table_of, ends_in, is_listed_in}
 use Rattle.lp_read.specs.declared.meaning.bounds.Stated.{Stated}
-use Rattle.lp_read.proofs.NameNumbers.{same_number, number_within}
+use Rattle.lp_read.proofs.NameNumbers.{same_number}
 
 -- a variable after more statements and lists
 abbrev summed : Name → Stated → List Statement → List Name → List Name → Stated

@@ -1,5 +1,5 @@
 -- The terms and constants of sums as they are written.
-use Rattle.std.proofs.Common.{◌≡◌, ◌∙◌, refl, sym, ap, subst, ℕ, ◌+◌, ◌<◌, ◌≤◌, Bool, true, false, not, List, [], ◌∷◌, ◌++◌, map, take, length, get_or, Option, Some, None, arith, below_more}
+use Rattle.std.proofs.Common.{◌≡◌, ◌∙◌, refl, sym, ap, ℕ, ◌+◌, ◌<◌, ◌≤◌, Bool, true, false, List, [], ◌∷◌, ◌++◌, map, take, length, get_or, Option, Some, None, arith, below_more}
 use Rattle.std.specs.Prelude.{ℤ, pos, neg_ℤ, ◌+ℤ◌, filter_map, option_to_list, unwrap_or}
 use Rattle.std.proofs.lemmas.List.{take_all, take_more, map_more, get_or_default, append_assoc}
 use Rattle.std.specs.List.{cons_option}

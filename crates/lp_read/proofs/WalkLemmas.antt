@@ -1,31 +1,17 @@
 -- What is seen along the written symbols of a tree: the names of variables, the terms and the numbers.
-use Rattle.std.proofs.Common.{◌≡◌, ◌∙◌, refl, sym, ap, subst, ℕ, suc, ◌+◌, ◌<◌, ◌≤◌, ◌^◌, Bool, true, false, List, [], ◌∷◌, ◌++◌, map, length, Option, Some, None, MatchOption, Contains, arith, if◌then◌else◌}
-use Rattle.std.specs.Prelude.{filter_map, count_by, flat_map, option_to_list}
+use Rattle.std.proofs.Common.{◌≡◌, ◌∙◌, refl, sym, ap, subst, ℕ, ◌+◌, ◌<◌, ◌≤◌, ◌^◌, true, false, List, [], ◌∷◌, ◌++◌, map, Option, Some, None, MatchOption, Contains, arith, if◌then◌else◌}
+use Rattle.std.specs.Prelude.{filter_map, count_by, flat_map}
 use Rattle.std.specs.List.{cons_option, AllByRecursion}
-use Rattle.std.specs.Option.{option_map}
 use Rattle.std.proofs.lemmas.List.{map-append, append_assoc}
 use Rattle.std.proofs.lemmas.List.Sums.{sum_by-cons}
-use Rattle.std.proofs.lemmas.List.Elements.{All-from_recursion}
-use Rattle.lp_read.specs.Tree as plain
-use Rattle.lp_read.specs.Tree.{Name, Sign, Symbol, word, name, number, infinity, sign, comparison, colon, unfit, Site, objective_first, objective_more, row_first, row_more, listed, other, Written, placed, headed, comparison_of, spelled_signs, spelled_signed, spelled_factor, spelled_term, spelled_item, spelled_value, spelled_sum, spelled_label, spelled_row, written_row, written_bound, written_part, written_objective, written_word, written, spelling, sites}
+use Rattle.lp_read.specs.Tree.{Name, Sign, Symbol, name, number, sign, Site, Written, placed, headed, spelled_signs, spelled_signed, spelled_factor, spelled_term, spelled_item}
 use Rattle.lp_read.specs.Roles.{Seen, seen, first_of_symbols, is_colon, variable_of, counts_as_term}
-use Rattle.lp_read.specs.TreeIn.{name_in, term_in, item_in, sum_in, row_in, bound_in, part_in, label_in, tree_in}
-use Rattle.lp_read.specs.Fit.{IsKnown, IsSmall, IsFitTerm, IsFitItem, IsFitSum, IsFitRow, IsFitValue, IsFitBound, IsFitPart, IsFitTree}
-use Rattle.lp_read.specs.declared.tree.Place.{Place}
+use Rattle.lp_read.specs.TreeIn.{name_in, term_in, item_in}
+use Rattle.lp_read.specs.Fit.{IsSmall, IsFitTerm, IsFitItem}
 use Rattle.lp_read.specs.declared.tree.Signed.{Signed}
 use Rattle.lp_read.specs.declared.tree.Term.{Term}
 use Rattle.lp_read.specs.declared.tree.Item.{Item}
 use Rattle.lp_read.specs.declared.tree.Item.TheVariants as items
-use Rattle.lp_read.specs.declared.tree.Sum.{Sum}
-use Rattle.lp_read.specs.declared.tree.Row.{Row}
-use Rattle.lp_read.specs.declared.tree.Row.TheVariants as rows
-use Rattle.lp_read.specs.declared.tree.Value.{Value}
-use Rattle.lp_read.specs.declared.tree.Value.TheVariants as values
-use Rattle.lp_read.specs.declared.tree.Bound.{Bound}
-use Rattle.lp_read.specs.declared.tree.Bound.TheVariants as bounds
-use Rattle.lp_read.specs.declared.tree.Part.{Part}
-use Rattle.lp_read.specs.declared.tree.Part.TheVariants as parts
-use Rattle.lp_read.specs.declared.tree.Tree.{Tree}
 
 -- the symbol at the front of written ones, or else the one behind them
 abbrev pub follow : Option Symbol → List Written → Option Symbol

@@ -1,5 +1,5 @@
 -- A tree that was read: its numbers are those of texts, and its names are in the list of variables.
-use Rattle.std.specs.Prelude.{ℕ, ◌<◌, ◌^◌, List, Option, MatchOption, All, Contains}
+use Rattle.std.specs.Prelude.{ℕ, ◌<◌, ◌^◌, List, MatchOption, All, Contains}
 use Rattle.lp_read.specs.declared.tree.Place.{Place}
 use Rattle.lp_read.specs.declared.tree.Signed.{Signed}
 use Rattle.lp_read.specs.declared.tree.Term.{Term}

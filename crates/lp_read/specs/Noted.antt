@@ -1,6 +1,5 @@
 -- What is noted of the tokens that are read, by what they name and count as.
-use Rattle.std.specs.Prelude.{◌≡◌, ◌⊎◌, ℕ, ◌+◌, ◌<◌, ◌≤◌, ◌^◌, Bool, true, false, ◌||◌, nat_lt, if◌then◌else◌, List, [], ◌∷◌, ◌++◌, map, length, Option, None, Some, decimal}
-use Rattle.lp_token.specs.declared.LpKind.{LpKind}
+use Rattle.std.specs.Prelude.{◌≡◌, ◌⊎◌, ℕ, ◌+◌, ◌≤◌, Bool, true, false, ◌||◌, nat_lt, if◌then◌else◌, List, [], ◌∷◌, ◌++◌, map, length, Option, None, Some, decimal}
 use Rattle.lp_token.specs.declared.LpKind.TheVariants.{RowTwice, Limit}
 use Rattle.lp_read.specs.declared.notes.Notes.{Notes}
 use Rattle.lp_read.specs.declared.notes.ParseFault.{ParseFault}

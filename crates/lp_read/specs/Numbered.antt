@@ -1,5 +1,5 @@
 -- What a tree says of its variables by number: their bounds, and the terms as they are written.
-use Rattle.std.specs.Prelude.{◌≡◌, ℕ, zero, suc, ◌+◌, ◌<◌, ◌≤◌, Bool, true, false, not, ◌||◌, if◌then◌else◌, List, [], ◌∷◌, map, take, filter_map, fold, length, replicate, slice_set, slice_index_or, Option, Some, None, unwrap_or, pos}
+use Rattle.std.specs.Prelude.{◌≡◌, ℕ, zero, suc, ◌+◌, ◌<◌, ◌≤◌, Bool, true, false, not, ◌||◌, if◌then◌else◌, List, [], ◌∷◌, take, filter_map, fold, length, replicate, slice_set, slice_index_or, Option, Some, None, unwrap_or, pos}
 use Rattle.std.specs.Str.{bytes_eq}
 use Rattle.bp_theory.specs.Digits.{zone_bits}
 use Rattle.bp_theory.specs.declared.Span.{Span}

@@ -1,5 +1,5 @@
 -- What a reader of a text's symbols keeps, and what it gives.
-use Rattle.std.specs.Prelude.{◌≡◌, ℕ, ◌+◌, Bool, List, map, take, drop, length, Option, None, Some, slice_get, IsFalse}
+use Rattle.std.specs.Prelude.{◌≡◌, ℕ, ◌+◌, List, map, take, drop, length, Option, None, Some, slice_get, IsFalse}
 use Rattle.lp_read.specs.declared.symbol as symbols
 use Rattle.lp_read.specs.declared.notes.ParseFault.{ParseFault}
 use Rattle.lp_read.specs.declared.notes.ParseFault.TheVariants.{At, NoEnd, NoMemory}

@@ -1,12 +1,11 @@
 -- The parts of the model that a tree means, and what stands in their way.
-use Rattle.std.specs.Prelude.{◌≡◌, ℕ, ◌<◌, ◌≤◌, List, length, map, Option, Some, None, slice_index_or, []}
+use Rattle.std.specs.Prelude.{◌≡◌, ℕ, ◌<◌, ◌≤◌, List, length, map, Some, None, slice_index_or, []}
 use Rattle.bp_theory.specs.Digits.{zone_bits}
 use Rattle.bp_model.specs.declared.parts.Parts.{Parts}
 use Rattle.bp_model.specs.Named.{NamedProgram}
 use Rattle.bp_model.specs.Parts.{NoneCrossed, IsWithinLimits}
-use Rattle.lp_token.specs.declared.LpKind.{LpKind}
 use Rattle.lp_token.specs.declared.LpKind.TheVariants.{Activity}
-use Rattle.lp_read.specs.Tree.{Name, Tree}
+use Rattle.lp_read.specs.Tree.{Tree}
 use Rattle.lp_read.specs.Roles.{variables, row_names}
 use Rattle.lp_read.specs.Meaning.{model_of, ends, span_of, tokens_of, objective_items, minimised, total, constant_of}
 use Rattle.lp_token.specs.declared.Tok.{Tok}

@@ -1,8 +1,6 @@
 -- What a reader has read so far, as a stage of the automaton on its text.
 use Rattle.std.specs.Prelude.{ℕ, List, map, Bool, Option, None, Some}
 use Rattle.std.specs.Option.{option_map}
-use Rattle.lp_read.specs.declared.tree.Place.{Place}
-use Rattle.lp_read.specs.declared.tree.Sign.{Sign}
 use Rattle.lp_read.specs.declared.tree.Site.{Site}
 use Rattle.lp_read.specs.declared.tree.Item.{Item}
 use Rattle.lp_read.specs.declared.tree.Sum.{Sum}

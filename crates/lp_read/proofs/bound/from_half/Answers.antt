@@ -1,5 +1,4 @@
 -- What isn't a comparison is read behind the bound.
-use Rattle.std.proofs.Common.{◌≡◌, ℕ, List}
 use Rattle.lp_read.specs.TreeIn.{name_in}
 use Rattle.lp_read.specs.StageIn.{within_in}
 use Rattle.lp_read.proofs.Steps.{next_bound}

@@ -1,8 +1,5 @@
 -- What is neither a name nor a word is read as a value.
-use Rattle.std.proofs.Common.{◌≡◌, ℕ, List}
-use Rattle.std.specs.Prelude.{IfOk}
-use Rattle.lp_read.specs.TreeIn.{symbol_in}
-use Rattle.lp_read.specs.StageIn.{within_in, step_in}
+use Rattle.lp_read.specs.StageIn.{within_in}
 use Rattle.lp_read.proofs.Steps.{first_value}
 use Rattle.lp_read.proofs.bound.from_start.Goals as goal
 

@@ -1,8 +1,6 @@
 -- The parts of the model, and what stands in their way.
-use Rattle.std.proofs.Common.{◌≡◌, ◌∙◌, refl, [], ◌∷◌, sym, ap, subst, arith, ℕ, List, length, map, None, All, ◌<◌, ◌≤◌, ◌^◌, IfErr, IfOk}
-use Rattle.std.specs.Prelude.{MatchOption}
+use Rattle.std.proofs.Common.{◌≡◌, ◌∙◌, refl, [], ◌∷◌, sym, ap, subst, arith, ℕ, List, length, map, All, ◌<◌, ◌≤◌, ◌^◌}
 use Rattle.std.specs.Int.{w128}
-use Rattle.bp_model.specs.Parts.{AreFitting}
 use Rattle.std.proofs.lemmas.Int.{to_z-of_z, fits_signed_from_abs}
 use Rattle.std.proofs.lemmas.List.{length-map}
 use Rattle.bp_theory.specs.Digits.{zone_bits}
@@ -14,9 +12,8 @@ use Rattle.lp_read.specs.TreeIn.{tree_in, part_in, row_in}
 use Rattle.lp_read.specs.Roles as roles
 use Rattle.lp_read.specs.Meaning.{tokens_of, span_of, objective_items}
 use Rattle.lp_read.specs.Reading.{IsTextOf}
-use Rattle.lp_read.specs.Numbered.{table_of, fault_in, ends_in, IsFirstPast, raw_terms, raw_row}
+use Rattle.lp_read.specs.Numbered.{table_of, ends_in, IsFirstPast, raw_terms, raw_row}
 use Rattle.lp_read.specs.Fit.{IsFitPart, IsFitRow}
-use Rattle.lp_read.specs.PartsOf.{ArePartsOf, AreVariablesSound, IsRefused}
 use Rattle.lp_read.specs.declared.tree.Row.{Row}
 use Rattle.lp_read.specs.declared.tree.Tree.{Tree}
 use Rattle.lp_read.specs.declared.meaning.bounds.Stated.{Stated}

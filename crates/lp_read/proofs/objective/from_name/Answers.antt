@@ -1,5 +1,4 @@
 -- What isn't a colon is read behind a sum of that name.
-use Rattle.std.proofs.Common.{◌≡◌, ℕ, List, sym, ◌∙◌}
 use Rattle.lp_read.specs.TreeIn.{name_in}
 use Rattle.lp_read.proofs.Steps.{no_label}
 use Rattle.lp_read.proofs.objective.from_name.Goals as goal

@@ -1,5 +1,4 @@
 -- What isn't a name is read behind a constant.
-use Rattle.std.proofs.Common.{◌≡◌, ℕ, List, sym, ◌∙◌}
 use Rattle.lp_read.specs.TreeIn.{label_in, item_in}
 use Rattle.lp_read.specs.StageIn.{gap_in}
 use Rattle.lp_read.proofs.Steps.{is_constant}

@@ -1,9 +1,5 @@
 -- A symbol is read where the automaton goes on and names and counts are in order.
-use Rattle.std.proofs.Common.{◌≡◌, List, ℕ, sym, Some, None, refl, ap, ◌∙◌}
-use Rattle.lp_read.specs.TreeIn.{symbol_in}
-use Rattle.lp_read.specs.StageIn.{stage_in}
-use Rattle.lp_read.specs.Parser.{step, Step}
-use Rattle.lp_read.specs.declared.parse.State.{State}
+use Rattle.std.proofs.Common.{sym}
 use Rattle.lp_read.proofs.ReadOn.{stops_memory, stops_stuck, advanced, stopped}
 use Rattle.lp_read.proofs.parse.read_fit.Goals as goal
 

@@ -1,5 +1,5 @@
 -- A symbol's own fault stands first.
-use Rattle.std.proofs.Common.{◌≡◌, sym, ◌∙◌}
+use Rattle.std.proofs.Common.{sym, ◌∙◌}
 use Rattle.lp_read.proofs.ReadOn.{stops_own}
 use Rattle.lp_read.proofs.parse.read_symbol.Goals as goal
 

@@ -1,5 +1,5 @@
 -- All line feeds stand before the end.
-use Rattle.std.proofs.Common.{◌≡◌, ◌+◌, length, List, ℕ, ap, sym, ◌∙◌, arith}
+use Rattle.std.proofs.Common.{◌+◌, length, List, ℕ, ap, sym, ◌∙◌, arith}
 use Rattle.std.proofs.lemmas.List.{take_all}
 use Rattle.std.specs.Prelude.{count_by}
 use Rattle.lp_token.specs.Cut.{is_line_feed, line_at}

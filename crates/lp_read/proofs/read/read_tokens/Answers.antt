@@ -1,5 +1,5 @@
 -- The symbols of the tokens are the text's.
-use Rattle.std.proofs.Common.{◌≡◌, List, map, ap, subst, sym, ◌∙◌}
+use Rattle.std.proofs.Common.{List, map, ap, subst, sym, ◌∙◌}
 use Rattle.lp_token.specs.declared.LpKind.{LpKind}
 use Rattle.lp_read.specs.Tree.{Symbol}
 use Rattle.lp_read.specs.TreeIn.{symbol_in}

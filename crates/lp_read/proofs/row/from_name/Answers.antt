@@ -1,5 +1,4 @@
 -- What isn't a colon is read behind a sum of that name.
-use Rattle.std.proofs.Common.{◌≡◌, ℕ, List}
 use Rattle.lp_read.specs.TreeIn.{name_in}
 use Rattle.lp_read.specs.StageIn.{front_in}
 use Rattle.lp_read.proofs.Steps.{no_row_label}

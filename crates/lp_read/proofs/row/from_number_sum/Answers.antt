@@ -1,5 +1,4 @@
 -- What is neither a sign nor a comparison is read behind the row.
-use Rattle.std.proofs.Common.{◌≡◌, ℕ, List}
 use Rattle.lp_read.specs.TreeIn.{label_in}
 use Rattle.lp_read.specs.StageIn.{front_in, term_sum_in}
 use Rattle.lp_read.proofs.Steps.{next_row}

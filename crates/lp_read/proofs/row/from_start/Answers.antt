@@ -1,5 +1,4 @@
 -- A word behind rows stands behind no parts.
-use Rattle.std.proofs.Common.{◌≡◌, ℕ, List}
 use Rattle.lp_read.proofs.row.from_start.Goals as goal
 
 pub returns-in-Word : goal.returns-in-Word

@@ -1,9 +1,7 @@
 -- The parts with one more, each as its text has it.
-use Rattle.std.proofs.Common.{◌≡◌, ℕ, List, [], ◌∷◌, map, ap, ◌∙◌}
+use Rattle.std.proofs.Common.{[], ◌∷◌}
 use Rattle.std.proofs.lemmas.List.{map-append}
 use Rattle.lp_read.specs.TreeIn.{part_in}
-use Rattle.lp_read.specs.StageIn.{front_in}
-use Rattle.lp_read.specs.Parser.{from_word}
 use Rattle.lp_read.proofs.stage.behind_part.Goals as goal
 
 pub returns : goal.returns

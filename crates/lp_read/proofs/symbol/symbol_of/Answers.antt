@@ -1,5 +1,4 @@
 -- Each kind of token has its symbol.
-use Rattle.std.proofs.Common.{◌≡◌, ℕ, List, sym, ◌∙◌, ap}
 use Rattle.lp_read.specs.Symbols.{symbol_of}
 use Rattle.lp_read.proofs.SymbolLemmas.{no_name, name_of}
 use Rattle.lp_read.proofs.symbol.symbol_of.Goals as goal

@@ -1,5 +1,5 @@
 -- The symbols so far and those to come are all.
-use Rattle.std.proofs.Common.{◌≡◌, ℕ, List, ◌++◌, map, drop, false}
+use Rattle.std.proofs.Common.{◌≡◌, ◌++◌, map, drop, false}
 use Rattle.std.specs.Prelude.{All}
 use Rattle.lp_read.specs.Symbols.{symbols_from}
 use Rattle.lp_read.specs.TreeIn.{symbol_in, IsNamed}

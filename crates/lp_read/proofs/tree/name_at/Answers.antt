@@ -1,5 +1,5 @@
 -- A name's bytes are text.
-use Rattle.std.proofs.Common.{◌≡◌, List, ℕ, subst, sym, refl}
+use Rattle.std.proofs.Common.{List, ℕ, subst, sym, refl}
 use Rattle.std.specs.Prelude.{Result, Ok, Err, MatchResult, IsOk}
 use Rattle.std.specs.Str.{IsUtf8}
 use Rattle.lp_read.specs.TreeIn.{name_in}

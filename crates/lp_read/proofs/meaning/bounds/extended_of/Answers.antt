@@ -1,5 +1,5 @@
 -- An infinity has the sign of its run.
-use Rattle.std.proofs.Common.{◌≡◌, ◌∙◌, sym, true, false}
+use Rattle.std.proofs.Common.{◌∙◌, sym, true, false}
 use Rattle.lp_read.proofs.SignLemmas.{endless_is}
 use Rattle.lp_read.proofs.meaning.bounds.extended_of.Goals as goal
 

@@ -1,4 +1,4 @@
-use Rattle.std.proofs.Common.{◌≡◌, take, fold, vec_len, map, length, replicate}
+use Rattle.std.proofs.Common.{◌≡◌, take, fold, vec_len, length, replicate}
 use Rattle.lp_read.specs.TreeIn.{part_in}
 use Rattle.lp_read.specs.Numbered.{say_part, unsaid}
 use Rattle.lp_read.proofs.meaning.bounds.stated_of.Given as goal

@@ -3,7 +3,7 @@ use Rattle.std.proofs.Common.{◌≡◌, ◌∙◌, sym, arith, neg_ℤ, pos}
 use Rattle.std.proofs.lemmas.Int.{ints, to_z_pos}
 use Rattle.std.specs.Int.{w64}
 use mir.Val.{to_z, of_z}
-use Rattle.std.specs.Prelude.{◌-ℤ◌, ℕ, ◌<◌, ◌^◌, ℤ}
+use Rattle.std.specs.Prelude.{◌-ℤ◌, ℕ, ◌<◌, ◌^◌}
 use Rattle.lp_read.proofs.SignLemmas.{turned_back, turned_over, same_truth, other_truth}
 use Rattle.lp_read.proofs.meaning.number.signed_number.Goals as goal
 

@@ -1,5 +1,5 @@
 -- The digits of a 64-bit number are those behind its leading zeros.
-use Rattle.std.proofs.Common.{◌≡◌, ◌∙◌, ap, arith}
+use Rattle.std.proofs.Common.{ap, arith}
 use Rattle.bp_theory.specs.Digits.{binary_digits}
 use Rattle.bp_theory.proofs.DigitsProof.{digits_by_zeros_lem}
 use Rattle.lp_read.proofs.meaning.spans.bits_of.Goals as goal

@@ -1,6 +1,6 @@
 -- One summand after another.
-use Rattle.std.proofs.Common.{arith, ◌≡◌, ◌∙◌, ap, ◌++◌, List}
-use Rattle.std.specs.Prelude.{option_to_list, ◌+ℤ◌, pos, ℤ}
+use Rattle.std.proofs.Common.{arith, ◌∙◌, ap, ◌++◌}
+use Rattle.std.specs.Prelude.{option_to_list}
 use Rattle.std.proofs.Math.IntN.{+ℤ_idl}
 use Rattle.lp_read.specs.TreeIn.{item_in}
 use Rattle.lp_read.specs.Numbered.{raw_item, turned_by}
