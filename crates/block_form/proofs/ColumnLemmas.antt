@@ -1,0 +1,377 @@
+-- Laws of columns as they grow, and of what stands in them.
+use Rattle.std.proofs.Common.{◌≡◌, ◌≢◌, refl, sym, ap, subst, ◌∙◌, ℕ, zero, suc, ◌+◌, ◌-◌, ◌<◌, ◌≤◌, Bool, true, false, ◌||◌, filter, List, [], ◌∷◌, ◌++◌, map, length, get_or, set, take, All, Option, Some, None, arith, append_assoc, length-append, zero-add, true≢false, ⊎_elim, inl, inr}
+use Rattle.std.specs.Prelude.{ℤ, pos, ◌==◌, ◌⊎◌, if◌then◌else◌, is_none}
+use Rattle.std.specs.List.{AllByRecursion, list_any}
+use Rattle.std.specs.Ordering.{int_eq}
+use Rattle.std.proofs.lemmas.Int.{ints}
+use Rattle.std.proofs.lemmas.Bool.{cases_eq, cases_lt}
+use Rattle.std.proofs.lemmas.Bool.Decides.{eqb_tells, Decides-int_eq}
+use Rattle.std.proofs.lemmas.List.{append-nil, length-take-le, take_more, get_or-set_same, get_or-set_other, get_or_append_left, get_or-append-add}
+use Rattle.std.proofs.lemmas.List.Elements.{All-from_recursion, recursion_from_All}
+use Rattle.bp_theory.specs.Program.{coefficient}
+use Rattle.bp_theory.specs.Decomposition.{stands_in, IsTidyFrom}
+use Rattle.bp_theory.specs.declared.Term.{Term}
+use Rattle.bp_theory.specs.declared.Row.{Row}
+use Rattle.bp_theory.proofs.KeyLaws.{if_same, if_other}
+use Rattle.block_form.specs.Stand.{StandsInRow}
+use Rattle.block_form.specs.Gather.{coefs_from, SeenHome, IsApart, IsLinkOf, IsFirstApart}
+use Rattle.block_form.specs.Columns.{row_entries, column_from, AreColumns, master_entries, row_at, PlacedAt, ShowsHome, IsOfOne, IsCrossing, IsFirstCrossing}
+use Rattle.block_form.proofs.StandLemmas.{before_none}
+
+pub row_entries-append : (row j : ℕ) (ts us : List Term) → row_entries row j (ts ++ us) ≡ row_entries row j ts ++ row_entries row j us
+row_entries-append row j [] us = refl
+row_entries-append row j (t ∷ ts) us = by (t.var == j) (row_entries-append row j ts us)
+  where
+    by : (b : Bool) → row_entries row j (ts ++ us) ≡ row_entries row j ts ++ row_entries row j us
+        → (if b then (row, t.coef) ∷ row_entries row j (ts ++ us) else row_entries row j (ts ++ us))
+        ≡ (if b then (row, t.coef) ∷ row_entries row j ts else row_entries row j ts) ++ row_entries row j us
+    by true rest = ap (λ es. (row, t.coef) ∷ es) rest
+    by false rest = rest
+
+pub column_from-append : (first j : ℕ) (rows more : List Row) → column_from first (rows ++ more) j ≡ column_from first rows j ++ column_from (length rows + first) more j
+column_from-append first j [] more = ap (λ n. column_from n more j) (plain first)
+  where
+    plain : (n : ℕ) → n ≡ 0 + n
+    plain n = omega arith
+column_from-append first j (row ∷ rows) more =
+    ap (λ es. row_entries first j row.terms ++ es) (column_from-append (suc first) j rows more)
+    ∙ sym (append_assoc (row_entries first j row.terms) (column_from (suc first) rows j) (column_from (length rows + suc first) more j))
+    ∙ ap (λ n. (row_entries first j row.terms ++ column_from (suc first) rows j) ++ column_from n more j) (moved (length rows) first)
+  where
+    moved : (m n : ℕ) → m + suc n ≡ suc m + n
+    moved m n = omega arith
+
+-- another variable's term adds no entry
+row_entries-other_var : (row j : ℕ) (t : Term) → (t.var ≡ j → ⊥) → row_entries row j (t ∷ []) ≡ []
+row_entries-other_var row j t n = ⊎_elim
+    (λ same. absurd (n same.1))
+    (λ other. ap (λ b. if b then (row, t.coef) ∷ [] else []) other.0)
+    (eqb_tells t.var j)
+
+-- a loop's step: one more term added to its variable's column
+pub columns_more : (row n : ℕ) (before columns now : List (List (ℕ × ℤ))) (terms : List Term) (i : ℕ) (d : Term) → i < length terms
+    → (get_or terms i d).var < length columns
+    → ((j : ℕ) → j < n → get_or columns j [] ≡ get_or before j [] ++ row_entries row j (take i terms))
+    → now ≡ set columns (get_or terms i d).var (get_or columns (get_or terms i d).var [] ++ row_entries row (get_or terms i d).var (get_or terms i d ∷ []))
+    → (j : ℕ) → j < n → get_or now j [] ≡ get_or before j [] ++ row_entries row j (take (i + 1) terms)
+columns_more row n before columns now terms i d l there had is j m =
+    ap (λ (cs : List (List (ℕ × ℤ))). get_or cs j []) is ∙ by (get_or terms i d) there (take_more terms i d l)
+  where
+    nothing : (es : List (ℕ × ℤ)) → es ≡ es ++ []
+    nothing es = sym (append-nil es)
+
+    by : (t : Term) → t.var < length columns → take (i + 1) terms ≡ take i terms ++ t ∷ []
+        → get_or (set columns t.var (get_or columns t.var [] ++ row_entries row t.var (t ∷ []))) j []
+        ≡ get_or before j [] ++ row_entries row j (take (i + 1) terms)
+    by t fits more = changed (cases_eq t.var j) ∙ sym whole
+      where
+        whole : get_or before j [] ++ row_entries row j (take (i + 1) terms) ≡ get_or columns j [] ++ row_entries row j (t ∷ [])
+        whole =
+            ap (λ ts. get_or before j [] ++ row_entries row j ts) more
+            ∙ ap (λ es. get_or before j [] ++ es) (row_entries-append row j (take i terms) (t ∷ []))
+            ∙ sym (append_assoc (get_or before j []) (row_entries row j (take i terms)) (row_entries row j (t ∷ [])))
+            ∙ ap (λ es. es ++ row_entries row j (t ∷ [])) (sym (had j m))
+
+        changed : (t.var ≡ j) ⊎ (t.var ≡ j → ⊥)
+            → get_or (set columns t.var (get_or columns t.var [] ++ row_entries row t.var (t ∷ []))) j []
+            ≡ get_or columns j [] ++ row_entries row j (t ∷ [])
+        changed (inl same) =
+            ap (λ k. get_or (set columns t.var (get_or columns t.var [] ++ row_entries row t.var (t ∷ []))) k []) (sym same)
+            ∙ get_or-set_same columns t.var (get_or columns t.var [] ++ row_entries row t.var (t ∷ [])) [] fits
+            ∙ ap (λ k. get_or columns k [] ++ row_entries row k (t ∷ [])) same
+        changed (inr other) =
+            get_or-set_other columns t.var j (get_or columns t.var [] ++ row_entries row t.var (t ∷ [])) [] (λ e. other (sym e))
+            ∙ nothing (get_or columns j [])
+            ∙ ap (λ es. get_or columns j [] ++ es) (sym (row_entries-other_var row j t other))
+
+-- a loop's step: one more row
+pub column_from_more : (rows : List Row) (i j : ℕ) (row : Row) → i < length rows → row ≡ get_or rows i row
+    → column_from 0 (take (i + 1) rows) j ≡ column_from 0 (take i rows) j ++ row_entries i j row.terms
+column_from_more rows i j row l is =
+    ap (λ rs. column_from 0 rs j) (take_more rows i row l ∙ ap (λ u. take i rows ++ u ∷ []) (sym is))
+    ∙ column_from-append 0 j (take i rows) (row ∷ [])
+    ∙ ap (λ n. column_from 0 (take i rows) j ++ column_from n (row ∷ []) j) (count (length-take-le i rows (omega arith)))
+    ∙ ap (λ es. column_from 0 (take i rows) j ++ es) (append-nil (row_entries i j row.terms))
+  where
+    count : length (take i rows) ≡ i → length (take i rows) + 0 ≡ i
+    count e = omega (arith, e)
+
+-- ---- what stands in a column
+
+all_append : {X : Type 0} (P : X → Type 0) (xs ys : List X) → AllByRecursion P xs → AllByRecursion P ys → AllByRecursion P (xs ++ ys)
+all_append P [] ys h g = g
+all_append P (x ∷ xs) ys h g = (h.0, all_append P xs ys h.1 g)
+
+all_mapped : {X : Type 0} (P Q : X → Type 0) → ((x : X) → P x → Q x) → (xs : List X) → AllByRecursion P xs → AllByRecursion Q xs
+all_mapped P Q f [] h = tt
+all_mapped P Q f (x ∷ xs) h = (f x h.0, all_mapped P Q f xs h.1)
+
+or_later : (b c : Bool) → c ≡ true → (b || c) ≡ true
+or_later true c e = refl
+or_later false c e = e
+
+-- entries of a row are of its number, and their variable stands there
+entries_stand : (row v : ℕ) (ts : List Term) → AllByRecursion (λ (e : ℕ × ℤ). (e.0 ≡ row) × (list_any (λ (t : Term). t.var == v) ts ≡ true)) (row_entries row v ts)
+entries_stand row v [] = tt
+entries_stand row v (t ∷ ts) = by (t.var == v) refl (entries_stand row v ts)
+  where
+    by : (b : Bool) → t.var == v ≡ b → AllByRecursion (λ (e : ℕ × ℤ). (e.0 ≡ row) × (list_any (λ (u : Term). u.var == v) ts ≡ true)) (row_entries row v ts)
+        → AllByRecursion (λ (e : ℕ × ℤ). (e.0 ≡ row) × ((t.var == v || list_any (λ (u : Term). u.var == v) ts) ≡ true)) (if b then (row, t.coef) ∷ row_entries row v ts else row_entries row v ts)
+    by true e rest = (
+      (refl, ap (λ b. b || list_any (λ (u : Term). u.var == v) ts) e),
+      all_mapped (λ (x : ℕ × ℤ). (x.0 ≡ row) × (list_any (λ (u : Term). u.var == v) ts ≡ true)) (λ (x : ℕ × ℤ). (x.0 ≡ row) × ((t.var == v || list_any (λ (u : Term). u.var == v) ts) ≡ true))
+          (λ x h. (h.0, or_later (t.var == v) (list_any (λ (u : Term). u.var == v) ts) h.1)) (row_entries row v ts) rest,
+    )
+    by false e rest =
+        all_mapped (λ (x : ℕ × ℤ). (x.0 ≡ row) × (list_any (λ (u : Term). u.var == v) ts ≡ true)) (λ (x : ℕ × ℤ). (x.0 ≡ row) × ((t.var == v || list_any (λ (u : Term). u.var == v) ts) ≡ true))
+        (λ x h. (h.0, or_later (t.var == v) (list_any (λ (u : Term). u.var == v) ts) h.1)) (row_entries row v ts) rest
+
+-- an entry's row is one where the variable stands
+abbrev Stands : ℕ → List Row → ℕ → ℕ × ℤ → Type 0
+Stands first rows v e = (r : ℕ) × (e.0 ≡ first + r) × (r < length rows) × ((d : Row) → stands_in v (get_or rows r d) ≡ true)
+
+all_stand : (first : ℕ) (rows : List Row) (v : ℕ) → AllByRecursion (Stands first rows v) (column_from first rows v)
+all_stand first [] v = tt
+all_stand first (row ∷ rows) v =
+    all_append (Stands first (row ∷ rows) v) (row_entries first v row.terms) (column_from (suc first) rows v)
+    (all_mapped (λ (e : ℕ × ℤ). (e.0 ≡ first) × (stands_in v row ≡ true)) (Stands first (row ∷ rows) v)
+    (λ e h. (0, omega (arith, h.0), omega arith, λ d. h.1)) (row_entries first v row.terms) (entries_stand first v row.terms))
+    (all_mapped (Stands (suc first) rows v) (Stands first (row ∷ rows) v)
+    (λ e h. (suc h.0, omega (arith, h.1), omega (arith, h.2), h.3)) (column_from (suc first) rows v) (all_stand (suc first) rows v))
+
+-- the entry at a place of a column
+entry_stands : (rows : List Row) (v i : ℕ) → i < length (column_from 0 rows v)
+    → (row_at (column_from 0 rows v) i < length rows) × ((d : Row) → stands_in v (get_or rows (row_at (column_from 0 rows v) i) d) ≡ true)
+entry_stands rows v i l =
+    let h = All-from_recursion (Stands 0 rows v) (column_from 0 rows v) (all_stand 0 rows v) i (0, pos 0) l in
+    let same : h.0 ≡ row_at (column_from 0 rows v) i = omega (arith, h.1) in
+    (omega (arith, same, h.2), λ d. subst (λ r. stands_in v (get_or rows r d) ≡ true) same (h.3 d))
+
+-- where a variable stands it has an entry
+row_has : (row v : ℕ) (ts : List Term) → list_any (λ (t : Term). t.var == v) ts ≡ true → (0 < length (row_entries row v ts)) × (row_at (row_entries row v ts) 0 ≡ row)
+row_has row v [] e = absurd (true≢false (sym e))
+row_has row v (t ∷ ts) e = by (t.var == v) e (row_has row v ts)
+  where
+    by : (b : Bool) → (b || list_any (λ (u : Term). u.var == v) ts) ≡ true
+        → (list_any (λ (u : Term). u.var == v) ts ≡ true → (0 < length (row_entries row v ts)) × (row_at (row_entries row v ts) 0 ≡ row))
+        → (0 < length (if b then (row, t.coef) ∷ row_entries row v ts else row_entries row v ts)) × (row_at (if b then (row, t.coef) ∷ row_entries row v ts else row_entries row v ts) 0 ≡ row)
+    by true h rest = (omega arith, refl)
+    by false h rest = rest h
+
+has_entry : (first : ℕ) (rows : List Row) (v r : ℕ) → r < length rows → ((d : Row) → stands_in v (get_or rows r d) ≡ true)
+    → (i : ℕ) × (i < length (column_from first rows v)) × (row_at (column_from first rows v) i ≡ first + r)
+has_entry first [] v r l stands = absurd (omega arith)
+has_entry first (row ∷ rows) v zero l stands =
+    let h = row_has first v row.terms (stands row) in
+    let front = row_entries first v row.terms in
+    let back = column_from (suc first) rows v in
+    (0, omega (arith, h.0, length-append front back), ap (λ (e : ℕ × ℤ). e.0) (get_or_append_left front back (0, pos 0) 0 h.0) ∙ h.1 ∙ omega arith)
+has_entry first (row ∷ rows) v (suc r) l stands =
+    let h = has_entry (suc first) rows v r (omega (arith, l)) stands in
+    let front = row_entries first v row.terms in
+    let back = column_from (suc first) rows v in
+    (length front + h.0, omega (arith, h.1, length-append front back), ap (λ (e : ℕ × ℤ). e.0) (get_or-append-add front back h.0 (0, pos 0)) ∙ h.2 ∙ omega arith)
+
+-- rows never fall along a column
+never_falls : (first : ℕ) (rows : List Row) (v i j : ℕ) → i ≤ j → j < length (column_from first rows v) → row_at (column_from first rows v) i ≤ row_at (column_from first rows v) j
+never_falls first [] v i j m l = absurd (omega arith)
+never_falls first (row ∷ rows) v i j m l =
+    let front = row_entries first v row.terms in
+    let back = column_from (suc first) rows v in
+    let long = length-append front back in
+    let all = All-from_recursion (Stands first (row ∷ rows) v) (front ++ back) (all_stand first (row ∷ rows) v) in
+    ⊎_elim
+    (λ inside.
+    let here : row_at (front ++ back) i ≡ first =
+    ap (λ (e : ℕ × ℤ). e.0) (get_or_append_left front back (0, pos 0) i inside)
+    ∙ (All-from_recursion (λ (e : ℕ × ℤ). (e.0 ≡ first) × (stands_in v row ≡ true)) front (entries_stand first v row.terms) i (0, pos 0) inside).0 in
+    let there = all j (0, pos 0) l in
+    omega (arith, here, there.1))
+    (λ past.
+    let a : ℕ = i - length front in
+    let b : ℕ = j - length front in
+    let at_i : row_at (front ++ back) i ≡ row_at back a =
+    ap (λ n. row_at (front ++ back) n) (let e : i ≡ length front + a = omega (arith, past) in e) ∙ ap (λ (e : ℕ × ℤ). e.0) (get_or-append-add front back a (0, pos 0)) in
+    let at_j : row_at (front ++ back) j ≡ row_at back b =
+    ap (λ n. row_at (front ++ back) n) (let e : j ≡ length front + b = omega (arith, past, m) in e) ∙ ap (λ (e : ℕ × ℤ). e.0) (get_or-append-add front back b (0, pos 0)) in
+    omega (arith, at_i, at_j, never_falls (suc first) rows v a b (omega (arith, m)) (omega (arith, l, long, past, m))))
+    (cases_lt i (length front))
+
+-- ---- columns and rows tell the same of blocks
+
+placed_stands : (rows : List Row) (places : List (Option ℕ)) (v i k : ℕ) → PlacedAt places (column_from 0 rows v) i k → StandsInRow rows places v (row_at (column_from 0 rows v) i) k
+placed_stands rows places v i k h = let s = entry_stands rows v i h.there in record { there = s.0; place = h.place; stands = s.1 }
+
+stands_placed : (rows : List Row) (places : List (Option ℕ)) (v r k : ℕ) → StandsInRow rows places v r k
+    → (i : ℕ) × PlacedAt places (column_from 0 rows v) i k × (row_at (column_from 0 rows v) i ≡ r)
+stands_placed rows places v r k h =
+    let e = has_entry 0 rows v r h.there h.stands in
+    let same : row_at (column_from 0 rows v) e.0 ≡ r = omega (arith, e.2) in
+    (e.0, record { there = e.1; place = ap (λ n. get_or places n None) same ∙ h.place }, same)
+
+pub home_shown : (rows : List Row) (places : List (Option ℕ)) (v : ℕ) (home : Option ℕ) → ShowsHome places (column_from 0 rows v) home → SeenHome rows places v home
+home_shown rows places v None h = λ r k s. let e = stands_placed rows places v r k s in h e.0 k e.1
+home_shown rows places v (Some k) h =
+    let f = h.1 in (row_at (column_from 0 rows v) f.at, placed_stands rows places v f.at k f.placed)
+
+pub apart_shown : (rows : List Row) (places : List (Option ℕ)) (v : ℕ) → IsOfOne places (column_from 0 rows v) → IsApart rows places v
+apart_shown rows places v h r k s j one two =
+    let a = stands_placed rows places v r k one in
+    let b = stands_placed rows places v s j two in
+    h a.0 k b.0 j a.1 b.1
+
+pub link_shown : (rows : List Row) (places : List (Option ℕ)) (v row1 row2 : ℕ) → IsCrossing places (column_from 0 rows v) row1 row2 → IsLinkOf rows places v row1 row2
+link_shown rows places v row1 row2 h = record {
+  home = h.home;
+  first = record {
+    stands = subst (λ r. StandsInRow rows places v r h.home) h.first.row_is (placed_stands rows places v h.first.at h.home h.first.placed);
+    first = λ r k l s.
+        let e = stands_placed rows places v r k s in
+        h.first.first e.0 k (before h.first.at e.0 r row1 l h.first.row_is e.2 e.1.there) e.1;
+  };
+  other = record {
+    block = h.other.block;
+    stands = subst (λ r. StandsInRow rows places v r h.other.block) h.other.row_is (placed_stands rows places v h.other.at h.other.block h.other.placed);
+    apart = h.other.apart;
+    first = λ r k l s.
+        let e = stands_placed rows places v r k s in
+        h.other.first e.0 k (before h.other.at e.0 r row2 l h.other.row_is e.2 e.1.there) e.1;
+  };
+}
+  where
+    before : (at i r row : ℕ) → r < row → row_at (column_from 0 rows v) at ≡ row → row_at (column_from 0 rows v) i ≡ r → i < length (column_from 0 rows v) → i < at
+    before at i r row l at_is i_is inside = ⊎_elim
+        (λ less. less)
+        (λ more. absurd (let none : ⊥ = omega (arith, never_falls 0 rows v at i more inside, l, at_is, i_is) in none))
+        (cases_lt i at)
+
+pub first_apart_shown : (rows : List Row) (places : List (Option ℕ)) (columns : List (List (ℕ × ℤ))) (n v row1 row2 : ℕ) → AreColumns rows columns → length columns ≡ n
+    → IsFirstCrossing places columns v row1 row2 → IsFirstApart rows places n v row1 row2
+first_apart_shown rows places columns n v row1 row2 are each h = record {
+  there = omega (arith, h.there, each);
+  earlier = λ w l. apart_shown rows places w (subst (IsOfOne places) (are w (omega (arith, l, h.there))) (h.earlier w l));
+  link = link_shown rows places v row1 row2 (subst (λ (column : List (ℕ × ℤ)). IsCrossing places column row1 row2) (are v h.there) h.crossing);
+}
+
+-- ---- coefficients in master rows
+
+filter_append : (q : ℕ × ℤ → Bool) (xs ys : List (ℕ × ℤ)) → filter q (xs ++ ys) ≡ filter q xs ++ filter q ys
+filter_append q [] ys = refl
+filter_append q (x ∷ xs) ys = by (q x) (filter_append q xs ys)
+  where
+    by : (b : Bool) → filter q (xs ++ ys) ≡ filter q xs ++ filter q ys
+        → (if b then x ∷ filter q (xs ++ ys) else filter q (xs ++ ys)) ≡ (if b then x ∷ filter q xs else filter q xs) ++ filter q ys
+    by true rest = ap (λ zs. x ∷ zs) rest
+    by false rest = rest
+
+-- all of a row's entries pass, or none
+all_pass : (q : ℕ × ℤ → Bool) (xs : List (ℕ × ℤ)) → AllByRecursion (λ e. q e ≡ true) xs → filter q xs ≡ xs
+all_pass q [] h = refl
+all_pass q (x ∷ xs) h = ap (λ b. if b then x ∷ filter q xs else filter q xs) h.0 ∙ ap (λ ys. x ∷ ys) (all_pass q xs h.1)
+
+none_pass : (q : ℕ × ℤ → Bool) (xs : List (ℕ × ℤ)) → AllByRecursion (λ e. q e ≡ false) xs → filter q xs ≡ []
+none_pass q [] h = refl
+none_pass q (x ∷ xs) h = ap (λ b. if b then x ∷ filter q xs else filter q xs) h.0 ∙ none_pass q xs h.1
+
+-- a tidy row has one entry where the coefficient isn't 0, and none elsewhere
+no_entries : (row v n : ℕ) (ts : List Term) → IsTidyFrom n ts → v < n → row_entries row v ts ≡ []
+no_entries row v n [] h l = refl
+no_entries row v n (t ∷ ts) h l = ⊎_elim
+    (λ same. absurd (let none : ⊥ = omega (arith, same.1, h.0, l) in none))
+    (λ other. ap (λ b. if b then (row, t.coef) ∷ row_entries row v ts else row_entries row v ts) other.0 ∙ no_entries row v (suc t.var) ts h.2 (omega (arith, h.0, l)))
+    (eqb_tells t.var v)
+
+one_entry : (row v n : ℕ) (ts : List Term) → IsTidyFrom n ts
+    → row_entries row v ts ≡ (if int_eq (coefficient ts v) (pos 0) then [] else (row, coefficient ts v) ∷ [])
+one_entry row v n [] h = refl
+one_entry row v n (t ∷ ts) h = ⊎_elim
+    (λ same.
+    let rest : coefficient ts v ≡ pos 0 = before_none (suc t.var) v ts h.2 (omega (arith, same.1)) in
+    let all : coefficient (t ∷ ts) v ≡ t.coef = let head = if_same t.var v t.coef (pos 0) same.1 in omega (arith, ints, head, rest) in
+    ap (λ b. if b then (row, t.coef) ∷ row_entries row v ts else row_entries row v ts) same.0
+    ∙ ap (λ es. (row, t.coef) ∷ es) (no_entries row v (suc t.var) ts h.2 (omega (arith, same.1)))
+    ∙ ap (λ b. if b then [] else (row, t.coef) ∷ []) (sym (not_zero t.coef h.1))
+    ∙ ap (λ z. if int_eq z (pos 0) then [] else (row, z) ∷ []) (sym all))
+    (λ other.
+    let all : coefficient (t ∷ ts) v ≡ coefficient ts v = let head = if_other t.var v t.coef (pos 0) other.1 in omega (arith, ints, head) in
+    ap (λ b. if b then (row, t.coef) ∷ row_entries row v ts else row_entries row v ts) other.0
+    ∙ one_entry row v (suc t.var) ts h.2 ∙ ap (λ z. if int_eq z (pos 0) then [] else (row, z) ∷ []) (sym all))
+    (eqb_tells t.var v)
+  where
+    not_zero : (z : ℤ) → z ≢ pos 0 → int_eq z (pos 0) ≡ false
+    not_zero z apart = by (int_eq z (pos 0)) refl
+      where
+        by : (b : Bool) → int_eq z (pos 0) ≡ b → b ≡ false
+        by true e = absurd (apart ((Decides-int_eq z (pos 0)).0 e))
+        by false e = refl
+
+master_from : (all : List (Option ℕ)) (first : ℕ) (rows : List Row) (places : List (Option ℕ)) (v : ℕ) → ((r : ℕ) → get_or all (first + r) None ≡ get_or places r None)
+    → length places ≡ length rows → AllByRecursion (λ (row : Row). IsTidyFrom 0 row.terms) rows → master_entries all (column_from first rows v) ≡ coefs_from v first rows places
+master_from all first [] places v at each tidy = refl
+master_from all first (row ∷ rows) [] v at each tidy = absurd (omega (arith, each))
+master_from all first (row ∷ rows) (place ∷ places) v at each tidy =
+    let q : ℕ × ℤ → Bool = λ e. is_none (get_or all e.0 None) in
+    let front = row_entries first v row.terms in
+    let back = column_from (suc first) rows v in
+    let here : get_or all first None ≡ place = ap (λ n. get_or all n None) (let e : first ≡ first + 0 = omega arith in e) ∙ at 0 in
+    filter_append q front back
+    ∙ by place here (master_from all (suc first) rows places v (λ r. ap (λ n. get_or all n None) (let e : suc first + r ≡ first + suc r = omega arith in e) ∙ at (suc r)) (omega (arith, each)) tidy.1)
+  where
+    by : (p : Option ℕ) → get_or all first None ≡ p → master_entries all (column_from (suc first) rows v) ≡ coefs_from v (suc first) rows places
+        → master_entries all (row_entries first v row.terms) ++ master_entries all (column_from (suc first) rows v) ≡ coefs_from v first (row ∷ rows) (p ∷ places)
+    by None here rest =
+        ap (λ (es : List (ℕ × ℤ)). es ++ master_entries all (column_from (suc first) rows v))
+        (all_pass (λ (e : ℕ × ℤ). is_none (get_or all e.0 None)) (row_entries first v row.terms)
+        (all_mapped (λ (e : ℕ × ℤ). (e.0 ≡ first) × (stands_in v row ≡ true)) (λ (e : ℕ × ℤ). is_none (get_or all e.0 None) ≡ true)
+        (λ e h. ap (λ n. is_none (get_or all n None)) h.0 ∙ ap is_none here) (row_entries first v row.terms) (entries_stand first v row.terms))
+        ∙ one_entry first v 0 row.terms tidy.0)
+        ∙ ap (λ (es : List (ℕ × ℤ)). (if int_eq (coefficient row.terms v) (pos 0) then [] else (first, coefficient row.terms v) ∷ []) ++ es) rest
+        ∙ split (int_eq (coefficient row.terms v) (pos 0)) (first, coefficient row.terms v) (coefs_from v (suc first) rows places)
+      where
+        split : (b : Bool) (e : ℕ × ℤ) (es : List (ℕ × ℤ)) → (if b then [] else e ∷ []) ++ es ≡ (if b then es else e ∷ es)
+        split true e es = refl
+        split false e es = refl
+    by (Some k) here rest =
+        ap (λ (es : List (ℕ × ℤ)). es ++ master_entries all (column_from (suc first) rows v))
+        (none_pass (λ (e : ℕ × ℤ). is_none (get_or all e.0 None)) (row_entries first v row.terms)
+        (all_mapped (λ (e : ℕ × ℤ). (e.0 ≡ first) × (stands_in v row ≡ true)) (λ (e : ℕ × ℤ). is_none (get_or all e.0 None) ≡ false)
+        (λ e h. ap (λ n. is_none (get_or all n None)) h.0 ∙ ap is_none here) (row_entries first v row.terms) (entries_stand first v row.terms)))
+        ∙ rest
+
+-- the entries of a column in master rows are the coefficients there
+pub master_is : (rows : List Row) (places : List (Option ℕ)) (v : ℕ) → length places ≡ length rows → All (λ (row : Row). IsTidyFrom 0 row.terms) rows
+    → master_entries places (column_from 0 rows v) ≡ coefs_from v 0 rows places
+master_is rows places v each tidy =
+    master_from places 0 rows places v (λ r. ap (λ n. get_or places n None) (zero-add r)) each (recursion_from_All (λ (row : Row). IsTidyFrom 0 row.terms) rows tidy)
+
+pub masters_are : (rows : List Row) (places : List (Option ℕ)) (columns : List (List (ℕ × ℤ))) (vars : List ℕ) → AreColumns rows columns → length places ≡ length rows
+    → All (λ (row : Row). IsTidyFrom 0 row.terms) rows → All (λ v. v < length columns) vars
+    → map (λ v. master_entries places (get_or columns v [])) vars ≡ map (λ v. coefs_from v 0 rows places) vars
+masters_are rows places columns vars are each tidy below = go vars (recursion_from_All (λ v. v < length columns) vars below)
+  where
+    go : (vs : List ℕ) → AllByRecursion (λ v. v < length columns) vs → map (λ v. master_entries places (get_or columns v [])) vs ≡ map (λ v. coefs_from v 0 rows places) vs
+    go [] h = refl
+    go (v ∷ vs) h =
+        ap (λ (es : List (ℕ × ℤ)). es ∷ map (λ w. master_entries places (get_or columns w [])) vs) (ap (master_entries places) (are v h.0) ∙ master_is rows places v each tidy)
+        ∙ ap (λ (ess : List (List (ℕ × ℤ))). coefs_from v 0 rows places ∷ ess) (go vs h.1)
+
+-- ---- one home more
+
+pub one_longer : (homes : List (Option ℕ)) (home : Option ℕ) (new : List (Option ℕ)) (v : ℕ) → new ≡ homes ++ home ∷ [] → length homes ≡ v → length new ≡ v + 1
+one_longer homes home new v new_is each = omega (arith, ap (λ (hs : List (Option ℕ)). length hs) new_is, length-append homes (home ∷ []), each)
+
+pub homes_more : (places : List (Option ℕ)) (columns : List (List (ℕ × ℤ))) (v : ℕ) (homes new : List (Option ℕ)) (home : Option ℕ) → length homes ≡ v → new ≡ homes ++ home ∷ []
+    → ShowsHome places (get_or columns v []) home → ((w : ℕ) → w < v → ShowsHome places (get_or columns w []) (get_or homes w None))
+    → (w : ℕ) → w < v + 1 → ShowsHome places (get_or columns w []) (get_or new w None)
+homes_more places columns v homes new home each new_is here earlier w l = ⊎_elim
+    (λ less.
+    let at : get_or new w None ≡ get_or homes w None =
+    ap (λ (hs : List (Option ℕ)). get_or hs w None) new_is ∙ get_or_append_left homes (home ∷ []) None w (omega (arith, less, each)) in
+    subst (ShowsHome places (get_or columns w [])) (sym at) (earlier w less))
+    (λ more.
+    let same : w ≡ v = omega (arith, l, more) in
+    let at : get_or new w None ≡ home =
+    ap (λ (hs : List (Option ℕ)). get_or hs w None) new_is ∙ ap (λ n. get_or (homes ++ home ∷ []) n None) (let e : w ≡ length homes + 0 = omega (arith, same, each) in e)
+    ∙ get_or-append-add homes (home ∷ []) 0 None in
+    subst (ShowsHome places (get_or columns w [])) (sym at) (subst (λ n. ShowsHome places (get_or columns n []) home) (sym same) here))
+    (cases_lt w v)

@@ -1,0 +1,210 @@
+-- What is gathered row by row is the blocking of the decomposition.
+use Rattle.std.proofs.Common.{◌≡◌, ◌≢◌, ℕ, zero, suc, ◌<◌, ◌==◌, Bool, true, false, ◌||◌, if◌then◌else◌, List, [], ◌∷◌, map, filter, length, get_or, Option, Some, None, All, refl, sym, ap, subst, ◌∙◌, ⊎_elim, arith, true≢false}
+use Rattle.std.specs.Prelude.{pos}
+use Rattle.std.specs.List.{AllByRecursion, list_any, zip}
+use Rattle.std.proofs.lemmas.Bool.{cases_lt}
+use Rattle.std.proofs.lemmas.Bool.Decides.{eqb_tells}
+use Rattle.std.proofs.lemmas.List.Elements.{recursion_from_All}
+use Rattle.bp_theory.specs.Program.{Program}
+use Rattle.bp_theory.specs.Decomposition.{Decomposition, is_block, stands_in, is_in, IsClosed, IsPlace, HasPlaces, IsLinking, IsMisplaced, IsFirstMisplaced}
+use Rattle.bp_theory.specs.declared.Term.{Term}
+use Rattle.bp_theory.specs.declared.Row.{Row}
+use Rattle.bp_theory.specs.declared.Sense.TheVariants.{Le}
+use Rattle.bp_theory.proofs.DecompositionProof.{eqb_itself}
+use Rattle.block_form.specs.Stand.{StandsInRow}
+use Rattle.block_form.specs.Gather.{SeenHome, IsApart, IsLinkOf, IsFirstApart, IsElsewhere, IsFirstElsewhere}
+use Rattle.block_form.specs.Checks.{IsHome, IsFirstLinked}
+use Rattle.block_form.proofs.GatherLemmas.{any_default}
+
+-- a row where there is none
+none_row : Row
+none_row = record { sense = Le; low = pos 0; rhs = pos 0; terms = [] }
+
+-- ---- standing in a row of a block
+
+any_in : ℕ → ℕ → List Row → List (Option ℕ) → Bool
+any_in v k rows places = list_any (stands_in v) (map (λ (e : Row × Option ℕ). e.0) (filter (λ e. is_block k e.1) (zip rows places)))
+
+any_step : (v k : ℕ) (row : Row) (place : Option ℕ) (rows : List Row) (places : List (Option ℕ))
+    → any_in v k (row ∷ rows) (place ∷ places) ≡ (if is_block k place then stands_in v row || any_in v k rows places else any_in v k rows places)
+unfolding any_in
+any_step v k row place rows places = by (is_block k place)
+  where
+    es : List (Row × Option ℕ)
+    es = filter (λ (e : Row × Option ℕ). is_block k e.1) (zip rows places)
+
+    by : (b : Bool) → list_any (stands_in v) (map (λ (e : Row × Option ℕ). e.0) (if b then (row, place) ∷ es else es))
+        ≡ (if b then stands_in v row || list_any (stands_in v) (map (λ (e : Row × Option ℕ). e.0) es) else list_any (stands_in v) (map (λ (e : Row × Option ℕ). e.0) es))
+    by true = refl
+    by false = refl
+
+or_right : (a b : Bool) → b ≡ true → (a || b) ≡ true
+or_right true b e = refl
+or_right false b e = e
+
+or_left : (a b : Bool) → a ≡ true → (a || b) ≡ true
+or_left true b e = refl
+or_left false b e = absurd (true≢false (sym e))
+
+-- the test of a block at its own place
+own_block : (k : ℕ) → is_block k (Some k) ≡ true
+own_block k = eqb_itself k
+
+block_is : (k : ℕ) (place : Option ℕ) → is_block k place ≡ true → place ≡ Some k
+block_is k None e = absurd (true≢false (sym e))
+block_is k (Some j) e = ⊎_elim (λ same. ap Some same.1) (λ other. absurd (true≢false (sym e ∙ other.0))) (eqb_tells j k)
+
+-- who stands at a place stands in the block
+any_from_place : (v k : ℕ) (rows : List Row) (places : List (Option ℕ)) (r : ℕ) → r < length rows → get_or places r None ≡ Some k
+    → stands_in v (get_or rows r none_row) ≡ true → any_in v k rows places ≡ true
+any_from_place v k [] places r l at stands = absurd (omega arith)
+any_from_place v k (row ∷ rows) [] r l at stands = absurd (cc)
+any_from_place v k (row ∷ rows) (place ∷ places) zero l at stands =
+    any_step v k row place rows places
+    ∙ ap (λ b. if b then stands_in v row || any_in v k rows places else any_in v k rows places) (ap (is_block k) at ∙ own_block k)
+    ∙ or_left (stands_in v row) (any_in v k rows places) stands
+any_from_place v k (row ∷ rows) (place ∷ places) (suc r) l at stands =
+    any_step v k row place rows places ∙ by (is_block k place) (any_from_place v k rows places r (omega (arith, l)) at stands)
+  where
+    by : (b : Bool) → any_in v k rows places ≡ true → (if b then stands_in v row || any_in v k rows places else any_in v k rows places) ≡ true
+    by true rest = or_right (stands_in v row) (any_in v k rows places) rest
+    by false rest = rest
+
+-- who stands in the block stands at some place
+abbrev StandsSome : ℕ → ℕ → List Row → List (Option ℕ) → Type 0
+StandsSome v k rows places = (r : ℕ) × (r < length rows) × (get_or places r None ≡ Some k) × (stands_in v (get_or rows r none_row) ≡ true)
+
+place_from_any : (v k : ℕ) (rows : List Row) (places : List (Option ℕ)) → any_in v k rows places ≡ true → StandsSome v k rows places
+unfolding any_in
+place_from_any v k [] places e = absurd (true≢false (sym e))
+place_from_any v k (row ∷ rows) [] e = absurd (true≢false (sym e))
+place_from_any v k (row ∷ rows) (place ∷ places) e =
+    by (is_block k place) refl (place_from_any v k rows places)
+  where
+    later : StandsSome v k rows places → StandsSome v k (row ∷ rows) (place ∷ places)
+    later h = (suc h.0, omega (arith, h.1), h.2, h.3)
+
+    whole : (b : Bool) → is_block k place ≡ b → (if b then stands_in v row || any_in v k rows places else any_in v k rows places) ≡ true
+    whole b is = ap (λ t. if t then stands_in v row || any_in v k rows places else any_in v k rows places) (sym is) ∙ sym (any_step v k row place rows places) ∙ e
+
+    first : (s : Bool) → stands_in v row ≡ s → is_block k place ≡ true → (s || any_in v k rows places) ≡ true → (any_in v k rows places ≡ true → StandsSome v k rows places)
+        → StandsSome v k (row ∷ rows) (place ∷ places)
+    first true s is either rest = (0, omega arith, block_is k place is, s)
+    first false s is either rest = later (rest either)
+
+    by : (b : Bool) → is_block k place ≡ b → (any_in v k rows places ≡ true → StandsSome v k rows places) → StandsSome v k (row ∷ rows) (place ∷ places)
+    by true is rest = first (stands_in v row) refl is (whole true is) rest
+    by false is rest = later (rest (whole false is))
+
+pub in_from_stands : (p : Program) (d : Decomposition) (v r k : ℕ) → StandsInRow p.rows d.places v r k → is_in p d v k ≡ true
+unfolding any_in
+in_from_stands p d v r k h = any_from_place v k p.rows d.places r h.there h.place (h.stands none_row)
+
+pub stands_from_in : (p : Program) (d : Decomposition) (v k : ℕ) → is_in p d v k ≡ true → (r : ℕ) × StandsInRow p.rows d.places v r k
+unfolding any_in
+stands_from_in p d v k e =
+    let h = place_from_any v k p.rows d.places e in
+    (h.0, record { there = h.1; place = h.2; stands = λ row. subst (λ (x : Row). stands_in v x ≡ true) (any_default p.rows h.0 none_row row h.1) h.3 })
+
+-- ---- linking variables and homes
+
+pub apart_not_linking : (p : Program) (d : Decomposition) (v : ℕ) → IsApart p.rows d.places v → IsLinking p d v → ⊥
+apart_not_linking p d v apart link =
+    let one = stands_from_in p d v link.first link.in_first in
+    let two = stands_from_in p d v link.later link.in_later in
+    let same : link.first ≡ link.later = apart one.0 link.first two.0 link.later one.1 two.1 in
+    omega (arith, same, link.apart)
+
+-- a row's block is there
+block_there : (p : Program) (d : Decomposition) (r k : ℕ) → HasPlaces p d → r < length p.rows → get_or d.places r None ≡ Some k → k < d.blocks
+block_there p d r k h l at = subst (IsPlace d.blocks) at (h.known r None (omega (arith, l, h.each)))
+
+two_blocks_link : (p : Program) (d : Decomposition) (v k j : ℕ) → k < d.blocks → j < d.blocks → is_in p d v k ≡ true → is_in p d v j ≡ true → k ≢ j → IsLinking p d v
+two_blocks_link p d v k j kl jl kin jin apart = ⊎_elim
+    (λ less. record { first = k; later = j; apart = less; there = jl; in_first = kin; in_later = jin })
+    (λ more. record { first = j; later = k; apart = omega (arith, more, apart); there = kl; in_first = jin; in_later = kin })
+    (cases_lt k j)
+
+link_linking : (p : Program) (d : Decomposition) (v row1 row2 : ℕ) → HasPlaces p d → IsLinkOf p.rows d.places v row1 row2 → IsLinking p d v
+link_linking p d v row1 row2 places link =
+    two_blocks_link p d v link.other.block link.home
+    (block_there p d row2 link.other.block places link.other.stands.there link.other.stands.place)
+    (block_there p d row1 link.home places link.first.stands.there link.first.stands.place)
+    (in_from_stands p d v row2 link.other.block link.other.stands) (in_from_stands p d v row1 link.home link.first.stands) link.other.apart
+
+pub first_linked : (p : Program) (d : Decomposition) (v row1 row2 : ℕ) → HasPlaces p d → IsFirstApart p.rows d.places (length p.spans) v row1 row2 → IsFirstLinked p d v row1 row2
+first_linked p d v row1 row2 places h = record {
+  there = h.there;
+  linking = link_linking p d v row1 row2 places h.link;
+  earlier = λ w l. apart_not_linking p d w (h.earlier w l);
+  home = h.link.home;
+  first = h.link.first;
+  other = h.link.other;
+}
+
+-- who stands in a row is a variable of the program
+stands_below : (n v : ℕ) (terms : List Term) → AllByRecursion (λ t. t.var < n) terms → list_any (λ (t : Term). t.var == v) terms ≡ true → v < n
+stands_below n v [] below e = absurd (true≢false (sym e))
+stands_below n v (t ∷ ts) below e = ⊎_elim
+    (λ same. omega (arith, below.0, same.1))
+    (λ other. stands_below n v ts below.1 (sym (ap (λ b. b || list_any (λ (u : Term). u.var == v) ts) other.0) ∙ e))
+    (eqb_tells t.var v)
+
+in_below : (p : Program) (d : Decomposition) (v k : ℕ) → IsClosed p → is_in p d v k ≡ true → v < length p.spans
+in_below p d v k closed e =
+    let h = stands_from_in p d v k e in
+    stands_below (length p.spans) v (get_or p.rows h.0 none_row).terms
+    (recursion_from_All (λ t. t.var < length p.spans) (get_or p.rows h.0 none_row).terms (closed.rows h.0 none_row h.1.there)) (h.1.stands none_row)
+
+pub none_linking : (p : Program) (d : Decomposition) → IsClosed p → ((v : ℕ) → v < length p.spans → IsApart p.rows d.places v) → (w : ℕ) → IsLinking p d w → ⊥
+none_linking p d closed apart w link = apart_not_linking p d w (apart w (in_below p d w link.first closed link.in_first)) link
+
+pub home_is : (p : Program) (d : Decomposition) (v : ℕ) (home : Option ℕ) → HasPlaces p d → ((w : ℕ) → IsLinking p d w → ⊥)
+    → SeenHome p.rows d.places v home → IsHome p d v home
+home_is p d v None places none seen = λ k e. let h = stands_from_in p d v k e in seen h.0 k h.1
+home_is p d v (Some k) places none seen =
+    let there = block_there p d seen.0 k places seen.1.there seen.1.place in
+    let here = in_from_stands p d v seen.0 k seen.1 in (
+      there,
+      here,
+      λ j e.
+          let other = stands_from_in p d v j e in
+          let jl = block_there p d other.0 j places other.1.there other.1.place in
+          ⊎_elim (λ same. same.1) (λ apart. absurd (none v (two_blocks_link p d v j k jl there e here apart.1))) (eqb_tells j k),
+    )
+
+-- ---- misplaced variables
+
+misplaced_from_home : (p : Program) (d : Decomposition) (home place : Option ℕ) (v k : ℕ) → IsHome p d v home → home ≡ Some k → place ≢ Some k → IsMisplaced p d (v, place)
+misplaced_from_home p d None place v k h is apart = absurd (cc)
+misplaced_from_home p d (Some j) place v k h is apart =
+    let same : j ≡ k = cc in
+    record { block = j; there = h.0; stands = h.1; elsewhere = λ e. apart (e ∙ ap Some same) }
+
+home_from_misplaced : (p : Program) (d : Decomposition) (home place : Option ℕ) (v : ℕ) → IsHome p d v home → IsMisplaced p d (v, place)
+    → (k : ℕ) × (home ≡ Some k) × (place ≢ Some k)
+home_from_misplaced p d None place v h m = absurd (h m.block m.stands)
+home_from_misplaced p d (Some j) place v h m = (j, refl, λ e. m.elsewhere (e ∙ ap Some (sym (h.2 m.block m.stands))))
+
+pub first_misplaced : (p : Program) (d : Decomposition) (homes : List (Option ℕ)) (v : ℕ)
+    → ((w : ℕ) → w < length p.spans → IsHome p d w (get_or homes w None)) → All (λ e. e.0 < length p.spans) d.listed
+    → IsFirstElsewhere homes d.listed v → IsFirstMisplaced p d v
+first_misplaced p d homes v is below h = record {
+  place = h.place;
+  there = h.there;
+  var = h.var;
+  misplaced = λ e.
+      let entry : ℕ × Option ℕ = get_or d.listed h.place e in
+      let m = h.misplaced e in
+      misplaced_from_home p d (get_or homes entry.0 None) entry.1 entry.0 m.0 (is entry.0 (below h.place e h.there)) m.1 m.2;
+  first = λ k e l m.
+      let entry : ℕ × Option ℕ = get_or d.listed k e in
+      h.first k e l (home_from_misplaced p d (get_or homes entry.0 None) entry.1 entry.0 (is entry.0 (below k e (omega (arith, l, h.there)))) m);
+}
+
+pub none_misplaced : (p : Program) (d : Decomposition) (homes : List (Option ℕ))
+    → ((w : ℕ) → w < length p.spans → IsHome p d w (get_or homes w None)) → All (λ e. e.0 < length p.spans) d.listed
+    → All (λ e. IsElsewhere homes e → ⊥) d.listed → All (λ e. IsMisplaced p d e → ⊥) d.listed
+none_misplaced p d homes is below h = λ k e l m.
+    let entry : ℕ × Option ℕ = get_or d.listed k e in
+    h k e l (home_from_misplaced p d (get_or homes entry.0 None) entry.1 entry.0 (is entry.0 (below k e l)) m)

@@ -1,0 +1,68 @@
+-- Rows by variables: the rows in which each variable stands, with its coefficients, and the blocks of these rows.
+use Rattle.std.specs.Prelude.{◌≡◌, ◌≢◌, ℕ, suc, ◌<◌, ◌==◌, if◌then◌else◌, is_none, List, [], ◌∷◌, ◌++◌, filter, length, Option, Some, None, ℤ, pos, slice_index_or}
+use Rattle.bp_theory.specs.declared.Term.{Term}
+use Rattle.bp_theory.specs.declared.Row.{Row}
+
+-- the entries of a variable in a row of this number
+abbrev pub row_entries : (row v : ℕ) → List Term → List (ℕ × ℤ)
+row_entries row v [] = []
+row_entries row v (t ∷ ts) = if t.var == v then (row, t.coef) ∷ row_entries row v ts else row_entries row v ts
+
+-- the column of a variable: its entries in rows that are numbered from a first number on
+abbrev pub column_from : (first : ℕ) → List Row → (v : ℕ) → List (ℕ × ℤ)
+column_from first [] v = []
+column_from first (row ∷ rows) v = row_entries first v row.terms ++ column_from (suc first) rows v
+
+-- each column is that of its variable
+abbrev pub AreColumns : List Row → List (List (ℕ × ℤ)) → Type 0
+AreColumns rows columns = (v : ℕ) → v < length columns → slice_index_or columns v [] ≡ column_from 0 rows v
+
+-- the entries of a column in master rows
+abbrev pub master_entries : List (Option ℕ) → List (ℕ × ℤ) → List (ℕ × ℤ)
+master_entries places column = filter (λ (e : ℕ × ℤ). is_none (slice_index_or places e.0 None)) column
+
+-- the row of an entry of a column
+abbrev pub row_at : List (ℕ × ℤ) → ℕ → ℕ
+row_at column i = (slice_index_or column i (0, pos 0)).0
+
+-- an entry of a column is in a row of a block
+pub record PlacedAt (places : List (Option ℕ)) (column : List (ℕ × ℤ)) (i block : ℕ) : Type 0 where
+  pub there : i < length column
+  pub place : slice_index_or places (row_at column i) None ≡ Some block
+
+-- the first row of a block in a column
+pub record IsFirstPlaced (places : List (Option ℕ)) (column : List (ℕ × ℤ)) (row block : ℕ) : Type 0 where
+  pub at : ℕ
+  pub placed : PlacedAt places column at block
+  pub row_is : row_at column at ≡ row
+  pub first : (i k : ℕ) → i < at → PlacedAt places column i k → ⊥
+
+-- the first row of another block in a column
+pub record IsFirstElse (places : List (Option ℕ)) (column : List (ℕ × ℤ)) (home row : ℕ) : Type 0 where
+  pub at : ℕ
+  pub block : ℕ
+  pub placed : PlacedAt places column at block
+  pub row_is : row_at column at ≡ row
+  pub apart : block ≢ home
+  pub first : (i k : ℕ) → i < at → PlacedAt places column i k → k ≡ home
+
+-- the home that a column shows: the block of its first row of a block, or none where it has no such row
+abbrev pub ShowsHome : List (Option ℕ) → List (ℕ × ℤ) → Option ℕ → Type 0
+ShowsHome places column None = (i k : ℕ) → PlacedAt places column i k → ⊥
+ShowsHome places column (Some k) = (row : ℕ) × IsFirstPlaced places column row k
+
+-- no two rows of a column are of different blocks
+abbrev pub IsOfOne : List (Option ℕ) → List (ℕ × ℤ) → Type 0
+IsOfOne places column = (i k j l : ℕ) → PlacedAt places column i k → PlacedAt places column j l → k ≡ l
+
+-- the first row of a block in a column, and the first of another block
+pub record IsCrossing (places : List (Option ℕ)) (column : List (ℕ × ℤ)) (row1 row2 : ℕ) : Type 0 where
+  pub home : ℕ
+  pub first : IsFirstPlaced places column row1 home
+  pub other : IsFirstElse places column home row2
+
+-- the first column with rows of two blocks
+pub record IsFirstCrossing (places : List (Option ℕ)) (columns : List (List (ℕ × ℤ))) (v row1 row2 : ℕ) : Type 0 where
+  pub there : v < length columns
+  pub earlier : (w : ℕ) → w < v → IsOfOne places (slice_index_or columns w [])
+  pub crossing : IsCrossing places (slice_index_or columns v []) row1 row2

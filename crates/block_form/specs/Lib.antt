@@ -1,0 +1,7 @@
+pub mod Blocked
+pub mod Fitting
+pub mod Stand
+pub mod Gather
+pub mod Checks
+pub mod Places
+pub mod Columns

@@ -1,0 +1,6 @@
+pub mod CutLemmas
+pub mod LawLemmas
+pub mod ListLemmas
+pub mod TakeLemmas
+pub mod ReadLemmas
+pub mod PlaceLemmas

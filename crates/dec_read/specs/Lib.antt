@@ -1,0 +1,7 @@
+pub mod Cut
+pub mod Words
+pub mod Parts
+pub mod Faults
+pub mod Reading
+pub mod Scan
+pub mod State

@@ -1,0 +1,88 @@
+//! Texts of decompositions in the format of GCG's DEC files, in a profile of their own: the decomposition of a model
+//! that a text means, or its first fault, by line and kind.
+#![tactic(auto)]
+
+mod cut;
+mod fault;
+mod state;
+#[cfg(test)]
+mod tests;
+mod words;
+
+ghost use Rattle.std.specs.Prelude.{◌≡◌, ◌≤◌, ◌⊎◌, ℕ, List, IfOk, IfErr};
+ghost use Rattle.bp_theory.specs.Decomposition.{Decomposition, HasPlaces};
+ghost use Rattle.bp_model.specs.Dec.{HasListed};
+ghost use Rattle.bp_model.specs.Named.{NamedProgram};
+ghost use Rattle.dec_read.specs.declared.fault.DecKind.{DecKind};
+ghost use Rattle.dec_read.specs.Reading.{Reads, HasFault, IsFault};
+
+use bp_model::{Dec, Model};
+use cut::{Cursor, end_line, next_word};
+pub use fault::{DecFault, DecKind};
+use state::Reader;
+use std::alloc::Global;
+
+/// The greatest length of a text in bytes.
+const MOST_BYTES: usize = 16_777_216;
+
+/// A text means at most one decomposition of a model.
+pub fn one_decomposition()
+    ensures { (text : List ℕ) (m : NamedProgram) (d e : Decomposition) → Reads text m d → Reads text m e → d ≡ e }
+{}
+
+/// No text both means a decomposition and has a fault.
+pub fn decomposition_or_fault()
+    ensures { (text : List ℕ) (m : NamedProgram) (d : Decomposition) (line : ℕ) (kind : DecKind)
+        → Reads text m d → HasFault text m line kind → ⊥ }
+{}
+
+/// A text has at most one first fault.
+pub fn one_fault()
+    ensures { (text : List ℕ) (m : NamedProgram) (k l : ℕ) (a b : DecKind)
+        → HasFault text m k a → HasFault text m l b → (k ≡ l) × (a ≡ b) }
+{}
+
+/// Each text means a decomposition of a model or has a first fault.
+pub fn decomposition_or_first_fault()
+    ensures { (text : List ℕ) (m : NamedProgram)
+        → ((d : Decomposition) × Reads text m d) ⊎ ((line : ℕ) × (kind : DecKind) × HasFault text m line kind) }
+{}
+
+/// The decomposition of a model that a text means, or the text's first fault.
+pub fn read_dec(alloc: Global, bytes: &[u8], m: &Model) -> Result<Dec, DecFault>
+    ensures dec { IfOk result (λ d. Reads bytes.now m.now d) }
+    ensures blocks { IfOk result (λ d. d.blocks ≤ 4096) }
+    ensures places { IfOk result (λ d. HasPlaces m.now.program d) }
+    ensures listed { IfOk result (λ d. HasListed m.now.program d) }
+    ensures fault { IfErr result (λ fault. IsFault bytes.now m.now fault) }
+{
+    if MOST_BYTES < bytes.len() {
+        return Err(DecFault::At {
+            line: 0,
+            kind: DecKind::Limit,
+        });
+    }
+    let mut reader = Reader::new(alloc, m)?;
+    let mut cursor = Cursor {
+        at: 0,
+        line: 1,
+        first: true,
+    };
+    let _rows = m.rows();
+    while let Some((word, next)) = next_word(bytes, cursor) {
+        if let Some(kind) = reader.take(m, word.first, &bytes[word.from..word.to])? {
+            return Err(DecFault::At {
+                line: word.line,
+                kind,
+            });
+        }
+        cursor = next;
+    }
+    if let Some(kind) = reader.fault_at_end(m) {
+        return Err(DecFault::At {
+            line: end_line(bytes),
+            kind,
+        });
+    }
+    Ok(reader.into_dec(m))
+}
