@@ -1,0 +1,168 @@
+-- What is known of a row, a zone and costs that a table prices.
+use Rattle.std.proofs.Common.{◌≡◌, refl, sym, ap, subst, ◌∙◌, ℕ, zero, suc, ◌+◌, ◌*◌, ◌^◌, ◌<◌, ◌≤◌, List, [], ◌∷◌, length, get_or, arith, vec_len}
+use Rattle.std.proofs.Math.IntN.{ℤ, pos, ◌+ℤ◌}
+use Rattle.std.specs.Int.{w128}
+use Rattle.std.proofs.lemmas.Int.{ints, fits_signed_from_abs}
+use Rattle.bp_theory.specs.Sums.{dot}
+use Rattle.pricing.specs.Priced.{IsCheapest, HasNoPoint}
+use Rattle.knap_price.specs.Choices.{MeetsAt, IsChosen}
+use Rattle.knap_price.proofs.TableLaws.{table_bounded}
+use Rattle.std.specs.Prelude.{Option, None, Some, FitsSigned, ◌<ℤ◌, ◌≤ℤ◌, unsigned_abs, sum_by, All}
+use Rattle.std.specs.List.{AllByRecursion}
+use Rattle.std.proofs.lemmas.List.Elements.{recursion_from_All, All-from_recursion}
+use Rattle.bp_theory.specs.Program.{IsInside}
+use Rattle.bp_theory.specs.Decomposition.{HasVariablesBelow}
+use Rattle.bp_theory.specs.Trees.{IsSubspan}
+use Rattle.bp_theory.specs.declared.Span.{Span}
+use Rattle.bp_theory.specs.declared.Term.{Term}
+use Rattle.bp_theory.specs.declared.Row.{Row}
+use Rattle.bp_theory.proofs.ZipLaws.{AllZip-length}
+use Rattle.pricing.specs.Form.{term_size, row_size, cost_size, IsForm, IsPriceable, HasShortEnds}
+use Rattle.knap_price.specs.declared.items.Item.{Item}
+use Rattle.knap_price.specs.declared.form.Form.{Form}
+use Rattle.knap_price.specs.Taken.{row_reach, dense, first_terms, IsTaken}
+use Rattle.knap_price.specs.Loads.{items_of, point_of, none_of}
+use Rattle.knap_price.specs.Tables.{no_way, cell_at, IsTable, worth_size}
+use Rattle.knap_price.proofs.LoadLaws.{point_of_load}
+use Rattle.knap_price.proofs.StepLaws.{length-items_of}
+use Rattle.knap_price.proofs.PriceLaws.{IsTabled, none_priced, some_priced, one_row, reach_small, many_coefs, coefs_narrow, coefs_size, coefs_reach, items_heavy, items_small, items_worth, none_fits, short_inside}
+
+-- the first row, by any default
+pub first_is : (rows : List Row) (row : Row) → length rows ≡ 1 → row ≡ get_or rows 0 row → (rows ≡ row ∷ []) × (first_terms rows ≡ row.terms)
+first_is [] row e is = absurd (omega arith)
+first_is (r ∷ []) row e is = (ap (λ (x : Row). x ∷ []) (sym is), ap (λ (x : Row). x.terms) (sym is))
+first_is (r ∷ more ∷ rows) row e is = absurd (omega arith)
+
+pub terms_small : (f : Form) → sum_by (term_size f.spans.items) (first_terms f.rows.items) < 2 ^ 62
+terms_small f = by f.rows.items f.taken.one f.kept.sizes
+  where
+    by : (rows : List Row) → length rows ≡ 1 → All (λ (row : Row). row_size f.spans.items row < 2 ^ 62) rows → sum_by (term_size f.spans.items) (first_terms rows) < 2 ^ 62
+    by [] e h = absurd (omega arith)
+    by (row ∷ rows) e h = omega (arith, h 0 row (omega arith))
+
+pub terms_places : (f : Form) → HasVariablesBelow (length f.spans.items) (first_terms f.rows.items)
+terms_places f = by f.rows.items f.taken.one f.kept.places
+  where
+    by : (rows : List Row) → length rows ≡ 1 → All (λ (row : Row). HasVariablesBelow (length f.spans.items) row.terms) rows
+        → HasVariablesBelow (length f.spans.items) (first_terms rows)
+    by [] e h = absurd (omega arith)
+    by (row ∷ rows) e h = h 0 row (omega arith)
+
+pub zone_many : (f : Form) (zone : List Span) (costs : List ℤ) → IsPriceable f.spans.items zone costs → length zone ≡ length f.spans.items
+zone_many f zone costs p = AllZip-length IsSubspan zone f.spans.items p.in_root.inside
+
+pub coefs_many : (f : Form) (zone : List Span) (costs : List ℤ) → IsPriceable f.spans.items zone costs → length f.coefs.items ≡ length zone
+coefs_many f zone costs p =
+    ap length f.dense_coefs ∙ many_coefs (first_terms f.rows.items) (length f.spans.items) ∙ sym (zone_many f zone costs p)
+
+pub narrow : (f : Form) → All (λ a. unsigned_abs a < 2 ^ 62) f.coefs.items
+narrow f = subst (λ as'. All (λ a. unsigned_abs a < 2 ^ 62) as') (sym f.dense_coefs) (coefs_narrow (first_terms f.rows.items) f.spans.items (terms_small f))
+
+pub size_small : (f : Form) (zone : List Span) (costs : List ℤ) → IsPriceable f.spans.items zone costs → cost_size zone f.coefs.items ≤ 2 ^ 116
+size_small f zone costs p =
+    subst (λ as'. cost_size zone as' ≤ 2 ^ 116) (sym f.dense_coefs)
+    (omega (arith, terms_small f, coefs_size (first_terms f.rows.items) f.spans.items zone p.in_root.proper p.in_root.inside))
+
+pub shorts : (f : Form) (zone : List Span) (costs : List ℤ) → IsPriceable f.spans.items zone costs → All HasShortEnds zone
+shorts f zone costs p = short_inside zone f.spans.items p.in_root.inside p.in_root.proper f.kept.ends
+
+pub anchors_inside : (f : Form) (zone : List Span) (costs : List ℤ) → IsPriceable f.spans.items zone costs
+    → IsInside zone (point_of f.coefs.items zone costs (none_of f.coefs.items))
+anchors_inside f zone costs p =
+    (point_of_load f.coefs.items zone costs (none_of f.coefs.items) (coefs_many f zone costs p) p.each
+    (recursion_from_All (λ (s : Span). s.lo ≤ℤ s.hi) zone p.in_root.proper)
+    (none_fits f.coefs.items zone costs (coefs_many f zone costs p) p.each)).inside
+
+pub reach_fits : (f : Form) → row_reach f.spans.items (first_terms f.rows.items) + 1 ≤ 1048576
+reach_fits f = reach_small (length f.spans.items) (row_reach f.spans.items (first_terms f.rows.items)) f.taken.small
+
+pub heavy : (f : Form) (zone : List Span) (costs : List ℤ) (items : List Item) → items ≡ items_of f.coefs.items zone costs
+    → All (λ (i : Item). 0 < i.width → 0 < i.weight) items
+heavy f zone costs items is =
+    subst (λ (xs : List Item). All (λ (i : Item). 0 < i.width → 0 < i.weight) xs) (sym is)
+    (All-from_recursion (λ (i : Item). 0 < i.width → 0 < i.weight) (items_of f.coefs.items zone costs) (items_heavy f.coefs.items zone costs))
+
+pub small : (f : Form) (zone : List Span) (costs : List ℤ) → IsPriceable f.spans.items zone costs → (items : List Item) → items ≡ items_of f.coefs.items zone costs
+    → All (λ (i : Item). i.weight * i.width ≤ 2 ^ 20) items
+small f zone costs p items is =
+    subst (λ (xs : List Item). All (λ (i : Item). i.weight * i.width ≤ 2 ^ 20) xs) (sym is)
+    (All-from_recursion (λ (i : Item). i.weight * i.width ≤ 2 ^ 20) (items_of f.coefs.items zone costs)
+    (subst (λ as'. AllByRecursion (λ (i : Item). i.weight * i.width ≤ 2 ^ 20) (items_of as' zone costs)) (sym f.dense_coefs)
+    (items_small (dense (first_terms f.rows.items) (length f.spans.items)) zone costs (2 ^ 20)
+    (omega (arith, reach_fits f, coefs_reach (first_terms f.rows.items) f.spans.items zone p.in_root.proper p.in_root.inside)))))
+
+pub cheap : (f : Form) (zone : List Span) (costs : List ℤ) → IsPriceable f.spans.items zone costs → (items : List Item) → items ≡ items_of f.coefs.items zone costs
+    → worth_size items ≤ 2 ^ 117
+cheap f zone costs p items is =
+    subst (λ (xs : List Item). worth_size xs ≤ 2 ^ 117) (sym is) (omega (arith, p.sizes, items_worth f.coefs.items zone costs))
+
+pub items_many : (f : Form) (zone : List Span) (costs : List ℤ) → IsPriceable f.spans.items zone costs → (items : List Item) → items ≡ items_of f.coefs.items zone costs
+    → length items ≡ length zone
+items_many f zone costs p items is = ap length is ∙ length-items_of f.coefs.items zone costs (coefs_many f zone costs p) p.each
+
+-- the table that was filled, as that of the row
+pub tabled : (f : Form) (zone : List Span) (costs : List ℤ) → IsPriceable f.spans.items zone costs → (row : Row) → row ≡ get_or f.rows.items 0 row
+    → (items : List Item) → items ≡ items_of f.coefs.items zone costs
+    → (ways : ℕ → List ℕ) (cells : List ℤ) (base : ℤ) (top : ℕ)
+    → base ≡ dot f.coefs.items (point_of f.coefs.items zone costs (none_of f.coefs.items))
+    → IsTable items ways top cells
+    → ((c : ℕ) → top < c → MeetsAt row base c → row_reach f.spans.items (first_terms f.rows.items) < c)
+    → IsTabled row f.spans.items zone costs ways cells base top
+tabled f zone costs p row r items is ways cells base top b table above =
+    let first = first_is f.rows.items row f.taken.one r in
+    let coefs : f.coefs.items ≡ dense row.terms (length f.spans.items) =
+    f.dense_coefs ∙ ap (λ (ts : List Term). dense ts (length f.spans.items)) first.1 in
+    record {
+      places = subst (HasVariablesBelow (length f.spans.items)) first.1 (terms_places f);
+      priceable = p;
+      base_is = b ∙ ap (λ as'. dot as' (point_of as' zone costs (none_of as'))) coefs;
+      table = subst (λ (xs : List Item). IsTable xs ways top cells) (is ∙ ap (λ as'. items_of as' zone costs) coefs) table;
+      above = λ c more meets. subst (λ (ts : List Term). row_reach f.spans.items ts < c) first.1 (above c more meets);
+    }
+
+-- no choice: no point
+pub answer_none : (f : Form) (zone : List Span) (costs : List ℤ) (row : Row) → row ≡ get_or f.rows.items 0 row
+    → (ways : ℕ → List ℕ) (cells : List ℤ) (base : ℤ) (top : ℕ)
+    → IsTabled row f.spans.items zone costs ways cells base top → IsChosen cells row base (top + 1) None → HasNoPoint f.rows.items zone
+answer_none f zone costs row r ways cells base top t chosen =
+    subst (λ (rows : List Row). HasNoPoint rows zone) (sym (first_is f.rows.items row f.taken.one r).0)
+    (none_priced row f.spans.items zone costs ways cells base top t chosen)
+
+-- a choice: its way is a cheapest point
+pub answer_some : (f : Form) (zone : List Span) (costs : List ℤ) (row : Row) → row ≡ get_or f.rows.items 0 row
+    → (ways : ℕ → List ℕ) (cells : List ℤ) (base : ℤ) (top c : ℕ) (v base_cost : ℤ) (point : List ℤ)
+    → IsTabled row f.spans.items zone costs ways cells base top → IsChosen cells row base (top + 1) (Some c)
+    → v ≡ base_cost +ℤ cell_at cells c
+    → base_cost ≡ dot costs (point_of f.coefs.items zone costs (none_of f.coefs.items))
+    → point ≡ point_of f.coefs.items zone costs (ways c)
+    → IsCheapest f.rows.items zone costs point v
+answer_some f zone costs row r ways cells base top c v base_cost point t chosen is b at =
+    let first = first_is f.rows.items row f.taken.one r in
+    let coefs : f.coefs.items ≡ dense row.terms (length f.spans.items) =
+    f.dense_coefs ∙ ap (λ (ts : List Term). dense ts (length f.spans.items)) first.1 in
+    subst (λ (rows : List Row). IsCheapest rows zone costs point v) (sym first.0)
+    (subst (λ (ys : List ℤ). IsCheapest (row ∷ []) zone costs ys v) (sym (at ∙ ap (λ as'. point_of as' zone costs (ways c)) coefs))
+    (some_priced row f.spans.items zone costs ways cells base top c v t chosen
+    (is ∙ ap (λ z. z +ℤ cell_at cells c) (b ∙ ap (λ as'. dot costs (point_of as' zone costs (none_of as'))) coefs))))
+
+-- a cost and a cell of the table fit together
+pub total_fits : (items : List Item) (ways : ℕ → List ℕ) (top c : ℕ) (cells : List ℤ) (base_cost cell : ℤ) → IsTable items ways top cells → worth_size items ≤ 2 ^ 117
+    → c ≤ top → cell_at cells c <ℤ no_way → cell ≡ cell_at cells c → unsigned_abs base_cost ≤ 2 ^ 116 → FitsSigned w128 (base_cost +ℤ cell)
+total_fits items ways top c cells base_cost cell table small l less is cost =
+    fits_signed_from_abs w128 (base_cost +ℤ cell)
+    (added base_cost cell cost (subst (λ z. unsigned_abs z ≤ 2 ^ 117) (sym is) (table_bounded items ways top (2 ^ 117) cells table small c l less)))
+  where
+    added : (a b : ℤ) → unsigned_abs a ≤ 2 ^ 116 → unsigned_abs b ≤ 2 ^ 117 → unsigned_abs (a +ℤ b) < 2 ^ 127
+    added a b h k = omega (arith, ints, h, k)
+
+-- a row of picks has a place for each weight
+pub row_wide : (before now : List (List ℕ)) (wide : ℕ) → length now ≡ length before
+    → ((k : ℕ) → length (get_or now k []) ≡ length (get_or before k [])) → All (λ (row : List ℕ). length row ≡ wide) before
+    → All (λ (row : List ℕ). length row ≡ wide) now
+row_wide before now wide many same had k d l =
+    ap length (get_or_default now k d [] l) ∙ same k ∙ had k [] (omega (arith, l, many))
+  where
+    get_or_default : {X : Type 0} (xs : List X) (k : ℕ) (d e : X) → k < length xs → get_or xs k d ≡ get_or xs k e
+    get_or_default [] k d e l = absurd (omega arith)
+    get_or_default (x ∷ xs) zero d e l = refl
+    get_or_default (x ∷ xs) (suc k) d e l = get_or_default xs k d e (omega arith)

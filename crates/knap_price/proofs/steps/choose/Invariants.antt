@@ -1,0 +1,5 @@
+use Rattle.knap_price.specs.Choices.{IsChosen}
+use Rattle.knap_price.proofs.steps.choose.Given as goal
+
+abbrev pub invariant-loop-weight : goal.invariant-loop-weight
+invariant-loop-weight l = IsChosen l.cells.items l.row l.base l.weight l.best

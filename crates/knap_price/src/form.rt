@@ -1,0 +1,50 @@
+// What pricing by a table is made of, and what it keeps from call to call.
+ghost use Rattle.std.specs.Prelude.{◌≡◌, IfOk, length, vec_len};
+ghost use Rattle.pricing.specs.Form.{IsForm};
+ghost use Rattle.knap_price.specs.Taken.{IsTaken, dense, first_terms};
+
+use crate::coefs::coefs_of;
+use crate::items::Item;
+use crate::picks::Picks;
+use bp_theory::{Row, Span};
+use pricing::{copied_rows, copied_spans};
+use std::alloc::{AllocError, Global};
+
+/// One row with its root spans and the coefficients of each variable.
+#[derive(Drop)]
+pub struct Form {
+    pub rows: Vec<Row>,
+    pub spans: Vec<Span>,
+    pub coefs: Vec<i128>,
+    ghost kept: { IsForm rows.items spans.items },
+    ghost taken: { IsTaken rows.items spans.items },
+    ghost dense_coefs: { coefs.items ≡ dense (first_terms rows.items) (length spans.items) },
+}
+
+/// The table of least costs by weight, with the picks, items and point.
+#[derive(Drop)]
+pub struct Table {
+    pub items: Vec<Item>,
+    pub cells: Vec<i128>,
+    pub picks: Vec<Picks>,
+    pub point: Vec<i64>,
+}
+
+impl Form {
+    /// A copy of a row and root spans.
+    pub fn make(alloc: Global, rows: &[Row], spans: &[Span]) -> Result<Form, AllocError>
+        requires form { IsForm rows.now spans.now }
+        requires taken { IsTaken rows.now spans.now }
+        ensures rows { IfOk result (λ form. form.rows.items ≡ rows.now) }
+        ensures spans { IfOk result (λ form. form.spans.items ≡ spans.now) }
+    {
+        let coefs = coefs_of(alloc, rows[0].terms.as_slice(), spans)?;
+        let rows_copied = copied_rows(alloc, rows)?;
+        let spans_copied = copied_spans(alloc, spans)?;
+        Ok(Form {
+            rows: rows_copied,
+            spans: spans_copied,
+            coefs,
+        })
+    }
+}

@@ -1,0 +1,18 @@
+//! Pricing by a table: a block of one row, whose least costs are found weight by weight.
+#![tactic(auto)]
+
+mod coefs;
+mod form;
+mod items;
+mod picks;
+mod price;
+mod pricer;
+mod splits;
+mod steps;
+mod table;
+
+pub use pricer::KnapPricer;
+pub use splits::{Doubles, parts};
+
+#[cfg(test)]
+mod tests;

@@ -1,0 +1,42 @@
+// Pricing a zone by a table.
+ghost use Rattle.std.specs.Prelude.{◌≡◌, MatchOption};
+ghost use Rattle.pricing.specs.Form.{IsPriceable};
+ghost use Rattle.pricing.specs.Priced.{IsCheapest, HasNoPoint};
+ghost use Rattle.knap_price.specs.Rooms.{HasRoom};
+
+use crate::form::{Form, Table};
+use crate::steps::{choose, product_sum, set_items, top_of, trace};
+use crate::table::fill;
+use bp_theory::Span;
+use pricing::plus;
+
+/// The least cost of a point in a zone, if there is a point, which the table's point then is.
+pub fn price_table(form: &Form, table: &mut Table, zone: &[Span], costs: &[i128]) -> Option<i128>
+    requires room { HasRoom form.now table.old }
+    requires priceable { IsPriceable form.now.spans.items zone.now costs.now }
+    ensures room { HasRoom form.now table.new }
+    ensures answer { MatchOption result (HasNoPoint form.now.rows.items zone.now)
+        (λ v. IsCheapest form.now.rows.items zone.now costs.now table.new.point.items v) }
+{
+    set_items(&mut table.items, &mut table.point, &form.coefs, zone, costs);
+    let base = product_sum(&form.coefs, &table.point, zone);
+    let base_cost = product_sum(costs, &table.point, zone);
+    let row = &form.rows[0];
+    let top = top_of(row, &base, table.cells.len() - 1);
+    fill(&mut table.cells, &mut table.picks, &table.items, top);
+    match choose(&table.cells, row, &base, top) {
+        Some(weight) => {
+            trace(
+                &mut table.point,
+                &table.picks,
+                &table.items,
+                &form.coefs,
+                zone,
+                costs,
+                weight,
+            );
+            Some(plus(&base_cost, &table.cells[weight]))
+        }
+        None => None,
+    }
+}

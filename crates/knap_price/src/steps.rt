@@ -1,0 +1,200 @@
+// The steps of pricing by a table.
+ghost use Rattle.std.specs.Prelude.{◌≡◌, ◌<◌, ◌≤◌, ◌+◌, ◌*◌, ◌^◌, ◌↔◌, ◌+ℤ◌, ◌<ℤ◌, ◌≤ℤ◌, pos, ℕ, List, [], Option, IfSome, IsTrue, All, length, vec_len, unsigned_abs, slice_index_or};
+ghost use Rattle.bp_theory.specs.Sums.{dot};
+ghost use Rattle.bp_theory.specs.Program.{IsInside, Meets};
+ghost use Rattle.bp_theory.specs.Trees.{IsProper};
+ghost use Rattle.pricing.specs.Form.{HasShortEnds, cost_size};
+ghost use Rattle.knap_price.specs.Loads.{IsLoad, load, items_of, point_of, none_of};
+ghost use Rattle.knap_price.specs.Choices.{IsBetter, IsChosen};
+ghost use Rattle.knap_price.specs.Tables.{no_way, cell_at, pick_at, ways_by};
+
+use crate::items::{Item, make_item, number_with};
+use crate::picks::Picks;
+use crate::table::NO_WAY;
+use bp_theory::{Row, Sense, Span};
+use pricing::{plus, times};
+
+/// The scalar product of factors with numbers of a zone.
+pub fn product_sum(factors: &[i128], numbers: &[i64], zone: &[Span]) -> i128
+    requires each { length factors.now ≡ length zone.now }
+    requires inside { IsInside zone.now numbers.now }
+    requires small { cost_size zone.now factors.now ≤ 2 ^ 116 }
+    ensures value { result ≡ dot factors.now numbers.now }
+    ensures small { unsigned_abs result ≤ 2 ^ 116 }
+{
+    let mut sum = 0;
+    for k in 0..zone.len() {
+        let more = times(&factors[k], &numbers[k]);
+        sum = plus(&sum, &more);
+    }
+    sum
+}
+
+/// Makes the items of variables, and the point without any unit.
+pub fn set_items(
+    items: &mut Vec<Item>,
+    point: &mut Vec<i64>,
+    coefs: &[i128],
+    zone: &[Span],
+    costs: &[i128],
+)
+    requires items { vec_len items.old ≡ length zone.now }
+    requires point { vec_len point.old ≡ length zone.now }
+    requires coefs { length coefs.now ≡ length zone.now }
+    requires costs { length costs.now ≡ length zone.now }
+    requires proper { IsProper zone.now }
+    requires short { All HasShortEnds zone.now }
+    requires narrow { All (λ a. unsigned_abs a < 2 ^ 62) coefs.now }
+    requires small { cost_size zone.now costs.now ≤ 2 ^ 116 }
+    ensures items { items.new.items ≡ items_of coefs.now zone.now costs.now }
+    ensures point { point.new.items ≡ point_of coefs.now zone.now costs.now (none_of coefs.now) }
+{
+    for k in 0..zone.len() {
+        items[k] = make_item(&coefs[k], &zone[k], &costs[k]);
+        point[k] = number_with(&coefs[k], &zone[k], &costs[k], 0);
+    }
+}
+
+/// Whether a sum meets a row.
+fn meets(row: &Row, sum: &i128) -> bool
+    ensures { IsTrue result ↔ Meets row.now.sense row.now.low row.now.rhs sum.now }
+{
+    match row.sense {
+        Sense::Le => is_most(sum, &row.rhs),
+        Sense::Ge => is_least(sum, &row.low),
+        Sense::Eq | Sense::In => is_least(sum, &row.low) && is_most(sum, &row.rhs),
+    }
+}
+
+/// Whether a sum is at most a side.
+fn is_most(sum: &i128, side: &i64) -> bool
+    ensures { IsTrue result ↔ (sum.now ≤ℤ side.now) }
+{
+    *sum <= i128::from(*side)
+}
+
+/// Whether a sum is at least a side.
+fn is_least(sum: &i128, side: &i64) -> bool
+    ensures { IsTrue result ↔ (side.now ≤ℤ sum.now) }
+{
+    i128::from(*side) <= *sum
+}
+
+/// The greatest weight up to a reach with which a row may be met.
+pub fn top_of(row: &Row, base: &i128, reach: usize) -> usize
+    requires base { unsigned_abs base.now ≤ 2 ^ 116 }
+    requires reach { reach ≤ 2 ^ 20 }
+    ensures within { result ≤ reach }
+    ensures above { (c : ℕ) → result < c → Meets row.now.sense row.now.low row.now.rhs (base.now +ℤ pos c) → reach < c }
+{
+    match row.sense {
+        Sense::Ge => reach,
+        Sense::Le | Sense::Eq | Sense::In => room_of(&row.rhs, base, reach),
+    }
+}
+
+/// The greatest weight up to a reach that stays below a side, or 0.
+fn room_of(side: &i64, base: &i128, reach: usize) -> usize
+    requires base { unsigned_abs base.now ≤ 2 ^ 116 }
+    requires reach { reach ≤ 2 ^ 20 }
+    ensures within { result ≤ reach }
+    ensures above { (c : ℕ) → result < c → (base.now +ℤ pos c) ≤ℤ side.now → reach < c }
+{
+    let room = i128::from(*side) - *base;
+    if room <= 0 {
+        0
+    } else if room < reach as i128 {
+        room as usize
+    } else {
+        reach
+    }
+}
+
+/// Whether a weight has a load that is cheaper than that of the best weight so far.
+fn improves(cells: &Vec<i128>, weight: usize, best: Option<usize>) -> bool
+    requires there { weight < vec_len cells.now }
+    requires best { IfSome best (λ b. b < vec_len cells.now) }
+    ensures { IsTrue result ↔ IsBetter cells.now.items weight best }
+{
+    match best {
+        Some(known) => cells[weight] < cells[known],
+        None => cells[weight] < NO_WAY,
+    }
+}
+
+/// The weight of the least cost among those that meet the row.
+pub fn choose(cells: &Vec<i128>, row: &Row, base: &i128, top: usize) -> Option<usize>
+    requires room { top < vec_len cells.now }
+    requires small { top ≤ 2 ^ 20 }
+    requires base { unsigned_abs base.now ≤ 2 ^ 116 }
+    ensures { IsChosen cells.now.items row.now base.now (top + 1) result }
+{
+    let mut best = None;
+    for weight in 0..top + 1 {
+        best = better_of(cells, row, base, weight, best);
+    }
+    best
+}
+
+/// The better one of a weight and the best weight so far.
+fn better_of(
+    cells: &Vec<i128>,
+    row: &Row,
+    base: &i128,
+    weight: usize,
+    best: Option<usize>,
+) -> Option<usize>
+    requires there { weight < vec_len cells.now }
+    requires small { weight ≤ 2 ^ 20 }
+    requires base { unsigned_abs base.now ≤ 2 ^ 116 }
+    requires best { IsChosen cells.now.items row.now base.now weight best }
+    ensures { IsChosen cells.now.items row.now base.now (weight + 1) result }
+{
+    let sum = moved(base, weight);
+    if !meets(row, &sum) {
+        return best;
+    }
+    if improves(cells, weight, best) {
+        return Some(weight);
+    }
+    best
+}
+
+/// A sum that is so much greater.
+fn moved(base: &i128, weight: usize) -> i128
+    requires small { weight ≤ 2 ^ 20 }
+    requires base { unsigned_abs base.now ≤ 2 ^ 116 }
+    ensures { result ≡ base.now +ℤ pos weight }
+{
+    *base + weight as i128
+}
+
+/// Writes the point of the picks from a weight on.
+pub fn trace(
+    point: &mut Vec<i64>,
+    picks: &Vec<Picks>,
+    items: &[Item],
+    coefs: &[i128],
+    zone: &[Span],
+    costs: &[i128],
+    weight: usize,
+)
+    requires point { vec_len point.old ≡ length zone.now }
+    requires coefs { length coefs.now ≡ length zone.now }
+    requires costs { length costs.now ≡ length zone.now }
+    requires many { vec_len picks.now ≡ length zone.now }
+    requires picks { All (λ row. weight < length row) picks.now.items }
+    requires proper { IsProper zone.now }
+    requires short { All HasShortEnds zone.now }
+    requires items { items.now ≡ items_of coefs.now zone.now costs.now }
+    requires fits { IsLoad items.now (ways_by items.now picks.now.items weight) }
+    requires weighs { load items.now (ways_by items.now picks.now.items weight) ≡ weight }
+    ensures { point.new.items ≡ point_of coefs.now zone.now costs.now (ways_by items.now picks.now.items weight) }
+{
+    let mut left = weight;
+    for k in 0..zone.len() {
+        let units = u64::from(picks[k].at(left));
+        point[k] = number_with(&coefs[k], &zone[k], &costs[k], units);
+        left -= (items[k].weight * units) as usize;
+    }
+}

@@ -1,0 +1,8 @@
+pub mod MultLemmas
+pub mod Sums
+pub mod Magnitude
+pub mod Steps
+pub mod PickedLemmas
+pub mod PartLemmas
+pub mod SharedLemmas
+pub mod DeskLemmas

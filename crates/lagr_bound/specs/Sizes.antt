@@ -1,0 +1,54 @@
+-- How large the sums of a bound can be.
+use Rattle.std.specs.Prelude.{ℕ, ◌+◌, ◌^◌, ◌<◌, ◌≤◌, unsigned_abs, sum_by, List, map, length, ℤ, pos, ◌*ℤ◌, All}
+use Rattle.std.specs.List.Sorted.{IsStrictlyIncreasing}
+use Rattle.bp_theory.specs.Blocking.{Copy, Block, Blocking, row_at}
+use Rattle.bp_theory.specs.Bound.{spans_of, reduced_cost, side_at, end_cost, box_least}
+use Rattle.bp_theory.specs.Program.{span_at}
+use Rattle.bp_theory.specs.declared.Span.{Span}
+use Rattle.bp_theory.specs.declared.Proof.{Proof}
+use Rattle.pricing.specs.Form.{cost_size}
+
+-- a copy has a cost and coefficients below 2 to the 62, and at most 8,192 of them
+pub record IsSmallCopy (c : Copy) : Type 0 where
+  pub cost : unsigned_abs c.cost < 2 ^ 62
+  pub few : length c.coefs ≤ 8192
+  pub coefs : All (λ e. unsigned_abs e.1 < 2 ^ 62) c.coefs
+
+-- a proof's scale and multipliers keep their limits, there are at most 8,192, and their rows ascend
+pub record IsSmallProof (proof : Proof) : Type 0 where
+  pub scale : proof.scale ≤ 2 ^ 20
+  pub sizes : All (λ m. unsigned_abs m.1 ≤ 2 ^ 40) proof.mults
+  pub few : length proof.mults ≤ 8192
+  pub ascend : IsStrictlyIncreasing (map (λ m. m.0) proof.mults)
+
+-- the reduced costs of a block's copies
+abbrev pub reduced_costs : Proof → Block → List ℤ
+reduced_costs proof block = map (reduced_cost proof) block.copies
+
+-- the least of a copy's reduced cost over its span in a zone
+abbrev pub copy_least : List Span → Proof → Copy → ℤ
+copy_least zone proof c = end_cost (span_at zone c.var) (reduced_cost proof c)
+
+-- the least of a block's reduced costs over its box in a zone
+abbrev pub block_least : List Span → Proof → Block → ℤ
+block_least zone proof block = box_least (spans_of zone block) (reduced_costs proof block)
+
+-- the greatest magnitude of a reduced cost over the numbers of a block's spans in a zone
+abbrev pub block_size : List Span → Proof → Block → ℕ
+block_size zone proof block = cost_size (spans_of zone block) (reduced_costs proof block)
+
+-- the greatest magnitude of what a proof gives before the blocks
+abbrev pub base_size : Blocking → Proof → ℕ
+base_size b proof =
+    unsigned_abs (pos proof.scale *ℤ b.constant) + sum_by (λ m. unsigned_abs (m.1 *ℤ side_at (row_at b m.0) m.1)) proof.mults
+
+-- a block's copies are small, at most 4,096 and in the zone, and its reduced costs are at most 2 to the 116 together
+pub record IsSmallBlock (zone : List Span) (proof : Proof) (block : Block) : Type 0 where
+  pub copies : All IsSmallCopy block.copies
+  pub few : length block.copies ≤ 4096
+  pub there : All (λ c. c.var < length zone) block.copies
+  pub size : block_size zone proof block ≤ 2 ^ 116
+
+-- all sums of a bound together are at most 2 to the 116
+abbrev pub bound_size : Blocking → List Span → Proof → ℕ
+bound_size b zone proof = base_size b proof + sum_by (block_size zone proof) b.blocks

@@ -1,0 +1,51 @@
+// Bounds of proofs, each picked block priced by itself.
+ghost use Rattle.std.specs.Prelude.{◌≡◌, ◌<◌, length};
+ghost use Rattle.bp_theory.specs.Bound.{Fits, IsEndless};
+ghost use Rattle.bp_theory.specs.Trees.{IsZone};
+ghost use Rattle.pricing.specs.declared.Cap.TheVariants.{Never};
+ghost use Rattle.lagr_bound.specs.Forms.{forms_in};
+ghost use Rattle.lagr_bound.specs.Works.{forms_of, IsSilent};
+ghost use Rattle.lagr_bound.specs.Bounded.{IsBounded};
+
+use crate::costs::base;
+use crate::parts::part;
+use crate::work::Work;
+use block_form::{Blocked, Zone};
+use bp_theory::Proof;
+use pricing::{Cap, Priced, plus};
+
+/// The weak Lagrangian bound of a proof in a zone, as far as it was priced.
+#[derive(Clone, Copy, Debug, PartialEq, Eq)]
+pub enum Bounded {
+    /// The bound.
+    Whole(i128),
+    /// A picked block has no point.
+    Endless,
+    /// Pricing this picked block was cut.
+    Cut(u32),
+}
+
+/// The weak Lagrangian bound of a proof in a zone, where each picked block is priced by itself: what the proof gives before
+/// the blocks, for each picked block the least of its reduced costs over its points, and for each other block that over
+/// its box. `Cut` comes only under a cap that the block's beginnings of assignments exceed.
+pub fn sum_bound(work: &mut Work, b: &Blocked, zone: &Zone, proof: &Proof, cap: Cap) -> Bounded
+    requires made_for { forms_of work.old ≡ forms_in b.now }
+    requires zone { IsZone b.now.named.program.spans zone.now }
+    requires fits { Fits b.now.blocking proof.now }
+    ensures answer { IsBounded b.now.blocking zone.now proof.now cap result }
+    ensures endless { cap ≡ Never → IsEndless b.now.blocking zone.now proof.now → result ≡ Bounded.Endless }
+    ensures made_for { forms_of work.new ≡ forms_of work.old }
+    ensures silent { IsSilent work.new }
+{
+    work.forget();
+    let blocks = b.blocks();
+    let mut sum = base(b, proof);
+    for number in 0..blocks {
+        match part(&mut work.desks, b, number, zone, proof, cap) {
+            Priced::Least(least) => sum = plus(&sum, &least),
+            Priced::Nothing => return Bounded::Endless,
+            Priced::Cut => return Bounded::Cut(number),
+        }
+    }
+    Bounded::Whole(sum)
+}

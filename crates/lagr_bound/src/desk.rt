@@ -1,0 +1,114 @@
+// What pricing one block takes.
+ghost use Rattle.std.specs.Prelude.{◌≡◌, ◌≤◌, ◌<◌, length, vec_len, All};
+ghost use Rattle.bp_theory.specs.Bound.{spans_of};
+ghost use Rattle.lagr_bound.specs.Sizes.{IsSmallCopy, IsSmallProof, reduced_costs};
+ghost use Rattle.lagr_bound.specs.Rooms.{HasRoom};
+
+use crate::costs::reduced_cost;
+use crate::pricers::BlockPricer;
+use block_form::{Block, Zone};
+use bp_theory::{Proof, Span};
+use pricing::{Cap, Priced, Pricer};
+use std::alloc::{AllocError, Global};
+
+/// A block's pricer, with room for the block's reduced costs and for its spans in a zone, and whether the pricer's point
+/// is one to be told.
+#[derive(Drop)]
+pub struct Desk {
+    pricer: BlockPricer,
+    costs: Vec<i128>,
+    spans: Vec<Span>,
+    tells: bool,
+    ghost room: { HasRoom pricer costs.items spans.items },
+}
+
+impl Desk {
+    ghost use Rattle.std.specs.Prelude.{◌≡◌, IfOk, IsTrue, MatchOption};
+    ghost use Rattle.bp_theory.specs.Bound.{spans_of};
+    ghost use Rattle.bp_theory.specs.Trees.{IsZone};
+    ghost use Rattle.pricing.specs.Form.{IsForm};
+    ghost use Rattle.pricing.specs.Priced.{IsPriced};
+    ghost use Rattle.lagr_bound.specs.Sizes.{IsSmallBlock, IsSmallProof, reduced_costs};
+    ghost use Rattle.lagr_bound.specs.Forms.{form_in};
+    ghost use Rattle.lagr_bound.specs.Desks.{form_of, told_point, priced_point};
+
+    /// The desk of a block, which tells no point.
+    pub fn make(alloc: Global, block: &Block) -> Result<Desk, AllocError>
+        requires { IsForm block.now.block.rows block.now.spans }
+        ensures form { IfOk result (λ desk. form_of desk ≡ form_in block.now) }
+        ensures silent { IfOk result (λ desk. told_point desk ≡ None) }
+    {
+        let pricer = BlockPricer::make(alloc, block)?;
+        let many = block.spans().len();
+        let costs = Vec::from_elem(alloc, 0, many)?;
+        let spans = Vec::from_elem(alloc, Span { lo: 0, hi: 0 }, many)?;
+        Ok(Desk {
+            pricer,
+            costs,
+            spans,
+            tells: false,
+        })
+    }
+
+    /// Prices the block in a zone at its reduced costs.
+    pub fn price(&mut self, block: &Block, zone: &Zone, proof: &Proof, cap: Cap) -> Priced
+        requires same_block { form_of self.old ≡ form_in block.now }
+        requires zone { IsZone block.now.spans (spans_of zone.now block.now.block) }
+        requires block { IsSmallBlock zone.now proof.now block.now.block }
+        requires proof { IsSmallProof proof.now }
+        ensures answer { IsPriced block.now.block.rows (spans_of zone.now block.now.block) (reduced_costs proof.now block.now.block) cap result (priced_point self.new) }
+        ensures form { form_of self.new ≡ form_of self.old }
+        ensures tells { self.new.tells ≡ self.old.tells }
+    {
+        fill_costs(&mut self.costs, block, proof);
+        fill_spans(&mut self.spans, block, zone);
+        let zone = self.spans.as_slice();
+        let costs = self.costs.as_slice();
+        self.pricer.price(block, zone, costs, cap)
+    }
+
+    /// Whether the pricer's point is to be told from now on.
+    pub fn tell(&mut self, tells: bool)
+        ensures form { form_of self.new ≡ form_of self.old }
+        ensures point { priced_point self.new ≡ priced_point self.old }
+        ensures tells { self.new.tells ≡ tells }
+    {
+        self.tells = tells;
+    }
+
+    /// The point that it tells.
+    pub fn point(&self) -> Option<&[i64]>
+        ensures { MatchOption result (told_point self.now ≡ None) (λ y. told_point self.now ≡ Some y.now) }
+    {
+        if self.tells {
+            Some(self.pricer.point())
+        } else {
+            None
+        }
+    }
+}
+
+// Writes a block's reduced costs.
+fn fill_costs(costs: &mut Vec<i128>, block: &Block, proof: &Proof)
+    requires room { vec_len costs.old ≡ length block.now.block.copies }
+    requires few { length block.now.block.copies ≤ 4096 }
+    requires copies { All IsSmallCopy block.now.block.copies }
+    requires proof { IsSmallProof proof.now }
+    ensures { costs.new.items ≡ reduced_costs proof.now block.now.block }
+{
+    for place in 0..costs.len() {
+        costs[place] = reduced_cost(block, place as u32, proof);
+    }
+}
+
+// Writes a block's spans in a zone.
+fn fill_spans(spans: &mut Vec<Span>, block: &Block, zone: &Zone)
+    requires room { vec_len spans.old ≡ length block.now.block.copies }
+    requires there { All (λ c. c.var < length zone.now) block.now.block.copies }
+    ensures { spans.new.items ≡ spans_of zone.now block.now.block }
+{
+    let vars = block.vars();
+    for place in 0..vars.len() {
+        spans[place] = zone.span(vars[place]);
+    }
+}

@@ -1,0 +1,22 @@
+//! Weak Lagrangian bounds of proofs in zones, exactly: what a proof gives before the blocks, the reduced costs of a
+//! block's copies, and the least of these over a block's box. (Vanderbeck, on column generation for integer programs.)
+#![tactic(auto)]
+
+mod alike;
+mod bounded;
+mod costs;
+mod desk;
+mod desks;
+mod parts;
+mod picked;
+mod plain;
+mod pricers;
+mod rounded;
+mod work;
+
+pub use alike::bound;
+pub use bounded::{Bounded, sum_bound};
+pub use costs::{base, reduced_cost};
+pub use plain::{box_bound, box_least};
+pub use rounded::round;
+pub use work::Work;

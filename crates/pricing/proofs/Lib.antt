@@ -1,0 +1,4 @@
+pub mod EndLaws
+pub mod Passed
+pub mod ZoneLaws
+pub mod BlockLaws

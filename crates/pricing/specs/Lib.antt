@@ -1,0 +1,5 @@
+pub mod Form
+pub mod Priced
+pub mod Ends
+pub mod Checks
+pub mod Laws

@@ -1,0 +1,28 @@
+use Rattle.std.proofs.Common.{◌≡◌, ◌∙◌, sym, ap, subst, ◌<◌, ◌≤◌, List, length, map, arith}
+use Rattle.std.proofs.Math.IntN.{ℤ}
+use Rattle.bp_theory.specs.Bound.{box_least}
+use Rattle.bp_theory.specs.Trees.{IsSubzone, IsProper}
+use Rattle.bp_theory.specs.declared.Span.{Span}
+use Rattle.bp_theory.specs.declared.Row.{Row}
+use Rattle.pricing.proofs.Passed.{passed}
+use Rattle.search_price.specs.Reach.{low_reach, high_reach}
+use Rattle.search_price.proofs.BeginLaws.{map_from_places, zone_itself}
+use Rattle.search_price.proofs.PlaceLaws.{many_spans}
+use Rattle.search_price.proofs.begin.begin.Goals as goal
+
+pub returns-clause-tracked : goal.returns-clause-tracked
+returns-clause-tracked c =
+    let all : length c.args.form.now.rows.items ≤ c.loop-row.row = omega (arith, c.loop-row-test.false, c.args.form.now.rows.ok.0, c.len-row-end.ensures) in
+    record {
+      inside = subst (λ (zs : List Span). IsSubzone zs c.args.zone.now) (sym c.loop-row.invariant.zone) (zone_itself c.args.zone.now);
+      proper = subst IsProper (sym c.loop-row.invariant.zone) c.requires.priceable.in_root.proper;
+      lows = subst (λ (zs : List Span). c.loop-row.dive.lows.items ≡ map (λ (row : Row). low_reach zs row.terms) c.args.form.now.rows.items) (sym c.loop-row.invariant.zone)
+          (map_from_places (low_reach c.args.zone.now) c.args.form.now.rows.items c.loop-row.dive.lows.items c.loop-row.invariant.many_lows
+          (λ i d l. c.loop-row.invariant.lows i d (omega (arith, l, all))));
+      highs = subst (λ (zs : List Span). c.loop-row.dive.highs.items ≡ map (λ (row : Row). high_reach zs row.terms) c.args.form.now.rows.items) (sym c.loop-row.invariant.zone)
+          (map_from_places (high_reach c.args.zone.now) c.args.form.now.rows.items c.loop-row.dive.highs.items c.loop-row.invariant.many_highs
+          (λ i d l. c.loop-row.invariant.highs i d (omega (arith, l, all))));
+      least = passed c.least_cost-dive.result c.least_cost-dive.type_inv ∙ c.least_cost-dive.ensures
+          ∙ ap (λ (zs : List Span). box_least zs c.args.costs.now) (sym c.loop-row.invariant.zone);
+      wide = c.loop-row.invariant.point ∙ sym (many_spans c.args.form.now c.args.zone.now c.args.costs.now c.requires.priceable);
+    }

@@ -1,0 +1,104 @@
+use Rattle.std.proofs.Common.{◌≡◌, ◌≢◌, ◌∙◌, sym, ap, subst, ◌+◌, ◌<◌, ◌≤◌, List, length, set, arith}
+use Rattle.std.proofs.Math.IntN.{ℤ}
+use Rattle.std.specs.Prelude.{All, Option}
+use Rattle.std.specs.Bool.{OnTrue}
+use Rattle.pricing.proofs.Passed.{passed_short}
+use Rattle.bp_theory.specs.Program.{span_at}
+use Rattle.bp_theory.specs.declared.Span.{Span}
+use Rattle.search_price.specs.Reach.{CanMeetRow, IsNarrowed}
+use Rattle.search_price.specs.Best.{AllCovered, IsReached, IsNoWorse}
+use Rattle.search_price.specs.Search.{single}
+use Rattle.search_price.proofs.PlaceLaws.{many_narrow}
+use Rattle.search_price.proofs.SearchLaws.{short_inside, whole_again, value_zone, moved_form, narrowed_more, covered_more, covered_all, below_level}
+use Rattle.search_price.proofs.search.+explore.Goals as goal
+
+pub count_of-step-end-requires-clause-short : goal.count_of-step-end-requires-clause-short
+count_of-step-end-requires-clause-short t c =
+    short_inside c.args.zone.now c.args.form.now.spans.items c.requires.priceable.in_root.inside c.requires.priceable.in_root.proper
+    c.args.form.now.kept.ends c.args.level (below_level c.args.level (length c.args.zone.now) c.requires.level c.if-level-zone.false)
+
+pub value_at-value-requires-clause-short : goal.value_at-value-requires-clause-short
+value_at-value-requires-clause-short t c =
+    short_inside c.args.zone.now c.args.form.now.spans.items c.requires.priceable.in_root.inside c.requires.priceable.in_root.proper
+    c.args.form.now.kept.ends c.args.level (below_level c.args.level (length c.args.zone.now) c.requires.level c.if-level-zone.false)
+
+pub place_value-goes_on-requires-clause-others : goal.place_value-goes_on-requires-clause-others
+place_value-goes_on-requires-clause-others t c =
+    subst (λ (zs : List Span). All (CanMeetRow zs) c.args.form.now.rows.items)
+    (sym (whole_again c.args.zone.now c.args.dive.now.zone.items c.loop-step.dive.zone.items c.args.level c.requires.narrowed c.loop-step.invariant.zone))
+    (subst (λ b. OnTrue b (All (CanMeetRow c.args.dive.now.zone.items) c.args.form.now.rows.items)) c.if-not-alive.false c.requires.can)
+
+pub explore-requires : goal.explore-requires
+explore-requires t c =
+    let there : c.args.level < length c.args.zone.now =
+    below_level c.args.level (length c.args.zone.now) c.requires.level c.if-level-zone.false in
+    let placed : c.place_value-goes_on.new.dive.zone.items ≡ set c.args.dive.now.zone.items c.args.level (single c.value_at-value.result) =
+    value_zone c.args.dive.now.zone.items c.loop-step.dive.zone.items c.place_value-goes_on.new.dive.zone.items c.args.level c.value_at-value.result c.loop-step.invariant.zone
+    (c.place_value-goes_on.ensures.zone
+    ∙ ap (λ z. set c.loop-step.dive.zone.items c.args.level (single z)) (passed_short c.value_at-value.result c.value_at-value.type_inv)) in (
+      omega (arith, there, c.decreases),
+      (
+        c.requires.priceable,
+        (
+          c.place_value-goes_on.ensures.tracked,
+          (
+            omega (arith, there),
+            (
+              subst (IsNarrowed c.args.zone.now (c.args.level + 1)) (sym placed)
+                  (narrowed_more c.args.zone.now c.args.dive.now.zone.items c.args.level c.value_at-value.result there c.requires.narrowed c.value_at-value.ensures.within),
+              (
+                c.place_value-goes_on.ensures.yes,
+                (
+                  c.place_value-goes_on.ensures.no,
+                  subst (λ (ys : List ℤ). IsReached c.args.form.now.rows.items c.args.zone.now c.args.costs.now c.place_value-goes_on.new.dive.best ys) (sym c.place_value-goes_on.ensures.kept.point)
+                      (subst (λ (best : Option ℤ). IsReached c.args.form.now.rows.items c.args.zone.now c.args.costs.now best c.loop-step.dive.point.items) (sym c.place_value-goes_on.ensures.kept.best)
+                      c.loop-step.invariant.reached),
+                ),
+              ),
+            ),
+          ),
+        ),
+      ),
+    )
+
+pub loop-step-preserved : goal.loop-step-preserved
+loop-step-preserved t c =
+    let there : c.args.level < length c.args.dive.now.zone.items =
+    omega (
+      arith,
+      many_narrow c.args.form.now c.args.zone.now c.args.costs.now c.args.dive.now c.requires.tracked,
+      below_level c.args.level (length c.args.zone.now) c.requires.level c.if-level-zone.false,
+    ) in
+    let placed : c.place_value-goes_on.new.dive.zone.items ≡ set c.args.dive.now.zone.items c.args.level (single c.value_at-value.result) =
+    value_zone c.args.dive.now.zone.items c.loop-step.dive.zone.items c.place_value-goes_on.new.dive.zone.items c.args.level c.value_at-value.result c.loop-step.invariant.zone
+    (c.place_value-goes_on.ensures.zone
+    ∙ ap (λ z. set c.loop-step.dive.zone.items c.args.level (single z)) (passed_short c.value_at-value.result c.value_at-value.type_inv)) in
+    let better : IsNoWorse c.loop-step.dive.best c.explore.new.dive.best =
+    subst (λ (best : Option ℤ). IsNoWorse best c.explore.new.dive.best) c.place_value-goes_on.ensures.kept.best c.if-not-explore.ensures.no_worse in
+    record {
+      capped = c.if-not-explore.ensures.capped ∙ c.loop-step.invariant.capped;
+      zone = moved_form c.args.dive.now.zone.items c.explore.new.dive.zone.items c.args.level c.value_at-value.result there (c.if-not-explore.ensures.zone ∙ placed);
+      tracked = c.if-not-explore.ensures.tracked;
+      reached = c.if-not-explore.ensures.reached;
+      no_worse = λ cost h. better cost (c.loop-step.invariant.no_worse cost h);
+      covered = covered_more c.args.form.now.rows.items c.args.zone.now c.args.dive.now.zone.items c.args.costs.now c.args.level c.loop-step.step c.is_upward-up.result
+          c.value_at-value.result c.loop-step.dive.best c.explore.new.dive.best there c.requires.narrowed c.value_at-value.ensures.value
+          c.loop-step.invariant.covered better
+          (subst (λ (zs : List Span). AllCovered c.args.form.now.rows.items zs c.args.costs.now c.explore.new.dive.best) placed c.if-not-explore.ensures.covered);
+    }
+
+pub returns-clause-zone : goal.returns-clause-zone
+returns-clause-zone t c =
+    c.place.ensures.zone
+    ∙ whole_again c.args.zone.now c.args.dive.now.zone.items c.loop-step.dive.zone.items c.args.level c.requires.narrowed c.loop-step.invariant.zone
+
+pub returns-clause-covered : goal.returns-clause-covered
+returns-clause-covered t c =
+    subst (AllCovered c.args.form.now.rows.items c.args.dive.now.zone.items c.args.costs.now) (sym c.place.ensures.kept.best)
+    (covered_all c.args.form.now.rows.items c.args.zone.now c.args.dive.now.zone.items c.args.costs.now c.args.level c.loop-step.step c.is_upward-up.result c.loop-step.dive.best
+    (omega (
+      arith,
+      many_narrow c.args.form.now c.args.zone.now c.args.costs.now c.args.dive.now c.requires.tracked,
+      below_level c.args.level (length c.args.zone.now) c.requires.level c.if-level-zone.false,
+    ))
+    c.requires.narrowed (omega (arith, c.loop-step-test.false, c.count_of-step-end.ensures)) c.loop-step.invariant.covered)

@@ -1,0 +1,38 @@
+// What a search is made of: rows, root spans, and the rows by variables.
+ghost use Rattle.std.specs.Prelude.{◌≡◌, IfOk, vec_len};
+ghost use Rattle.pricing.specs.Form.{IsForm};
+ghost use Rattle.search_price.specs.Columns.{AreColumns};
+
+use crate::columns::{Entry, columns_of};
+use bp_theory::{Items, Row, Span};
+use pricing::{copied_rows, copied_spans};
+use std::alloc::{AllocError, Global};
+
+/// Rows and root spans, and the rows by variables.
+#[derive(Drop)]
+pub struct Form {
+    pub rows: Vec<Row>,
+    pub spans: Vec<Span>,
+    pub columns: Vec<Items<Entry>>,
+    ghost kept: { IsForm rows.items spans.items },
+    ghost wide: { vec_len columns ≡ vec_len spans },
+    ghost by_variables: { AreColumns rows.items columns.items },
+}
+
+impl Form {
+    /// A copy of rows and root spans.
+    pub fn make(alloc: Global, rows: &[Row], spans: &[Span]) -> Result<Form, AllocError>
+        requires { IsForm rows.now spans.now }
+        ensures rows { IfOk result (λ form. form.rows.items ≡ rows.now) }
+        ensures spans { IfOk result (λ form. form.spans.items ≡ spans.now) }
+    {
+        let rows_copied = copied_rows(alloc, rows)?;
+        let spans_copied = copied_spans(alloc, spans)?;
+        let columns = columns_of(alloc, spans.len(), rows)?;
+        Ok(Form {
+            rows: rows_copied,
+            spans: spans_copied,
+            columns,
+        })
+    }
+}

@@ -1,0 +1,18 @@
+//! Pricing by a search: depth first over a block's variables, pruned by what each row can still reach and by cost.
+#![tactic(auto)]
+
+mod begin;
+mod caps;
+mod columns;
+mod dive;
+mod form;
+mod moves;
+mod pricer;
+mod search;
+mod shifts;
+
+pub use caps::prefixes;
+pub use pricer::SearchPricer;
+
+#[cfg(test)]
+mod tests;

@@ -1,0 +1,86 @@
+// The pricer by search.
+ghost use Rattle.search_price.specs.Sizes.{HasPlaces};
+
+use crate::begin::begin;
+use crate::caps::visits_under;
+use crate::dive::Dive;
+use crate::form::Form;
+use crate::moves::rows_can_meet;
+use crate::search::explore;
+use block_form::Block;
+use bp_theory::Span;
+use pricing::{Cap, Priced, Pricer};
+use std::alloc::{AllocError, Global};
+
+/// Prices by a depth first search over a block's variables, pruned by what each row can still reach and by cost. It takes all
+/// memory that it needs when it is made.
+#[derive(Drop)]
+pub struct SearchPricer {
+    form: Form,
+    dive: Dive,
+    ghost places: { HasPlaces form dive },
+}
+
+impl SearchPricer {
+    ghost use Rattle.std.specs.Prelude.{IfOk};
+    ghost use Rattle.pricing.specs.Form.{IsForm, AreOf};
+    ghost use Rattle.search_price.specs.Kept.{rows_of, spans_of};
+
+    /// The pricer of a block.
+    pub fn make(alloc: Global, block: &Block) -> Result<SearchPricer, AllocError>
+        requires { IsForm block.now.block.rows block.now.spans }
+        ensures { IfOk result (λ pricer. AreOf block.now (rows_of pricer) (spans_of pricer)) }
+    {
+        let rows = block.rows();
+        let spans = block.spans();
+        let form = Form::make(alloc, rows, spans)?;
+        let zone = Vec::from_elem(alloc, Span { lo: 0, hi: 0 }, spans.len())?;
+        let lows = Vec::from_elem(alloc, 0, rows.len())?;
+        let highs = Vec::from_elem(alloc, 0, rows.len())?;
+        let point = Vec::from_elem(alloc, 0, spans.len())?;
+        let dive = Dive {
+            zone,
+            lows,
+            highs,
+            least: 0,
+            best: None,
+            point,
+        };
+        Ok(SearchPricer { form, dive })
+    }
+}
+
+impl Pricer for SearchPricer {
+    ghost use Rattle.search_price.specs.Kept.{rows_of, spans_of, kept_point};
+
+    ghost rows = { rows_of };
+
+    ghost spans = { spans_of };
+
+    ghost chosen = { kept_point };
+
+    fn price(&mut self, block: &Block, zone: &[Span], costs: &[i128], cap: Cap) -> Priced {
+        begin(&mut self.dive, &self.form, zone, costs);
+        let alive = rows_can_meet(&self.dive, &self.form, zone, costs);
+        let mut visits = visits_under(cap, zone);
+        if !explore(
+            &mut self.dive,
+            &mut visits,
+            &self.form,
+            zone,
+            costs,
+            0,
+            alive,
+        ) {
+            return Priced::Cut;
+        }
+        match self.dive.best {
+            Some(least) => Priced::Least(least),
+            None => Priced::Nothing,
+        }
+    }
+
+    fn point(&self) -> &[i64] {
+        self.dive.point.as_slice()
+    }
+}

@@ -1,0 +1,122 @@
+// The search itself: depth first over the variables.
+ghost use Rattle.std.specs.Prelude.{◌≡◌, ◌≤◌, ◌<◌, ◌+◌, ◌≤ℤ◌, IsTrue, Bool, true, false, Some, All, length, slice_set, vec_len};
+ghost use Rattle.std.specs.Bool.{OnTrue, OnFalse};
+ghost use Rattle.bp_theory.specs.Program.{IsWithin};
+ghost use Rattle.bp_theory.specs.Classes.{width};
+ghost use Rattle.pricing.specs.Form.{IsPriceable, HasShortEnds};
+ghost use Rattle.search_price.specs.Reach.{CanMeetRow, IsNarrowed, IsSingle, lows_of};
+ghost use Rattle.search_price.specs.Best.{AllCovered, IsReached, IsNoWorse};
+ghost use Rattle.search_price.specs.Search.{IsTracked, step_value};
+
+use crate::dive::{Dive, Visits};
+use crate::form::Form;
+use crate::moves::{may_improve, place, place_value};
+use bp_theory::Span;
+
+/// How many numbers a span has.
+fn count_of(span: &Span) -> u64
+    requires short { HasShortEnds span.now }
+    requires proper { span.now.lo ≤ℤ span.now.hi }
+    ensures { result ≡ width span.now }
+{
+    span.hi.abs_diff(span.lo) + 1
+}
+
+/// The number at a step of a span, from its lower end up or from its upper end down.
+fn value_at(span: &Span, up: bool, step: u64) -> i64
+    requires short { HasShortEnds span.now }
+    requires there { step < width span.now }
+    ensures value { result ≡ step_value up span.now step }
+    ensures within { IsWithin span.now result }
+{
+    let offset = step as i64;
+    if up {
+        span.lo + offset
+    } else {
+        span.hi - offset
+    }
+}
+
+/// Copies the lower ends of spans.
+fn copy_lows(zone: &Vec<Span>, point: &mut Vec<i64>)
+    requires { vec_len point.old ≡ vec_len zone.now }
+    ensures { point.new.items ≡ lows_of zone.now.items }
+{
+    for k in 0..zone.len() {
+        point[k] = zone[k].lo;
+    }
+}
+
+/// Takes the one point of a zone of single numbers for the best where it is cheaper.
+fn record(dive: &mut Dive, form: &Form, zone: &[Span], costs: &[i128])
+    requires priceable { IsPriceable form.now.spans.items zone.now costs.now }
+    requires tracked { IsTracked form.now.rows.items zone.now costs.now dive.old }
+    requires one { IsSingle dive.old.zone.items }
+    requires can { All (CanMeetRow dive.old.zone.items) form.now.rows.items }
+    requires reached { IsReached form.now.rows.items zone.now costs.now dive.old.best dive.old.point.items }
+    ensures zone { dive.new.zone.items ≡ dive.old.zone.items }
+    ensures tracked { IsTracked form.now.rows.items zone.now costs.now dive.new }
+    ensures covered { AllCovered form.now.rows.items dive.old.zone.items costs.now dive.new.best }
+    ensures no_worse { IsNoWorse dive.old.best dive.new.best }
+    ensures reached { IsReached form.now.rows.items zone.now costs.now dive.new.best dive.new.point.items }
+{
+    if may_improve(dive) {
+        copy_lows(&dive.zone, &mut dive.point);
+        dive.best = Some(dive.least);
+    }
+}
+
+/// Searches the points of the zone, in which the variables below a level have one number. Tells whether it came to
+/// the end, which it does where visits aren't capped. A zone that isn't alive is known to have no point that is cheaper than
+/// the best so far.
+pub fn explore(
+    dive: &mut Dive,
+    visits: &mut Visits,
+    form: &Form,
+    zone: &[Span],
+    costs: &[i128],
+    level: usize,
+    alive: bool,
+) -> bool
+    requires priceable { IsPriceable form.now.spans.items zone.now costs.now }
+    requires tracked { IsTracked form.now.rows.items zone.now costs.now dive.old }
+    requires level { level ≤ length zone.now }
+    requires narrowed { IsNarrowed zone.now level dive.old.zone.items }
+    requires can { OnTrue alive (All (CanMeetRow dive.old.zone.items) form.now.rows.items) }
+    requires covered { OnFalse alive (AllCovered form.now.rows.items dive.old.zone.items costs.now dive.old.best) }
+    requires reached { IsReached form.now.rows.items zone.now costs.now dive.old.best dive.old.point.items }
+    ensures capped { visits.new.capped ≡ visits.old.capped }
+    ensures cut { OnFalse result (IsTrue visits.old.capped) }
+    ensures zone { OnTrue result (dive.new.zone.items ≡ dive.old.zone.items) }
+    ensures tracked { IsTracked form.now.rows.items zone.now costs.now dive.new }
+    ensures covered { OnTrue result (AllCovered form.now.rows.items dive.old.zone.items costs.now dive.new.best) }
+    ensures no_worse { OnTrue result (IsNoWorse dive.old.best dive.new.best) }
+    ensures reached { OnTrue result (IsReached form.now.rows.items zone.now costs.now dive.new.best dive.new.point.items) }
+{
+    if !alive {
+        return true;
+    }
+    if visits.is_spent() {
+        return false;
+    }
+    if level == zone.len() {
+        record(dive, form, zone, costs);
+        return true;
+    }
+    let whole = zone[level];
+    let up = is_upward(&costs[level]);
+    for step in 0..count_of(&whole) {
+        let value = value_at(&whole, up, step);
+        let goes_on = place_value(dive, form, zone, costs, level, &value);
+        if !explore(dive, visits, form, zone, costs, level + 1, goes_on) {
+            return false;
+        }
+    }
+    place(dive, form, zone, costs, level, &whole);
+    true
+}
+
+/// Whether a cost doesn't fall as its variable's number grows.
+fn is_upward(cost: &i128) -> bool {
+    *cost >= 0
+}
