@@ -1,0 +1,4 @@
+pub mod Walks
+pub mod Keys
+pub mod Standing
+pub mod PlainBound

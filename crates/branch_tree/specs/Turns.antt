@@ -1,0 +1,15 @@
+-- What a live leaf keeps when it is handed out.
+use Rattle.std.specs.Prelude.{◌≡◌, ◌≤◌, length}
+use Rattle.bp_theory.specs.Trees.{IsZone}
+use Rattle.block_form.specs.Blocked.{BlockedProgram}
+use Rattle.search_laws.specs.GroveFacts.{IsSoundProof, KeepsBound}
+use Rattle.branch_tree.specs.declared.turn.Turn.{Turn}
+
+-- a turn of a program in blocks: its zone lies in the program's spans, its proof is sound and has its bound in the zone, and
+-- its depth is the length of its path, no more than the greatest
+pub record IsTurn (b : BlockedProgram) (turn : Turn) : Type 0 where
+  pub in_spans : IsZone b.named.program.spans turn.zone
+  pub sound : IsSoundProof b.blocking turn.proof
+  pub keeps : KeepsBound b.blocking turn.zone turn.proof turn.bound
+  pub length : turn.depth ≡ length turn.path
+  pub shallow : turn.depth ≤ 8256

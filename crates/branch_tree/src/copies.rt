@@ -1,0 +1,62 @@
+// Copies of paths and proofs.
+ghost use Rattle.std.specs.Prelude.{◌≡◌, [], ◌∷◌, ◌++◌, IfOk};
+ghost use Rattle.bp_theory.specs.Bound.{plain_proof};
+
+use bp_theory::{Items, Picked, Proof};
+use search_laws::Side;
+use std::alloc::{AllocError, Global};
+
+/// A path once more.
+pub fn path_copy(alloc: Global, path: &[Side]) -> Result<Items<Side>, AllocError>
+    ensures { IfOk result (λ copy. copy ≡ path.now) }
+{
+    let copy = path.to_vec(alloc)?;
+    Ok(Items::from_vec(copy))
+}
+
+/// A path and a side more.
+pub fn path_to(alloc: Global, path: &[Side], side: Side) -> Result<Items<Side>, AllocError>
+    ensures { IfOk result (λ longer. longer ≡ path.now ++ side ∷ []) }
+{
+    let mut longer = Vec::new(alloc);
+    longer.extend_from_slice(path)?;
+    longer.push(side)?;
+    Ok(Items::from_vec(longer))
+}
+
+/// A proof once more.
+pub fn proof_copy(alloc: Global, proof: &Proof) -> Result<Proof, AllocError>
+    ensures { IfOk result (λ copy. copy ≡ proof.now) }
+{
+    let mults = proof.mults.as_slice().to_vec(alloc)?;
+    let picked = picked_copy(alloc, &proof.picked)?;
+    Ok(Proof {
+        scale: proof.scale,
+        mults: Items::from_vec(mults),
+        picked,
+    })
+}
+
+// Picked blocks once more.
+fn picked_copy(alloc: Global, picked: &Picked) -> Result<Picked, AllocError>
+    ensures { IfOk result (λ copy. copy ≡ picked.now) }
+{
+    match picked {
+        Picked::Every => Ok(Picked::Every),
+        Picked::These(blocks) => {
+            let copy = blocks.as_slice().to_vec(alloc)?;
+            Ok(Picked::These(Items::from_vec(copy)))
+        }
+    }
+}
+
+/// The proof of scale 1 that names no row and picks no block.
+pub fn plain_proof(alloc: Global) -> Proof
+    ensures { result ≡ plain_proof }
+{
+    Proof {
+        scale: 1,
+        mults: Items::new(alloc),
+        picked: Picked::These(Items::new(alloc)),
+    }
+}

@@ -1,0 +1,226 @@
+// The tree of a search with the queue of its live leaves.
+ghost use Rattle.std.specs.Prelude.{◌≡◌, ◌<◌, ◌^◌, length, IfOk, Some};
+ghost use Rattle.bp_theory.specs.Trees.{HasSoundSplits};
+ghost use Rattle.search_laws.specs.Grove.{LiveLeaf, live_at, zone_at, certificate_tree};
+ghost use Rattle.branch_tree.specs.Trees.{tree_of};
+
+use crate::bound::plain_bound;
+use crate::copies::{path_copy, path_to, plain_proof, proof_copy};
+use crate::queue::{LeafQueue, bound_of, key_at};
+use crate::tree::{Tree, forked, put, walk};
+use crate::turn::Turn;
+use block_form::{Blocked, Zone};
+use bp_theory::{Items, Proof};
+use search_laws::Side;
+use std::alloc::{AllocError, Global};
+
+/// The greatest depth of a tree: a root zone of 8,192 bits, and 64 splits that need not be at the middle.
+pub const MAX_DEPTH: u32 = 8256;
+
+/// The tree of a search and the zone of its root, with the queue of the live leaves: by bound, and of equal bounds by the
+/// order in which they were made.
+#[derive(Drop)]
+pub struct Grove {
+    tree: Tree,
+    root: Zone,
+    queue: LeafQueue,
+    live: u64,
+    count: u64,
+    depth: u32,
+}
+
+impl std::marker::Model for Grove {
+    ghost use Rattle.branch_tree.specs.Groves.{GroveState, coded_grove, IsStanding, AreCounts};
+
+    ghost Value = { GroveState };
+
+    ghost coded = { coded_grove };
+
+    ghost use Rattle.branch_tree.specs.Trees.{tree_of};
+
+    ghost view = { λ g. record { tree = tree_of g.tree; root = g.root; queue = g.queue } };
+
+    ghost invariant = { λ g. IsStanding (record { tree = tree_of g.tree; root = g.root; queue = g.queue })
+        × AreCounts (tree_of g.tree) g.live g.count g.depth };
+}
+
+impl Grove {
+    ghost use Rattle.std.specs.Prelude.{◌≡◌, ◌+◌, ◌-◌, ◌<◌, ◌^◌, IfOk, OnOk, OnErr, IfSome, MatchOption};
+    ghost use Rattle.bp_theory.specs.Trees.{IsSoundSplit, steps, depth};
+    ghost use Rattle.search_laws.specs.Grove.{shut_at, fork_at, live_count, live_bounds, certificate_tree};
+    ghost use Rattle.search_laws.specs.GroveFacts.{IsSoundProof, KeepsBound, IsLeastOf};
+    ghost use Rattle.block_form.specs.Blocked.{BlockedProgram};
+    ghost use Rattle.branch_tree.specs.Turns.{IsTurn};
+    ghost use Rattle.branch_tree.specs.Trees.{tree_of};
+    ghost use Rattle.branch_tree.specs.Queues.{queue_of};
+    ghost use Rattle.branch_tree.specs.Groves.{IsStanding, IsGroveOf, IsPlanted, IsLiveTurn, IsNextTurn, IsShutQueue, IsForkedQueue, made};
+
+    /// One live leaf with the program's whole zone, with the proof of scale 1 that names no row and picks no block, and
+    /// with its bound: the costs at the better ends of the variables' spans, and the constant.
+    pub fn plant(alloc: Global, b: &Blocked) -> Result<Grove, AllocError>
+        ensures planted { IfOk result (IsPlanted b.now) }
+        ensures kept { IfOk result (IsGroveOf b.now) }
+        ensures standing { IfOk result IsStanding }
+    {
+        let root = Zone::root(alloc, b)?;
+        let bound = plain_bound(b);
+        let mut queue = LeafQueue::new(alloc);
+        queue.add(key_at(&bound, 0), Items::new(alloc))?;
+        Ok(Grove {
+            tree: Tree::Live(plain_proof(alloc), bound),
+            root,
+            queue,
+            live: 1,
+            count: 0,
+            depth: 0,
+        })
+    }
+
+    /// The live leaf that is next: of least bound, and of those the one made first. None where no leaf is live. The
+    /// leaf stays live.
+    pub fn take(&self, alloc: Global) -> Result<Option<Turn>, AllocError>
+        ensures next { IfOk result (λ turn. MatchOption turn (live_count self.now.tree ≡ 0) (IsNextTurn self.now)) }
+        ensures kept { (b : BlockedProgram) → IsGroveOf b self.now → IfOk result (λ turn. IfSome turn (IsTurn b)) }
+        ensures standing { IsStanding self.now }
+    {
+        let Some((_, path)) = self.queue.first() else {
+            return Ok(None);
+        };
+        let root = self.root.copy(alloc)?;
+        let turn = turn_at(alloc, &self.tree, path, root)?;
+        Ok(Some(turn))
+    }
+
+    /// Shuts a live leaf with a proof. It takes no memory.
+    pub fn shut(&mut self, b: &Blocked, turn: &Turn, proof: Proof)
+        requires kept { IsGroveOf b.now self.old }
+        requires turn { IsLiveTurn self.old turn.now }
+        requires sound { IsSoundProof b.now.blocking proof }
+        ensures tree { self.new.tree ≡ shut_at self.old.tree turn.now.path proof }
+        ensures root { self.new.root ≡ self.old.root }
+        ensures queue { IsShutQueue (queue_of self.old.queue) turn.now (queue_of self.new.queue) }
+        ensures kept { IsGroveOf b.now self.new }
+        ensures standing { IsStanding self.new }
+    {
+        let _ = b;
+        let path = turn.path.as_slice();
+        let key = self.queue.key_of(&turn.bound, path);
+        self.queue.take_out(&key);
+        put(&mut self.tree, path, Tree::Shut(proof));
+        self.live -= 1;
+        self.count += 1;
+    }
+
+    /// Forks a live leaf at a sound split into two live leaves with one proof and the bound that it shows in the leaf's
+    /// zone. The low part is made before the high one. Where memory is short the grove stays as it was.
+    pub fn fork(
+        &mut self,
+        alloc: Global,
+        b: &Blocked,
+        turn: &Turn,
+        var: u32,
+        at: i64,
+        proof: Proof,
+        bound: i64,
+    ) -> Result<(), AllocError>
+        requires kept { IsGroveOf b.now self.old }
+        requires turn { IsLiveTurn self.old turn.now }
+        requires split { IsSoundSplit turn.now.zone var at }
+        requires sound { IsSoundProof b.now.blocking proof }
+        requires keeps { KeepsBound b.now.blocking turn.now.zone proof bound }
+        requires depth { turn.now.depth < 8256 }
+        requires count { steps (certificate_tree self.old.tree) < 2 ^ 63 - 1 }
+        ensures same { OnErr result (self.new ≡ self.old) }
+        ensures tree { OnOk result (self.new.tree ≡ fork_at self.old.tree turn.now.path var at proof bound) }
+        ensures root { self.new.root ≡ self.old.root }
+        ensures queue { OnOk result (IsForkedQueue (queue_of self.old.queue) turn.now bound (made self.old.tree) (queue_of self.new.queue)) }
+        ensures kept { IsGroveOf b.now self.new }
+        ensures standing { IsStanding self.new }
+    {
+        let _ = b;
+        let number = self.live + self.count;
+        let path = turn.path.as_slice();
+        let low = path_to(alloc, path, Side::Low)?;
+        let high = path_to(alloc, path, Side::High)?;
+        let second = proof_copy(alloc, &proof)?;
+        let node = forked(alloc, var, &at, (proof, second), &bound)?;
+        let key = self.queue.key_of(&turn.bound, path);
+        let next = key_at(&bound, number);
+        self.queue.divide(&key, next, low, high)?;
+        put(&mut self.tree, path, node);
+        self.live += 1;
+        self.count += 1;
+        self.depth = self.depth.max(turn.depth + 1);
+        Ok(())
+    }
+
+    /// The tree.
+    pub fn tree(&self) -> &Tree
+        ensures tree { tree_of result.now ≡ self.now.tree }
+        ensures standing { IsStanding self.now }
+    {
+        &self.tree
+    }
+
+    /// How many leaves are live.
+    pub fn live(&self) -> u64
+        ensures live { result ≡ live_count self.now.tree }
+        ensures standing { IsStanding self.now }
+    {
+        self.live
+    }
+
+    /// How many splits and shut leaves there are together.
+    pub fn count(&self) -> u64
+        ensures count { result ≡ steps (certificate_tree self.now.tree) }
+        ensures standing { IsStanding self.now }
+    {
+        self.count
+    }
+
+    /// The greatest depth of a node.
+    pub fn depth(&self) -> u32
+        ensures depth { result ≡ depth (certificate_tree self.now.tree) }
+        ensures standing { IsStanding self.now }
+    {
+        self.depth
+    }
+
+    /// The least bound of the live leaves.
+    pub fn least(&self) -> i64
+        requires { 0 < live_count self.now.tree }
+        ensures { IsLeastOf (live_bounds self.now.tree) result }
+    {
+        match self.queue.first() {
+            None => unreachable!(),
+            Some((key, _)) => bound_of(key),
+        }
+    }
+}
+
+// The live leaf at a path, with its zone.
+fn turn_at(alloc: Global, tree: &Tree, path: &[Side], root: Zone) -> Result<Turn, AllocError>
+    requires splits { HasSoundSplits (certificate_tree (tree_of tree.now)) root }
+    requires live { (leaf : LiveLeaf) × (live_at (tree_of tree.now) path.now ≡ Some leaf) }
+    requires deep { length path.now < 2 ^ 32 }
+    ensures live { IfOk result (λ turn. live_at (tree_of tree.now) path.now ≡ Some (record { proof = turn.proof; bound = turn.bound })) }
+    ensures zone { IfOk result (λ turn. turn.zone ≡ zone_at (tree_of tree.now) root path.now) }
+    ensures path { IfOk result (λ turn. turn.path ≡ path.now) }
+    ensures depth { IfOk result (λ turn. turn.depth ≡ length path.now) }
+{
+    let copy = path_copy(alloc, path)?;
+    let (node, zone) = walk(tree, path, root);
+    match node {
+        Tree::Live(proof, bound) => {
+            let proof = proof_copy(alloc, proof)?;
+            Ok(Turn {
+                path: copy,
+                zone,
+                depth: path.len() as u32,
+                proof,
+                bound: *bound,
+            })
+        }
+        _ => unreachable!(),
+    }
+}

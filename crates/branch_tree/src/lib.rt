@@ -1,0 +1,17 @@
+//! The tree of a search: live leaves with their proofs and bounds, shut leaves, and splits; which live leaf is next, and
+//! what stands in the tree once a leaf is shut or forked.
+#![tactic(auto)]
+
+mod bound;
+mod copies;
+mod grove;
+mod outcome;
+mod queue;
+mod tree;
+mod turn;
+
+pub use crate::grove::{Grove, MAX_DEPTH};
+pub use crate::outcome::Outcome;
+pub use crate::tree::Tree;
+pub use crate::turn::Turn;
+pub use search_laws::{Next, Side, Verdict};

@@ -1,0 +1,79 @@
+// The judgement of a whole certificate.
+ghost use Rattle.std.specs.Prelude.{◌≡◌, IfOk, Ok};
+ghost use Rattle.bp_theory.specs.Judgement.{named_value, point_lines};
+ghost use Rattle.cert_text.specs.Kept.{certificate_of};
+ghost use Rattle.cert_text.specs.Programs.{GoesWith};
+ghost use Rattle.cert_check.specs.Judging.{JudgesPoint, verdict_of, IsJudged, IsTrueIfAccepted};
+ghost use Rattle.cert_check.specs.declared.judge.Judged.TheVariants.{Rejected};
+
+use crate::place::{Place, Rejection};
+use crate::point::judge_point;
+use crate::tree::judge_tree;
+use block_form::{Blocked, Zone};
+use bp_theory::{CheckKind, Claim};
+use cert_text::Cert;
+use std::alloc::{AllocError, Global};
+
+/// What a certificate is judged to be: its claim is accepted, or a line is the first at fault.
+#[derive(Clone, Copy)]
+pub enum Judged {
+    Accepted(Claim),
+    Rejected { line: u64, kind: CheckKind },
+}
+
+/// Judges a certificate that was read for a program in blocks: accepts it exactly where it is valid, and else gives its
+/// first line at fault. An accepted claim is true of the program. Each bound is computed anew: blocks that a leaf picks
+/// are priced, once for each class of its zone.
+pub fn check(alloc: Global, b: &Blocked, cert: &Cert) -> Result<Judged, AllocError>
+    requires goes_with { GoesWith b.now (certificate_of cert.now) }
+    ensures judged { IfOk result (IsJudged b.now (certificate_of cert.now)) }
+    ensures truth { IfOk result (IsTrueIfAccepted b.now.named.program) }
+{
+    let _model = b.model();
+    match judge_point(b, cert) {
+        Err(found) => Ok(rejected(&found)),
+        Ok(line) => judge_nodes(alloc, b, cert, line),
+    }
+}
+
+// Judges a certificate whose point's line passes, where it has one, from the line of the root on.
+fn judge_nodes(alloc: Global, b: &Blocked, cert: &Cert, line: u64) -> Result<Judged, AllocError>
+    requires goes_with { GoesWith b.now (certificate_of cert.now) }
+    requires point { JudgesPoint b.now.named.program b.now.blocking (certificate_of cert.now).claim (point_lines (named_value (certificate_of cert.now).claim) (certificate_of cert.now).point) (Ok line) }
+    ensures judged { IfOk result (IsJudged b.now (certificate_of cert.now)) }
+    ensures truth { IfOk result (IsTrueIfAccepted b.now.named.program) }
+{
+    let claim = cert.claim();
+    let _model = b.model();
+    let zone = Zone::root(alloc, b)?;
+    let mut work = None;
+    let found = judge_tree(
+        alloc,
+        b,
+        &claim,
+        &mut work,
+        Place { zone, line },
+        cert.tree(),
+    )?;
+    Ok(verdict(&claim, &found))
+}
+
+// What a certificate is judged to be by its tree's lines.
+fn verdict(claim: &Claim, found: &Result<Place, Rejection>) -> Judged
+    ensures { result ≡ verdict_of claim.now found.now }
+{
+    match found {
+        Err(found) => rejected(found),
+        Ok(_) => Judged::Accepted(*claim),
+    }
+}
+
+// A certificate is rejected for a line.
+fn rejected(found: &Rejection) -> Judged
+    ensures { result ≡ Rejected found.now.line found.now.kind }
+{
+    Judged::Rejected {
+        line: found.line,
+        kind: found.kind,
+    }
+}

@@ -1,0 +1,16 @@
+use block_form::Zone;
+use bp_theory::CheckKind;
+
+/// Where a walk over a tree stands: the zone of a node, and the number of the line that comes next.
+#[derive(Drop)]
+pub struct Place {
+    pub zone: Zone,
+    pub line: u64,
+}
+
+/// A line at fault.
+#[derive(Clone, Copy)]
+pub struct Rejection {
+    pub line: u64,
+    pub kind: CheckKind,
+}

@@ -1,0 +1,231 @@
+-- A reader that has read nothing, and a reader at the text's end.
+use Rattle.std.proofs.Common.{◌≡◌, ◌≢◌, ◌⊎◌, ℕ, zero, suc, ◌+◌, ◌-◌, ◌^◌, ◌<◌, ◌≤◌, Bool, true, false, not, List, [], ◌∷◌, ◌++◌, length, take, map, codes, Option, Some, None, Result, Ok, Err, ℤ, pos, negsuc, refl, sym, ap, ◌∙◌, subst, inl, inr, ⊎_elim, arith, append_assoc, append-nil, nat_lt, if◌then◌else◌}
+use Rattle.std.proofs.lemmas.Bool.{lt-ltb, true≢false}
+use Rattle.std.specs.Cmp.{signed_Decides}
+use Rattle.std.specs.Ordering.{int_eq}
+use Rattle.cert_text.specs.Cert.{Proof, Tree, Shut, Open, Split, Cut, Cert, multiplier, with_pair, put, changed}
+use Rattle.cert_text.specs.Cert as texts
+use Rattle.cert_text.specs.Text.{Kind, Token, Words, LineEnd, One, cut_lines, text_of, may_name, leaf_line, tree_lines, kept_behind, claim_lines, tokens_of, HasForm, meant, meant_proof, meant_tree}
+use Rattle.cert_text.specs.Fault.{AreClean, IsText, IsFirstFault, line_behind}
+use Rattle.std.specs.Prelude.{unwrap_or}
+use Rattle.std.specs.Option.{option_map}
+use Rattle.bp_theory.specs.Judgement.{named_value}
+use Rattle.bp_theory.specs.declared.Claim.{Claim}
+use Rattle.cert_text.specs.declared.sketch.Sketch.{Sketch}
+use Rattle.cert_text.specs.Words.{word_text}
+use Rattle.cert_text.specs.Frames.{frame_of}
+use Rattle.cert_text.specs.Written.{written_claim, written_tree, cert_of, certificate}
+use Rattle.cert_text.specs.Sketch.{tree_of}
+use Rattle.cert_text.specs.Readers.{place_of, stage_of, root_of}
+use Rattle.cert_text.specs.Stages.{plain_of, Stage, at_bpcert, words, sort, IsOfSort, IsOf, Follows, AtNode, over}
+use Rattle.cert_text.specs.Standing.{MayStand, Reached, Comes, IsInWord, IsBehindMinus, IsPart, StandsFor, Between, InWordAt}
+use Rattle.cert_text.specs.Kept.{kept_cert}
+use Rattle.cert_text.specs.declared.cert.Cert.{Cert as Kept}
+use Rattle.cert_text.specs.declared.fault.CertKind.TheVariants.{Syntax}
+use Rattle.cert_text.specs.declared.fault.CertFault.{CertFault}
+use Rattle.cert_text.specs.declared.fault.CertFault.TheVariants.{At, NoMemory}
+use Rattle.cert_text.specs.declared.frame.Frame.{Frame}
+use Rattle.cert_text.specs.declared.reader.Part.{Part}
+use Rattle.cert_text.specs.declared.reader.Part.TheVariants.{Fresh, InWord, Minus, Digits}
+use Rattle.cert_text.specs.declared.reader.Reader.{Reader}
+use Rattle.cert_text.specs.declared.spots.Sort.{Sort}
+use Rattle.cert_text.specs.declared.spots.Spot.{Spot}
+use Rattle.cert_text.specs.declared.spots.Spot.TheVariants as s
+use Rattle.cert_text.specs.declared.words.Word.{Word}
+use Rattle.cert_text.proofs.Changes.{AscendAbove, Differ}
+use Rattle.cert_text.proofs.Coherent.{proof_one, cert_one}
+use Rattle.cert_text.proofs.Meaning.{clean_front, clean_back, pairs_ascend, pairs_differ, leaf_pairs, tree_clean}
+use Rattle.cert_text.proofs.Claims.{last_line, last_to, last_from, tokens_split, claim_to, claim_from}
+use Rattle.cert_text.proofs.PlainProof.{same_claim}
+use Rattle.cert_text.proofs.StageProofs.{kept_none}
+use Rattle.cert_text.proofs.StageMoves.{IsOver}
+use Rattle.cert_text.proofs.StageWords.{first_byte}
+use Rattle.cert_text.proofs.Reaching.{leaves_first}
+use Rattle.cert_text.proofs.Leaving.{leaves_fresh, leaves_word, leaves_minus}
+use Rattle.cert_text.proofs.WordSteps.{stands_part}
+
+-- rows below a row
+abbrev AreBelow : ℕ → List (ℕ × ℤ) → Type 0
+AreBelow row [] = Unit {0}
+AreBelow row (p ∷ ps) = (p.0 < row) × AreBelow row ps
+
+below_more : (row next : ℕ) (ps : List (ℕ × ℤ)) → row ≤ next → AreBelow row ps → AreBelow next ps
+below_more row next [] less below = tt
+below_more row next (p ∷ ps) less below = let low : p.0 < row = below.0 in (omega arith, below_more row next ps less below.1)
+
+below_push : (row : ℕ) (ps : List (ℕ × ℤ)) (p : ℕ × ℤ) → AreBelow row ps → p.0 < row → AreBelow row (ps ++ p ∷ [])
+below_push row [] p below last = (last, tt)
+below_push row (q ∷ ps) p below last = (below.0, below_push row ps p below.1 last)
+
+-- a multiplier behind lower rows goes to the end
+put_last : (row : ℕ) (p : ℤ) (ps : List (ℕ × ℤ)) → AreBelow row ps → p ≢ pos 0 → put row p ps ≡ ps ++ (row, p) ∷ []
+put_last row p [] below some = by (int_eq p (pos 0)) refl where
+  by : (t : Bool) → int_eq p (pos 0) ≡ t → if◌then◌else◌ {A = List (ℕ × ℤ)} t [] ((row, p) ∷ []) ≡ (row, p) ∷ []
+  by true is = absurd (some ((signed_Decides p (pos 0)).0 is))
+  by false is = refl
+put_last row p (q ∷ ps) below some =
+    rw (lt-ltb q.0 row below.0) (ap (λ (xs : List (ℕ × ℤ)). q ∷ xs) (put_last row p ps below.1 some))
+
+-- changes of nothing are the multipliers themselves
+changed_plain : (before ps : List (ℕ × ℤ)) (last : ℕ) → AreBelow (last + 1) before → AscendAbove last ps → Differ [] ps → changed before ps ≡ before ++ ps
+changed_plain before [] last below up apart = sym (append-nil before)
+changed_plain before (p ∷ ps) last below up apart =
+    let low : last < p.0 = up.0 in
+    let under = below_more (last + 1) p.0 before (omega arith) below in
+    let now = put_last p.0 p.1 before under apart.0 in
+    let next : AreBelow (p.0 + 1) (before ++ p ∷ []) = below_push (p.0 + 1) before p (below_more p.0 (p.0 + 1) before (omega arith) under) (omega arith) in
+    ap (λ (xs : List (ℕ × ℤ)). changed xs ps) now ∙ changed_plain (before ++ p ∷ []) ps p.0 next up.1 apart.1 ∙ append_assoc before (p ∷ []) ps
+
+-- a faultless leaf of version 1 means itself
+leaf_means : (frame : texts.Frame) (depth : ℕ) (p : Proof) → AreClean (leaf_line frame One 0 depth [] p) → meant_proof [] p ≡ p
+leaf_means frame depth p clean =
+    let pairs = leaf_pairs frame One 0 depth [] p clean in
+    let named = may_name frame 0 in
+    proof_one (meant_proof [] p) p refl (changed_plain [] p.pairs 0 tt (pairs_ascend named (2 ^ 40) [] 0 p.pairs pairs) (pairs_differ named (2 ^ 40) [] 0 p.pairs pairs)) refl
+
+tree_means : (frame : texts.Frame) (depth : ℕ) (t : Tree) → AreClean (tree_lines frame One 0 depth [] t) → meant_tree One [] t ≡ t
+tree_means frame depth (Shut p) clean = ap Shut (leaf_means frame depth p clean.1)
+tree_means frame depth (Open p) clean = ap Open (leaf_means frame depth p clean.1)
+tree_means frame depth (Split i z low high) clean =
+    let left = tree_lines frame One 0 (depth + 1) [] low in
+    let right = tree_lines frame One 0 (depth + 1) (kept_behind One [] low) high in
+    let both = clean.1.1.1.1.1 in
+    let P : List (ℕ × ℤ) → Type 0 = λ had. AreClean (tree_lines frame One 0 (depth + 1) had high) in
+    let a = tree_means frame (depth + 1) low (clean_front left right both) in
+    let b = tree_means frame (depth + 1) high (subst P (kept_none low) (clean_back left right both)) in
+    ap (λ (had : List (ℕ × ℤ)). Split i z (meant_tree One [] low) (meant_tree One had high)) (kept_none low)
+    ∙ ap (λ (x : Tree). Split i z x (meant_tree One [] high)) a ∙ ap (λ (x : Tree). Split i z low x) b
+
+-- a faultless certificate of version 1 means itself
+pub cert_means : (frame : texts.Frame) (a : texts.Claim) (t : Tree) → AreClean (tokens_of frame One (plain_of a t)) → meant One (plain_of a t) ≡ plain_of a t
+cert_means frame a t clean = cert_one (meant One (plain_of a t)) (plain_of a t) refl refl (tree_means frame 0 t (tree_clean frame One (plain_of a t) clean))
+
+-- the tokens of a certificate are what follows at the beginning
+start_follow : (frame : texts.Frame) (c : Cert) (ts : List Token) → (IsOf frame c ts → Follows frame c at_bpcert ts) × (Follows frame c at_bpcert ts → IsOf frame c ts)
+start_follow frame c ts = (
+  λ m.
+      let tail = tree_lines frame One 0 0 [] c.tree ++ last_line in
+      let P : List Cut → Type 0 = λ cuts. ts ≡ Words (codes "bpcert ") ∷ Words (codes "1") ∷ LineEnd None ∷ (claim_lines frame c.claim ++ (cut_lines frame 0 cuts ++ (tree_lines frame One (length cuts) 0 [] c.tree ++ last_line))) in
+      let split = m.1 ∙ tokens_split frame One c in
+      let bytes = subst P m.0 split in
+      let same : c ≡ plain_of c.claim c.tree = cert_one c (plain_of c.claim c.tree) refl m.0 refl in
+      let last = last_from in
+      (_, bytes, (_, refl, (_, refl, claim_from frame (λ a. AtNode frame c a []) c.claim tail _ (c.tree, last_line, (last.0, last.1, (last.2.0, last.2.1, (last.2.2, same))), refl) refl))),
+  λ m.
+      let one = m.2 in
+      let two = one.2 in
+      let claim = claim_to frame (λ a. AtNode frame c a []) two.0 two.2 in
+      let node = claim.2 in
+      let end = node.2 in
+      let ended : node.1 ≡ last_line = last_to node.1 (end.0, end.1, (end.2.0, end.2.1, end.2.2.0)) in
+      let same : c ≡ plain_of claim.0 node.0 = end.2.2.1 in
+      let whole = m.1 ∙ ap (λ (xs : List Token). Words (codes "bpcert ") ∷ xs) (one.1 ∙ ap (λ (xs : List Token). Words (codes "1") ∷ xs) (two.1 ∙ ap (λ (xs : List Token). LineEnd None ∷ xs) (claim.3 ∙ ap (λ (xs : List Token). claim_lines frame claim.0 ++ xs) (node.3 ∙ ap (λ (xs : List Token). tree_lines frame One 0 0 [] node.0 ++ xs) ended)))) in
+      let Q : Cert → Type 0 = λ d. IsOf frame d ts in
+      subst Q (sym same) (refl, whole ∙ sym (tokens_split frame One (plain_of claim.0 node.0))),
+)
+
+-- a reader that has read nothing
+pub begins_well : (frame : Frame) (r : Reader) → r.spot ≡ s.Bpcert → r.part ≡ Fresh → r.line ≡ 1 → r.left ≡ 0 → StandsFor frame r []
+begins_well frame r spot part line left =
+    let P : Spot → Type 0 = λ x. Reached (frame_of frame) (place_of r 0 x) false [] in
+    let start : Reached (frame_of frame) at_bpcert false [] = record { before = []; clean = tt; bytes = refl; read = λ rest may. tt; follow = λ c ts. start_follow (frame_of frame) c ts } in
+    let Q : Part → Type 0 = λ p. IsPart (frame_of frame) (stage_of r 0) p [] in
+    record {
+      count = 0;
+      counts = record { counted = inl left; line = line; short = inl (refl, spot) };
+      part = subst Q (sym part) (subst P (sym spot) start);
+    }
+
+-- only behind the last line is the text over
+over_spot : (frame : texts.Frame) (d : Cert) (r : Reader) (n : ℕ) (spot : Spot) → IsOver frame d (place_of r n spot) → spot ≡ s.Over
+over_spot frame d r n s.Bpcert is = absurd is
+over_spot frame d r n s.One is = absurd is
+over_spot frame d r n s.FirstEnd is = absurd is
+over_spot frame d r n s.Claim is = absurd is
+over_spot frame d r n s.Kind is = absurd is
+over_spot frame d r n s.OptimalValue is = absurd is
+over_spot frame d r n s.InfeasibleEnd is = absurd is
+over_spot frame d r n s.BoundValue is = absurd is
+over_spot frame d r n s.AfterBound is = absurd is
+over_spot frame d r n s.KnownValue is = absurd is
+over_spot frame d r n s.ClaimEnd is = absurd is
+over_spot frame d r n s.Point is = absurd is
+over_spot frame d r n s.Values is = absurd is
+over_spot frame d r n s.Coordinate is = absurd is
+over_spot frame d r n s.Node is = absurd is
+over_spot frame d r n s.Scale is = absurd is
+over_spot frame d r n s.Rows is = absurd is
+over_spot frame d r n s.Count is = absurd is
+over_spot frame d r n s.Pairs is = absurd is
+over_spot frame d r n s.Row is = absurd is
+over_spot frame d r n s.RowGap is = absurd is
+over_spot frame d r n s.Multiplier is = absurd is
+over_spot frame d r n s.Priced is = absurd is
+over_spot frame d r n s.Blocks is = absurd is
+over_spot frame d r n s.Block is = absurd is
+over_spot frame d r n s.LeafEnd is = absurd is
+over_spot frame d r n s.Variable is = absurd is
+over_spot frame d r n s.VariableGap is = absurd is
+over_spot frame d r n s.Place is = absurd is
+over_spot frame d r n s.SplitEnd is = absurd is
+over_spot frame d r n s.End is = absurd is
+over_spot frame d r n s.LastEnd is = absurd is
+over_spot frame d r n s.Over is = refl
+
+-- between two tokens of a text that isn't over
+pub cut_between : (frame : Frame) (r : Reader) (number : Bool) (text : List ℕ) (line : ℕ) → Between frame r number text → (r.spot ≡ s.Over → ⊥) → line ≡ r.line → IsFirstFault (frame_of frame) text line Syntax
+cut_between frame r number text line between ended at_line =
+    let L : ℕ → Type 0 = λ l. IsFirstFault (frame_of frame) text l Syntax in
+    let P : List ℕ → Type 0 = λ t. IsFirstFault (frame_of frame) t (line_behind text) Syntax in
+    subst L (sym (at_line ∙ between.counts.line)) (subst P (append-nil text)
+    (leaves_first (frame_of frame) (text ++ []) [] (line_behind text)
+    (leaves_fresh (frame_of frame) (stage_of r between.count) number text [] between.reached (nothing number) (λ v here. tt) (λ z of_sort. (tt, λ m is. tt)) (λ d o none. ended (over_spot (frame_of frame) d r between.count r.spot o))))) where
+      nothing : (number : Bool) → MayStand number []
+      nothing true = tt
+      nothing false = tt
+
+-- within a word
+pub cut_word : (frame : Frame) (r : Reader) (text : List ℕ) (word : Word) (count line : ℕ) → StandsFor frame r text → r.part ≡ InWord word count → line ≡ r.line → IsFirstFault (frame_of frame) text line Syntax
+cut_word frame r text word count line stands is at_line =
+    let Q : Part → Type 0 = λ p. IsPart (frame_of frame) (stage_of r stands.count) p text in
+    let both = subst Q is stands.part in
+    let some = both.0 in
+    let part : IsInWord (frame_of frame) (stage_of r stands.count) word count text = both.1 in
+    let length_some : 0 < length (word_text word) = let less : count < length (word_text word) = part.within in omega arith in
+    let bytes : text ≡ part.done ++ (take count (word_text word) ++ []) = part.bytes ∙ ap (λ (xs : List ℕ). part.done ++ xs) (sym (append-nil (take count (word_text word)))) in
+    let P : List ℕ → Type 0 = λ t. IsFirstFault (frame_of frame) t line Syntax in
+    let L : ℕ → Type 0 = λ l. IsFirstFault (frame_of frame) (part.done ++ (take count (word_text word) ++ [])) l Syntax in
+    subst P (sym bytes) (subst L (sym (at_line ∙ stands.counts.line ∙ ap line_behind part.bytes))
+    (leaves_first (frame_of frame) (part.done ++ (take count (word_text word) ++ [])) [] (line_behind (part.done ++ take count (word_text word)))
+    (leaves_word (frame_of frame) (stage_of r stands.count) part.number part.done [] word count part.reached part.comes some part.within (stands_part part.number (word_text word) [] count some length_some part.stands) tt)))
+
+-- behind a minus
+pub cut_minus : (frame : Frame) (r : Reader) (text : List ℕ) (line : ℕ) → StandsFor frame r text → r.part ≡ Minus → line ≡ r.line → IsFirstFault (frame_of frame) text line Syntax
+cut_minus frame r text line stands is at_line =
+    let Q : Part → Type 0 = λ p. IsPart (frame_of frame) (stage_of r stands.count) p text in
+    let part : IsBehindMinus (frame_of frame) (stage_of r stands.count) text = subst Q is stands.part in
+    let S : Sort → Type 0 = λ t. IsOfSort t (negsuc 0) in
+    let P : List ℕ → Type 0 = λ t. IsFirstFault (frame_of frame) t line Syntax in
+    let L : ℕ → Type 0 = λ l. IsFirstFault (frame_of frame) (part.done ++ 45 ∷ []) l Syntax in
+    subst P (sym part.bytes) (subst L (sym (at_line ∙ stands.counts.line ∙ ap line_behind part.bytes))
+    (leaves_first (frame_of frame) (part.done ++ 45 ∷ []) [] (line_behind (part.done ++ 45 ∷ []))
+    (leaves_minus (frame_of frame) (stage_of r stands.count) part.done [] part.reached (subst S (sym part.of_sort) tt) tt)))
+
+-- the certificate that was read
+pub taken_well : (frame : Frame) (r : Reader) (text : List ℕ) (cert : Kept) → StandsFor frame r text → r.part ≡ Fresh → r.spot ≡ s.Over → cert.claim ≡ r.claim → cert.point ≡ r.point → cert.tree ≡ r.root → IsText (frame_of frame) One (kept_cert cert) text
+taken_well frame r text cert stands fresh ended claim point tree =
+    let a = written_claim r.claim r.point in
+    let t = root_of r.root in
+    let Q : Part → Type 0 = λ p. IsPart (frame_of frame) (stage_of r stands.count) p text in
+    let P : Spot → Type 0 = λ x. Reached (frame_of frame) (place_of r stands.count x) false text in
+    let reached : Reached (frame_of frame) (over a t) false text = subst P ended (subst Q fresh stands.part) in
+    let whole = (reached.follow (plain_of a t) []).1 (refl, refl) in
+    let same : reached.before ≡ tokens_of (frame_of frame) One (plain_of a t) = sym (append-nil reached.before) ∙ whole.1 in
+    let C : List Token → Type 0 = AreClean in
+    let clean = subst C same reached.clean in
+    let kept : plain_of a t ≡ kept_cert cert =
+    ap (λ (x : texts.Claim). plain_of x t) (sym (same_claim r.claim r.point))
+    ∙ ap (λ (k : Claim). plain_of (written_claim k (unwrap_or (option_map (λ _. r.point) (named_value k)) [])) t) (sym claim)
+    ∙ ap (λ (zs : List ℤ). plain_of (written_claim cert.claim (unwrap_or (option_map (λ _. zs) (named_value cert.claim)) [])) t) (sym point)
+    ∙ ap (λ (x : Sketch). plain_of (written_claim cert.claim (unwrap_or (option_map (λ _. cert.point) (named_value cert.claim)) [])) (written_tree (tree_of x))) (sym tree) in
+    record { written = plain_of a t; form = refl; clean = clean; bytes = reached.bytes ∙ ap text_of same; means = cert_means (frame_of frame) a t clean ∙ kept }

@@ -1,0 +1,44 @@
+-- The splits above the next tree, as a reader keeps them.
+use Rattle.std.proofs.Common.{◌≡◌, ℕ, ◌+◌, List, [], ◌∷◌, ◌++◌, length, refl, sym, ap, ◌∙◌, subst, arith}
+use Rattle.cert_text.specs.Cert.{Claim, Tree, Split}
+use Rattle.cert_text.specs.Sketch.{tree_of}
+use Rattle.cert_text.specs.Written.{in_text, written_tree}
+use Rattle.cert_text.specs.Stages.{Wait, Stage, behind, at_node}
+use Rattle.cert_text.specs.declared.sketch.Sketch.{Sketch}
+use Rattle.cert_text.specs.declared.reader.Place.{Place}
+use Rattle.cert_text.specs.declared.reader.Pending.TheVariants.{Low, High}
+use Rattle.cert_text.specs.Readers.{wait_of, waits_on, waits_of}
+use Rattle.cert_text.specs.declared.reader.Pending.{Pending}
+
+-- the last one kept is the nearest one
+pub waits_on-push : (ps : List Pending) (p : Pending) (ws : List Wait) → waits_on (ps ++ p ∷ []) ws ≡ wait_of p ∷ waits_on ps ws
+waits_on-push [] p ws = refl
+waits_on-push (q ∷ ps) p ws = waits_on-push ps p (wait_of q ∷ ws)
+
+length-waits_on : (ps : List Pending) (ws : List Wait) → length (waits_on ps ws) ≡ length ps + length ws
+length-waits_on [] ws = omega arith
+length-waits_on (p ∷ ps) ws = let more = length-waits_on ps (wait_of p ∷ ws) in omega arith
+
+pub length-waits : (ps : List Pending) → length (waits_of ps) ≡ length ps
+length-waits ps = let all = length-waits_on ps [] in omega arith
+
+-- the same by an equation of the lists
+pub pushed : (new old : List Pending) (p : Pending) → new ≡ old ++ p ∷ [] → waits_of new ≡ wait_of p ∷ waits_of old
+pushed new old p same = ap waits_of same ∙ waits_on-push old p []
+
+-- a whole tree becomes the low part of the nearest split
+pub low_done : (a : Claim) (old popped new : List Pending) (o : Pending) (p : Place) (tree : Sketch) (B : Stage) → old ≡ popped ++ o ∷ [] → o ≡ Low p → new ≡ popped ++ High p tree ∷ []
+    → behind a (waits_of old) (written_tree (tree_of tree)) ≡ B → at_node a (waits_of new) ≡ B
+low_done a old popped new o p tree B was is now same =
+    let t = written_tree (tree_of tree) in
+    let before : waits_of old ≡ wait_of (Low p) ∷ waits_of popped = pushed old popped o was ∙ ap (λ (x : Pending). wait_of x ∷ waits_of popped) is in
+    ap (λ (ws : List Wait). at_node a ws) (pushed new popped (High p tree) now) ∙ sym (ap (λ (ws : List Wait). behind a ws t) before) ∙ same
+
+-- a whole tree becomes the high part of the nearest split
+pub high_done : (a : Claim) (old popped : List Pending) (o : Pending) (p : Place) (low tree joined : Sketch) (B : Stage) → old ≡ popped ++ o ∷ [] → o ≡ High p low
+    → written_tree (tree_of joined) ≡ Split (in_text p.var) p.at (written_tree (tree_of low)) (written_tree (tree_of tree))
+    → behind a (waits_of old) (written_tree (tree_of tree)) ≡ B → behind a (waits_of popped) (written_tree (tree_of joined)) ≡ B
+high_done a old popped o p low tree joined B was is both same =
+    let t = written_tree (tree_of tree) in
+    let before : waits_of old ≡ wait_of (High p low) ∷ waits_of popped = pushed old popped o was ∙ ap (λ (x : Pending). wait_of x ∷ waits_of popped) is in
+    ap (λ (x : Tree). behind a (waits_of popped) x) both ∙ sym (ap (λ (ws : List Wait). behind a ws t) before) ∙ same

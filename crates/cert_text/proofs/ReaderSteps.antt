@@ -1,0 +1,549 @@
+-- What a reader stands for behind one byte more.
+use Rattle.std.proofs.Common.{◌≡◌, ◌≢◌, ◌⊎◌, ℕ, zero, suc, ◌+◌, ◌-◌, ◌*◌, ◌^◌, ◌<◌, ◌≤◌, Bool, true, false, not, ◌&&◌, IsTrue, min, List, [], ◌∷◌, ◌++◌, length, take, Option, Some, None, Result, Ok, Err, ℤ, pos, negsuc, nat_abs, refl, sym, ap, ◌∙◌, subst, inl, inr, ⊎_elim, arith, nat_eq, nat_lt, nat_le, append_assoc, append-nil, length-append, get_or, if◌then◌else◌}
+use Rattle.std.proofs.lemmas.List.{take_more}
+use Rattle.std.proofs.lemmas.Bool.{true≢false, cases_lt}
+use Rattle.std.proofs.lemmas.Bool.Decides.{nat_tests}
+use Rattle.cert_text.specs.Text.{Kind, Token, token_text, fault_of, numeral, signed_numeral}
+use Rattle.cert_text.specs.Fault.{EndsNumber, IsSeenFault, IsFirstFault, line_behind}
+use Rattle.cert_text.specs.Words.{word_text, word_token, word_begins, is_line_end}
+use Rattle.cert_text.specs.Spots.{spot_sort, spot_words, picked_word}
+use Rattle.cert_text.specs.Frames.{frame_of}
+use Rattle.cert_text.specs.Signed.{signed}
+use Rattle.cert_text.specs.Readers.{Keeps, IsBehind, IsCount, slack, count_behind, place_of, stage_of, TakesNatural, TakesWhole}
+use Rattle.cert_text.specs.Stages.{at_bpcert, at_one, at_first_end, at_claim, at_kind, at_optimal, infeasible_end, at_bound, after_bound, at_value, claim_end, at_point, at_values, at_coordinate, at_node, at_scale, at_rows, at_count, at_pairs, at_row, row_gap, at_multiplier, at_priced, at_blocks, at_block, leaf_end, at_variable, variable_gap, at_place, split_end, at_end, last_end, over}
+use Rattle.cert_text.specs.Stages.{Stage, words, after, line_fault, sort, IsOfSort, number_fault, behind_number}
+use Rattle.cert_text.specs.Standing.{MayStand, Reached, Comes, IsInWord, IsInNumber, IsBehindMinus, IsPart, CountFits, IsShort, KeepsCounts, StandsFor, Between, InWordAt, Steps, EndsNumberAt, EndsTextAt, is_digit}
+use Rattle.cert_text.specs.declared.fault.CertKind.TheVariants.{Syntax, Length}
+use Rattle.cert_text.specs.declared.fault.CertFault.{CertFault}
+use Rattle.cert_text.specs.declared.fault.CertFault.TheVariants.{At, NoMemory}
+use Rattle.cert_text.specs.declared.frame.Frame.{Frame}
+use Rattle.cert_text.specs.declared.reader.Part.{Part}
+use Rattle.cert_text.specs.declared.reader.Part.TheVariants.{Fresh, InWord, Minus, Digits}
+use Rattle.cert_text.specs.declared.reader.Reader.{Reader}
+use Rattle.cert_text.specs.declared.spots.Sort.{Sort}
+use Rattle.cert_text.specs.declared.spots.Sort.TheVariants.{Wordy, Natural, Whole}
+use Rattle.cert_text.specs.declared.spots.Spot.{Spot}
+use Rattle.cert_text.specs.declared.spots.Spot.TheVariants as s
+use Rattle.cert_text.specs.declared.words.Word.{Word}
+use Rattle.cert_text.specs.declared.words.Word.TheVariants as w
+use Rattle.cert_text.proofs.Figures.{numeral-digit, numeral-small}
+use Rattle.cert_text.proofs.Verdicts.{NotFirst}
+use Rattle.cert_text.proofs.StageWords.{first_byte, word_split, heads, words_are, picked_comes, picked_none}
+use Rattle.cert_text.proofs.Reaching.{word_reached, number_reached, word_faulty, number_faulty, number_seen_faulty, leaves_first, leaves_seen}
+use Rattle.cert_text.proofs.Leaving.{LeavesAt, NotDigitFirst, NotPositiveFirst, OtherAt, leaves_fresh, leaves_word, leaves_minus, leaves_zero}
+use Rattle.cert_text.proofs.Bytes.{word_line, line_same, line_more, sort_is, slack_small, behind_wordy, IsCounting, counting_is, is_counting, count_cases, IsSmall, kept_alike, abs-signed}
+
+-- how much of a token has come, and the line, are no part of the place
+pub same_place : (r : Reader) (p : Part) (l n : ℕ) (spot : Spot) → place_of (record r { part = p; line = l }) n spot ≡ place_of r n spot
+same_place r p l n s.Bpcert = refl
+same_place r p l n s.One = refl
+same_place r p l n s.FirstEnd = refl
+same_place r p l n s.Claim = refl
+same_place r p l n s.Kind = refl
+same_place r p l n s.OptimalValue = refl
+same_place r p l n s.InfeasibleEnd = refl
+same_place r p l n s.BoundValue = refl
+same_place r p l n s.AfterBound = refl
+same_place r p l n s.KnownValue = refl
+same_place r p l n s.ClaimEnd = refl
+same_place r p l n s.Point = refl
+same_place r p l n s.Values = refl
+same_place r p l n s.Coordinate = refl
+same_place r p l n s.Node = refl
+same_place r p l n s.Scale = refl
+same_place r p l n s.Rows = refl
+same_place r p l n s.Count = refl
+same_place r p l n s.Pairs = refl
+same_place r p l n s.Row = refl
+same_place r p l n s.RowGap = refl
+same_place r p l n s.Multiplier = refl
+same_place r p l n s.Priced = refl
+same_place r p l n s.Blocks = refl
+same_place r p l n s.Block = refl
+same_place r p l n s.LeafEnd = refl
+same_place r p l n s.Variable = refl
+same_place r p l n s.VariableGap = refl
+same_place r p l n s.Place = refl
+same_place r p l n s.SplitEnd = refl
+same_place r p l n s.End = refl
+same_place r p l n s.LastEnd = refl
+same_place r p l n s.Over = refl
+
+-- a digit
+digit_low : (byte : ℕ) → is_digit byte ≡ true → (48 ≤ byte) × (byte ≤ 57)
+digit_low byte is = ((grind (arith, nat_tests)), (grind (arith, nat_tests)))
+
+pub no_digit : (byte : ℕ) → is_digit byte ≡ false → 48 ≤ byte → byte ≤ 57 → ⊥
+no_digit byte is low high = grind (arith, nat_tests)
+
+-- counts and lines behind one byte that ends no line
+fits_more : (spot : Spot) (left count size more : ℕ) → size ≤ more → CountFits spot left count size → CountFits spot left count more
+fits_more spot left count size more grows fits = ⊎_elim (λ same. inl same) (λ big. let a : 2 ^ 64 - 1 + slack spot ≤ left + more = let b : 2 ^ 64 - 1 + slack spot ≤ left + size = big.1 in omega arith in inr (big.0, a)) fits
+
+pub counts_push : (r : Reader) (p : Part) (count : ℕ) (text : List ℕ) (byte : ℕ) → byte ≢ 10 → KeepsCounts r count text → KeepsCounts (record r { part = p }) count (text ++ byte ∷ [])
+counts_push r p count text byte other k =
+    let longer : length text ≤ length (text ++ byte ∷ []) = omega (arith, length-append text (byte ∷ [])) in
+    let same = line_same text byte other in
+    let first : text ≡ [] → line_behind (text ++ byte ∷ []) ≤ length (text ++ byte ∷ []) = λ none. let P : List ℕ → Type 0 = λ t. line_behind (t ++ byte ∷ []) ≤ length (t ++ byte ∷ []) in subst P (sym none) (one (line_same [] byte other)) in
+    record {
+      counted = fits_more r.spot r.left count (length text) (length (text ++ byte ∷ [])) longer k.counted;
+      line = k.line ∙ sym same;
+      short = inr (⊎_elim (λ begun. first begun.0) (λ few. let a : line_behind text ≤ length text = few in omega (arith, same, length-append text (byte ∷ []))) k.short);
+    } where
+      one : line_behind (byte ∷ []) ≡ line_behind [] → line_behind (byte ∷ []) ≤ length (byte ∷ [])
+      one e = let base : line_behind [] ≡ 1 = refl in omega arith
+
+-- a reader that has no part of a token
+pub fresh_between : (frame : Frame) (r : Reader) (text : List ℕ) → StandsFor frame r text → r.part ≡ Fresh → Between frame r false text
+fresh_between frame r text stands is =
+    let P : Part → Type 0 = λ p. IsPart (frame_of frame) (stage_of r stands.count) p text in
+    record { count = stands.count; counts = stands.counts; reached = subst P is stands.part; worded = λ e. absurd (true≢false (sym e)); going = λ e. absurd (true≢false (sym e)) }
+
+-- where a number may come, none stands before
+unnumbered : (frame : Frame) (r : Reader) (number : Bool) (text : List ℕ) (between : Between frame r number text) (z : ℤ) → IsOfSort (sort (stage_of r between.count)) z → Reached (frame_of frame) (stage_of r between.count) false text
+unnumbered frame r true text between z of_sort = let P : Sort → Type 0 = λ t. IsOfSort t z in absurd (subst P (between.worded refl) of_sort)
+unnumbered frame r false text between z of_sort = between.reached
+
+-- a reader's place with another part of a token
+place_part : (r : Reader) (p : Part) (n : ℕ) → stage_of (record r { part = p }) n ≡ stage_of r n
+place_part r p n = same_place r p r.line n r.spot
+
+-- the first digit of a number
+pub digits_begun : (frame : Frame) (r : Reader) (number : Bool) (text : List ℕ) (byte : ℕ) (between : Between frame r number text) → is_digit byte ≡ true → IsOfSort (sort (stage_of r between.count)) (pos (byte - 48)) → StandsFor frame (record r { part = Digits false (byte - 48) }) (text ++ byte ∷ [])
+digits_begun frame r number text byte between digit of_sort =
+    let range = digit_low byte digit in
+    let low : 48 ≤ byte = range.0 in
+    let high : byte ≤ 57 = range.1 in
+    let few : byte - 48 < 10 = omega arith in
+    let back : 48 + (byte - 48) ≡ byte = omega arith in
+    let small : byte - 48 ≡ min (byte - 48) (2 ^ 64 - 1) = omega arith in
+    let other : byte ≢ 10 = λ e. omega arith in
+    let bytes : text ++ byte ∷ [] ≡ text ++ numeral (byte - 48) = ap (λ (xs : List ℕ). text ++ xs) (ap (λ (k : ℕ). k ∷ []) (sym back) ∙ sym (numeral-small (byte - 48) few)) in
+    let P : Stage → Type 0 = λ stage. IsInNumber (frame_of frame) stage false (byte - 48) (text ++ byte ∷ []) in
+    record {
+      count = between.count;
+      counts = counts_push r (Digits false (byte - 48)) between.count text byte other between.counts;
+      part = subst P (sym (place_part r (Digits false (byte - 48)) between.count)) (record {
+        done = text;
+        reached = unnumbered frame r number text between (pos (byte - 48)) of_sort;
+        number = byte - 48;
+        of_sort = of_sort;
+        positive = λ e. absurd (true≢false (sym e));
+        kept = small;
+        bytes = bytes;
+        lines = line_same text byte other;
+      });
+    }
+
+minus_line : (byte : ℕ) → byte ≡ 45 → byte ≢ 10
+minus_line byte is = λ e. omega arith
+
+-- a minus
+pub minus_begun : (frame : Frame) (r : Reader) (number : Bool) (text : List ℕ) (between : Between frame r number text) → sort (stage_of r between.count) ≡ Whole → StandsFor frame (record r { part = Minus }) (text ++ 45 ∷ [])
+minus_begun frame r number text between is_whole =
+    let other : 45 ≢ 10 = minus_line 45 refl in
+    let Q : Sort → Type 0 = λ t. IsOfSort t (negsuc 0) in
+    let P : Stage → Type 0 = λ stage. IsBehindMinus (frame_of frame) stage (text ++ 45 ∷ []) in
+    record {
+      count = between.count;
+      counts = counts_push r Minus between.count text 45 other between.counts;
+      part = subst P (sym (place_part r Minus between.count)) (record { done = text; reached = unnumbered frame r number text between (negsuc 0) (subst Q (sym is_whole) tt); of_sort = is_whole; bytes = refl; lines = line_same text 45 other });
+    }
+
+-- no token begins with the byte
+pub syntax_between : (frame : Frame) (r : Reader) (number : Bool) (text : List ℕ) (byte line : ℕ) (between : Between frame r number text) → MayStand number (byte ∷ [])
+    → ((v : Word) → Comes v (words (stage_of r between.count)) → word_begins v byte ≡ false)
+    → ((z : ℤ) → IsOfSort (sort (stage_of r between.count)) z → (48 ≤ byte → byte ≤ 57 → ⊥) × ((m : ℕ) → z ≡ negsuc m → byte ≢ 45)) → line ≡ r.line
+    → IsSeenFault (frame_of frame) (text ++ byte ∷ []) line Syntax
+syntax_between frame r number text byte line between may no_word no_number at_line =
+    let stage = stage_of r between.count in
+    let P : ℕ → Type 0 = λ l. IsSeenFault (frame_of frame) (text ++ byte ∷ []) l Syntax in
+    subst P (sym (at_line ∙ between.counts.line))
+    (leaves_seen (frame_of frame) (text ++ byte ∷ []) [] byte (line_behind text)
+    (leaves_fresh (frame_of frame) stage number text (byte ∷ []) between.reached may
+    (λ v here e. differs v (no_word v here) (sym e))
+    (λ z of_sort. let n = no_number z of_sort in (n.0, λ m is. n.1 m is))
+    (λ d o none. cc))) where
+      differs : (v : Word) → word_begins v byte ≡ false → first_byte v ≡ byte → ⊥
+      differs v none same = grind (arith, nat_tests)
+
+-- the text of a number with a sign
+pub signed_text : (negative : Bool) (n : ℕ) → (IsTrue negative → 0 < n) → signed_numeral (signed negative n) ≡ (if negative then 45 ∷ numeral n else numeral n)
+signed_text false n positive = refl
+signed_text true zero positive = absurd (let none : 0 < 0 = positive refl in omega arith)
+signed_text true (suc n) positive = let e : n + 1 ≡ suc n = omega arith in ap (λ (k : ℕ). 45 ∷ numeral k) e
+
+-- a reader within a number
+number_part : (frame : Frame) (r : Reader) (text : List ℕ) (negative : Bool) (value : ℕ) (stands : StandsFor frame r text) → r.part ≡ Digits negative value → IsInNumber (frame_of frame) (stage_of r stands.count) negative value text
+number_part frame r text negative value stands is = let P : Part → Type 0 = λ p. IsPart (frame_of frame) (stage_of r stands.count) p text in subst P is stands.part
+
+-- a digit behind a 0, by the sign
+zero_by : (frame : Frame) (stage : Stage) (text done : List ℕ) (negative : Bool) (n byte line : ℕ) → n ≡ 0 → (IsTrue negative → 0 < n) → IsOfSort (sort stage) (signed negative n) → text ≡ done ++ signed_numeral (signed negative n)
+    → Reached (frame_of frame) stage false done → (48 ≤ byte) × (byte ≤ 57) → line ≡ line_behind text → IsSeenFault (frame_of frame) (text ++ byte ∷ []) line Syntax
+zero_by frame stage text done true n byte line e positive of_sort bytes reached digit at_line = let some : 0 < n = positive refl in absurd (omega arith)
+zero_by frame stage text done false n byte line e positive of_sort bytes reached digit at_line =
+    let small : 0 < 10 = omega arith in
+    let zero_text : text ≡ done ++ 48 ∷ [] = bytes ∙ ap (λ (xs : List ℕ). done ++ xs) (ap numeral e ∙ numeral-small 0 small) in
+    let whole : text ++ byte ∷ [] ≡ done ++ 48 ∷ byte ∷ [] = ap (λ (xs : List ℕ). xs ++ byte ∷ []) zero_text ∙ append_assoc done (48 ∷ []) (byte ∷ []) in
+    let at_zero : line ≡ line_behind (done ++ 48 ∷ []) = at_line ∙ ap line_behind zero_text in
+    let Q : ℕ → Type 0 = λ k. IsOfSort (sort stage) (pos k) in
+    let P : List ℕ → Type 0 = λ t. IsSeenFault (frame_of frame) t line Syntax in
+    let L : ℕ → Type 0 = λ l. IsSeenFault (frame_of frame) (done ++ 48 ∷ byte ∷ []) l Syntax in
+    subst P (sym whole) (subst L (sym at_zero) (leaves_seen (frame_of frame) (done ++ 48 ∷ byte ∷ []) [] byte (line_behind (done ++ 48 ∷ [])) (leaves_zero (frame_of frame) stage done byte [] reached (subst Q e of_sort) digit)))
+
+-- a digit behind a 0
+pub zero_digit : (frame : Frame) (r : Reader) (text : List ℕ) (negative : Bool) (value byte line : ℕ) → StandsFor frame r text → r.part ≡ Digits negative value → value ≡ 0 → is_digit byte ≡ true → line ≡ r.line → IsSeenFault (frame_of frame) (text ++ byte ∷ []) line Syntax
+zero_digit frame r text negative value byte line stands is none digit at_line =
+    let part = number_part frame r text negative value stands is in
+    let zero_is : part.number ≡ 0 = zero_kept part.number part.kept in
+    zero_by frame (stage_of r stands.count) text part.done negative part.number byte line zero_is part.positive part.of_sort part.bytes part.reached (digit_low byte digit) (at_line ∙ stands.counts.line) where
+      zero_kept : (n : ℕ) → value ≡ min n (2 ^ 64 - 1) → n ≡ 0
+      zero_kept n kept = omega arith
+
+-- one digit more, by the sign
+digit_text : (negative : Bool) (n d : ℕ) → 0 < n → d < 10 → signed_numeral (signed negative n) ++ (48 + d) ∷ [] ≡ signed_numeral (signed negative (10 * n + d))
+digit_text negative n d some few =
+    let more : 0 < 10 * n + d = omega arith in
+    ap (λ (xs : List ℕ). xs ++ (48 + d) ∷ []) (signed_text negative n (λ _. some)) ∙ by_sign negative ∙ sym (signed_text negative (10 * n + d) (λ _. more)) where
+      plain : numeral n ++ (48 + d) ∷ [] ≡ numeral (10 * n + d)
+      plain = numeral-digit n d [] some few ∙ append-nil (numeral (10 * n + d))
+
+      by_sign : (negative : Bool) → (if negative then 45 ∷ numeral n else numeral n) ++ (48 + d) ∷ [] ≡ (if negative then 45 ∷ numeral (10 * n + d) else numeral (10 * n + d))
+      by_sign true = ap (λ (xs : List ℕ). 45 ∷ xs) plain
+      by_sign false = plain
+
+-- a number's sort doesn't tell its size
+of_size : (t : Sort) (negative : Bool) (m n : ℕ) → 0 < m → IsOfSort t (signed negative m) → IsOfSort t (signed negative n)
+of_size Wordy negative m n some is = absurd is
+of_size Whole negative m n some is = tt
+of_size Natural false m n some is = refl
+of_size Natural true zero n some is = absurd (omega arith)
+of_size Natural true (suc m) n some is = absurd (cc)
+
+-- a number that is kept up to the greatest one, with one digit more
+saturates : (n d value next : ℕ) → value ≡ min n (2 ^ 64 - 1) → next ≡ min (min (value * 10) (2 ^ 64 - 1) + d) (2 ^ 64 - 1) → next ≡ min (10 * n + d) (2 ^ 64 - 1)
+saturates n d value next kept next_is = omega arith
+
+-- one digit more
+pub digits_more : (frame : Frame) (r : Reader) (text : List ℕ) (negative : Bool) (value byte next : ℕ) → StandsFor frame r text → r.part ≡ Digits negative value → 0 < value → is_digit byte ≡ true
+    → next ≡ min (min (value * 10) (2 ^ 64 - 1) + (byte - 48)) (2 ^ 64 - 1) → StandsFor frame (record r { part = Digits negative next }) (text ++ byte ∷ [])
+digits_more frame r text negative value byte next stands is some digit next_is =
+    let part = number_part frame r text negative value stands is in
+    let range = digit_low byte digit in
+    let low : 48 ≤ byte = range.0 in
+    let high : byte ≤ 57 = range.1 in
+    let few : byte - 48 < 10 = omega arith in
+    let back : 48 + (byte - 48) ≡ byte = omega arith in
+    let other : byte ≢ 10 = λ e. omega arith in
+    let d = byte - 48 in
+    let n = part.number in
+    let positive : 0 < n = sizes n part.kept in
+    let bytes : text ++ byte ∷ [] ≡ part.done ++ signed_numeral (signed negative (10 * n + d)) =
+    ap (λ (xs : List ℕ). xs ++ byte ∷ []) part.bytes ∙ append_assoc part.done (signed_numeral (signed negative n)) (byte ∷ []) ∙ ap (λ (xs : List ℕ). part.done ++ xs) (ap (λ (k : ℕ). signed_numeral (signed negative n) ++ k ∷ []) (sym back) ∙ digit_text negative n d positive few) in
+    let P : Stage → Type 0 = λ stage. IsInNumber (frame_of frame) stage negative next (text ++ byte ∷ []) in
+    let large : 0 < 10 * n + d = omega arith in
+    record {
+      count = stands.count;
+      counts = counts_push r (Digits negative next) stands.count text byte other stands.counts;
+      part = subst P (sym (place_part r (Digits negative next) stands.count)) (record {
+        done = part.done;
+        reached = part.reached;
+        number = 10 * n + d;
+        of_sort = of_size (sort (stage_of r stands.count)) negative n (10 * n + d) positive part.of_sort;
+        positive = λ _. large;
+        kept = saturates n d value next part.kept next_is;
+        bytes = bytes;
+        lines = line_same text byte other ∙ part.lines;
+      });
+    } where
+      sizes : (n : ℕ) → value ≡ min n (2 ^ 64 - 1) → 0 < n
+      sizes n kept = omega arith
+
+-- the first digit behind a minus
+pub digit_behind_minus : (frame : Frame) (r : Reader) (text : List ℕ) (byte : ℕ) → StandsFor frame r text → r.part ≡ Minus → is_digit byte ≡ true → byte ≢ 48 → StandsFor frame (record r { part = Digits true (byte - 48) }) (text ++ byte ∷ [])
+digit_behind_minus frame r text byte stands is digit positive_byte =
+    let Q : Part → Type 0 = λ p. IsPart (frame_of frame) (stage_of r stands.count) p text in
+    let part : IsBehindMinus (frame_of frame) (stage_of r stands.count) text = subst Q is stands.part in
+    let range = digit_low byte digit in
+    let low : 48 ≤ byte = range.0 in
+    let high : byte ≤ 57 = range.1 in
+    let few : byte - 48 < 10 = omega arith in
+    let back : 48 + (byte - 48) ≡ byte = omega arith in
+    let some : 0 < byte - 48 = omega arith in
+    let small : byte - 48 ≡ min (byte - 48) (2 ^ 64 - 1) = omega arith in
+    let other : byte ≢ 10 = λ e. omega arith in
+    let d = byte - 48 in
+    let digits : signed_numeral (signed true d) ≡ 45 ∷ byte ∷ [] = signed_text true d (λ _. some) ∙ ap (λ (xs : List ℕ). 45 ∷ xs) (numeral-small d few ∙ ap (λ (k : ℕ). k ∷ []) back) in
+    let bytes : text ++ byte ∷ [] ≡ part.done ++ signed_numeral (signed true d) = ap (λ (xs : List ℕ). xs ++ byte ∷ []) part.bytes ∙ append_assoc part.done (45 ∷ []) (byte ∷ []) ∙ ap (λ (xs : List ℕ). part.done ++ xs) (sym digits) in
+    let P : Stage → Type 0 = λ stage. IsInNumber (frame_of frame) stage true d (text ++ byte ∷ []) in
+    let S : Sort → Type 0 = λ t. IsOfSort t (signed true d) in
+    record {
+      count = stands.count;
+      counts = counts_push r (Digits true d) stands.count text byte other stands.counts;
+      part = subst P (sym (place_part r (Digits true d) stands.count)) (record {
+        done = part.done;
+        reached = part.reached;
+        number = d;
+        of_sort = subst S (sym part.of_sort) tt;
+        positive = λ _. some;
+        kept = small;
+        bytes = bytes;
+        lines = line_same text byte other ∙ part.lines;
+      });
+    }
+
+-- no positive digit behind a minus
+pub syntax_minus : (frame : Frame) (r : Reader) (text : List ℕ) (byte line : ℕ) → StandsFor frame r text → r.part ≡ Minus → (49 ≤ byte → byte ≤ 57 → ⊥) → line ≡ r.line → IsSeenFault (frame_of frame) (text ++ byte ∷ []) line Syntax
+syntax_minus frame r text byte line stands is other at_line =
+    let Q : Part → Type 0 = λ p. IsPart (frame_of frame) (stage_of r stands.count) p text in
+    let part : IsBehindMinus (frame_of frame) (stage_of r stands.count) text = subst Q is stands.part in
+    let S : Sort → Type 0 = λ t. IsOfSort t (negsuc 0) in
+    let whole : text ++ byte ∷ [] ≡ part.done ++ 45 ∷ byte ∷ [] = ap (λ (xs : List ℕ). xs ++ byte ∷ []) part.bytes ∙ append_assoc part.done (45 ∷ []) (byte ∷ []) in
+    let at_minus : line ≡ line_behind (part.done ++ 45 ∷ []) = at_line ∙ stands.counts.line ∙ ap line_behind part.bytes in
+    let P : List ℕ → Type 0 = λ t. IsSeenFault (frame_of frame) t line Syntax in
+    let L : ℕ → Type 0 = λ l. IsSeenFault (frame_of frame) (part.done ++ 45 ∷ byte ∷ []) l Syntax in
+    subst P (sym whole) (subst L (sym at_minus) (leaves_seen (frame_of frame) (part.done ++ 45 ∷ byte ∷ []) [] byte (line_behind (part.done ++ 45 ∷ []))
+    (leaves_minus (frame_of frame) (stage_of r stands.count) part.done (byte ∷ []) part.reached (subst S (sym part.of_sort) tt) other)))
+
+-- what is kept of a number is of its sort
+of_kept : (t : Sort) (negative : Bool) (n value : ℕ) → value ≡ min n (2 ^ 64 - 1) → IsOfSort t (signed negative n) → IsOfSort t (signed negative value)
+of_kept Wordy negative n value kept is = absurd is
+of_kept Whole negative n value kept is = tt
+of_kept Natural false n value kept is = refl
+of_kept Natural true zero value kept is = let none : value ≡ 0 = omega arith in let P : ℕ → Type 0 = λ k. IsOfSort Natural (signed true k) in subst P (sym none) refl
+of_kept Natural true (suc n) value kept is = absurd (cc)
+
+-- a number of pairs or blocks has no sign
+counting_sort : (stage : Stage) (z : ℤ) → IsCounting stage → IsOfSort (sort stage) z → z ≡ pos (nat_abs z)
+counting_sort at_bpcert z counts of_sort = absurd counts
+counting_sort at_one z counts of_sort = absurd counts
+counting_sort at_first_end z counts of_sort = absurd counts
+counting_sort at_claim z counts of_sort = absurd counts
+counting_sort at_kind z counts of_sort = absurd counts
+counting_sort at_optimal z counts of_sort = absurd counts
+counting_sort infeasible_end z counts of_sort = absurd counts
+counting_sort at_bound z counts of_sort = absurd counts
+counting_sort (after_bound b) z counts of_sort = absurd counts
+counting_sort (at_value b) z counts of_sort = absurd counts
+counting_sort (claim_end k) z counts of_sort = absurd counts
+counting_sort (at_point k) z counts of_sort = absurd counts
+counting_sort (at_values k zs) z counts of_sort = absurd counts
+counting_sort (at_coordinate k zs) z counts of_sort = absurd counts
+counting_sort (at_node a ws) z counts of_sort = absurd counts
+counting_sort (at_scale a ws o) z counts of_sort = absurd counts
+counting_sort (at_rows a ws o s) z counts of_sort = absurd counts
+counting_sort (at_count a ws o s) z counts of_sort = of_sort
+counting_sort (at_pairs a ws o s ps last n) z counts of_sort = absurd counts
+counting_sort (at_row a ws o s ps last n) z counts of_sort = absurd counts
+counting_sort (row_gap a ws o s ps r n) z counts of_sort = absurd counts
+counting_sort (at_multiplier a ws o s ps r n) z counts of_sort = absurd counts
+counting_sort (at_priced a ws o s ps) z counts of_sort = of_sort
+counting_sort (at_blocks a ws o s ps ks last n) z counts of_sort = absurd counts
+counting_sort (at_block a ws o s ps ks last n) z counts of_sort = absurd counts
+counting_sort (leaf_end a ws o p) z counts of_sort = absurd counts
+counting_sort (at_variable a ws) z counts of_sort = absurd counts
+counting_sort (variable_gap a ws i) z counts of_sort = absurd counts
+counting_sort (at_place a ws i) z counts of_sort = absurd counts
+counting_sort (split_end a ws i y) z counts of_sort = absurd counts
+counting_sort (at_end a t) z counts of_sort = absurd counts
+counting_sort (last_end a t) z counts of_sort = absurd counts
+counting_sort (over a t) z counts of_sort = absurd counts
+
+count_behind-le : (spot : Spot) (a b v : ℕ) → a ≤ b → count_behind spot a v ≤ count_behind spot b v
+count_behind-le s.Bpcert a b v less = omega arith
+count_behind-le s.One a b v less = omega arith
+count_behind-le s.FirstEnd a b v less = omega arith
+count_behind-le s.Claim a b v less = omega arith
+count_behind-le s.Kind a b v less = omega arith
+count_behind-le s.OptimalValue a b v less = omega arith
+count_behind-le s.InfeasibleEnd a b v less = omega arith
+count_behind-le s.BoundValue a b v less = omega arith
+count_behind-le s.AfterBound a b v less = omega arith
+count_behind-le s.KnownValue a b v less = omega arith
+count_behind-le s.ClaimEnd a b v less = omega arith
+count_behind-le s.Point a b v less = omega arith
+count_behind-le s.Values a b v less = omega arith
+count_behind-le s.Coordinate a b v less = omega arith
+count_behind-le s.Node a b v less = omega arith
+count_behind-le s.Scale a b v less = omega arith
+count_behind-le s.Rows a b v less = omega arith
+count_behind-le s.Count a b v less = omega arith
+count_behind-le s.Pairs a b v less = omega arith
+count_behind-le s.Row a b v less = omega arith
+count_behind-le s.RowGap a b v less = omega arith
+count_behind-le s.Multiplier a b v less = omega arith
+count_behind-le s.Priced a b v less = omega arith
+count_behind-le s.Blocks a b v less = omega arith
+count_behind-le s.Block a b v less = omega arith
+count_behind-le s.LeafEnd a b v less = omega arith
+count_behind-le s.Variable a b v less = omega arith
+count_behind-le s.VariableGap a b v less = omega arith
+count_behind-le s.Place a b v less = omega arith
+count_behind-le s.SplitEnd a b v less = omega arith
+count_behind-le s.End a b v less = omega arith
+count_behind-le s.LastEnd a b v less = omega arith
+count_behind-le s.Over a b v less = omega arith
+
+count_behind-count : (spot : Spot) (a v : ℕ) → IsCount spot → count_behind spot a v ≡ v
+count_behind-count s.Bpcert a v is = absurd is
+count_behind-count s.One a v is = absurd is
+count_behind-count s.FirstEnd a v is = absurd is
+count_behind-count s.Claim a v is = absurd is
+count_behind-count s.Kind a v is = absurd is
+count_behind-count s.OptimalValue a v is = absurd is
+count_behind-count s.InfeasibleEnd a v is = absurd is
+count_behind-count s.BoundValue a v is = absurd is
+count_behind-count s.AfterBound a v is = absurd is
+count_behind-count s.KnownValue a v is = absurd is
+count_behind-count s.ClaimEnd a v is = absurd is
+count_behind-count s.Point a v is = absurd is
+count_behind-count s.Values a v is = absurd is
+count_behind-count s.Coordinate a v is = absurd is
+count_behind-count s.Node a v is = absurd is
+count_behind-count s.Scale a v is = absurd is
+count_behind-count s.Rows a v is = absurd is
+count_behind-count s.Count a v is = refl
+count_behind-count s.Pairs a v is = absurd is
+count_behind-count s.Row a v is = absurd is
+count_behind-count s.RowGap a v is = absurd is
+count_behind-count s.Multiplier a v is = absurd is
+count_behind-count s.Priced a v is = refl
+count_behind-count s.Blocks a v is = absurd is
+count_behind-count s.Block a v is = absurd is
+count_behind-count s.LeafEnd a v is = absurd is
+count_behind-count s.Variable a v is = absurd is
+count_behind-count s.VariableGap a v is = absurd is
+count_behind-count s.Place a v is = absurd is
+count_behind-count s.SplitEnd a v is = absurd is
+count_behind-count s.End a v is = absurd is
+count_behind-count s.LastEnd a v is = absurd is
+count_behind-count s.Over a v is = absurd is
+
+-- the counts behind a number that is no count
+fits_behind : (old new : Spot) (left next count size v : ℕ) → next ≡ count_behind old left v → slack new + left ≤ slack old + next → CountFits old left count size → CountFits new next (count_behind old count v) size
+fits_behind old new left next count size v is paced fits = ⊎_elim
+    (λ same. inl (is ∙ ap (λ (k : ℕ). count_behind old k v) same))
+    (λ big.
+    let less : next ≤ count_behind old count v = let e = count_behind-le old left count v big.0 in omega arith in
+    let room : 2 ^ 64 - 1 + slack new ≤ next + size = let b : 2 ^ 64 - 1 + slack old ≤ left + size = big.1 in omega arith in
+    inr (less, room))
+    fits
+
+-- the counts behind a count
+fits_count : (new : Spot) (next n value size : ℕ) → next ≡ value → slack new ≡ 0 → value ≡ min n (2 ^ 64 - 1) → CountFits new next n size
+fits_count new next n value size is none kept = ⊎_elim
+    (λ few. let same : next ≡ n = omega arith in inl same)
+    (λ many. let less : next ≤ n = omega arith in let room : 2 ^ 64 - 1 + slack new ≤ next + size = omega arith in inr (less, room))
+    (cases_lt n (2 ^ 64))
+
+-- a number may not come first
+not_first_number : (r : Reader) (n : ℕ) (spot : Spot) (z : ℤ) → IsOfSort (sort (place_of r n spot)) z → spot ≡ s.Bpcert → ⊥
+not_first_number r n spot z of_sort is = let P : Spot → Type 0 = λ x. IsOfSort (sort (place_of r n x)) z in subst P is of_sort
+
+-- a reader behind a faultless number
+pub number_ends : (frame : Frame) (old new : Reader) (text : List ℕ) (negative : Bool) (value : ℕ) → IsSmall (frame_of frame) → StandsFor frame old text → old.part ≡ Digits negative value
+    → ((n : ℕ) → number_fault (frame_of frame) (stage_of old n) (signed negative value) ≡ None) → IsBehind old new (signed negative value) value → Between frame new true text
+number_ends frame old new text negative value small stands is none moved =
+    let part = number_part frame old text negative value stands is in
+    let stage = stage_of old stands.count in
+    let of_value = of_kept (sort stage) negative part.number value part.kept part.of_sort in
+    let alike = kept_alike (frame_of frame) stage negative part.number value small part.of_sort of_value part.kept in
+    let clean : number_fault (frame_of frame) stage (signed negative part.number) ≡ None = alike.0 ∙ none stands.count in
+    let there = number_reached (frame_of frame) stage part.done (signed negative part.number) part.reached part.of_sort clean in
+    let B : List ℕ → Type 0 = λ t. Reached (frame_of frame) (behind_number stage (signed negative part.number)) true t in
+    let reached = subst B (sym part.bytes) there in
+    let wordy = behind_wordy stage (signed negative part.number) part.of_sort in
+    let begun : IsShort new.spot text = ⊎_elim (λ e. absurd (not_first_number old stands.count old.spot (signed negative part.number) part.of_sort e.1)) (λ few. inr few) stands.counts.short in
+    ⊎_elim
+    (λ counts.
+    let counting = is_counting old stands.count old.spot counts in
+    let plain : signed negative part.number ≡ pos part.number = counting_sort stage (signed negative part.number) counting part.of_sort ∙ ap pos (abs-signed negative part.number) in
+    let place : stage_of new part.number ≡ behind_number stage (signed negative part.number) = moved.counted stands.count part.number counts ∙ ap (λ (z : ℤ). behind_number stage z) (sym plain) in
+    let left : new.left ≡ value = moved.left ∙ count_behind-count old.spot old.left value counts in
+    behind part.number place wordy reached begun (fits_count new.spot new.left part.number value (length text) left (moved.fresh counts) part.kept))
+    (λ other.
+    let same : part.number ≡ value = ⊎_elim (λ e. e) (λ counting. absurd (other (counting_is old stands.count old.spot counting))) (alike.1 (none stands.count)) in
+    let place : stage_of new (count_behind old.spot stands.count value) ≡ behind_number stage (signed negative part.number) = moved.place stands.count ∙ ap (λ (k : ℕ). behind_number stage (signed negative k)) (sym same) in
+    behind (count_behind old.spot stands.count value) place wordy reached begun (fits_behind old.spot new.spot old.left new.left stands.count (length text) value moved.left (moved.paced other) stands.counts.counted))
+    (count_cases old.spot) where
+      behind : (count : ℕ) → {next : Stage} → stage_of new count ≡ next → sort next ≡ Wordy → Reached (frame_of frame) next true text → IsShort new.spot text → CountFits new.spot new.left count (length text) → Between frame new true text
+      behind count {next} place wordy reached begun fits =
+          let P : Stage → Type 0 = λ stage. Reached (frame_of frame) stage true text in
+          record {
+            count = count;
+            counts = record { counted = fits; line = moved.line ∙ stands.counts.line; short = begun };
+            reached = subst P (sym place) reached;
+            worded = λ _. ap sort place ∙ wordy;
+            going = λ _ e. moved.goes_on e;
+          }
+
+-- a faulty number behind which a byte comes
+pub number_at_fault : (frame : Frame) (old : Reader) (text : List ℕ) (negative : Bool) (value byte line : ℕ) (kind : Kind) → IsSmall (frame_of frame) → StandsFor frame old text → old.part ≡ Digits negative value
+    → ((n : ℕ) → number_fault (frame_of frame) (stage_of old n) (signed negative value) ≡ Some kind) → is_digit byte ≡ false → line ≡ old.line → IsSeenFault (frame_of frame) (text ++ byte ∷ []) line kind
+number_at_fault frame old text negative value byte line kind small stands is fault other at_line =
+    let part = number_part frame old text negative value stands is in
+    let stage = stage_of old stands.count in
+    let of_value = of_kept (sort stage) negative part.number value part.kept part.of_sort in
+    let alike = kept_alike (frame_of frame) stage negative part.number value small part.of_sort of_value part.kept in
+    let bytes : text ++ byte ∷ [] ≡ part.done ++ (signed_numeral (signed negative part.number) ++ byte ∷ []) = ap (λ (xs : List ℕ). xs ++ byte ∷ []) part.bytes ∙ append_assoc part.done (signed_numeral (signed negative part.number)) (byte ∷ []) in
+    let P : List ℕ → Type 0 = λ t. IsSeenFault (frame_of frame) t line kind in
+    subst P (sym bytes) (number_seen_faulty (frame_of frame) stage part.done [] byte (signed negative part.number) line kind part.reached part.of_sort (alike.0 ∙ fault stands.count) (no_digit byte other) (at_line ∙ stands.counts.line ∙ part.lines))
+
+-- a faulty number with which the text ends
+pub number_at_end : (frame : Frame) (old : Reader) (text : List ℕ) (negative : Bool) (value line : ℕ) (kind : Kind) → IsSmall (frame_of frame) → StandsFor frame old text → old.part ≡ Digits negative value
+    → ((n : ℕ) → number_fault (frame_of frame) (stage_of old n) (signed negative value) ≡ Some kind) → line ≡ old.line → IsFirstFault (frame_of frame) text line kind
+number_at_end frame old text negative value line kind small stands is fault at_line =
+    let part = number_part frame old text negative value stands is in
+    let stage = stage_of old stands.count in
+    let of_value = of_kept (sort stage) negative part.number value part.kept part.of_sort in
+    let alike = kept_alike (frame_of frame) stage negative part.number value small part.of_sort of_value part.kept in
+    let bytes : text ≡ part.done ++ (signed_numeral (signed negative part.number) ++ []) = part.bytes ∙ ap (λ (xs : List ℕ). part.done ++ xs) (sym (append-nil (signed_numeral (signed negative part.number)))) in
+    let P : List ℕ → Type 0 = λ t. IsFirstFault (frame_of frame) t line kind in
+    subst P (sym bytes) (number_faulty (frame_of frame) stage part.done [] (signed negative part.number) line kind part.reached part.of_sort (alike.0 ∙ fault stands.count) tt (at_line ∙ stands.counts.line ∙ part.lines))
+
+-- a number of a natural sort has no sign
+plain_value : (negative : Bool) (n value : ℕ) → value ≡ min n (2 ^ 64 - 1) → signed negative n ≡ pos (nat_abs (signed negative n)) → signed negative value ≡ pos value
+plain_value false n value kept is = refl
+plain_value true zero value kept is = let none : value ≡ 0 = omega arith in let P : ℕ → Type 0 = λ k. signed true k ≡ pos k in subst P (sym none) refl
+plain_value true (suc n) value kept is = absurd (cc)
+
+plain_sign : (frame : Frame) (old : Reader) (text : List ℕ) (negative : Bool) (value : ℕ) → StandsFor frame old text → old.part ≡ Digits negative value → spot_sort old.spot ≡ Natural → signed negative value ≡ pos value
+plain_sign frame old text negative value stands is natural =
+    let part = number_part frame old text negative value stands is in
+    let P : Sort → Type 0 = λ t. IsOfSort t (signed negative part.number) in
+    plain_value negative part.number value part.kept (subst P (sort_is old stands.count old.spot ∙ natural) part.of_sort)
+
+-- what a reader does at the end of a number, from what it does with the number
+pub natural_behind : (frame : Frame) (old new : Reader) (text : List ℕ) (negative : Bool) (value byte : ℕ) (result : Result (Unit {0}) CertFault) → IsSmall (frame_of frame) → StandsFor frame old text → old.part ≡ Digits negative value → spot_sort old.spot ≡ Natural
+    → TakesNatural (frame_of frame) old new value result → is_digit byte ≡ false → EndsNumberAt frame new text byte result
+natural_behind frame old new text negative value byte (Ok u) small stands is natural takes other = let p = plain_sign frame old text negative value stands is natural in
+    let F : ℤ → Type 0 = λ z. ((n : ℕ) → number_fault (frame_of frame) (stage_of old n) z ≡ None) in
+    let G : ℤ → Type 0 = λ z. IsBehind old new z value in
+    number_ends frame old new text negative value small stands is (subst F (sym p) takes.0) (subst G (sym p) takes.1)
+natural_behind frame old new text negative value byte (Err NoMemory) small stands is natural takes other = tt
+natural_behind frame old new text negative value byte (Err (At line kind)) small stands is natural takes other = let p = plain_sign frame old text negative value stands is natural in
+    let F : ℤ → Type 0 = λ z. ((n : ℕ) → number_fault (frame_of frame) (stage_of old n) z ≡ Some kind) in
+    number_at_fault frame old text negative value byte line kind small stands is (subst F (sym p) takes.1) other takes.0
+
+pub natural_at_end : (frame : Frame) (old new : Reader) (text : List ℕ) (negative : Bool) (value : ℕ) (result : Result (Unit {0}) CertFault) → IsSmall (frame_of frame) → StandsFor frame old text → old.part ≡ Digits negative value → spot_sort old.spot ≡ Natural
+    → TakesNatural (frame_of frame) old new value result → EndsTextAt frame new text result
+natural_at_end frame old new text negative value (Ok u) small stands is natural takes = let p = plain_sign frame old text negative value stands is natural in
+    let F : ℤ → Type 0 = λ z. ((n : ℕ) → number_fault (frame_of frame) (stage_of old n) z ≡ None) in
+    let G : ℤ → Type 0 = λ z. IsBehind old new z value in
+    number_ends frame old new text negative value small stands is (subst F (sym p) takes.0) (subst G (sym p) takes.1)
+natural_at_end frame old new text negative value (Err NoMemory) small stands is natural takes = tt
+natural_at_end frame old new text negative value (Err (At line kind)) small stands is natural takes = let p = plain_sign frame old text negative value stands is natural in
+    let F : ℤ → Type 0 = λ z. ((n : ℕ) → number_fault (frame_of frame) (stage_of old n) z ≡ Some kind) in
+    number_at_end frame old text negative value line kind small stands is (subst F (sym p) takes.1) takes.0
+
+pub whole_behind : (frame : Frame) (old new : Reader) (text : List ℕ) (negative : Bool) (value byte : ℕ) (result : Result (Unit {0}) CertFault) → IsSmall (frame_of frame) → StandsFor frame old text → old.part ≡ Digits negative value
+    → TakesWhole (frame_of frame) old new negative value result → is_digit byte ≡ false → EndsNumberAt frame new text byte result
+whole_behind frame old new text negative value byte (Ok u) small stands is takes other = number_ends frame old new text negative value small stands is takes.0 takes.1
+whole_behind frame old new text negative value byte (Err NoMemory) small stands is takes other = tt
+whole_behind frame old new text negative value byte (Err (At line kind)) small stands is takes other = number_at_fault frame old text negative value byte line kind small stands is takes.1 other takes.0
+
+pub whole_at_end : (frame : Frame) (old new : Reader) (text : List ℕ) (negative : Bool) (value : ℕ) (result : Result (Unit {0}) CertFault) → IsSmall (frame_of frame) → StandsFor frame old text → old.part ≡ Digits negative value
+    → TakesWhole (frame_of frame) old new negative value result → EndsTextAt frame new text result
+whole_at_end frame old new text negative value (Ok u) small stands is takes = number_ends frame old new text negative value small stands is takes.0 takes.1
+whole_at_end frame old new text negative value (Err NoMemory) small stands is takes = tt
+whole_at_end frame old new text negative value (Err (At line kind)) small stands is takes = number_at_end frame old text negative value line kind small stands is takes.1 takes.0

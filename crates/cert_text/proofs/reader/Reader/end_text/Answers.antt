@@ -1,0 +1,29 @@
+use Rattle.std.proofs.Common.{refl, sym, ap, true}
+use Rattle.cert_text.specs.declared.fault.CertKind.TheVariants.{Syntax}
+use Rattle.cert_text.proofs.ReaderSteps.{fresh_between}
+use Rattle.cert_text.proofs.Finishing.{cut_between, cut_word, cut_minus}
+use Rattle.cert_text.proofs.Feeding.{end_fault}
+use Rattle.cert_text.proofs.reader.Reader.end_text.Goals as goal
+
+pub returns-in_default : goal.returns-in_default
+returns-in_default c =
+    let r = c.args.self.now in
+    let frame = c.args.frame.now in
+    λ text small stands. end_fault frame r text r.line Syntax c.fault.result c.fault.ensures (cut_between frame r _ text r.line (fresh_between frame r text stands c.in-Fresh.is) c.in_default.not-Over refl)
+
+pub returns-in-InWord : goal.returns-in-InWord
+returns-in-InWord c =
+    let r = c.args.self.now in
+    λ text small stands. end_fault c.args.frame.now r text r.line Syntax c.fault-in-InWord.result c.fault-in-InWord.ensures (cut_word c.args.frame.now r text c.in-InWord.word c.in-InWord.done r.line stands c.in-InWord.is refl)
+
+pub returns-in-Minus : goal.returns-in-Minus
+returns-in-Minus c =
+    let r = c.args.self.now in
+    λ text small stands. end_fault c.args.frame.now r text r.line Syntax c.fault-in-Minus.result c.fault-in-Minus.ensures (cut_minus c.args.frame.now r text r.line stands c.in-Minus.is refl)
+
+pub returns-in-Ok : goal.returns-in-Ok
+returns-in-Ok c =
+    let r = c.end_number.new.self in
+    let frame = c.args.frame.now in
+    λ text small stands. let between = c.in-Ok.ensures.at_end text small stands in
+    end_fault frame r text r.line Syntax c.fault-in-Ok.result c.fault-in-Ok.ensures (cut_between frame r true text r.line between (between.going refl) refl)

@@ -1,0 +1,21 @@
+use Rattle.std.proofs.Common.{List, ℕ, refl, sym, take, ◌++◌, subst, arith}
+use Rattle.std.proofs.lemmas.List.{get_or_read}
+use Rattle.cert_text.specs.Standing.{StandsFor}
+use Rattle.cert_text.proofs.Feeding.{room, joined, fed_fault}
+use Rattle.cert_text.proofs.reader.Reader.feed.Goals as goal
+
+pub returns-in-Err : goal.returns-in-Err
+returns-in-Err c =
+    let piece = c.args.piece.now in
+    let i = c.loop-byte.byte-index in
+    λ text small stands.
+    fed_fault c.args.frame.now c.step.new.self text piece i _ c.in-Err.fault (omega arith) refl
+    (c.in-Err.ensures (text ++ take i piece) (room text piece i _ (omega arith) refl small) (c.loop-byte.invariant text small stands))
+
+pub loop-byte-preserved : goal.loop-byte-preserved
+loop-byte-preserved c =
+    let piece = c.args.piece.now in
+    let i = c.loop-byte.byte-index in
+    λ text small stands.
+    let P : List ℕ → Type 0 = λ t. StandsFor c.args.frame.now c.step.new.self t in
+    subst P (joined text piece i _ (omega arith) refl) (c.in-Ok.ensures (text ++ take i piece) (room text piece i _ (omega arith) refl small) (c.loop-byte.invariant text small stands))

@@ -1,0 +1,15 @@
+use Rattle.std.proofs.Common.{refl, sym, ap, arith}
+use Rattle.cert_text.specs.declared.fault.CertKind.TheVariants.{Syntax}
+use Rattle.cert_text.proofs.ReaderSteps.{zero_digit, digits_more}
+use Rattle.cert_text.proofs.WordSteps.{at_fault, at_done}
+use Rattle.cert_text.proofs.reader.Reader.more_digits.Goals as goal
+
+pub returns-then-value-eq0 : goal.returns-then-value-eq0
+returns-then-value-eq0 c =
+    let r = c.args.self.now in
+    λ frame text small stands. at_fault frame r text c.args.byte r.line Syntax c.fault.result c.fault.ensures (zero_digit frame r text c.args.negative c.args.value c.args.byte r.line stands c.requires.part c.if-value-eq0.true c.requires.digit refl)
+
+pub returns : goal.returns
+returns c =
+    let r = c.args.self.now in
+    λ frame text small stands. digits_more frame r text c.args.negative c.args.value c.args.byte c.saturating_add.result stands c.requires.part (omega arith) c.requires.digit (omega arith)

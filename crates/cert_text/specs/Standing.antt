@@ -1,0 +1,156 @@
+-- The texts that a reader stands for: what has come of a certificate, and how far.
+use Rattle.std.specs.Prelude.{◌≡◌, ◌⊎◌, ℕ, ◌+◌, ◌-◌, ◌*◌, ◌^◌, ◌≤◌, ◌<◌, Bool, true, false, IsTrue, List, [], ◌∷◌, ◌++◌, length, take, min, Result, Ok, Err, ℤ, nat_le, ◌&&◌}
+use Rattle.cert_text.specs.Cert as texts
+use Rattle.cert_text.specs.Cert.{Cert}
+use Rattle.cert_text.specs.Text.{Token, text_of, signed_numeral, One}
+use Rattle.cert_text.specs.Fault.{AreClean, EndsNumber, EndsToken, line_behind, IsText, IsSeenFault, IsFirstFault}
+use Rattle.cert_text.specs.Words.{word_text}
+use Rattle.cert_text.specs.Signed.{signed}
+use Rattle.cert_text.specs.Frames.{frame_of}
+use Rattle.cert_text.specs.Stages.{Stage, words, sort, IsOfSort, IsOf, Follows}
+use Rattle.cert_text.specs.Kept.{kept_cert}
+use Rattle.cert_text.specs.Readers.{stage_of, slack}
+use Rattle.cert_text.specs.declared.fault.CertFault.{CertFault}
+use Rattle.cert_text.specs.declared.fault.CertFault.TheVariants.{At, NoMemory}
+use Rattle.cert_text.specs.declared.cert.Cert.{Cert as Kept}
+use Rattle.cert_text.specs.declared.frame.Frame.{Frame}
+use Rattle.cert_text.specs.declared.words.Word.{Word}
+use Rattle.cert_text.specs.declared.spots.Sort.TheVariants.{Wordy, Whole}
+use Rattle.cert_text.specs.declared.spots.Spot.{Spot}
+use Rattle.cert_text.specs.declared.spots.Spot.TheVariants.{Bpcert, Over}
+use Rattle.cert_text.specs.declared.reader.Part.{Part}
+use Rattle.cert_text.specs.declared.reader.Part.TheVariants.{Fresh, InWord, Minus, Digits}
+use Rattle.cert_text.specs.declared.reader.Reader.{Reader}
+
+-- each token ends where the tokens behind it, and then this text, follow
+abbrev pub AreReadFrom : List Token → List ℕ → Type 0
+AreReadFrom [] s = Unit {0}
+AreReadFrom (x ∷ xs) s = EndsToken x (text_of xs ++ s) × AreReadFrom xs s
+
+-- a text may stand behind tokens, the last of which may be a number
+abbrev pub MayStand : Bool → List ℕ → Type 0
+MayStand true rest = EndsNumber rest
+MayStand false rest = Unit {0}
+
+-- a text is faultless tokens, behind which a certificate goes on exactly as a place says
+pub record Reached (frame : texts.Frame) (stage : Stage) (number : Bool) (done : List ℕ) : Type 0 where
+  pub before : List Token
+  pub clean : AreClean before
+  pub bytes : done ≡ text_of before
+  pub read : (rest : List ℕ) → MayStand number rest → AreReadFrom before rest
+  pub follow : (c : Cert) (ts : List Token) → (IsOf frame c (before ++ ts) → Follows frame c stage ts) × (Follows frame c stage ts → IsOf frame c (before ++ ts))
+
+-- a word is among those that may come
+abbrev pub Comes : Word → List (Word × Stage) → Type 0
+Comes word [] = ⊥
+Comes word (e ∷ es) = (word ≡ e.0) ⊎ Comes word es
+
+-- so many bytes of a word have come
+pub record IsInWord (frame : texts.Frame) (stage : Stage) (word : Word) (count : ℕ) (text : List ℕ) : Type 0 where
+  pub number : Bool
+  pub done : List ℕ
+  pub reached : Reached frame stage number done
+  pub comes : Comes word (words stage)
+  pub within : count < length (word_text word)
+  pub bytes : text ≡ done ++ take count (word_text word)
+  pub stands : (rest : List ℕ) → MayStand number (word_text word ++ rest)
+
+-- digits of a number have come
+pub record IsInNumber (frame : texts.Frame) (stage : Stage) (negative : Bool) (value : ℕ) (text : List ℕ) : Type 0 where
+  pub done : List ℕ
+  pub reached : Reached frame stage false done
+  pub number : ℕ
+  pub of_sort : IsOfSort (sort stage) (signed negative number)
+  pub positive : IsTrue negative → 0 < number
+  pub kept : value ≡ min number (2 ^ 64 - 1)
+  pub bytes : text ≡ done ++ signed_numeral (signed negative number)
+  pub lines : line_behind text ≡ line_behind done
+
+-- a minus has come
+pub record IsBehindMinus (frame : texts.Frame) (stage : Stage) (text : List ℕ) : Type 0 where
+  pub done : List ℕ
+  pub reached : Reached frame stage false done
+  pub of_sort : sort stage ≡ Whole
+  pub bytes : text ≡ done ++ 45 ∷ []
+  pub lines : line_behind text ≡ line_behind done
+
+-- how much of the next token has come
+abbrev pub IsPart : texts.Frame → Stage → Part → List ℕ → Type 0
+IsPart frame stage Fresh text = Reached frame stage false text
+IsPart frame stage (InWord word count) text = (0 < count) × IsInWord frame stage word count text
+IsPart frame stage Minus text = IsBehindMinus frame stage text
+IsPart frame stage (Digits negative value) text = IsInNumber frame stage negative value text
+
+-- the number of pairs or blocks still to come is kept, or it is too great to be kept and to come
+abbrev pub CountFits : Spot → ℕ → ℕ → ℕ → Type 0
+CountFits spot left count size = (left ≡ count) ⊎ ((left ≤ count) × (2 ^ 64 - 1 + slack spot ≤ left + size))
+
+-- nothing has come, or a byte that ends no line
+abbrev pub IsShort : Spot → List ℕ → Type 0
+IsShort spot text = ((text ≡ []) × (spot ≡ Bpcert)) ⊎ (line_behind text ≤ length text)
+
+-- what a reader keeps of a text besides its place
+pub record KeepsCounts (r : Reader) (count : ℕ) (text : List ℕ) : Type 0 where
+  pub counted : CountFits r.spot r.left count (length text)
+  pub line : r.line ≡ line_behind text
+  pub short : IsShort r.spot text
+
+-- a reader stands for a text
+pub record StandsFor (frame : Frame) (r : Reader) (text : List ℕ) : Type 0 where
+  pub count : ℕ
+  pub counts : KeepsCounts r count text
+  pub part : IsPart (frame_of frame) (stage_of r count) r.part text
+
+-- a reader between two tokens of a text
+pub record Between (frame : Frame) (r : Reader) (number : Bool) (text : List ℕ) : Type 0 where
+  pub count : ℕ
+  pub counts : KeepsCounts r count text
+  pub reached : Reached (frame_of frame) (stage_of r count) number text
+  pub worded : number ≡ true → sort (stage_of r count) ≡ Wordy
+  pub going : number ≡ true → r.spot ≡ Over → ⊥
+
+-- a reader that has so many bytes of a word
+pub record InWordAt (frame : Frame) (r : Reader) (word : Word) (bytes : ℕ) (text : List ℕ) : Type 0 where
+  pub count : ℕ
+  pub counts : KeepsCounts r count text
+  pub part : IsInWord (frame_of frame) (stage_of r count) word bytes text
+
+-- what a reader does with a byte behind a text that it stands for
+abbrev pub Steps : Frame → Reader → List ℕ → ℕ → Result (Unit {0}) CertFault → Type 0
+Steps frame new text byte (Ok _) = StandsFor frame new (text ++ byte ∷ [])
+Steps frame new text byte (Err NoMemory) = Unit {0}
+Steps frame new text byte (Err (At line kind)) = IsSeenFault (frame_of frame) (text ++ byte ∷ []) line kind
+
+-- what a reader does with a piece behind a text
+abbrev pub Feeds : Frame → Reader → List ℕ → List ℕ → Result (Unit {0}) CertFault → Type 0
+Feeds frame new text piece (Ok _) = StandsFor frame new (text ++ piece)
+Feeds frame new text piece (Err NoMemory) = Unit {0}
+Feeds frame new text piece (Err (At line kind)) = IsSeenFault (frame_of frame) (text ++ piece) line kind
+
+-- what a reader does at the end of a number, where a byte follows that is no digit
+abbrev pub EndsNumberAt : Frame → Reader → List ℕ → ℕ → Result (Unit {0}) CertFault → Type 0
+EndsNumberAt frame new text byte (Ok _) = Between frame new true text
+EndsNumberAt frame new text byte (Err NoMemory) = Unit {0}
+EndsNumberAt frame new text byte (Err (At line kind)) = IsSeenFault (frame_of frame) (text ++ byte ∷ []) line kind
+
+-- what a reader does at the end of a number with which the text ends
+abbrev pub EndsTextAt : Frame → Reader → List ℕ → Result (Unit {0}) CertFault → Type 0
+EndsTextAt frame new text (Ok _) = Between frame new true text
+EndsTextAt frame new text (Err NoMemory) = Unit {0}
+EndsTextAt frame new text (Err (At line kind)) = IsFirstFault (frame_of frame) text line kind
+
+-- what a reader does at the text's end
+abbrev pub EndsWell : Frame → Reader → List ℕ → Result (Unit {0}) CertFault → Type 0
+EndsWell frame new text (Ok _) = StandsFor frame new text × (new.part ≡ Fresh) × (new.spot ≡ Over)
+EndsWell frame new text (Err NoMemory) = Unit {0}
+EndsWell frame new text (Err (At line kind)) = IsFirstFault (frame_of frame) text line kind
+
+-- what is read of a text
+abbrev pub Reads : Frame → List ℕ → Result Kept CertFault → Type 0
+Reads frame text (Ok cert) = IsText (frame_of frame) One (kept_cert cert) text
+Reads frame text (Err NoMemory) = Unit {0}
+Reads frame text (Err (At line kind)) = IsFirstFault (frame_of frame) text line kind
+
+-- a byte is a digit
+abbrev pub is_digit : ℕ → Bool
+is_digit byte = nat_le 48 byte && nat_le byte 57

@@ -1,0 +1,126 @@
+ghost use Rattle.std.specs.Prelude.{◌≡◌, ◌++◌, [], IfOk, IfSome, OnOk, unwrap_or, unsigned_abs, ◌<◌, ◌^◌};
+ghost use Rattle.std.specs.Option.{option_map};
+ghost use Rattle.bp_theory.specs.Program.{in_sense};
+ghost use Rattle.search_laws.specs.Grove.{certificate_tree};
+ghost use Rattle.search_laws.specs.Outcomes.{read_off};
+ghost use Rattle.branch_tree.specs.Trees.{tree_of};
+ghost use Rattle.cert_text.specs.Fault.{IsText};
+ghost use Rattle.cert_text.specs.Text.{One};
+ghost use Rattle.cert_text.specs.Written.{cert_of};
+ghost use Rattle.cert_text.specs.Plain.{plain_text, tree_text};
+ghost use Rattle.cert_text.specs.Programs.{frame_for};
+ghost use Rattle.cert_text.specs.Outcomes.{grove_of, claim_of, point_of, HasSmallNumbers, IsWritable};
+
+use crate::writer::{put_claim, put_proof, put_split};
+use block_form::Blocked;
+use bp_theory::{Claim, Items};
+use branch_tree::{Grove, Outcome, Tree};
+use std::alloc::{AllocError, Global};
+
+/// The text of the certificate of a search's outcome: its claim, its best point where there is one, and its tree, whose
+/// live leaves are open. The text has no fault, so it is read back.
+pub fn write_cert(alloc: Global, b: &Blocked, outcome: &Outcome) -> Result<Vec<u8>, AllocError>
+    requires { IsWritable b.now outcome.now }
+    ensures { IfOk result (λ text. IsText (frame_for b.now) One (cert_of (read_off (claim_of b.now.named.program.maximises outcome.now) (point_of outcome.now) [] (grove_of outcome.now).tree)) text.items) }
+{
+    let claim = outcome_claim(b.model().maximises(), outcome);
+    let tree = outcome_grove(outcome).tree();
+    let mut out = Vec::new(alloc);
+    put_outcome(&mut out, &claim, outcome_point(outcome), tree)?;
+    Ok(out)
+}
+
+// The text of a claim, a point and a tree.
+fn put_outcome(
+    out: &mut Vec<u8>,
+    claim: &Claim,
+    point: &[i64],
+    tree: &Tree,
+) -> Result<(), AllocError>
+    ensures { OnOk result (out.new.items ≡ out.old.items ++ plain_text claim.now point.now (certificate_tree (tree_of tree.now))) }
+{
+    out.extend_from_slice(b"bpcert 1\n")?;
+    put_claim(out, claim, point)?;
+    put_nodes(out, tree)?;
+    out.extend_from_slice(b"end\n")
+}
+
+// The lines of a search's tree.
+fn put_nodes(out: &mut Vec<u8>, tree: &Tree) -> Result<(), AllocError>
+    ensures { OnOk result (out.new.items ≡ out.old.items ++ tree_text (certificate_tree (tree_of tree.now))) }
+{
+    match tree {
+        Tree::Live(proof, _) => {
+            out.extend_from_slice(b"open ")?;
+            put_proof(out, proof)
+        }
+        Tree::Shut(proof) => {
+            out.extend_from_slice(b"leaf ")?;
+            put_proof(out, proof)
+        }
+        Tree::Fork { var, at, low, high } => {
+            put_split(out, *var, at)?;
+            put_nodes(out, low)?;
+            put_nodes(out, high)
+        }
+    }
+}
+
+// The tree of an outcome, with its queue.
+fn outcome_grove(outcome: &Outcome) -> &Grove
+    ensures { result.now ≡ grove_of outcome.now }
+{
+    match outcome {
+        Outcome::Optimal { grove, .. } => grove,
+        Outcome::Infeasible { grove } => grove,
+        Outcome::Budget { grove, .. } => grove,
+    }
+}
+
+// The numbers of an outcome's best point, none where it has no point.
+fn outcome_point(outcome: &Outcome) -> &[i64]
+    ensures { result.now ≡ unwrap_or (point_of outcome.now) [] }
+{
+    match outcome {
+        Outcome::Optimal { point, .. } => point.as_slice(),
+        Outcome::Infeasible { .. } => &[],
+        Outcome::Budget { best, .. } => match best {
+            None => &[],
+            Some(best) => best.0.as_slice(),
+        },
+    }
+}
+
+// What an outcome claims.
+fn outcome_claim(maximises: bool, outcome: &Outcome) -> Claim
+    requires { HasSmallNumbers outcome.now }
+    ensures { result ≡ claim_of maximises outcome.now }
+{
+    match outcome {
+        Outcome::Optimal { cost, .. } => Claim::Optimal(in_sense(maximises, cost)),
+        Outcome::Infeasible { .. } => Claim::Infeasible,
+        Outcome::Budget { best, bound, .. } => Claim::Bound(
+            in_sense(maximises, bound),
+            best_value(maximises, best),
+        ),
+    }
+}
+
+// The value of a best point.
+fn best_value(maximises: bool, best: &Option<(Items<i64>, i64)>) -> Option<i64>
+    requires { IfSome best.now (λ e. unsigned_abs e.1 < 2 ^ 62) }
+    ensures { result ≡ option_map (λ e. in_sense maximises e.1) best.now }
+{
+    match best {
+        None => None,
+        Some(best) => Some(in_sense(maximises, &best.1)),
+    }
+}
+
+// A cost as a value in the text's own sense.
+fn in_sense(maximises: bool, cost: &i64) -> i64
+    requires { unsigned_abs cost.now < 2 ^ 62 }
+    ensures { result ≡ in_sense maximises cost.now }
+{
+    if maximises { -*cost } else { *cost }
+}

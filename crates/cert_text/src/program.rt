@@ -1,0 +1,52 @@
+ghost use Rattle.std.specs.Prelude.{◌≡◌, IfOk, OnOk, map, is_none};
+ghost use Rattle.block_form.specs.Blocked.{IsFormed};
+ghost use Rattle.cert_text.specs.Kept.{certificate_of};
+ghost use Rattle.cert_text.specs.Frames.{frame_of};
+ghost use Rattle.cert_text.specs.Programs.{frame_for, ReadsFor, GoesWith};
+
+use crate::cert::Cert;
+use crate::fault::CertFault;
+use crate::frame::Frame;
+use crate::reader::read;
+use block_form::Blocked;
+use bp_theory::Items;
+use std::alloc::{AllocError, Global};
+
+/// Reads the text of a certificate for a program in blocks: gives the certificate, or the first fault of the text by
+/// line and kind. What is read goes with the program.
+pub fn read_cert(alloc: Global, bytes: &[u8], b: &Blocked) -> Result<Cert, CertFault>
+    ensures read { ReadsFor b.now bytes.now result }
+    ensures goes_with { IfOk result (λ cert. GoesWith b.now (certificate_of cert)) }
+{
+    let _size = bytes.len();
+    match program_frame(alloc, b) {
+        Err(_) => Err(CertFault::NoMemory),
+        Ok(frame) => read(alloc, &frame, bytes),
+    }
+}
+
+/// What reading a certificate needs to know of a program in blocks.
+pub fn program_frame(alloc: Global, b: &Blocked) -> Result<Frame, AllocError>
+    ensures frame { IfOk result (λ frame. frame_of frame ≡ frame_for b.now) }
+    ensures formed { OnOk result (IsFormed b.now) }
+{
+    let variables = b.model().vars();
+    let blocks = b.blocks();
+    let masters = master_rows(alloc, b.dec().places())?;
+    Ok(Frame {
+        variables,
+        masters,
+        blocks,
+    })
+}
+
+// For each row, whether it is a master row.
+fn master_rows(alloc: Global, places: &[Option<u32>]) -> Result<Items<bool>, AllocError>
+    ensures { IfOk result (λ masters. masters ≡ map is_none places.now) }
+{
+    let mut masters = Items::with_capacity(alloc, places.len())?;
+    for place in places {
+        masters.push(place.is_none())?;
+    }
+    Ok(masters)
+}

@@ -1,0 +1,124 @@
+ghost use Rattle.std.specs.Prelude.{◌≡◌};
+ghost use Rattle.cert_text.specs.Spots.{spot_sort, spot_words, picked_word};
+
+use crate::words::{Word, begins};
+
+/// A place between two tokens of a certificate's text.
+#[derive(Clone, Copy)]
+pub enum Spot {
+    Bpcert,
+    One,
+    FirstEnd,
+    Claim,
+    Kind,
+    OptimalValue,
+    InfeasibleEnd,
+    BoundValue,
+    AfterBound,
+    KnownValue,
+    ClaimEnd,
+    Point,
+    Values,
+    Coordinate,
+    Node,
+    Scale,
+    Rows,
+    Count,
+    Pairs,
+    Row,
+    RowGap,
+    Multiplier,
+    Priced,
+    Blocks,
+    Block,
+    LeafEnd,
+    Variable,
+    VariableGap,
+    Place,
+    SplitEnd,
+    End,
+    LastEnd,
+    Over,
+}
+
+/// Whether a number may come at a place, with a sign or without one.
+#[derive(Clone, Copy)]
+pub enum Sort {
+    Wordy,
+    Natural,
+    Whole,
+}
+
+// Whether a number may come at a place.
+pub fn sort_of(spot: Spot) -> Sort
+    ensures { result ≡ spot_sort spot }
+{
+    match spot {
+        Spot::OptimalValue
+        | Spot::BoundValue
+        | Spot::KnownValue
+        | Spot::Coordinate
+        | Spot::Multiplier
+        | Spot::Place => Sort::Whole,
+        Spot::Scale | Spot::Count | Spot::Row | Spot::Priced | Spot::Block | Spot::Variable =>
+            Sort::Natural,
+        _ => Sort::Wordy,
+    }
+}
+
+// The words that may come at a place, where more pairs or blocks are to come or not.
+pub fn words_at(spot: Spot, more: bool) -> &'static [Word]
+    ensures { result.now ≡ spot_words spot more }
+{
+    match spot {
+        Spot::Bpcert => &[Word::Bpcert],
+        Spot::One => &[Word::One],
+        Spot::FirstEnd
+        | Spot::InfeasibleEnd
+        | Spot::ClaimEnd
+        | Spot::LeafEnd
+        | Spot::SplitEnd
+        | Spot::LastEnd => &[Word::LineEnd],
+        Spot::Claim => &[Word::Claim],
+        Spot::Kind => &[Word::Optimal, Word::Infeasible, Word::Bound],
+        Spot::AfterBound => &[Word::LineEnd, Word::Value],
+        Spot::Point => &[Word::Point],
+        Spot::Values => &[Word::LineEnd, Word::Space],
+        Spot::Node => &[Word::Leaf, Word::Open, Word::Split],
+        Spot::Rows => &[Word::Rows],
+        Spot::Pairs => {
+            if more {
+                &[Word::Space]
+            } else {
+                &[Word::Priced]
+            }
+        }
+        Spot::RowGap | Spot::VariableGap => &[Word::Space],
+        Spot::Priced => &[Word::All],
+        Spot::Blocks => {
+            if more {
+                &[Word::Space]
+            } else {
+                &[Word::LineEnd]
+            }
+        }
+        Spot::End => &[Word::End],
+        _ => &[],
+    }
+}
+
+// The first of some words that begins with a byte.
+pub fn pick(words: &[Word], byte: u8) -> Option<Word>
+    ensures { result ≡ picked_word byte words.now }
+{
+    match words {
+        [] => None,
+        [word, rest @ ..] => {
+            if begins(*word, byte) {
+                Some(*word)
+            } else {
+                pick(rest, byte)
+            }
+        }
+    }
+}
