@@ -1,2 +1,2 @@
-pub mod Fronts
-pub mod Unique
+pub mod OneOrder
+pub mod Words

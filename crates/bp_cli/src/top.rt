@@ -1,86 +1,120 @@
 // The top call.
-ghost use Rattle.std.specs.Prelude.{◌≡◌, ◌≢◌, ℕ, ◌<◌, ◌⊎◌, ◌++◌, List, Option, Some, None, IfOk, IsTrue, take};
+ghost use Rattle.std.specs.Prelude.{◌≡◌, ◌≢◌, ◌<◌, ◌⊎◌, ◌++◌, ℕ, [], map, string_bytes, IsTrue, None, take};
 ghost use Rattle.std.specs.Option.{option_map};
+ghost use Rattle.clap.specs.Words.{fault_of};
 ghost use Rattle.bp_shelf.specs.Shelf.{Rose};
-ghost use Rattle.bp_report.specs.Report.{words_refusal};
-ghost use Rattle.bp_cli.specs.Orders.{asked, status_of};
-ghost use Rattle.bp_cli.specs.Running.{Asked, Solves, asked_by, is_option, Answers, IsAnswered, IsExact, IsCutOff, HasCauses};
+ghost use Rattle.bp_words.specs.CommandLine.{command_line};
+ghost use Rattle.bp_words.specs.Orders.{IsInRange};
+ghost use Rattle.bp_report.specs.Refusals.{words_refusal};
+ghost use Rattle.bp_front.specs.Answers.{AnswersBy, IsOnly, CutsOff, HasCauses};
+ghost use Rattle.bp_cli.specs.Running.{Answers, AnswersOrder, HasWritten, OfOrder};
 
-use crate::answer::{Reply, reply_to};
-use crate::read::read_front;
+use bp_front::{Ended, Reply, print, stopped};
 use bp_report::words_text;
-use bp_shelf::{Shelf, ShelfFault, Sink};
-use lp_read::MAX_TEXT;
+use bp_shelf::{Shelf, Sink};
+use bp_words::{Order, Text, WordFault, read_words};
+use cmd_check::check;
+use cmd_demo::demonstrate;
+use cmd_gen::generate;
+use cmd_show::show;
+use cmd_solve::solve;
 use std::alloc::Global;
 
-/// How a run ended: the status that the program ends with.
-#[derive(Drop)]
-pub struct Ended {
-    pub status: u8,
-}
-
-/// What the words ask for.
-pub enum Order<'a> {
-    /// To solve the model of the file of this name.
-    Solve(&'a str),
-    /// The words are no command line.
-    Refused,
-}
-
-/// Does all that the program does. The words begin with the program's name; the one command is `solve` with a file's name.
+/// Does all that the program does. The words begin with the program's name and a command.
+///
+/// For all LP and DEC texts that are accepted, `solve` answers `optimal` with a point that meets every row and bound of the
+/// LP text and that no such point betters, `infeasible` where none exists, or `budget` after exactly the given steps with
+/// a bound that no such point betters; the certificate that it writes is valid, and whatever `check` accepts is true,
+/// whoever wrote it.
 pub fn run<F: Shelf, O: Sink>(alloc: Global, words: &[String], shelf: &mut F, out: &mut O) -> Ended
     // Without a fault and with its memory a run answers the words by the files, and adds its report whole.
     ensures answered { IsTrue (F.tells shelf.old) → IsTrue (O.tells out.old) →
-        IsAnswered (asked_by words.now) (F.file shelf.old) result.status (O.taken out.old) (O.taken out.new) }
+        AnswersBy (Answers (map string_bytes words.now) (F.file shelf.old) result.kept) result.status (O.taken out.old) (O.taken out.new) }
     // No other status is right.
-    ensures exact { IsTrue (F.tells shelf.old) → IsExact (asked_by words.now) (F.file shelf.old) result.status }
+    ensures exact { IsTrue (F.tells shelf.old) → IsOnly (Answers (map string_bytes words.now) (F.file shelf.old) result.kept) result.status }
+    // What is written: the valid certificate of the outcome that is kept, or the texts that are made; and that nothing else is.
+    ensures written { IsTrue (F.tells shelf.old) →
+        OfOrder (map string_bytes words.now) (λ order. HasWritten order (F.file shelf.old) (F.file shelf.new) result.kept result.status) }
     // Which status comes only where, over any shelf and sink.
     ensures causes { HasCauses result.status (F.read_faults shelf.old) (F.read_faults shelf.new)
         (F.write_faults shelf.old) (F.write_faults shelf.new) (O.faults out.old) (O.faults out.new) }
-    ensures words { result.status ≡ 2 → asked_by words.now ≡ None }
-    ensures no_words { asked_by words.now ≡ None → (result.status ≡ 2) ⊎ (result.status ≡ 8) ⊎ (result.status ≡ 9) }
+    ensures kept { (result.kept ≡ None) ⊎ ((result.status ≡ 0) ⊎ (result.status ≡ 4) ⊎ (result.status ≡ 5)) }
+    ensures words { result.status ≡ 2 → fault_of command_line (map string_bytes words.now) ≢ [] }
+    ensures no_words { fault_of command_line (map string_bytes words.now) ≢ [] → (result.status ≡ 2) ⊎ (result.status ≡ 8) ⊎ (result.status ≡ 9) }
     ensures refusal { result.status ≡ 2 → IsTrue (O.tells out.old) → O.taken out.new ≡ O.taken out.old ++ words_refusal }
     // What stands afterwards.
-    ensures files { F.file shelf.new ≡ F.file shelf.old }
+    ensures nothing_ordered { fault_of command_line (map string_bytes words.now) ≢ [] → F.file shelf.new ≡ F.file shelf.old }
     ensures silent { (result.status ≡ 7) ⊎ (result.status ≡ 9) ⊎ (result.status ≡ 11) → O.taken out.new ≡ O.taken out.old }
+    ensures unwritten { F.write_faults shelf.old < F.write_faults shelf.new → O.taken out.new ≡ O.taken out.old }
     ensures cut_off { IsTrue (F.tells shelf.old) → IsTrue (O.tells out.old) →
-        IsCutOff (asked_by words.now) (F.file shelf.old) result.status (O.taken out.old) (O.taken out.new) }
+        CutsOff (Answers (map string_bytes words.now) (F.file shelf.old)) result.status (O.taken out.old) (O.taken out.new) }
 {
-    match order_of(words) {
-        Order::Solve(lp) => solve(alloc, shelf, out, lp),
-        Order::Refused => refuse_words(alloc, out),
+    match read_words(alloc, words) {
+        Ok(order) => obey(alloc, &order, shelf, out),
+        Err(WordFault::Refused) => refuse_words(alloc, out),
+        Err(WordFault::NoMemory) => stopped(9),
     }
 }
 
-// What the words ask for, where they are a command line.
-fn order_of(words: &[String]) -> Order<'_>
-    ensures { asked result ≡ asked_by words.now }
+// Does what words order.
+fn obey<F: Shelf, O: Sink>(alloc: Global, order: &Order, shelf: &mut F, out: &mut O) -> Ended
+    requires { IsInRange order.now }
+    ensures answered { IsTrue (F.tells shelf.old) → IsTrue (O.tells out.old) →
+        AnswersBy (AnswersOrder order.now (F.file shelf.old) result.kept) result.status (O.taken out.old) (O.taken out.new) }
+    ensures exact { IsTrue (F.tells shelf.old) → IsOnly (AnswersOrder order.now (F.file shelf.old) result.kept) result.status }
+    ensures written { IsTrue (F.tells shelf.old) → HasWritten order.now (F.file shelf.old) (F.file shelf.new) result.kept result.status }
+    ensures causes { HasCauses result.status (F.read_faults shelf.old) (F.read_faults shelf.new)
+        (F.write_faults shelf.old) (F.write_faults shelf.new) (O.faults out.old) (O.faults out.new) }
+    ensures kept { (result.kept ≡ None) ⊎ ((result.status ≡ 0) ⊎ (result.status ≡ 4) ⊎ (result.status ≡ 5)) }
+    ensures words { result.status ≢ 2 }
+    ensures silent { (result.status ≡ 7) ⊎ (result.status ≡ 9) ⊎ (result.status ≡ 11) → O.taken out.new ≡ O.taken out.old }
+    ensures unwritten { F.write_faults shelf.old < F.write_faults shelf.new → O.taken out.new ≡ O.taken out.old }
+    ensures cut_off { IsTrue (F.tells shelf.old) → IsTrue (O.tells out.old) →
+        CutsOff (AnswersOrder order.now (F.file shelf.old)) result.status (O.taken out.old) (O.taken out.new) }
 {
-    match words {
-        [_, command, lp] => {
-            if command.as_str() == "solve" && !is_option(lp.as_bytes()) {
-                Order::Solve(lp.as_str())
-            } else {
-                Order::Refused
-            }
+    match order {
+        Order::Solve {
+            lp,
+            dec,
+            steps,
+            cert,
+        } => solve(
+            alloc,
+            shelf,
+            out,
+            lp.as_str(),
+            named(dec),
+            *steps,
+            named(cert),
+        ),
+        Order::Check { lp, cert, dec } => {
+            check(alloc, shelf, out, lp.as_str(), cert.as_str(), named(dec))
         }
-        _ => Order::Refused,
+        Order::Show { lp, dec } => show(alloc, shelf, out, lp.as_str(), named(dec)),
+        Order::Gen {
+            seed,
+            size,
+            lp,
+            dec,
+        } => generate(alloc, shelf, out, *seed, *size, lp.as_str(), dec.as_str()),
+        Order::Demo { seed, size } => demonstrate(alloc, out, *seed, *size),
     }
 }
 
-// Whether a word is an option: it begins with a dash and goes on.
-fn is_option(word: &[u8]) -> bool
-    ensures { result ≡ is_option word.now }
+// The name of a file, where one is given.
+fn named(text: &Option<Text>) -> Option<&str>
+    ensures { option_map (λ name. name.now) result ≡ text.now }
 {
-    match word {
-        [first, _, ..] => *first == b'-',
-        _ => false,
+    match text {
+        None => None,
+        Some(text) => Some(text.as_str()),
     }
 }
 
 // Refuses words that are no command line.
 fn refuse_words<O: Sink>(alloc: Global, out: &mut O) -> Ended
     ensures statuses { (result.status ≡ 2) ⊎ (result.status ≡ 8) ⊎ (result.status ≡ 9) }
+    ensures kept { result.kept ≡ None }
     ensures fault { result.status ≡ 8 → Rose (O.faults out.old) (O.faults out.new) }
     ensures rose { O.faults out.old < O.faults out.new → result.status ≡ 8 }
     ensures printed { IsTrue (O.tells out.old) → result.status ≡ 2 → O.taken out.new ≡ O.taken out.old ++ words_refusal }
@@ -89,57 +123,7 @@ fn refuse_words<O: Sink>(alloc: Global, out: &mut O) -> Ended
     ensures silent { result.status ≡ 9 → O.taken out.new ≡ O.taken out.old }
 {
     match words_text(alloc) {
-        Ok(report) => print(out, &Reply { status: 2, report }),
-        Err(_) => Ended { status: 9 },
-    }
-}
-
-// Solves the model of a file, and prints the report.
-fn solve<F: Shelf, O: Sink>(alloc: Global, shelf: &mut F, out: &mut O, lp: &str) -> Ended
-    ensures answered { IsTrue (F.tells shelf.old) → IsTrue (O.tells out.old) →
-        IsAnswered (Some (Solves lp.now)) (F.file shelf.old) result.status (O.taken out.old) (O.taken out.new) }
-    ensures exact { IsTrue (F.tells shelf.old) → IsExact (Some (Solves lp.now)) (F.file shelf.old) result.status }
-    ensures causes { HasCauses result.status (F.read_faults shelf.old) (F.read_faults shelf.new)
-        (F.write_faults shelf.old) (F.write_faults shelf.new) (O.faults out.old) (O.faults out.new) }
-    ensures words { result.status ≢ 2 }
-    ensures files { F.file shelf.new ≡ F.file shelf.old }
-    ensures silent { (result.status ≡ 7) ⊎ (result.status ≡ 9) ⊎ (result.status ≡ 11) → O.taken out.new ≡ O.taken out.old }
-    ensures cut_off { IsTrue (F.tells shelf.old) → IsTrue (O.tells out.old) →
-        IsCutOff (Some (Solves lp.now)) (F.file shelf.old) result.status (O.taken out.old) (O.taken out.new) }
-{
-    match read_front(alloc, shelf, lp, MAX_TEXT + 1) {
-        Ok(text) => match reply_to(alloc, &text) {
-            Ok(reply) => print(out, &reply),
-            Err(_) => Ended { status: 9 },
-        },
-        Err(fault) => ended_by(fault),
-    }
-}
-
-// The end of a run after a read that failed.
-fn ended_by(fault: ShelfFault) -> Ended
-    ensures { result.status ≡ status_of fault }
-{
-    match fault {
-        ShelfFault::Failed => Ended { status: 7 },
-        ShelfFault::NoMemory => Ended { status: 9 },
-        ShelfFault::Missing => Ended { status: 11 },
-    }
-}
-
-// Prints a report by one put, and ends with its status; a fault of the sink replaces the status.
-fn print<O: Sink>(out: &mut O, reply: &Reply) -> Ended
-    ensures status { (result.status ≡ reply.now.status) ⊎ (result.status ≡ 8) }
-    ensures printed { IsTrue (O.tells out.old) → result.status ≢ 8 → O.taken out.new ≡ O.taken out.old ++ reply.now.report.items }
-    ensures partly { IsTrue (O.tells out.old) → result.status ≡ 8 → reply.now.status ≢ 8 →
-        (count : ℕ) × (O.taken out.new ≡ O.taken out.old ++ take count reply.now.report.items) }
-    ensures fault { result.status ≡ 8 → reply.now.status ≢ 8 → Rose (O.faults out.old) (O.faults out.new) }
-    ensures quiet { result.status ≢ 8 → O.faults out.new ≡ O.faults out.old }
-{
-    match out.put(&reply.report) {
-        Ok(()) => Ended {
-            status: reply.status,
-        },
-        Err(_) => Ended { status: 8 },
+        Ok(report) => print(out, &Reply { status: 2, report }, None),
+        Err(_) => stopped(9),
     }
 }

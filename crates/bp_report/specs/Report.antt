@@ -1,10 +1,23 @@
 -- The bytes of reports: lines of words with single spaces between, each line ended by one line feed.
-use Rattle.std.specs.Prelude.{ℕ, List, [], ◌∷◌, ◌++◌, Option, Some, None, ℤ, codes, decimal}
+use Rattle.std.specs.Prelude.{ℕ, ◌+◌, option_map, length, count_by, is_none, List, [], ◌∷◌, ◌++◌, Option, Some, None, ℤ, codes, decimal}
 use Rattle.std.specs.Fmt.{signed_decimal}
-use Rattle.bp_theory.specs.Program.{value}
+use Rattle.std.specs.List.{range_with_len, flat_map}
+use Rattle.std.specs.Option.{ForSome}
+use Rattle.bp_theory.specs.Program.{IsInside, value, in_sense}
+use Rattle.bp_theory.specs.declared.Claim.{Claim}
+use Rattle.bp_theory.specs.declared.Claim.TheVariants.{Optimal, Infeasible, Bound}
+use Rattle.bp_theory.specs.declared.CheckKind.{CheckKind}
+use Rattle.bp_theory.specs.declared.CheckKind.TheVariants as check
 use Rattle.bp_model.specs.Named.{NamedProgram}
-use Rattle.lp_token.specs.declared.LpKind.{LpKind}
-use Rattle.lp_token.specs.declared.LpKind.TheVariants.{BadByte, NotWhole, TooLarge, Syntax, Feature, LongName, RowTwice, NoEnd, Unbounded, Continuous, Crossed, Activity, Limit}
+use Rattle.block_form.specs.Blocked.{BlockedProgram}
+use Rattle.search_laws.specs.Spread.{block_at, class_at, class_blocks}
+use Rattle.block_class.specs.Classes.{Grouping}
+use Rattle.branch_tree.specs.declared.outcome.Outcome.{Outcome}
+use Rattle.branch_tree.specs.declared.outcome.Outcome.TheVariants as outcome
+use Rattle.cert_check.specs.declared.judge.Judged.{Judged}
+use Rattle.cert_check.specs.declared.judge.Judged.TheVariants.{Accepted, Rejected}
+
+-- ---- ended searches
 
 -- the line of a variable: its name and its number
 abbrev pub point_line : List ℕ → ℤ → List ℕ
@@ -16,32 +29,143 @@ point_lines [] x = []
 point_lines (name ∷ names) [] = []
 point_lines (name ∷ names) (v ∷ x) = point_line name v ++ point_lines names x
 
--- the report of an ended search: the best value, in the text's own sense, and a point that has it, or that no point is feasible
-abbrev pub solve_report : NamedProgram → Option (List ℤ) → List ℕ
-solve_report m None = codes "infeasible\n"
-solve_report m (Some x) =
-    codes "optimal " ++ signed_decimal (value m.program x) ++ codes "\n" ++ point_lines m.names x
+-- the lines of a known point
+abbrev pub known_lines : NamedProgram → Option (List ℤ) → List ℕ
+known_lines m None = []
+known_lines m (Some x) = point_lines m.names x
 
--- the report on words that are no command line
-abbrev pub words_refusal : List ℕ
-words_refusal = codes "refused words\n"
+-- a line of a word, with the space behind it, and a number
+abbrev pub count_line : List ℕ → ℕ → List ℕ
+count_line word n = word ++ decimal n ++ codes "\n"
 
--- a kind of fault of an LP text, as reports name it
-abbrev pub lp_kind_name : LpKind → List ℕ
-lp_kind_name BadByte = codes "bad-byte"
-lp_kind_name NotWhole = codes "not-whole"
-lp_kind_name TooLarge = codes "too-large"
-lp_kind_name Syntax = codes "syntax"
-lp_kind_name Feature = codes "feature"
-lp_kind_name LongName = codes "long-name"
-lp_kind_name RowTwice = codes "row-twice"
-lp_kind_name NoEnd = codes "no-end"
-lp_kind_name Unbounded = codes "unbounded"
-lp_kind_name Continuous = codes "continuous"
-lp_kind_name Crossed = codes "crossed"
-lp_kind_name Activity = codes "activity"
-lp_kind_name Limit = codes "limit"
+abbrev pub value_line : List ℕ → ℤ → List ℕ
+value_line word v = word ++ signed_decimal v ++ codes "\n"
 
--- the report on an LP text with a fault
-abbrev pub lp_refusal : (line : ℕ) → LpKind → List ℕ
-lp_refusal line kind = codes "refused lp " ++ decimal line ++ codes " " ++ lp_kind_name kind ++ codes "\n"
+-- the first line on a search that ended: the best value, in the text's own sense, or that no point is feasible
+abbrev pub ended_line : NamedProgram → Option (List ℤ) → List ℕ
+ended_line m None = codes "infeasible\n"
+ended_line m (Some x) = value_line (codes "optimal ") (value m.program x)
+
+-- the report of a search that ended: its first line, and a point that has the best value
+abbrev pub ended_report : NamedProgram → Option (List ℤ) → List ℕ
+ended_report m best = ended_line m best ++ known_lines m best
+
+-- ---- searches that were stopped
+
+-- the line of the value of a known point
+abbrev pub known_line : NamedProgram → Option (List ℤ) → List ℕ
+known_line m None = []
+known_line m (Some x) = value_line (codes "value ") (value m.program x)
+
+-- the first lines on a search that was stopped: its steps, a bound, from the least cost that it leaves open, that no point betters, and the
+-- value of a known point; values are in the text's own sense
+abbrev pub budget_lines : NamedProgram → (steps : ℕ) (least : ℤ) → Option (List ℤ) → List ℕ
+budget_lines m steps least best =
+    count_line (codes "budget ") steps ++ value_line (codes "bound ") (in_sense m.program.maximises least) ++ known_line m best
+
+-- the report of a search that was stopped: its first lines, and the known point
+abbrev pub budget_report : NamedProgram → (steps : ℕ) (least : ℤ) → Option (List ℤ) → List ℕ
+budget_report m steps least best = budget_lines m steps least best ++ known_lines m best
+
+-- ---- outcomes
+
+-- the first lines on the outcome of a search with so many steps
+abbrev pub outcome_lines : NamedProgram → (steps : ℕ) → Outcome → List ℕ
+outcome_lines m steps (outcome.Optimal grove point cost) = ended_line m (Some point)
+outcome_lines m steps (outcome.Infeasible grove) = ended_line m None
+outcome_lines m steps (outcome.Budget grove best bound) = budget_lines m steps bound (option_map (λ (p : List ℤ × ℤ). p.0) best)
+
+-- the point of an outcome
+abbrev pub outcome_point : Outcome → Option (List ℤ)
+outcome_point (outcome.Optimal grove point cost) = Some point
+outcome_point (outcome.Infeasible grove) = None
+outcome_point (outcome.Budget grove best bound) = option_map (λ (p : List ℤ × ℤ). p.0) best
+
+-- the report on the outcome of a search
+abbrev pub solve_report : NamedProgram → (steps : ℕ) → Outcome → List ℕ
+solve_report m steps o = outcome_lines m steps o ++ known_lines m (outcome_point o)
+
+-- an outcome's point lies in the spans
+abbrev pub CanTell : NamedProgram → Outcome → Type 0
+CanTell m (outcome.Optimal grove point cost) = IsInside m.program.spans point
+CanTell m (outcome.Infeasible grove) = Unit {0}
+CanTell m (outcome.Budget grove best bound) = ForSome best (λ (p : List ℤ × ℤ). IsInside m.program.spans p.0)
+
+-- ---- checked certificates
+
+-- what a certificate claims, as its text has it
+abbrev pub claim_words : Claim → List ℕ
+claim_words (Optimal v) = codes "optimal " ++ signed_decimal v
+claim_words Infeasible = codes "infeasible"
+claim_words (Bound b None) = codes "bound " ++ signed_decimal b
+claim_words (Bound b (Some v)) = codes "bound " ++ signed_decimal b ++ codes " value " ++ signed_decimal v
+
+-- the report on a certificate that is valid
+abbrev pub accepted_report : Claim → List ℕ
+accepted_report claim = codes "accepted " ++ claim_words claim ++ codes "\n"
+
+-- a kind of fault of a line of a certificate, as reports name it
+abbrev pub check_kind_name : CheckKind → List ℕ
+check_kind_name check.PointBound = codes "point-bound"
+check_kind_name check.PointRow = codes "point-row"
+check_kind_name check.Value = codes "value"
+check_kind_name check.Split = codes "split"
+check_kind_name check.Sign = codes "sign"
+check_kind_name check.Weak = codes "weak"
+check_kind_name check.Open = codes "open"
+check_kind_name check.Cut = codes "cut"
+
+-- a line of words, with the space behind them, the number of a line and a kind of fault there
+abbrev pub fault_line : (words : List ℕ) (line : ℕ) (kind : List ℕ) → List ℕ
+fault_line words line kind = words ++ decimal line ++ codes " " ++ kind ++ codes "\n"
+
+-- the report on a certificate that reads and isn't valid
+abbrev pub rejected_report : (line : ℕ) → CheckKind → List ℕ
+rejected_report line kind = fault_line (codes "rejected ") line (check_kind_name kind)
+
+-- the report on a judged certificate
+abbrev pub check_report : Judged → List ℕ
+check_report (Accepted claim) = accepted_report claim
+check_report (Rejected line kind) = rejected_report line kind
+
+-- ---- sizes
+
+-- the line of a class: its number and that of its first block, both from 1, how many blocks it has, and the variables and rows of one block
+abbrev pub class_line : (class first size variables rows : ℕ) → List ℕ
+class_line class first size variables rows =
+    codes "class " ++ decimal (class + 1) ++ codes " first " ++ decimal (first + 1) ++ codes " size " ++ decimal size
+    ++ codes " variables " ++ decimal variables ++ codes " rows " ++ decimal rows ++ codes "\n"
+
+-- the lines of the sizes of a program in blocks
+abbrev pub size_lines : BlockedProgram → (classes : ℕ) → List ℕ
+size_lines b classes =
+    count_line (codes "variables ") (length b.named.program.spans) ++ count_line (codes "rows ") (length b.named.program.rows)
+    ++ count_line (codes "master ") (count_by is_none b.dec.places) ++ count_line (codes "blocks ") (length b.blocking.blocks)
+    ++ count_line (codes "classes ") classes
+
+-- the line of a class of blocks
+abbrev pub line_of_class : BlockedProgram → Grouping → ℕ → List ℕ
+line_of_class b g class =
+    let first = class_at g.firsts class in
+    let block = block_at b.blocking first in
+    class_line class first (class_blocks g.classes class) (length block.copies) (length block.rows)
+
+-- the lines of all classes
+abbrev pub class_lines : BlockedProgram → Grouping → List ℕ
+class_lines b g = flat_map (line_of_class b g) (range_with_len 0 (length g.firsts))
+
+-- the report on sizes and classes
+abbrev pub show_report : BlockedProgram → Grouping → List ℕ
+show_report b g = size_lines b (length g.firsts) ++ class_lines b g
+
+-- the report on texts that were made
+abbrev pub made_report : (variables rows : ℕ) → List ℕ
+made_report variables rows = codes "made variables " ++ decimal variables ++ codes " rows " ++ decimal rows ++ codes "\n"
+
+-- the first line on a made program that is solved and checked
+abbrev pub demo_line : (seed size : ℕ) → List ℕ
+demo_line seed size = codes "demo " ++ decimal seed ++ codes " " ++ decimal size ++ codes "\n"
+
+-- the report on such a program: the search is given 2,000 steps, and its point is left out
+abbrev pub demo_report : (seed size : ℕ) → NamedProgram → Outcome → Judged → List ℕ
+demo_report seed size m o j = demo_line seed size ++ outcome_lines m 2000 o ++ check_report j

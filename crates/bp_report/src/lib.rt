@@ -1,8 +1,18 @@
-//! The bytes of reports: what the program prints for an ended search and for what it refuses.
+//! The bytes of reports: what the program prints for a search, for a checked certificate, for sizes and for what it
+//! refuses.
 #![tactic(auto)]
 
+mod checked;
+mod demo;
+mod ended;
+mod lines;
 mod refused;
-mod solved;
+#[cfg(test)]
+mod sample;
+mod sizes;
 
-pub use refused::{lp_text, words_text};
-pub use solved::solve_text;
+pub use checked::check_text;
+pub use demo::{DEMO_STEPS, demo_text};
+pub use ended::{budget_text, ended_text, solve_text};
+pub use refused::{Refusal, blocks_text, cert_text, dec_text, lp_text, refusal_text, words_text};
+pub use sizes::{made_text, show_text};

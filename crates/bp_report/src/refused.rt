@@ -1,10 +1,51 @@
 // The reports on words and texts that are refused.
-ghost use Rattle.std.specs.Prelude.{◌≡◌, IfOk};
-ghost use Rattle.bp_report.specs.Report.{words_refusal, lp_kind_name, lp_refusal};
+ghost use Rattle.std.specs.Prelude.{◌≡◌, ◌++◌, IfOk, OnOk};
+ghost use Rattle.std.specs.Option.{option_map};
+ghost use Rattle.bp_report.specs.Refusals.{words_refusal, lp_kind_name, lp_refusal, dec_kind_name, dec_refusal, cert_kind_name, cert_refusal, linking_line, var_place_line, blocks_refusal, HasNamed, CanName, refusal_report};
 
-use itoa::Buffer;
-use lp_token::LpKind;
+use crate::lines::fault_text;
+use block_form::BlockFault;
+use bp_model::Model;
+use cert_text::{CertFault, CertKind};
+use dec_read::{DecFault, DecKind};
+use lp_token::{LpFault, LpKind};
 use std::alloc::{AllocError, Global};
+
+/// What is refused, and why.
+#[derive(Drop)]
+pub enum Refusal {
+    /// The words are no command line.
+    Words,
+    /// The LP text.
+    Lp(LpFault),
+    /// The text of the decomposition.
+    Dec(DecFault),
+    /// The text of the certificate.
+    Cert(CertFault),
+    /// The blocks that the decomposition makes.
+    Blocks(BlockFault),
+}
+
+/// The report on what is refused. Refused blocks are told by the model's names, so it is there with them. Want of memory
+/// has no report: its text is empty.
+pub fn refusal_text(alloc: Global, m: Option<&Model>, what: &Refusal) -> Result<Vec<u8>, AllocError>
+    requires { CanName (option_map (λ m. m.now) m) what.now }
+    ensures { IfOk result (λ text. text.items ≡ refusal_report (option_map (λ m. m.now) m.entry) what.now) }
+{
+    match what {
+        Refusal::Words => words_text(alloc),
+        Refusal::Lp(LpFault::At { line, kind }) => lp_text(alloc, *line, *kind),
+        Refusal::Dec(DecFault::At { line, kind }) => dec_text(alloc, *line, *kind),
+        Refusal::Cert(CertFault::At { line, kind }) => cert_text(alloc, *line, *kind),
+        Refusal::Blocks(fault) => match m {
+            Some(m) => blocks_text(alloc, m, fault),
+            None => Ok(Vec::new(alloc)),
+        },
+        Refusal::Lp(LpFault::NoMemory)
+        | Refusal::Dec(DecFault::NoMemory)
+        | Refusal::Cert(CertFault::NoMemory) => Ok(Vec::new(alloc)),
+    }
+}
 
 /// The report on words that are no command line.
 pub fn words_text(alloc: Global) -> Result<Vec<u8>, AllocError>
@@ -17,17 +58,64 @@ pub fn words_text(alloc: Global) -> Result<Vec<u8>, AllocError>
 pub fn lp_text(alloc: Global, line: u32, kind: LpKind) -> Result<Vec<u8>, AllocError>
     ensures { IfOk result (λ text. text.items ≡ lp_refusal line kind) }
 {
-    let mut buffer = Buffer::new();
-    let mut text = Vec::from_slice(alloc, b"refused lp ")?;
-    text.extend_from_slice(buffer.format(line).as_bytes())?;
+    fault_text(alloc, b"refused lp ", line as u64, lp_kind_name(kind))
+}
+
+/// The report on the text of a decomposition whose first fault is of this kind and on this line.
+pub fn dec_text(alloc: Global, line: u32, kind: DecKind) -> Result<Vec<u8>, AllocError>
+    ensures { IfOk result (λ text. text.items ≡ dec_refusal line kind) }
+{
+    fault_text(alloc, b"refused dec ", line as u64, dec_kind_name(kind))
+}
+
+/// The report on the text of a certificate whose first fault is of this kind and on this line.
+pub fn cert_text(alloc: Global, line: u64, kind: CertKind) -> Result<Vec<u8>, AllocError>
+    ensures { IfOk result (λ text. text.items ≡ cert_refusal line kind) }
+{
+    fault_text(alloc, b"refused cert ", line, cert_kind_name(kind))
+}
+
+/// The report on a decomposition of this model whose blocks are refused. Want of memory has no report: its text is
+/// empty.
+pub fn blocks_text(alloc: Global, m: &Model, fault: &BlockFault) -> Result<Vec<u8>, AllocError>
+    requires { HasNamed m.now fault.now }
+    ensures { IfOk result (λ text. text.items ≡ blocks_refusal m.now fault.now) }
+{
+    match fault {
+        BlockFault::Linking { var, row1, row2 } => {
+            linking_text(alloc, m.name(*var), m.row_name(*row1), m.row_name(*row2))
+        }
+        BlockFault::VarPlace(var) => var_place_text(alloc, m.name(*var)),
+        BlockFault::NoMemory => Ok(Vec::new(alloc)),
+    }
+}
+
+// The report on a linking variable with two rows of different blocks.
+fn linking_text(alloc: Global, var: &str, row1: &str, row2: &str) -> Result<Vec<u8>, AllocError>
+    ensures { IfOk result (λ text. text.items ≡ linking_line var.now row1.now row2.now) }
+{
+    let mut text = Vec::from_slice(alloc, b"refused blocks linking ")?;
+    text.extend_from_slice(var.as_bytes())?;
     text.extend_from_slice(b" ")?;
-    text.extend_from_slice(kind_name(kind))?;
+    text.extend_from_slice(row1.as_bytes())?;
+    text.extend_from_slice(b" ")?;
+    text.extend_from_slice(row2.as_bytes())?;
     text.extend_from_slice(b"\n")?;
     Ok(text)
 }
 
-// A kind as reports name it.
-fn kind_name(kind: LpKind) -> &'static [u8]
+// The report on a misplaced variable.
+fn var_place_text(alloc: Global, var: &str) -> Result<Vec<u8>, AllocError>
+    ensures { IfOk result (λ text. text.items ≡ var_place_line var.now) }
+{
+    let mut text = Vec::from_slice(alloc, b"refused blocks var-place ")?;
+    text.extend_from_slice(var.as_bytes())?;
+    text.extend_from_slice(b"\n")?;
+    Ok(text)
+}
+
+// A kind of fault of an LP text as reports name it.
+fn lp_kind_name(kind: LpKind) -> &'static [u8]
     ensures { result.now ≡ lp_kind_name kind }
 {
     match kind {
@@ -47,22 +135,38 @@ fn kind_name(kind: LpKind) -> &'static [u8]
     }
 }
 
-#[cfg(test)]
-mod tests {
-    use super::*;
-    use std::test::Fail;
-
-    #[test]
-    fn refusals_are_one_line(rt: HostRuntime) -> Result<(), Fail> {
-        let words = words_text(rt.alloc())?;
-        assert_eq!(rt; words.as_slice(), b"refused words\n".as_slice());
-        let long = lp_text(rt.alloc(), 0, LpKind::Limit)?;
-        assert_eq!(rt; long.as_slice(), b"refused lp 0 limit\n".as_slice());
-        let far = lp_text(rt.alloc(), u32::MAX, LpKind::RowTwice)?;
-        assert_eq!(rt;
-            far.as_slice(),
-            b"refused lp 4294967295 row-twice\n".as_slice()
-        );
-        Ok(())
+// A kind of fault of the text of a decomposition.
+fn dec_kind_name(kind: DecKind) -> &'static [u8]
+    ensures { result.now ≡ dec_kind_name kind }
+{
+    match kind {
+        DecKind::BadByte => b"bad-byte",
+        DecKind::Syntax => b"syntax",
+        DecKind::Presolved => b"presolved",
+        DecKind::NoNblocks => b"no-nblocks",
+        DecKind::BlockNumber => b"block-number",
+        DecKind::UnknownRow => b"unknown-row",
+        DecKind::RowTwice => b"row-twice",
+        DecKind::Unassigned => b"unassigned",
+        DecKind::UnknownVar => b"unknown-var",
+        DecKind::LinkingList => b"linking-list",
+        DecKind::Limit => b"limit",
     }
 }
+
+// A kind of fault of the text of a certificate.
+fn cert_kind_name(kind: CertKind) -> &'static [u8]
+    ensures { result.now ≡ cert_kind_name kind }
+{
+    match kind {
+        CertKind::Syntax => b"syntax",
+        CertKind::TooLarge => b"too-large",
+        CertKind::Number => b"number",
+        CertKind::Length => b"length",
+        CertKind::Depth => b"depth",
+        CertKind::Limit => b"limit",
+    }
+}
+
+#[cfg(test)]
+mod tests;

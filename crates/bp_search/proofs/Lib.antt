@@ -1,3 +1,2 @@
-pub mod Ends
-pub mod Zones
-pub mod Walks
+pub mod Running
+pub mod Final

@@ -1,2 +1,2 @@
-pub mod Boxes
-pub mod Found
+pub mod Searches
+pub mod Ends

@@ -1,27 +1,45 @@
-//! The search for a best point of a model: depth first over boxes, each halved until it holds one point, and left out
-//! where its ends show that it has no feasible point or none that is cheaper than the best one found.
+//! The search for a best point of a program in blocks: the live leaf of least bound is evaluated, and shut or forked, until
+//! no leaf is live or the given steps are taken. The tree at the end is the certificate of what is claimed.
 #![tactic(auto)]
 
-mod bounds;
-#[cfg(test)]
-mod tests;
-mod walk;
+mod ends;
+mod kept;
+mod steps;
 
-ghost use Rattle.std.specs.Prelude.{IfOk, MatchOption, List, ℤ};
-ghost use Rattle.bp_theory.specs.Program.{IsFeasible, IsBest};
+ghost use Rattle.std.specs.Prelude.{◌≤◌, ◌^◌, IfOk, IfSome};
+ghost use Rattle.bp_search.specs.Ends.{IsOutcome};
 
-use crate::walk::{Found, walk};
-use bp_model::{Items, Model};
+use crate::ends::{ended, stopped};
+use crate::steps::step;
+use block_form::Blocked;
+use branch_tree::{Grove, Outcome};
 use std::alloc::{AllocError, Global};
 
-/// A best point of a model, or none where no point is feasible. The only error is want of memory.
-pub fn search(alloc: Global, m: &Model) -> Result<Option<Items<i64>>, AllocError>
-    ensures { IfOk result (λ best. MatchOption best
-        ((x : List ℤ) → IsFeasible m.now.program x → ⊥)
-        (λ x. IsBest m.now.program x)) }
+/// The greatest number of steps, and that where none is given.
+pub const MAX_STEPS: u64 = 1 << 60;
+
+/// Searches for a best point. A step shuts or forks one leaf, and a leaf is taken only while fewer than the given steps
+/// have been taken. The outcome is `Optimal` or `Infeasible` exactly where no leaf is live, the first where a point is
+/// kept, and `Budget` exactly where all steps are taken and a leaf is live. The only error is want of memory.
+///
+/// Vanderbeck, Branching in branch-and-price: a generic scheme; Desaulniers, Desrosiers and Solomon, Column generation.
+pub fn search(alloc: Global, b: &Blocked, steps: Option<u64>) -> Result<Outcome, AllocError>
+    requires { IfSome steps (λ n. n ≤ 2 ^ 60) }
+    ensures { IfOk result (IsOutcome b.now steps) }
 {
-    let mut zone = Vec::from_slice(alloc, m.spans())?;
-    let mut found = Found::none(alloc, zone.len())?;
-    walk(m, &mut zone, &mut found);
-    Ok(found.into_point())
+    let most = steps.unwrap_or(MAX_STEPS);
+    let _ = b.blocks();
+    let mut grove = Grove::plant(alloc, b)?;
+    let mut best = None;
+    while grove.count() < most {
+        let Some(turn) = grove.take(alloc)? else {
+            return Ok(ended(grove, best));
+        };
+        step(alloc, b, &mut grove, &turn, &mut best)?;
+    }
+    if grove.live() == 0 {
+        Ok(ended(grove, best))
+    } else {
+        Ok(stopped(grove, best))
+    }
 }

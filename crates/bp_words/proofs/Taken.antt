@@ -1,63 +1,148 @@
 -- Words that the command takes give an order.
-use Rattle.std.proofs.Common.{◌≡◌, refl, Bool, true, false, List, [], Option, Some, None}
+use Rattle.std.proofs.Common.{◌≡◌, refl, ℕ, Bool, true, false, List, [], Option, Some, None}
 use Rattle.std.specs.Prelude.{◌&&◌, ◌||◌, not, if◌then◌else◌, is_some, option_map, codes}
 use Rattle.std.specs.List.{AllByRecursion}
 use Rattle.std.specs.Option.{option_map_or}
+use Rattle.std.specs.Str.{bytes_eq}
+use Rattle.std.specs.Str.Parse.{digits_value, without_leading_plus}
 use Rattle.clap.specs.Kinds.{check_kinds}
+use Rattle.clap.specs.ValueTests.{is_unsigned_in}
 use Rattle.clap.specs.Walk.{Text, Row, answers_to, finished, first_of, nothing_held, rows_after, stop_after, walk, walk_from}
 use Rattle.clap.specs.Simple.{App, Shape, argument_words, built, built_leaf, entered, inherited, label_of, marked_built, names_of, rows_at, subcommand_of, with_leaf_noted}
 use Rattle.clap.specs.Takes.{is_given}
 use Rattle.clap.specs.Faults.{check_fault, entered_fault, fault_of, level_fault, settle_fault, walk_fault}
+use Rattle.clap.specs.declared.builder.value_parser.ValueParser.TheVariants.{Unsigned}
+use Rattle.clap.proofs.ValueTestLemmas.{accepts-Accepts}
 use Rattle.bp_words.specs.declared.order.Order.{Order}
-use Rattle.bp_words.specs.declared.order.Order.TheVariants.{Solve, Check}
-use Rattle.bp_words.specs.CommandLine.{command_line, solve_words, check_words}
-use Rattle.bp_words.specs.Orders.{IsStated}
-use Rattle.bp_words.proofs.Presence.{WantsValue, both_parts, full_level, given_has}
+use Rattle.bp_words.specs.declared.order.Order.TheVariants.{Solve, Check, Show, Gen, Demo}
+use Rattle.bp_words.specs.CommandLine.{command_line, solve_words, check_words, show_words, gen_words, demo_words, most_steps, most_seed, most_size}
+use Rattle.bp_words.specs.Orders.{IsNumber, MayHaveNumber, IsStated}
+use Rattle.bp_words.proofs.Presence.{Checks, both_parts, full_level, given_has, first_good}
 
 -- the command and its subcommands as they are built
 abbrev line : App
 line = built command_line
 
+abbrev level_of : Shape → Shape
+level_of words = built_leaf (inherited (with_leaf_noted (marked_built command_line.top)) words)
+
 abbrev solve_level : Shape
-solve_level = built_leaf (inherited (with_leaf_noted (marked_built command_line.top)) solve_words)
+solve_level = level_of solve_words
 
 abbrev check_level : Shape
-check_level = built_leaf (inherited (with_leaf_noted (marked_built command_line.top)) check_words)
+check_level = level_of check_words
 
-solve_wants : AllByRecursion WantsValue solve_level.rules
-solve_wants = (refl, (refl, tt))
+abbrev show_level : Shape
+show_level = level_of show_words
 
-check_wants : AllByRecursion WantsValue check_level.rules
-check_wants = (refl, (refl, tt))
+abbrev gen_level : Shape
+gen_level = level_of gen_words
+
+abbrev demo_level : Shape
+demo_level = level_of demo_words
+
+-- which values an argument may have, by its id
+abbrev good : Text → Text → Bool
+good id text = if bytes_eq id (codes "seed") then is_unsigned_in 0 most_seed text
+    else (if bytes_eq id (codes "size") then is_unsigned_in 1 most_size text
+    else (if bytes_eq id (codes "steps") then is_unsigned_in 0 most_steps text else true))
+
+solve_checks : AllByRecursion (Checks good) solve_level.rules
+solve_checks = (
+  record { wants = refl; plain = refl; passes = λ v e. refl },
+  (
+    record { wants = refl; plain = refl; passes = λ v e. refl },
+    (
+      record { wants = refl; plain = refl; passes = λ v e. e },
+      (record { wants = refl; plain = refl; passes = λ v e. refl }, tt),
+    ),
+  ),
+)
+
+check_checks : AllByRecursion (Checks good) check_level.rules
+check_checks = (
+  record { wants = refl; plain = refl; passes = λ v e. refl },
+  (
+    record { wants = refl; plain = refl; passes = λ v e. refl },
+    (record { wants = refl; plain = refl; passes = λ v e. refl }, tt),
+  ),
+)
+
+show_checks : AllByRecursion (Checks good) show_level.rules
+show_checks = (
+  record { wants = refl; plain = refl; passes = λ v e. refl },
+  (record { wants = refl; plain = refl; passes = λ v e. refl }, tt),
+)
+
+gen_checks : AllByRecursion (Checks good) gen_level.rules
+gen_checks = (
+  record { wants = refl; plain = refl; passes = λ v e. e },
+  (
+    record { wants = refl; plain = refl; passes = λ v e. e },
+    (
+      record { wants = refl; plain = refl; passes = λ v e. refl },
+      (record { wants = refl; plain = refl; passes = λ v e. refl }, tt),
+    ),
+  ),
+)
+
+demo_checks : AllByRecursion (Checks good) demo_level.rules
+demo_checks = (
+  record { wants = refl; plain = refl; passes = λ v e. e },
+  (record { wants = refl; plain = refl; passes = λ v e. e }, tt),
+)
 
 -- a subcommand is there
 has_subcommand : (has : Bool) → check_kinds (not has && false) (not has && true) false ≡ [] → has ≡ true
 has_subcommand true e = refl
 has_subcommand false e = absurd (cc)
 
--- one file is there, or two
-one_there : (lp : Bool) → check_kinds false false (not lp || false) ≡ [] → lp ≡ true
+-- one, two or four arguments are there
+one_there : (a : Bool) → check_kinds false false (not a || false) ≡ [] → a ≡ true
 one_there true e = refl
 one_there false e = absurd (cc)
 
-two_there : (lp cert : Bool) → check_kinds false false (not lp || (not cert || false)) ≡ [] → (lp ≡ true) × (cert ≡ true)
+two_there : (a b : Bool) → check_kinds false false (not a || (not b || false)) ≡ [] → (a ≡ true) × (b ≡ true)
 two_there true true e = (refl, refl)
 two_there true false e = absurd (cc)
-two_there false cert e = absurd (cc)
+two_there false b e = absurd (cc)
 
--- what `solve` and `check` state
+four_there : (a b c d : Bool) → check_kinds false false (not a || (not b || (not c || (not d || false)))) ≡ []
+    → (a ≡ true) × (b ≡ true) × (c ≡ true) × (d ≡ true)
+four_there true true true true e = (refl, refl, refl, refl)
+four_there true true true false e = absurd (cc)
+four_there true true false d e = absurd (cc)
+four_there true false c d e = absurd (cc)
+four_there false b c d e = absurd (cc)
+
+-- a text that the parser of a number takes means one
+number_meant : (low high : ℕ) (text : Text) → is_unsigned_in low high text ≡ true
+    → IsNumber text low high (digits_value 10 (without_leading_plus text))
+number_meant low high text e =
+    let taken = accepts-Accepts false (Unsigned low high) text e in
+    record { digits = taken.0; value = refl; least = taken.2; most = taken.3 }
+
+-- the steps, where they are given
+steps_stated : (given : Option Text) → ((text : Text) → given ≡ Some text → is_unsigned_in 0 most_steps text ≡ true)
+    → (steps : Option ℕ) × MayHaveNumber given 0 most_steps steps
+steps_stated None passes = (None, refl)
+steps_stated (Some text) passes =
+    (Some (digits_value 10 (without_leading_plus text)), (text, refl, number_meant 0 most_steps text (passes text refl)))
+
+-- what each subcommand states
 solve_states : (words : List Text) → level_fault solve_level [] nothing_held words false [] ≡ []
     → (order : Order) × IsStated (Some (rows_at solve_level words)) order
 solve_states words e =
     let rows : List Row = rows_after solve_level.rules [] words in
-    let level = full_level solve_level words solve_wants e in
-    let lp = given_has (codes "lp") rows (one_there (is_given (codes "lp") rows) level.1) level.0 in (
-      Solve lp.0 (first_of (codes "cert") rows),
+    let level = full_level good solve_level words solve_checks e in
+    let lp = given_has good (codes "lp") rows (one_there (is_given (codes "lp") rows) level.1) level.0 in
+    let steps = steps_stated (first_of (codes "steps") rows) (λ text is. first_good good (codes "steps") rows text level.0 is) in (
+      Solve lp.0 (first_of (codes "dec") rows) steps.0 (first_of (codes "cert") rows),
       record {
         name = codes "solve";
         rows = rows;
         subcommand = refl;
-        values = (refl, lp.1, refl);
+        values = (refl, lp.1, refl, steps.1, refl);
       },
     )
 
@@ -65,31 +150,103 @@ check_states : (words : List Text) → level_fault check_level [] nothing_held w
     → (order : Order) × IsStated (Some (rows_at check_level words)) order
 check_states words e =
     let rows : List Row = rows_after check_level.rules [] words in
-    let level = full_level check_level words check_wants e in
+    let level = full_level good check_level words check_checks e in
     let both = two_there (is_given (codes "lp") rows) (is_given (codes "cert") rows) level.1 in
-    let lp = given_has (codes "lp") rows both.0 level.0 in
-    let cert = given_has (codes "cert") rows both.1 level.0 in (
-      Check lp.0 cert.0,
+    let lp = given_has good (codes "lp") rows both.0 level.0 in
+    let cert = given_has good (codes "cert") rows both.1 level.0 in (
+      Check lp.0 cert.0 (first_of (codes "dec") rows),
       record {
         name = codes "check";
         rows = rows;
         subcommand = refl;
-        values = (refl, lp.1, cert.1);
+        values = (refl, lp.1, cert.1, refl);
       },
     )
+
+show_states : (words : List Text) → level_fault show_level [] nothing_held words false [] ≡ []
+    → (order : Order) × IsStated (Some (rows_at show_level words)) order
+show_states words e =
+    let rows : List Row = rows_after show_level.rules [] words in
+    let level = full_level good show_level words show_checks e in
+    let lp = given_has good (codes "lp") rows (one_there (is_given (codes "lp") rows) level.1) level.0 in (
+      Show lp.0 (first_of (codes "dec") rows),
+      record {
+        name = codes "show";
+        rows = rows;
+        subcommand = refl;
+        values = (refl, lp.1, refl);
+      },
+    )
+
+gen_states : (words : List Text) → level_fault gen_level [] nothing_held words false [] ≡ []
+    → (order : Order) × IsStated (Some (rows_at gen_level words)) order
+gen_states words e =
+    let rows : List Row = rows_after gen_level.rules [] words in
+    let level = full_level good gen_level words gen_checks e in
+    let all = four_there (is_given (codes "seed") rows) (is_given (codes "size") rows) (is_given (codes "lp") rows) (is_given (codes "dec") rows) level.1 in
+    let seed = given_has good (codes "seed") rows all.0 level.0 in
+    let size = given_has good (codes "size") rows all.1 level.0 in
+    let lp = given_has good (codes "lp") rows all.2 level.0 in
+    let dec = given_has good (codes "dec") rows all.3 level.0 in (
+      Gen (digits_value 10 (without_leading_plus seed.0)) (digits_value 10 (without_leading_plus size.0)) lp.0 dec.0,
+      record {
+        name = codes "gen";
+        rows = rows;
+        subcommand = refl;
+        values = (
+          refl,
+          (seed.0, seed.1, number_meant 0 most_seed seed.0 seed.2),
+          (size.0, size.1, number_meant 1 most_size size.0 size.2),
+          lp.1,
+          dec.1,
+        );
+      },
+    )
+
+demo_states : (words : List Text) → level_fault demo_level [] nothing_held words false [] ≡ []
+    → (order : Order) × IsStated (Some (rows_at demo_level words)) order
+demo_states words e =
+    let rows : List Row = rows_after demo_level.rules [] words in
+    let level = full_level good demo_level words demo_checks e in
+    let both = two_there (is_given (codes "seed") rows) (is_given (codes "size") rows) level.1 in
+    let seed = given_has good (codes "seed") rows both.0 level.0 in
+    let size = given_has good (codes "size") rows both.1 level.0 in (
+      Demo (digits_value 10 (without_leading_plus seed.0)) (digits_value 10 (without_leading_plus size.0)),
+      record {
+        name = codes "demo";
+        rows = rows;
+        subcommand = refl;
+        values = (
+          refl,
+          (seed.0, seed.1, number_meant 0 most_seed seed.0 seed.2),
+          (size.0, size.1, number_meant 1 most_size size.0 size.2),
+        );
+      },
+    )
+
+-- the level that is met, by which subcommand's name answers
+abbrev met_level : (t u v w x : Bool) → Option Shape
+met_level t u v w x = if t then Some solve_level
+    else (if u then Some check_level else (if v then Some show_level else (if w then Some gen_level else (if x then Some demo_level else None))))
 
 -- the subcommand that was met states an order
 met_states : (stop : Option (Text × List Text)) → entered_fault line stop ≡ [] → is_some (entered line stop) ≡ true
     → (order : Order) × IsStated (entered line stop) order
 met_states None e has = absurd (cc)
-met_states (Some p) e has = pick (answers_to p.0 (label_of solve_level)) (answers_to p.0 (label_of check_level)) e has where
-  pick : (t u : Bool)
-      → option_map_or (λ (s : Shape). level_fault s [] nothing_held p.1 false []) (if t then Some solve_level else (if u then Some check_level else None)) [] ≡ []
-      → is_some (option_map (λ (s : Shape). rows_at s p.1) (if t then Some solve_level else (if u then Some check_level else None))) ≡ true
-      → (order : Order) × IsStated (option_map (λ (s : Shape). rows_at s p.1) (if t then Some solve_level else (if u then Some check_level else None))) order
-  pick true u e has = solve_states p.1 e
-  pick false true e has = check_states p.1 e
-  pick false false e has = absurd (cc)
+met_states (Some p) e has =
+    pick (answers_to p.0 (label_of solve_level)) (answers_to p.0 (label_of check_level)) (answers_to p.0 (label_of show_level))
+    (answers_to p.0 (label_of gen_level)) (answers_to p.0 (label_of demo_level)) e has
+  where
+    pick : (t u v w x : Bool)
+        → option_map_or (λ (s : Shape). level_fault s [] nothing_held p.1 false []) (met_level t u v w x) [] ≡ []
+        → is_some (option_map (λ (s : Shape). rows_at s p.1) (met_level t u v w x)) ≡ true
+        → (order : Order) × IsStated (option_map (λ (s : Shape). rows_at s p.1) (met_level t u v w x)) order
+    pick true u v w x e has = solve_states p.1 e
+    pick false true v w x e has = check_states p.1 e
+    pick false false true w x e has = show_states p.1 e
+    pick false false false true x e has = gen_states p.1 e
+    pick false false false false true e has = demo_states p.1 e
+    pick false false false false false e has = absurd (cc)
 
 -- words without fault give an order
 pub taken_gives : (words : List Text) → fault_of command_line words ≡ [] → (order : Order) × IsStated (subcommand_of command_line words) order

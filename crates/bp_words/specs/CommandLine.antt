@@ -1,29 +1,71 @@
 -- The command line: subcommands, one of which is required, without help or version words.
-use Rattle.std.specs.Prelude.{◌≡◌, [], ◌∷◌, Some, true, false, codes}
+use Rattle.std.specs.Prelude.{◌≡◌, ℕ, ◌-◌, ◌^◌, [], ◌∷◌, Some, true, false, codes}
 use Rattle.clap.specs.Words.{App, Rule, Shape, new_rule, app_of}
 use Rattle.clap.specs.Simple.{new_shape}
 use Rattle.clap.specs.declared.builder.command.Command.{Command}
 use Rattle.clap.specs.declared.builder.command.Command.TheViews.{out-Command}
+use Rattle.clap.specs.declared.builder.value_parser.ValueParser.TheVariants.{Unsigned}
 
 -- the LP file, by its place
 abbrev pub lp_word : Rule
 lp_word = record (new_rule (codes "lp")) { required = true }
 
+-- the file of the decomposition, behind `--dec`
+abbrev pub dec_option : Rule
+dec_option = record (new_rule (codes "dec")) { long = Some (codes "dec") }
+
 -- the file for the certificate, behind `--cert`
 abbrev pub cert_option : Rule
 cert_option = record (new_rule (codes "cert")) { long = Some (codes "cert") }
+
+-- the greatest number of steps, of a seed and of a size
+abbrev pub most_steps : ℕ
+most_steps = 2 ^ 60
+
+abbrev pub most_seed : ℕ
+most_seed = 2 ^ 64 - 1
+
+abbrev pub most_size : ℕ
+most_size = 1024
+
+-- the steps, behind `--steps`
+abbrev pub steps_option : Rule
+steps_option = record (new_rule (codes "steps")) { long = Some (codes "steps"); parser = Some (Unsigned 0 most_steps) }
+
+-- the seed and the size, by their places
+abbrev pub seed_word : Rule
+seed_word = record (new_rule (codes "seed")) { required = true; parser = Some (Unsigned 0 most_seed) }
+
+abbrev pub size_word : Rule
+size_word = record (new_rule (codes "size")) { required = true; parser = Some (Unsigned 1 most_size) }
+
+-- the decomposition's file, by its place
+abbrev pub dec_word : Rule
+dec_word = record (new_rule (codes "dec")) { required = true }
 
 -- the certificate's file, by its place
 abbrev pub cert_word : Rule
 cert_word = record (new_rule (codes "cert")) { required = true }
 
--- `solve LP [--cert FILE]`
+-- `solve LP [--dec FILE] [--steps N] [--cert FILE]`
 abbrev pub solve_words : Shape
-solve_words = record (new_shape (codes "solve")) { rules = lp_word ∷ cert_option ∷ [] }
+solve_words = record (new_shape (codes "solve")) { rules = lp_word ∷ dec_option ∷ steps_option ∷ cert_option ∷ [] }
 
--- `check LP CERT`
+-- `check LP CERT [--dec FILE]`
 abbrev pub check_words : Shape
-check_words = record (new_shape (codes "check")) { rules = lp_word ∷ cert_word ∷ [] }
+check_words = record (new_shape (codes "check")) { rules = lp_word ∷ cert_word ∷ dec_option ∷ [] }
+
+-- `show LP [--dec FILE]`
+abbrev pub show_words : Shape
+show_words = record (new_shape (codes "show")) { rules = lp_word ∷ dec_option ∷ [] }
+
+-- `gen SEED SIZE LP DEC`
+abbrev pub gen_words : Shape
+gen_words = record (new_shape (codes "gen")) { rules = seed_word ∷ size_word ∷ lp_word ∷ dec_word ∷ [] }
+
+-- `demo SEED SIZE`
+abbrev pub demo_words : Shape
+demo_words = record (new_shape (codes "demo")) { rules = seed_word ∷ size_word ∷ [] }
 
 -- the program itself
 abbrev pub program_words : Shape
@@ -34,9 +76,13 @@ program_words = record (new_shape (codes "bprice")) {
   subcommand_required = true;
 }
 
+-- the program with the subcommands that read texts
+abbrev pub reading_line : App
+reading_line = record { top = record program_words { is_leaf = false }; subs = solve_words ∷ check_words ∷ show_words ∷ [] }
+
 -- the whole command: the program with its subcommands
 abbrev pub command_line : App
-command_line = record { top = record program_words { is_leaf = false }; subs = solve_words ∷ check_words ∷ [] }
+command_line = record { top = record program_words { is_leaf = false }; subs = solve_words ∷ check_words ∷ show_words ∷ gen_words ∷ demo_words ∷ [] }
 
 -- a command reads words by a shape, and has no argument that its subcommands take over
 pub record IsShaped (command : Command) (shape : Shape) : Type 0 where

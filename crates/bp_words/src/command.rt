@@ -1,18 +1,38 @@
 // The command of the program, for the crate that reads words.
 ghost use Rattle.std.specs.Prelude.{◌≡◌, Some, true, false, codes, IfOk};
 ghost use Rattle.clap.specs.Words.{app_of, new_rule, rule_of};
-ghost use Rattle.bp_words.specs.CommandLine.{solve_words, check_words, program_words, command_line, IsShaped};
+ghost use Rattle.bp_words.specs.CommandLine.{solve_words, check_words, show_words, gen_words, demo_words, program_words, reading_line, command_line, IsShaped};
 
+use clap::builder::ValueParser;
 use clap::{Arg, Command};
 use std::alloc::{AllocError, Global};
+
+/// The greatest number of steps.
+pub const MOST_STEPS: u64 = 1 << 60;
+
+/// The greatest size.
+pub const MOST_SIZE: u64 = 1024;
 
 /// The command: its subcommands, one of which is required, without help or version words.
 pub fn make_command<'a>(alloc: Global) -> Result<Command<'a>, AllocError>
     ensures { IfOk result (λ command. app_of command ≡ command_line) }
 {
+    let make = gen_command(alloc)?;
+    let demo = demo_command(alloc)?;
+    reading_command(alloc)?.subcommand(make)?.subcommand(demo)
+}
+
+// The program with the subcommands that read texts.
+fn reading_command<'a>(alloc: Global) -> Result<Command<'a>, AllocError>
+    ensures { IfOk result (λ command. app_of command ≡ reading_line) }
+{
     let solve = solve_command(alloc)?;
     let check = check_command(alloc)?;
-    program(alloc).subcommand(solve)?.subcommand(check)
+    let show = show_command(alloc)?;
+    program(alloc)
+        .subcommand(solve)?
+        .subcommand(check)?
+        .subcommand(show)
 }
 
 // The program itself.
@@ -26,22 +46,82 @@ fn program<'a>(alloc: Global) -> Command<'a>
         .subcommand_required(true)
 }
 
-// `solve LP [--cert FILE]`
+// `solve LP [--dec FILE] [--steps N] [--cert FILE]`
 fn solve_command<'a>(alloc: Global) -> Result<Command<'a>, AllocError>
     ensures { IfOk result (λ command. IsShaped command solve_words) }
 {
     let lp = file_word(alloc, "lp");
+    let dec = file_option(alloc, "dec");
+    let steps = number_option(alloc, "steps", MOST_STEPS);
     let cert = file_option(alloc, "cert");
-    Command::new(alloc, "solve").arg(lp)?.arg(cert)
+    Command::new(alloc, "solve")
+        .arg(lp)?
+        .arg(dec)?
+        .arg(steps)?
+        .arg(cert)
 }
 
-// `check LP CERT`
+// `check LP CERT [--dec FILE]`
 fn check_command<'a>(alloc: Global) -> Result<Command<'a>, AllocError>
     ensures { IfOk result (λ command. IsShaped command check_words) }
 {
     let lp = file_word(alloc, "lp");
     let cert = file_word(alloc, "cert");
-    Command::new(alloc, "check").arg(lp)?.arg(cert)
+    let dec = file_option(alloc, "dec");
+    Command::new(alloc, "check").arg(lp)?.arg(cert)?.arg(dec)
+}
+
+// `show LP [--dec FILE]`
+fn show_command<'a>(alloc: Global) -> Result<Command<'a>, AllocError>
+    ensures { IfOk result (λ command. IsShaped command show_words) }
+{
+    let lp = file_word(alloc, "lp");
+    let dec = file_option(alloc, "dec");
+    Command::new(alloc, "show").arg(lp)?.arg(dec)
+}
+
+// `gen SEED SIZE LP DEC`
+fn gen_command<'a>(alloc: Global) -> Result<Command<'a>, AllocError>
+    ensures { IfOk result (λ command. IsShaped command gen_words) }
+{
+    let seed = number_word(alloc, "seed", 0, u64::MAX);
+    let size = number_word(alloc, "size", 1, MOST_SIZE);
+    let lp = file_word(alloc, "lp");
+    let dec = file_word(alloc, "dec");
+    Command::new(alloc, "gen")
+        .arg(seed)?
+        .arg(size)?
+        .arg(lp)?
+        .arg(dec)
+}
+
+// `demo SEED SIZE`
+fn demo_command<'a>(alloc: Global) -> Result<Command<'a>, AllocError>
+    ensures { IfOk result (λ command. IsShaped command demo_words) }
+{
+    let seed = number_word(alloc, "seed", 0, u64::MAX);
+    let size = number_word(alloc, "size", 1, MOST_SIZE);
+    Command::new(alloc, "demo").arg(seed)?.arg(size)
+}
+
+// A number that must be given, by its place.
+fn number_word<'a>(alloc: Global, id: &'a str, low: u64, high: u64) -> Arg<'a>
+    ensures rule { rule_of result ≡ record (new_rule id.entry.now) { required = true; parser = Some (ValueParser.Unsigned low high) } }
+    ensures local { result.global ≡ false }
+{
+    Arg::new(alloc, id)
+        .required(true)
+        .value_parser(ValueParser::unsigned(low, high))
+}
+
+// A number that may be given behind `--` and a word.
+fn number_option<'a>(alloc: Global, id: &'a str, high: u64) -> Arg<'a>
+    ensures rule { rule_of result ≡ record (new_rule id.entry.now) { long = Some id.entry.now; parser = Some (ValueParser.Unsigned 0 high) } }
+    ensures local { result.global ≡ false }
+{
+    Arg::new(alloc, id)
+        .long(id)
+        .value_parser(ValueParser::unsigned(0, high))
 }
 
 // A file that must be named, by its place.

@@ -9,10 +9,14 @@ use thiserror::Error;
 /// What a command line orders.
 #[derive(Drop)]
 pub enum Order {
-    /// Solve the LP file, and write a certificate where a file is named for it.
+    /// Solve the LP file by a decomposition, and write a certificate where a file is named for it.
     Solve {
         /// The LP file.
         lp: Text,
+        /// The decomposition's file, where there is one.
+        dec: Option<Text>,
+        /// After how many steps to stop, at most 2^60, where a number is given.
+        steps: Option<u64>,
         /// The file for the certificate.
         cert: Option<Text>,
     },
@@ -22,6 +26,33 @@ pub enum Order {
         lp: Text,
         /// The certificate's file.
         cert: Text,
+        /// The decomposition's file, where there is one.
+        dec: Option<Text>,
+    },
+    /// Show the sizes and the classes of the LP file and its decomposition.
+    Show {
+        /// The LP file.
+        lp: Text,
+        /// The decomposition's file, where there is one.
+        dec: Option<Text>,
+    },
+    /// Write the texts that the generator makes.
+    Gen {
+        /// The generator's seed.
+        seed: u64,
+        /// How many jobs there are, 1 to 1,024.
+        size: u32,
+        /// The LP file.
+        lp: Text,
+        /// The decomposition's file.
+        dec: Text,
+    },
+    /// Make the texts of the generator, solve them and check the certificate.
+    Demo {
+        /// The generator's seed.
+        seed: u64,
+        /// How many jobs there are, 1 to 1,024.
+        size: u32,
     },
 }
 

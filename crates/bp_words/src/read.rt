@@ -1,11 +1,11 @@
 // Reading the words.
-ghost use Rattle.std.specs.Prelude.{◌≡◌, ◌≢◌, [], map, length, string_bytes, Ok, Err, None, Some, codes, IfOk, IfErr, IfSome, IfNone};
+ghost use Rattle.std.specs.Prelude.{◌≡◌, ◌≢◌, ◌<◌, ◌^◌, ℕ, [], map, length, string_bytes, Ok, Err, None, Some, Option, option_map, codes, IfOk, IfErr, IfSome, IfNone};
 ghost use Rattle.clap.specs.Words.{app_of, fault_of, found_of, rows_of, first_of, kind_of, subcommand_rows_of};
 ghost use Rattle.bp_words.specs.CommandLine.{command_line};
-ghost use Rattle.bp_words.specs.Orders.{HasValues, IsStated, IsOrderOf};
+ghost use Rattle.bp_words.specs.Orders.{IsNumber, HasNumber, MayHaveNumber, HasValues, IsInRange, IsStated, IsOrderOf};
 ghost use Rattle.bp_words.specs.declared.order.Order.{Order};
 
-use crate::command::make_command;
+use crate::command::{MOST_SIZE, MOST_STEPS, make_command};
 use crate::order::{Order, WordFault};
 use crate::text::Text;
 use clap::ArgMatches;
@@ -13,9 +13,10 @@ use clap::error::ErrorKind;
 use std::alloc::{AllocError, Global};
 
 /// The order that words give, the program's name first. They are refused exactly where the command finds a fault in
-/// them, as the crate that reads words states for such a command, and the files are those that it states.
+/// them, as the crate that reads words states for such a command, and the files and numbers are those that it states.
 pub fn read_words(alloc: Global, words: &[String]) -> Result<Order, WordFault>
     ensures order { IfOk result (IsOrderOf (map string_bytes words.now)) }
+    ensures range { IfOk result IsInRange }
     ensures refused { result ≡ Err WordFault.Refused → fault_of command_line (map string_bytes words.now) ≢ [] }
 {
     let command = make_command(alloc)?;
@@ -38,6 +39,15 @@ fn stated_order(alloc: Global, matches: &ArgMatches) -> Result<Order, WordFault>
     if let Some(check) = matches.subcommand_matches("check") {
         return check_order(alloc, check);
     }
+    if let Some(show) = matches.subcommand_matches("show") {
+        return show_order(alloc, show);
+    }
+    if let Some(make) = matches.subcommand_matches("gen") {
+        return gen_order(alloc, make);
+    }
+    if let Some(demo) = matches.subcommand_matches("demo") {
+        return demo_order(demo);
+    }
     Err(WordFault::Refused)
 }
 
@@ -58,18 +68,15 @@ fn solve_order(alloc: Global, solve: &ArgMatches) -> Result<Order, WordFault>
         (order : Order) → HasValues (codes "solve") (rows_of (found_of solve.now)) order → ⊥ }
 {
     let lp = given(alloc, solve, "lp")?;
+    let dec = optional(alloc, solve, "dec")?;
+    let steps = optional_number(solve, "steps", 0, MOST_STEPS)?;
     let cert = optional(alloc, solve, "cert")?;
-    Ok(Order::Solve { lp, cert })
-}
-
-// The value of an argument, where it is given.
-fn optional(alloc: Global, matches: &ArgMatches, id: &str) -> Result<Option<Text>, AllocError>
-    ensures { IfOk result (λ text. first_of id.now (rows_of (found_of matches.now)) ≡ text) }
-{
-    match matches.get_str(id) {
-        Some(text) => Ok(Some(Text::from_str(alloc, text)?)),
-        None => Ok(None),
-    }
+    Ok(Order::Solve {
+        lp,
+        dec,
+        steps,
+        cert,
+    })
 }
 
 // The order to check.
@@ -80,7 +87,91 @@ fn check_order(alloc: Global, check: &ArgMatches) -> Result<Order, WordFault>
 {
     let lp = given(alloc, check, "lp")?;
     let cert = given(alloc, check, "cert")?;
-    Ok(Order::Check { lp, cert })
+    let dec = optional(alloc, check, "dec")?;
+    Ok(Order::Check { lp, cert, dec })
+}
+
+// The order to show.
+fn show_order(alloc: Global, show: &ArgMatches) -> Result<Order, WordFault>
+    ensures order { IfOk result (HasValues (codes "show") (rows_of (found_of show.now))) }
+    ensures refused { result ≡ Err WordFault.Refused →
+        (order : Order) → HasValues (codes "show") (rows_of (found_of show.now)) order → ⊥ }
+{
+    let lp = given(alloc, show, "lp")?;
+    let dec = optional(alloc, show, "dec")?;
+    Ok(Order::Show { lp, dec })
+}
+
+// The order to make texts.
+fn gen_order(alloc: Global, make: &ArgMatches) -> Result<Order, WordFault>
+    ensures order { IfOk result (HasValues (codes "gen") (rows_of (found_of make.now))) }
+    ensures refused { result ≡ Err WordFault.Refused →
+        (order : Order) → HasValues (codes "gen") (rows_of (found_of make.now)) order → ⊥ }
+{
+    let seed = number(make, "seed", 0, u64::MAX)?;
+    let size = number(make, "size", 1, MOST_SIZE)?;
+    let lp = given(alloc, make, "lp")?;
+    let dec = given(alloc, make, "dec")?;
+    Ok(Order::Gen {
+        seed,
+        size: size as u32,
+        lp,
+        dec,
+    })
+}
+
+// The order to make texts, solve them and check the certificate.
+fn demo_order(demo: &ArgMatches) -> Result<Order, WordFault>
+    ensures order { IfOk result (HasValues (codes "demo") (rows_of (found_of demo.now))) }
+    ensures refused { result ≡ Err WordFault.Refused →
+        (order : Order) → HasValues (codes "demo") (rows_of (found_of demo.now)) order → ⊥ }
+{
+    let seed = number(demo, "seed", 0, u64::MAX)?;
+    let size = number(demo, "size", 1, MOST_SIZE)?;
+    Ok(Order::Demo {
+        seed,
+        size: size as u32,
+    })
+}
+
+// The number of an argument.
+fn number(matches: &ArgMatches, id: &str, low: u64, high: u64) -> Result<u64, WordFault>
+    ensures number { IfOk result (HasNumber (first_of id.now (rows_of (found_of matches.now))) low high) }
+    ensures refused { result ≡ Err WordFault.Refused →
+        (n : ℕ) → HasNumber (first_of id.now (rows_of (found_of matches.now))) low high n → ⊥ }
+{
+    optional_number(matches, id, low, high)?.ok_or(WordFault::Refused)
+}
+
+// The number of an argument, where it is given.
+fn optional_number(
+    matches: &ArgMatches,
+    id: &str,
+    low: u64,
+    high: u64,
+) -> Result<Option<u64>, WordFault>
+    ensures number { IfOk result (MayHaveNumber (first_of id.now (rows_of (found_of matches.now))) low high) }
+    ensures refused { result ≡ Err WordFault.Refused →
+        (n : Option ℕ) → MayHaveNumber (first_of id.now (rows_of (found_of matches.now))) low high n → ⊥ }
+{
+    match value_of(matches, id) {
+        Some(text) => match number_in(text, low, high) {
+            Some(n) => Ok(Some(n)),
+            None => Err(WordFault::Refused),
+        },
+        None => Ok(None),
+    }
+}
+
+// The number that a text means, where it means one from `low` to `high`.
+fn number_in(text: &str, low: u64, high: u64) -> Option<u64>
+    ensures number { IfSome result (IsNumber text.now low high) }
+    ensures none { IfNone result ((n : ℕ) → IsNumber text.now low high n → ⊥) }
+{
+    match text.parse::<u64>() {
+        Ok(n) if low <= n && n <= high => Some(n),
+        _ => None,
+    }
 }
 
 // The value of an argument.
@@ -89,6 +180,23 @@ fn given(alloc: Global, matches: &ArgMatches, id: &str) -> Result<Text, WordFaul
     ensures refused { result ≡ Err WordFault.Refused → first_of id.now (rows_of (found_of matches.now)) ≡ None }
 {
     optional(alloc, matches, id)?.ok_or(WordFault::Refused)
+}
+
+// A copy of the value of an argument, where it is given.
+fn optional(alloc: Global, matches: &ArgMatches, id: &str) -> Result<Option<Text>, AllocError>
+    ensures { IfOk result (λ text. first_of id.now (rows_of (found_of matches.now)) ≡ text) }
+{
+    match value_of(matches, id) {
+        Some(text) => Ok(Some(Text::from_str(alloc, text)?)),
+        None => Ok(None),
+    }
+}
+
+// The value of an argument, where it is given.
+fn value_of<'a>(matches: &ArgMatches<'a>, id: &str) -> Option<&'a str>
+    ensures { option_map (λ s. s.now) result ≡ first_of id.now (rows_of (found_of matches.now)) }
+{
+    matches.get_str(id)
 }
 
 #[cfg(test)]

@@ -1,7 +1,8 @@
 //! The program: the top call over the system's files and the standard output.
 #![tactic(auto)]
 
-use bp_cli::{Ended, run};
+use bp_cli::run;
+use bp_front::Ended;
 use bp_real::{FileShelf, OutSink};
 use std::io::ErrorKind;
 use std::process::ExitCode;
@@ -22,7 +23,10 @@ fn main(rt: HostRuntime) -> ExitCode {
         Err(fault) if fault.kind() == ErrorKind::InvalidData => {
             run(rt.alloc(), &[], &mut shelf, &mut out)
         }
-        Err(_) => Ended { status: 9 },
+        Err(_) => Ended {
+            status: 9,
+            kept: None,
+        },
     };
     ExitCode::from(ended.status)
 }

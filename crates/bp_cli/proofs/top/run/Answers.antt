@@ -1,14 +1,21 @@
-use Rattle.std.proofs.Common.{rules, ◌≡◌, Option, None, refl, subst, sym}
-use Rattle.bp_shelf.specs.Shelf.{Files}
-use Rattle.bp_report.specs.Report.{words_refusal}
-use Rattle.bp_cli.specs.Running.{Asked, asked_by, Answers}
+use Rattle.std.proofs.Common.{refl, None}
+use Rattle.std.specs.Prelude.{map, string_bytes}
+use Rattle.bp_report.specs.Refusals.{words_refusal}
+use Rattle.bp_cli.specs.Running.{refused}
+use Rattle.bp_cli.proofs.Words.{order_answers, order_cut}
 use Rattle.bp_cli.proofs.top.run.Goals as goal
 
--- words that ask for nothing are refused
-refuses : (asked : Option Asked) (files : Files) → asked ≡ None → Answers asked files 2 words_refusal
-refuses asked files none = subst (λ (a : Option Asked). Answers a files 2 words_refusal) (sym none) (refl, refl)
+pub returns-in-Ok-clause-answered : goal.returns-in-Ok-clause-answered
+returns-in-Ok-clause-answered g c = λ told heard.
+    order_answers (map string_bytes c.args.words.now) c.in-Ok.order (g.F.Shelf.file c.args.shelf.now) c.obey.result.kept c.obey.result.status (g.O.Sink.taken c.args.out.now)
+    (g.O.Sink.taken c.obey.new.out) c.in-Ok.ensures.order (c.obey.ensures.answered told heard)
 
-pub returns-in-Refused-clause-cut_off : goal.returns-in-Refused-clause-cut_off
-returns-in-Refused-clause-cut_off g c = λ told_files told_bytes is_fault.
-    let printed = c.refuse_words.ensures.partly told_bytes is_fault in
-    (2, words_refusal, printed.0, refuses (asked_by c.args.words.now) _ (search rules), printed.1)
+pub returns-in-Ok-clause-cut_off : goal.returns-in-Ok-clause-cut_off
+returns-in-Ok-clause-cut_off g c = λ told heard.
+    order_cut (map string_bytes c.args.words.now) c.in-Ok.order (g.F.Shelf.file c.args.shelf.now) c.obey.result.status (g.O.Sink.taken c.args.out.now) (g.O.Sink.taken c.obey.new.out)
+    c.in-Ok.ensures.order (c.obey.ensures.cut_off told heard)
+
+pub returns-in-Err-Refused-clause-cut_off : goal.returns-in-Err-Refused-clause-cut_off
+returns-in-Err-Refused-clause-cut_off g c = λ told heard is_fault.
+    let printed = c.refuse_words.ensures.partly heard is_fault in
+    (None, 2, words_refusal, printed.0, refused (c.read_words.ensures.refused (rw c.in-Err-Refused.field-0-is at c.in-Err-Refused.is)) refl refl refl, printed.1)

@@ -1,0 +1,112 @@
+-- Words give one order.
+use Rattle.std.proofs.Common.{◌≡◌, ◌∙◌, refl, sym, ap, subst, ℕ, true, false, List, Option, Some, None}
+use Rattle.std.specs.Prelude.{codes}
+use Rattle.std.specs.Str.{bytes_eq}
+use Rattle.std.specs.Str.Parse.{digits_value, without_leading_plus}
+use Rattle.clap.specs.Words.{Row, Text, first_of}
+use Rattle.bp_words.specs.CommandLine.{most_steps, most_seed, most_size}
+use Rattle.bp_words.specs.Orders.{HasNumber, MayHaveNumber, HasValues, IsOrderOf}
+use Rattle.bp_words.specs.declared.order.Order.{Order}
+use Rattle.bp_words.specs.declared.order.Order.TheVariants.{Solve, Check, Show, Gen, Demo}
+
+-- a value that is there is one
+one_value : (given : Option Text) (t u : Text) → given ≡ Some t → given ≡ Some u → t ≡ u
+one_value given t u a b = cc
+
+one_given : (given : Option Text) (t u : Option Text) → given ≡ t → given ≡ u → t ≡ u
+one_given given t u a b = sym a ∙ b
+
+-- a value means one number
+one_number : (given : Option Text) (low high m n : ℕ) → HasNumber given low high m → HasNumber given low high n → m ≡ n
+one_number given low high m n a b =
+    a.2.value ∙ ap (λ (t : Text). digits_value 10 (without_leading_plus t)) (one_value given a.0 b.0 a.1 b.1) ∙ sym b.2.value
+
+there_is : (given : Option Text) (low high n : ℕ) → given ≡ None → HasNumber given low high n → ⊥
+there_is given low high n none has = absurd (cc)
+
+may_be_one : (given : Option Text) (low high : ℕ) (m n : Option ℕ) → MayHaveNumber given low high m → MayHaveNumber given low high n → m ≡ n
+may_be_one given low high None None a b = refl
+may_be_one given low high None (Some n) a b = absurd (there_is given low high n a b)
+may_be_one given low high (Some m) None a b = absurd (there_is given low high m b a)
+may_be_one given low high (Some m) (Some n) a b = ap (λ (k : ℕ). Some k) (one_number given low high m n a b)
+
+-- two names of a subcommand
+apart : {A : Type 0} (name s t : Text) → name ≡ s → name ≡ t → bytes_eq s s ≡ true → bytes_eq s t ≡ false → A
+apart name s t a b same other =
+    let both : true ≡ false = sym same ∙ ap (λ (u : Text). bytes_eq s u) (sym a ∙ b) ∙ other in
+    absurd (cc)
+
+solves : (a b : Text) (c d : Option Text) (m n : Option ℕ) (e f : Option Text) → a ≡ b → c ≡ d → m ≡ n → e ≡ f → Solve a c m e ≡ Solve b d n f
+solves a b c d m n e f p q r s = rw (p, q, r, s) refl
+
+checks : (a b c d : Text) (e f : Option Text) → a ≡ b → c ≡ d → e ≡ f → Check a c e ≡ Check b d f
+checks a b c d e f p q r = rw (p, q, r) refl
+
+shows : (a b : Text) (c d : Option Text) → a ≡ b → c ≡ d → Show a c ≡ Show b d
+shows a b c d p q = rw (p, q) refl
+
+makes : (i j k l : ℕ) (a b c d : Text) → i ≡ j → k ≡ l → a ≡ b → c ≡ d → Gen i k a c ≡ Gen j l b d
+makes i j k l a b c d p q r s = rw (p, q, r, s) refl
+
+demonstrates : (i j k l : ℕ) → i ≡ j → k ≡ l → Demo i k ≡ Demo j l
+demonstrates i j k l p q = rw (p, q) refl
+
+-- a subcommand with its rows states one order
+pub one_stated : (name : Text) (rows : List Row) (o p : Order) → HasValues name rows o → HasValues name rows p → o ≡ p
+one_stated name rows (Solve a b c d) (Solve e f g h) x y =
+    solves a e b f c g d h (one_value (first_of (codes "lp") rows) a e x.1 y.1) (one_given (first_of (codes "dec") rows) b f x.2 y.2)
+    (may_be_one (first_of (codes "steps") rows) 0 most_steps c g x.3 y.3) (one_given (first_of (codes "cert") rows) d h x.4 y.4)
+one_stated name rows (Solve a b c d) (Check e f g) x y = apart name (codes "solve") (codes "check") x.0 y.0 refl refl
+one_stated name rows (Solve a b c d) (Show e f) x y = apart name (codes "solve") (codes "show") x.0 y.0 refl refl
+one_stated name rows (Solve a b c d) (Gen e f g h) x y = apart name (codes "solve") (codes "gen") x.0 y.0 refl refl
+one_stated name rows (Solve a b c d) (Demo e f) x y = apart name (codes "solve") (codes "demo") x.0 y.0 refl refl
+one_stated name rows (Check a b c) (Solve e f g h) x y = apart name (codes "check") (codes "solve") x.0 y.0 refl refl
+one_stated name rows (Check a b c) (Check e f g) x y =
+    checks a e b f c g (one_value (first_of (codes "lp") rows) a e x.1 y.1) (one_value (first_of (codes "cert") rows) b f x.2 y.2)
+    (one_given (first_of (codes "dec") rows) c g x.3 y.3)
+one_stated name rows (Check a b c) (Show e f) x y = apart name (codes "check") (codes "show") x.0 y.0 refl refl
+one_stated name rows (Check a b c) (Gen e f g h) x y = apart name (codes "check") (codes "gen") x.0 y.0 refl refl
+one_stated name rows (Check a b c) (Demo e f) x y = apart name (codes "check") (codes "demo") x.0 y.0 refl refl
+one_stated name rows (Show a b) (Solve e f g h) x y = apart name (codes "show") (codes "solve") x.0 y.0 refl refl
+one_stated name rows (Show a b) (Check e f g) x y = apart name (codes "show") (codes "check") x.0 y.0 refl refl
+one_stated name rows (Show a b) (Show e f) x y =
+    shows a e b f (one_value (first_of (codes "lp") rows) a e x.1 y.1) (one_given (first_of (codes "dec") rows) b f x.2 y.2)
+one_stated name rows (Show a b) (Gen e f g h) x y = apart name (codes "show") (codes "gen") x.0 y.0 refl refl
+one_stated name rows (Show a b) (Demo e f) x y = apart name (codes "show") (codes "demo") x.0 y.0 refl refl
+one_stated name rows (Gen a b c d) (Solve e f g h) x y = apart name (codes "gen") (codes "solve") x.0 y.0 refl refl
+one_stated name rows (Gen a b c d) (Check e f g) x y = apart name (codes "gen") (codes "check") x.0 y.0 refl refl
+one_stated name rows (Gen a b c d) (Show e f) x y = apart name (codes "gen") (codes "show") x.0 y.0 refl refl
+one_stated name rows (Gen a b c d) (Gen e f g h) x y =
+    makes a e b f c g d h (one_number (first_of (codes "seed") rows) 0 most_seed a e x.1 y.1) (one_number (first_of (codes "size") rows) 1 most_size b f x.2 y.2)
+    (one_value (first_of (codes "lp") rows) c g x.3 y.3) (one_value (first_of (codes "dec") rows) d h x.4 y.4)
+one_stated name rows (Gen a b c d) (Demo e f) x y = apart name (codes "gen") (codes "demo") x.0 y.0 refl refl
+one_stated name rows (Demo a b) (Solve e f g h) x y = apart name (codes "demo") (codes "solve") x.0 y.0 refl refl
+one_stated name rows (Demo a b) (Check e f g) x y = apart name (codes "demo") (codes "check") x.0 y.0 refl refl
+one_stated name rows (Demo a b) (Show e f) x y = apart name (codes "demo") (codes "show") x.0 y.0 refl refl
+one_stated name rows (Demo a b) (Gen e f g h) x y = apart name (codes "demo") (codes "gen") x.0 y.0 refl refl
+one_stated name rows (Demo a b) (Demo e f) x y =
+    demonstrates a e b f (one_number (first_of (codes "seed") rows) 0 most_seed a e x.1 y.1) (one_number (first_of (codes "size") rows) 1 most_size b f x.2 y.2)
+
+-- what is met is met with one name and rows
+one_met : (met : Option (Text × List Row)) (p q : Text × List Row) → met ≡ Some p → met ≡ Some q → p ≡ q
+one_met met p q a b = cc
+
+-- words give one order
+pub one_order : (words : List Text) (o p : Order) → IsOrderOf words o → IsOrderOf words p → o ≡ p
+one_order words o p x y =
+    let same : (x.stated.name, x.stated.rows) ≡ (y.stated.name, y.stated.rows) =
+    one_met _ (x.stated.name, x.stated.rows) (y.stated.name, y.stated.rows) x.stated.subcommand y.stated.subcommand in
+    one_stated y.stated.name y.stated.rows o p (subst (λ (s : Text × List Row). HasValues s.0 s.1 o) same x.stated.values) y.stated.values
+
+-- an order with its parts as other values that are the same
+pub as_solve : (order : Order) (a b : Text) (c d : Option Text) (m : Option ℕ) (e f : Option Text) → order ≡ Solve b d m f → a ≡ b → c ≡ d → e ≡ f → Solve a c m e ≡ order
+as_solve order a b c d m e f is p q r = solves a b c d m m e f p q refl r ∙ sym is
+
+pub as_check : (order : Order) (a b c d : Text) (e f : Option Text) → order ≡ Check b d f → a ≡ b → c ≡ d → e ≡ f → Check a c e ≡ order
+as_check order a b c d e f is p q r = checks a b c d e f p q r ∙ sym is
+
+pub as_show : (order : Order) (a b : Text) (c d : Option Text) → order ≡ Show b d → a ≡ b → c ≡ d → Show a c ≡ order
+as_show order a b c d is p q = shows a b c d p q ∙ sym is
+
+pub as_gen : (order : Order) (i k : ℕ) (a b c d : Text) → order ≡ Gen i k b d → a ≡ b → c ≡ d → Gen i k a c ≡ order
+as_gen order i k a b c d is p q = makes i i k k a b c d refl refl p q ∙ sym is

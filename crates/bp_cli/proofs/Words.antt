@@ -1,0 +1,79 @@
+-- What is right for the order that words give is right for the words, and no other status is.
+use Rattle.std.proofs.Common.{◌≡◌, ◌≢◌, refl, subst, ℕ, List, [], Option, Some, None}
+use Rattle.bp_shelf.specs.Shelf.{Files}
+use Rattle.clap.specs.Words.{fault_of}
+use Rattle.branch_tree.specs.declared.outcome.Outcome.{Outcome}
+use Rattle.bp_words.specs.CommandLine.{command_line}
+use Rattle.bp_words.specs.Orders.{IsOrderOf}
+use Rattle.bp_words.specs.declared.order.Order.{Order}
+use Rattle.bp_words.specs.declared.order.Order.TheVariants.{Solve, Check, Show, Gen, Demo}
+use Rattle.bp_front.specs.Answers.{AnswersBy, IsOnly, CutsOff}
+use Rattle.bp_cli.specs.Running.{Answers, refused, ordered, AnswersOrder, OfOrder, HasWritten}
+use Rattle.cmd_gen.specs.Generates.{untouched}
+use Rattle.bp_cli.proofs.OneOrder.{one_order}
+
+-- an answer of the order
+pub order_answers : (words : List (List ℕ)) (order : Order) (files : Files) (kept : Option Outcome) (status : ℕ) (before now : List ℕ) → IsOrderOf words order
+    → AnswersBy (AnswersOrder order files kept) status before now → AnswersBy (Answers words files kept) status before now
+order_answers words order files kept status before now is answers = λ no_read no_write no_want.
+    let answer = answers no_read no_write no_want in
+    (answer.0, ordered order is answer.1, answer.2)
+
+-- no other status is right
+pub order_only : (words : List (List ℕ)) (order : Order) (files : Files) (kept : Option Outcome) (status : ℕ) → IsOrderOf words order
+    → IsOnly (AnswersOrder order files kept) status → IsOnly (Answers words files kept) status
+order_only words order files kept status is only = λ no_read no_write no_want meant report right. by meant report (only no_read no_write no_want) right
+  where
+    by : (meant : ℕ) (report : List ℕ) → ((m : ℕ) (r : List ℕ) → AnswersOrder order files kept m r → status ≡ m) → Answers words files kept meant report → status ≡ meant
+    by meant report each (refused fault none two printed) = absurd (fault is.taken)
+    by meant report each (ordered other other_is right) =
+        each meant report (subst (λ (o : Order). AnswersOrder o files kept meant report) (one_order words other order other_is is) right)
+
+-- a beginning of an answer
+pub order_cut : (words : List (List ℕ)) (order : Order) (files : Files) (status : ℕ) (before now : List ℕ) → IsOrderOf words order
+    → CutsOff (AnswersOrder order files) status before now → CutsOff (Answers words files) status before now
+order_cut words order files status before now is cuts = λ is_fault.
+    let cut = cuts is_fault in
+    (cut.0, cut.1, cut.2, cut.3, ordered order is cut.4, cut.5)
+
+-- what holds of the order of the words
+pub of_order : (words : List (List ℕ)) (order : Order) (Holds : Order → Type 0) → IsOrderOf words order → Holds order → OfOrder words Holds
+of_order words order Holds is holds = λ other other_is. subst Holds (one_order words order other is other_is) holds
+
+-- words that are no command line give no order
+pub no_order : (words : List (List ℕ)) (Holds : Order → Type 0) → fault_of command_line words ≢ [] → OfOrder words Holds
+no_order words Holds fault = λ other other_is. absurd (fault other_is.taken)
+
+-- words that are refused
+pub refused_only : (words : List (List ℕ)) (files : Files) (status : ℕ) → fault_of command_line words ≢ [] → (status ≢ 8 → status ≢ 9 → status ≡ 2)
+    → IsOnly (Answers words files None) status
+refused_only words files status fault two = λ no_read no_write no_want meant report right. by meant report right (two no_write no_want)
+  where
+    by : (meant : ℕ) (report : List ℕ) → Answers words files None meant report → status ≡ 2 → status ≡ meant
+    by meant report (refused _ none is printed) is_two = cc
+    by meant report (ordered order is right) is_two = absurd (fault is.taken)
+
+-- an order that was not begun left nothing
+pub nothing_written : (files : Files) (order : Order) → HasWritten order files files None 9
+nothing_written files (Solve lp dec steps None) = (tt, refl, λ _. refl)
+nothing_written files (Solve lp dec steps (Some cert)) = (tt, λ other apart. refl, λ _. refl)
+nothing_written files (Check lp cert dec) = refl
+nothing_written files (Show lp dec) = refl
+nothing_written files (Gen seed size lp dec) = untouched refl refl
+nothing_written files (Demo seed size) = refl
+
+-- answers of an order that keeps nothing
+pub kept_answers : (kept : Option Outcome) (Right : ℕ → List ℕ → Type 0) (status : ℕ) (before now : List ℕ) → kept ≡ None → AnswersBy Right status before now
+    → AnswersBy (λ s r. (kept ≡ None) × Right s r) status before now
+kept_answers kept Right status before now none answers = λ no_read no_write no_want.
+    let answer = answers no_read no_write no_want in
+    (answer.0, (none, answer.1), answer.2)
+
+pub kept_only : (kept : Option Outcome) (Right : ℕ → List ℕ → Type 0) (status : ℕ) → IsOnly Right status → IsOnly (λ s r. (kept ≡ None) × Right s r) status
+kept_only kept Right status only = λ no_read no_write no_want meant report right. only no_read no_write no_want meant report right.1
+
+pub kept_cut : (Right : ℕ → List ℕ → Type 0) (status : ℕ) (before now : List ℕ) → CutsOff (λ _. Right) status before now
+    → CutsOff (λ kept s r. (kept ≡ None) × Right s r) status before now
+kept_cut Right status before now cuts = λ is_fault.
+    let cut = cuts is_fault in
+    (None, cut.1, cut.2, cut.3, (refl, cut.4), cut.5)

@@ -1,0 +1,93 @@
+use Rattle.std.proofs.Common.{sym, subst}
+use Rattle.std.specs.Option.{option_map}
+use Rattle.bp_words.specs.declared.order.Order.{Order}
+use Rattle.bp_front.specs.Answers.{AnswersBy, IsOnly, CutsOff}
+use Rattle.cmd_check.specs.Checks.{AnswersCheck}
+use Rattle.cmd_show.specs.Shows.{AnswersShow}
+use Rattle.bp_cli.specs.Running.{AnswersOrder}
+use Rattle.bp_cli.proofs.OneOrder.{as_solve, as_check, as_show, as_gen}
+use Rattle.bp_cli.proofs.Words.{kept_answers, kept_only, kept_cut}
+use Rattle.bp_cli.proofs.top.obey.Goals as goal
+
+pub returns-in-Solve-clause-answered : goal.returns-in-Solve-clause-answered
+returns-in-Solve-clause-answered g c = λ told heard.
+    subst (λ (o : Order). AnswersBy (AnswersOrder o (g.F.Shelf.file c.args.shelf.now) c.solve.result.kept) c.solve.result.status (g.O.Sink.taken c.args.out.now)
+    (g.O.Sink.taken c.solve.new.out)) (as_solve c.args.order.now c.as_str.result.now c.in-Solve.lp (option_map (λ name. name.now) c.named.result) c.in-Solve.dec c.in-Solve.steps (option_map (λ name. name.now) c.named-in-Solve.result)
+    c.in-Solve.cert c.in-Solve.is c.as_str.ensures c.named.ensures c.named-in-Solve.ensures)
+    (c.solve.ensures.answered told heard)
+
+pub returns-in-Solve-clause-exact : goal.returns-in-Solve-clause-exact
+returns-in-Solve-clause-exact g c = λ told.
+    subst (λ (o : Order). IsOnly (AnswersOrder o (g.F.Shelf.file c.args.shelf.now) c.solve.result.kept) c.solve.result.status) (as_solve c.args.order.now c.as_str.result.now c.in-Solve.lp (option_map (λ name. name.now) c.named.result) c.in-Solve.dec c.in-Solve.steps (option_map (λ name. name.now) c.named-in-Solve.result)
+    c.in-Solve.cert c.in-Solve.is c.as_str.ensures c.named.ensures c.named-in-Solve.ensures)
+    (c.solve.ensures.exact told)
+
+pub returns-in-Solve-clause-cut_off : goal.returns-in-Solve-clause-cut_off
+returns-in-Solve-clause-cut_off g c = λ told heard.
+    subst (λ (o : Order). CutsOff (AnswersOrder o (g.F.Shelf.file c.args.shelf.now)) c.solve.result.status (g.O.Sink.taken c.args.out.now) (g.O.Sink.taken c.solve.new.out)) (as_solve c.args.order.now c.as_str.result.now c.in-Solve.lp (option_map (λ name. name.now) c.named.result) c.in-Solve.dec c.in-Solve.steps (option_map (λ name. name.now) c.named-in-Solve.result)
+    c.in-Solve.cert c.in-Solve.is c.as_str.ensures c.named.ensures c.named-in-Solve.ensures)
+    (c.solve.ensures.cut_off told heard)
+
+pub returns-in-Check-clause-answered : goal.returns-in-Check-clause-answered
+returns-in-Check-clause-answered g c = λ told heard.
+    subst (λ (o : Order). AnswersBy (AnswersOrder o (g.F.Shelf.file c.args.shelf.now) c.check.result.kept) c.check.result.status (g.O.Sink.taken c.args.out.now)
+    (g.O.Sink.taken c.check.new.out)) (as_check c.args.order.now c.as_str-in-Check.result.now c.in-Check.lp c.as_str-in-Check-2.result.now c.in-Check.cert (option_map (λ name. name.now) c.named-in-Check.result)
+    c.in-Check.dec c.in-Check.is c.as_str-in-Check.ensures c.as_str-in-Check-2.ensures c.named-in-Check.ensures)
+    (kept_answers c.check.result.kept
+    (AnswersCheck (g.F.Shelf.file c.args.shelf.now) c.as_str-in-Check.result.now c.as_str-in-Check-2.result.now (option_map (λ name. name.now) c.named-in-Check.result))
+    c.check.result.status _ _ c.check.ensures.kept (c.check.ensures.answered told heard))
+
+pub returns-in-Check-clause-exact : goal.returns-in-Check-clause-exact
+returns-in-Check-clause-exact g c = λ told.
+    subst (λ (o : Order). IsOnly (AnswersOrder o (g.F.Shelf.file c.args.shelf.now) c.check.result.kept) c.check.result.status) (as_check c.args.order.now c.as_str-in-Check.result.now c.in-Check.lp c.as_str-in-Check-2.result.now c.in-Check.cert (option_map (λ name. name.now) c.named-in-Check.result)
+    c.in-Check.dec c.in-Check.is c.as_str-in-Check.ensures c.as_str-in-Check-2.ensures c.named-in-Check.ensures)
+    (kept_only c.check.result.kept _ c.check.result.status (c.check.ensures.exact told))
+
+pub returns-in-Check-clause-cut_off : goal.returns-in-Check-clause-cut_off
+returns-in-Check-clause-cut_off g c = λ told heard.
+    subst (λ (o : Order). CutsOff (AnswersOrder o (g.F.Shelf.file c.args.shelf.now)) c.check.result.status (g.O.Sink.taken c.args.out.now) (g.O.Sink.taken c.check.new.out)) (as_check c.args.order.now c.as_str-in-Check.result.now c.in-Check.lp c.as_str-in-Check-2.result.now c.in-Check.cert (option_map (λ name. name.now) c.named-in-Check.result)
+    c.in-Check.dec c.in-Check.is c.as_str-in-Check.ensures c.as_str-in-Check-2.ensures c.named-in-Check.ensures)
+    (kept_cut _ c.check.result.status _ _ (c.check.ensures.cut_off told heard))
+
+pub returns-in-Show-clause-answered : goal.returns-in-Show-clause-answered
+returns-in-Show-clause-answered g c = λ told heard.
+    subst (λ (o : Order). AnswersBy (AnswersOrder o (g.F.Shelf.file c.args.shelf.now) c.show.result.kept) c.show.result.status (g.O.Sink.taken c.args.out.now)
+    (g.O.Sink.taken c.show.new.out)) (as_show c.args.order.now c.as_str-in-Show.result.now c.in-Show.lp (option_map (λ name. name.now) c.named-in-Show.result) c.in-Show.dec
+    c.in-Show.is c.as_str-in-Show.ensures c.named-in-Show.ensures)
+    (kept_answers c.show.result.kept
+    (AnswersShow (g.F.Shelf.file c.args.shelf.now) c.as_str-in-Show.result.now (option_map (λ name. name.now) c.named-in-Show.result))
+    c.show.result.status _ _ c.show.ensures.kept (c.show.ensures.answered told heard))
+
+pub returns-in-Show-clause-exact : goal.returns-in-Show-clause-exact
+returns-in-Show-clause-exact g c = λ told.
+    subst (λ (o : Order). IsOnly (AnswersOrder o (g.F.Shelf.file c.args.shelf.now) c.show.result.kept) c.show.result.status) (as_show c.args.order.now c.as_str-in-Show.result.now c.in-Show.lp (option_map (λ name. name.now) c.named-in-Show.result) c.in-Show.dec
+    c.in-Show.is c.as_str-in-Show.ensures c.named-in-Show.ensures)
+    (kept_only c.show.result.kept _ c.show.result.status (c.show.ensures.exact told))
+
+pub returns-in-Show-clause-cut_off : goal.returns-in-Show-clause-cut_off
+returns-in-Show-clause-cut_off g c = λ told heard.
+    subst (λ (o : Order). CutsOff (AnswersOrder o (g.F.Shelf.file c.args.shelf.now)) c.show.result.status (g.O.Sink.taken c.args.out.now) (g.O.Sink.taken c.show.new.out)) (as_show c.args.order.now c.as_str-in-Show.result.now c.in-Show.lp (option_map (λ name. name.now) c.named-in-Show.result) c.in-Show.dec
+    c.in-Show.is c.as_str-in-Show.ensures c.named-in-Show.ensures)
+    (kept_cut _ c.show.result.status _ _ (c.show.ensures.cut_off told heard))
+
+pub returns-in-Gen-clause-cut_off : goal.returns-in-Gen-clause-cut_off
+returns-in-Gen-clause-cut_off g c = λ told heard.
+    subst (λ (o : Order). CutsOff (AnswersOrder o (g.F.Shelf.file c.args.shelf.now)) c.generate.result.status (g.O.Sink.taken c.args.out.now) (g.O.Sink.taken c.generate.new.out)) (as_gen c.args.order.now c.in-Gen.seed c.in-Gen.size c.as_str-in-Gen.result.now c.in-Gen.lp c.as_str-in-Gen-2.result.now
+    c.in-Gen.dec c.in-Gen.is c.as_str-in-Gen.ensures c.as_str-in-Gen-2.ensures)
+    (kept_cut _ c.generate.result.status _ _ (c.generate.ensures.cut_off heard))
+
+pub returns-in-Demo-clause-answered : goal.returns-in-Demo-clause-answered
+returns-in-Demo-clause-answered g c = λ told heard.
+    subst (λ (o : Order). AnswersBy (AnswersOrder o (g.F.Shelf.file c.args.shelf.now) c.demonstrate.result.kept) c.demonstrate.result.status (g.O.Sink.taken c.args.out.now)
+    (g.O.Sink.taken c.demonstrate.new.out)) (sym c.in-Demo.is) (c.demonstrate.ensures.answered heard)
+
+pub returns-in-Demo-clause-exact : goal.returns-in-Demo-clause-exact
+returns-in-Demo-clause-exact g c = λ told.
+    subst (λ (o : Order). IsOnly (AnswersOrder o (g.F.Shelf.file c.args.shelf.now) c.demonstrate.result.kept) c.demonstrate.result.status) (sym c.in-Demo.is) c.demonstrate.ensures.exact
+
+pub returns-in-Demo-clause-causes : goal.returns-in-Demo-clause-causes
+returns-in-Demo-clause-causes g c = c.demonstrate.ensures.causes (g.F.Shelf.read_faults c.args.shelf.now) (g.F.Shelf.write_faults c.args.shelf.now)
+
+pub returns-in-Demo-clause-cut_off : goal.returns-in-Demo-clause-cut_off
+returns-in-Demo-clause-cut_off g c = λ told heard.
+    subst (λ (o : Order). CutsOff (AnswersOrder o (g.F.Shelf.file c.args.shelf.now)) c.demonstrate.result.status (g.O.Sink.taken c.args.out.now) (g.O.Sink.taken c.demonstrate.new.out)) (sym c.in-Demo.is) (c.demonstrate.ensures.cut_off heard)

@@ -1,0 +1,5 @@
+pub mod Fronts
+pub mod Comes
+pub mod Unique
+pub mod OneFront
+pub mod Lifts

@@ -1,0 +1,5 @@
+pub mod Reading
+pub mod Front
+pub mod Halts
+pub mod Endings
+pub mod Answers

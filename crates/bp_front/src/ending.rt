@@ -1,0 +1,63 @@
+// How a run ends: its status, what it keeps, and what it prints.
+ghost use Rattle.std.specs.Prelude.{◌≡◌, ◌≢◌, ◌⊎◌, ◌++◌, ◌<◌, ℕ, IsTrue, take, None};
+ghost use Rattle.bp_shelf.specs.Shelf.{Rose};
+ghost use Rattle.bp_front.specs.Endings.{status_of};
+
+use bp_shelf::{ShelfFault, Sink};
+use branch_tree::Outcome;
+
+/// How a run ended: the status that the program ends with, and the outcome of a search, where one was printed.
+#[derive(Drop)]
+pub struct Ended {
+    pub status: u8,
+    pub kept: Option<Outcome>,
+}
+
+/// A report with the status that it is printed under.
+#[derive(Drop)]
+pub struct Reply {
+    pub status: u8,
+    pub report: Vec<u8>,
+}
+
+/// An end of this status with nothing kept.
+pub fn stopped(status: u8) -> Ended
+    ensures status { result.status ≡ status }
+    ensures kept { result.kept ≡ None }
+{
+    Ended { status, kept: None }
+}
+
+/// The end of a run after a read that failed.
+pub fn stopped_by(fault: ShelfFault) -> Ended
+    ensures status { result.status ≡ status_of fault }
+    ensures kept { result.kept ≡ None }
+{
+    match fault {
+        ShelfFault::Failed => stopped(7),
+        ShelfFault::NoMemory => stopped(9),
+        ShelfFault::Missing => stopped(11),
+    }
+}
+
+/// Prints a report by one put, and ends with its status and with what is kept. A fault of the sink replaces the status,
+/// and then nothing is kept.
+pub fn print<O: Sink>(out: &mut O, reply: &Reply, kept: Option<Outcome>) -> Ended
+    requires { reply.now.status ≢ 8 }
+    ensures status { (result.status ≡ reply.now.status) ⊎ (result.status ≡ 8) }
+    ensures kept { result.status ≢ 8 → result.kept ≡ kept }
+    ensures none_kept { result.status ≡ 8 → result.kept ≡ None }
+    ensures printed { IsTrue (O.tells out.old) → result.status ≢ 8 → O.taken out.new ≡ O.taken out.old ++ reply.now.report.items }
+    ensures partly { IsTrue (O.tells out.old) → result.status ≡ 8 →
+        (count : ℕ) × (O.taken out.new ≡ O.taken out.old ++ take count reply.now.report.items) }
+    ensures fault { result.status ≡ 8 → Rose (O.faults out.old) (O.faults out.new) }
+    ensures quiet { result.status ≢ 8 → O.faults out.new ≡ O.faults out.old }
+{
+    match out.put(&reply.report) {
+        Ok(()) => Ended {
+            status: reply.status,
+            kept,
+        },
+        Err(_) => stopped(8),
+    }
+}

@@ -1,0 +1,113 @@
+-- The bytes of the reports on words and texts that are refused.
+use Rattle.std.specs.Prelude.{ℕ, ◌<◌, List, [], ◌++◌, length, get_or, Option, Some, None, codes}
+use Rattle.bp_model.specs.Named.{NamedProgram}
+use Rattle.lp_token.specs.declared.LpKind.{LpKind}
+use Rattle.lp_token.specs.declared.LpKind.TheVariants as lp
+use Rattle.lp_token.specs.declared.fault.LpFault.TheVariants as lp_fault
+use Rattle.dec_read.specs.declared.fault.DecKind.{DecKind}
+use Rattle.dec_read.specs.declared.fault.DecKind.TheVariants as dec
+use Rattle.dec_read.specs.declared.fault.DecFault.TheVariants as dec_fault
+use Rattle.cert_text.specs.declared.fault.CertKind.{CertKind}
+use Rattle.cert_text.specs.declared.fault.CertKind.TheVariants as cert
+use Rattle.cert_text.specs.declared.fault.CertFault.TheVariants as cert_fault
+use Rattle.block_form.specs.declared.fault.BlockFault.{BlockFault}
+use Rattle.block_form.specs.declared.fault.BlockFault.TheVariants as block
+use Rattle.bp_report.specs.Report.{fault_line}
+use Rattle.bp_report.specs.declared.refused.Refusal.{Refusal}
+use Rattle.bp_report.specs.declared.refused.Refusal.TheVariants.{Words, Lp, Dec, Cert, Blocks}
+
+-- the report on words that are no command line
+abbrev pub words_refusal : List ℕ
+words_refusal = codes "refused words\n"
+
+-- a kind of fault of an LP text, as reports name it
+abbrev pub lp_kind_name : LpKind → List ℕ
+lp_kind_name lp.BadByte = codes "bad-byte"
+lp_kind_name lp.NotWhole = codes "not-whole"
+lp_kind_name lp.TooLarge = codes "too-large"
+lp_kind_name lp.Syntax = codes "syntax"
+lp_kind_name lp.Feature = codes "feature"
+lp_kind_name lp.LongName = codes "long-name"
+lp_kind_name lp.RowTwice = codes "row-twice"
+lp_kind_name lp.NoEnd = codes "no-end"
+lp_kind_name lp.Unbounded = codes "unbounded"
+lp_kind_name lp.Continuous = codes "continuous"
+lp_kind_name lp.Crossed = codes "crossed"
+lp_kind_name lp.Activity = codes "activity"
+lp_kind_name lp.Limit = codes "limit"
+
+-- a kind of fault of the text of a decomposition
+abbrev pub dec_kind_name : DecKind → List ℕ
+dec_kind_name dec.BadByte = codes "bad-byte"
+dec_kind_name dec.Syntax = codes "syntax"
+dec_kind_name dec.Presolved = codes "presolved"
+dec_kind_name dec.NoNblocks = codes "no-nblocks"
+dec_kind_name dec.BlockNumber = codes "block-number"
+dec_kind_name dec.UnknownRow = codes "unknown-row"
+dec_kind_name dec.RowTwice = codes "row-twice"
+dec_kind_name dec.Unassigned = codes "unassigned"
+dec_kind_name dec.UnknownVar = codes "unknown-var"
+dec_kind_name dec.LinkingList = codes "linking-list"
+dec_kind_name dec.Limit = codes "limit"
+
+-- a kind of fault of the text of a certificate
+abbrev pub cert_kind_name : CertKind → List ℕ
+cert_kind_name cert.Syntax = codes "syntax"
+cert_kind_name cert.TooLarge = codes "too-large"
+cert_kind_name cert.Number = codes "number"
+cert_kind_name cert.Length = codes "length"
+cert_kind_name cert.Depth = codes "depth"
+cert_kind_name cert.Limit = codes "limit"
+
+-- the report on an LP text, on the text of a decomposition and on that of a certificate with a fault
+abbrev pub lp_refusal : (line : ℕ) → LpKind → List ℕ
+lp_refusal line kind = fault_line (codes "refused lp ") line (lp_kind_name kind)
+
+abbrev pub dec_refusal : (line : ℕ) → DecKind → List ℕ
+dec_refusal line kind = fault_line (codes "refused dec ") line (dec_kind_name kind)
+
+abbrev pub cert_refusal : (line : ℕ) → CertKind → List ℕ
+cert_refusal line kind = fault_line (codes "refused cert ") line (cert_kind_name kind)
+
+-- the line on a linking variable with two rows of different blocks, and on a misplaced variable
+abbrev pub linking_line : (var row1 row2 : List ℕ) → List ℕ
+linking_line var row1 row2 = codes "refused blocks linking " ++ var ++ codes " " ++ row1 ++ codes " " ++ row2 ++ codes "\n"
+
+abbrev pub var_place_line : (var : List ℕ) → List ℕ
+var_place_line var = codes "refused blocks var-place " ++ var ++ codes "\n"
+
+-- the report on a decomposition whose blocks are refused: the linking variable with two rows of different blocks, or the misplaced variable, by
+-- their names; want of memory has no report
+abbrev pub blocks_refusal : NamedProgram → BlockFault → List ℕ
+blocks_refusal m (block.Linking var row1 row2) =
+    linking_line (get_or m.names var []) (get_or m.row_names row1 []) (get_or m.row_names row2 [])
+blocks_refusal m (block.VarPlace var) = var_place_line (get_or m.names var [])
+blocks_refusal m block.NoMemory = []
+
+-- the variables and rows that a fault names are there
+abbrev pub HasNamed : NamedProgram → BlockFault → Type 0
+HasNamed m (block.Linking var row1 row2) =
+    (var < length m.program.spans) × (row1 < length m.program.rows) × (row2 < length m.program.rows)
+HasNamed m (block.VarPlace var) = var < length m.program.spans
+HasNamed m block.NoMemory = Unit {0}
+
+-- the names that a refusal tells are at hand
+abbrev pub CanName : Option NamedProgram → Refusal → Type 0
+CanName (Some m) (Blocks fault) = HasNamed m fault
+CanName None (Blocks fault) = ⊥
+CanName m Words = Unit {0}
+CanName m (Lp fault) = Unit {0}
+CanName m (Dec fault) = Unit {0}
+CanName m (Cert fault) = Unit {0}
+
+-- the report on what is refused; want of memory has none
+abbrev pub refusal_report : Option NamedProgram → Refusal → List ℕ
+refusal_report m Words = words_refusal
+refusal_report m (Lp (lp_fault.At line kind)) = lp_refusal line kind
+refusal_report m (Lp lp_fault.NoMemory) = []
+refusal_report m (Dec (dec_fault.At line kind)) = dec_refusal line kind
+refusal_report m (Dec dec_fault.NoMemory) = []
+refusal_report m (Cert (cert_fault.At line kind)) = cert_refusal line kind
+refusal_report m (Cert cert_fault.NoMemory) = []
+refusal_report (Some m) (Blocks fault) = blocks_refusal m fault
+refusal_report None (Blocks fault) = []

@@ -1,0 +1,119 @@
+// The reports of checked certificates.
+ghost use Rattle.std.specs.Prelude.{◌≡◌, ◌++◌, IfOk, OnOk};
+ghost use Rattle.std.specs.Fmt.{signed_decimal};
+ghost use Rattle.bp_report.specs.Report.{claim_words, accepted_report, check_kind_name, check_report};
+
+use crate::lines::{push_fault, push_value};
+use bp_theory::{CheckKind, Claim};
+use cert_check::Judged;
+use std::alloc::{AllocError, Global};
+
+/// The report on a judged certificate.
+pub fn check_text(alloc: Global, judged: &Judged) -> Result<Vec<u8>, AllocError>
+    ensures { IfOk result (λ text. text.items ≡ check_report judged.now) }
+{
+    let mut text = Vec::new(alloc);
+    push_judged(&mut text, judged)?;
+    Ok(text)
+}
+
+// The line of a judged certificate.
+pub fn push_judged(text: &mut Vec<u8>, judged: &Judged) -> Result<(), AllocError>
+    ensures { OnOk result (text.new.items ≡ text.old.items ++ check_report judged.now) }
+{
+    match judged {
+        Judged::Accepted(claim) => push_accepted(text, claim),
+        Judged::Rejected { line, kind } => push_fault(text, b"rejected ", *line, kind_name(*kind)),
+    }
+}
+
+// The line of a valid certificate.
+fn push_accepted(text: &mut Vec<u8>, claim: &Claim) -> Result<(), AllocError>
+    ensures { OnOk result (text.new.items ≡ text.old.items ++ accepted_report claim.now) }
+{
+    text.extend_from_slice(b"accepted ")?;
+    push_claim(text, claim)?;
+    text.extend_from_slice(b"\n")
+}
+
+// What a certificate claims.
+fn push_claim(text: &mut Vec<u8>, claim: &Claim) -> Result<(), AllocError>
+    ensures { OnOk result (text.new.items ≡ text.old.items ++ claim_words claim.now) }
+{
+    match claim {
+        Claim::Optimal(value) => push_words(text, b"optimal ", value),
+        Claim::Infeasible => text.extend_from_slice(b"infeasible"),
+        Claim::Bound(bound, None) => push_words(text, b"bound ", bound),
+        Claim::Bound(bound, Some(value)) => {
+            push_words(text, b"bound ", bound)?;
+            push_words(text, b" value ", value)
+        }
+    }
+}
+
+// A word with the spaces around it, and a value.
+fn push_words(text: &mut Vec<u8>, word: &[u8], value: &i64) -> Result<(), AllocError>
+    ensures { OnOk result (text.new.items ≡ text.old.items ++ word.now ++ signed_decimal value.now) }
+{
+    text.extend_from_slice(word)?;
+    push_value(text, value)
+}
+
+// A kind as reports name it.
+fn kind_name(kind: CheckKind) -> &'static [u8]
+    ensures { result.now ≡ check_kind_name kind }
+{
+    match kind {
+        CheckKind::PointBound => b"point-bound",
+        CheckKind::PointRow => b"point-row",
+        CheckKind::Value => b"value",
+        CheckKind::Split => b"split",
+        CheckKind::Sign => b"sign",
+        CheckKind::Weak => b"weak",
+        CheckKind::Open => b"open",
+        CheckKind::Cut => b"cut",
+    }
+}
+
+#[cfg(test)]
+mod tests {
+    use super::*;
+    use std::test::Fail;
+
+    #[test]
+    fn a_claim_is_told_where_it_holds(rt: HostRuntime) -> Result<(), Fail> {
+        let best = check_text(rt.alloc(), &Judged::Accepted(Claim::Optimal(-8)))?;
+        assert_eq!(rt; best.as_slice(), b"accepted optimal -8\n".as_slice());
+        let none = check_text(rt.alloc(), &Judged::Accepted(Claim::Infeasible))?;
+        assert_eq!(rt; none.as_slice(), b"accepted infeasible\n".as_slice());
+        let bound = check_text(rt.alloc(), &Judged::Accepted(Claim::Bound(15, None)))?;
+        assert_eq!(rt; bound.as_slice(), b"accepted bound 15\n".as_slice());
+        let known = check_text(rt.alloc(), &Judged::Accepted(Claim::Bound(15, Some(0))))?;
+        assert_eq!(rt; known.as_slice(), b"accepted bound 15 value 0\n".as_slice());
+        Ok(())
+    }
+
+    #[test]
+    fn a_fault_is_told_by_line_and_kind(rt: HostRuntime) -> Result<(), Fail> {
+        let weak = check_text(
+            rt.alloc(),
+            &Judged::Rejected {
+                line: 4,
+                kind: CheckKind::Weak,
+            },
+        )?;
+        assert_eq!(rt; weak.as_slice(), b"rejected 4 weak\n".as_slice());
+        let row = check_text(
+            rt.alloc(),
+            &Judged::Rejected {
+                line: u64::MAX,
+                kind: CheckKind::PointRow,
+            },
+        )?;
+        assert_eq!(rt;
+            row.as_slice(),
+            b"rejected 18446744073709551615 point-row\n".as_slice()
+        );
+        Ok(())
+    }
+}

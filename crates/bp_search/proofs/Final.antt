@@ -1,0 +1,147 @@
+-- What the outcomes claim.
+use Rattle.std.proofs.Common.{◌≡◌, ◌∙◌, refl, sym, ap, subst, ℕ, ◌+◌, ◌<◌, ◌≤◌, ◌^◌, List, [], ◌∷◌, ◌++◌, map, Option, Some, None, ℤ, length, get_or, arith, Bool, true, false}
+use Rattle.std.specs.Prelude.{All, Contains, option_to_list, ◌≤ℤ◌, int_lt, if◌then◌else◌}
+use Rattle.std.specs.Option.{unwrap_or}
+use Rattle.std.specs.Int.{int_min}
+use Rattle.std.proofs.lemmas.Int.{ints}
+use Rattle.std.proofs.lemmas.List.Elements.{All-nil, All-append, Contains-push, Contains-append_left}
+use Rattle.bp_theory.specs.Program.{Program, IsFeasible, MeetsRow, KeepsActivity, cost}
+use Rattle.bp_theory.specs.Blocking.{Blocking, IsFaithful}
+use Rattle.bp_theory.specs.Decomposition.{Decomposition, HasVariablesBelow, blocking_of, proof_rows, full_row}
+use Rattle.bp_theory.specs.Trees.{steps}
+use Rattle.bp_theory.specs.declared.Row.{Row}
+use Rattle.bp_theory.proofs.DecompositionProof.{decomposition_lem}
+use Rattle.bp_theory.proofs.FaithProof.{adding_up_lem}
+use Rattle.block_form.specs.Blocked.{BlockedProgram, IsFormed}
+use Rattle.search_laws.specs.Grove.{GrowingTree, live_count, live_bounds, certificate_tree}
+use Rattle.search_laws.specs.GroveFacts.{IsSearch, IsLeastOf, IsRemainingBound, best_cost}
+use Rattle.search_laws.specs.Outcomes.{CutsFit, final_claim, stopped_claim}
+use Rattle.search_laws.proofs.GroveProof.{All-one}
+use Rattle.search_laws.proofs.OutcomeProof.{search_is_right_lem, read_off_is_certified_lem}
+use Rattle.branch_tree.specs.Groves.{GroveState}
+use Rattle.branch_tree.specs.declared.outcome.Outcome.{Outcome}
+use Rattle.branch_tree.specs.declared.outcome.Outcome.TheVariants.{Budget}
+use Rattle.bp_search.specs.declared.kept.Kept.{Kept}
+use Rattle.bp_search.specs.Searches.{kept_point, kept_cost, IsRunning}
+use Rattle.bp_search.specs.Ends.{most_steps, IsSearched, IsOutcome, IsOutOfSteps, ended, as_pair, IsStopped}
+use Rattle.bp_search.proofs.Running.{given_is}
+
+-- the blocking stands for the program
+faithful : (b : BlockedProgram) → IsFormed b → IsFaithful b.named.program b.blocking
+faithful b formed =
+    let p : Program = b.named.program in
+    subst (IsFaithful p) (sym formed.blocking)
+    (adding_up_lem p (map full_row (proof_rows p b.dec [])) (blocking_of p b.dec [])
+    (decomposition_lem.implied p b.dec [] (λ x feasible. All-nil (MeetsRow x)))
+    (decomposition_lem.adds_up p b.dec [] formed.kept.closed (All-nil (λ (cut : Row). HasVariablesBelow (length p.spans) cut.terms))))
+
+no_cuts : (p : Program) (d : Decomposition) → CutsFit p d []
+no_cuts p d = record { fitting = tt; bounded = All-nil (KeepsActivity p) }
+
+with_cuts : (b : BlockedProgram) (t : GrowingTree) (best : Option (List ℤ)) → IsFormed b → IsSearch b.named.program b.blocking t best
+    → IsSearch b.named.program (blocking_of b.named.program b.dec []) t best
+with_cuts b t best formed search = subst (λ k. IsSearch b.named.program k t best) formed.blocking search
+
+searched_end : (b : BlockedProgram) (most : ℕ) (g : GroveState) (best : Option Kept) → IsFormed b → IsRunning b g best → live_count g.tree ≡ 0
+    → steps (certificate_tree g.tree) ≤ most → IsSearched b most g (kept_point best) (final_claim b.named.program (kept_point best))
+searched_end b most g best formed run none few = record {
+  standing = run.standing;
+  root = run.root;
+  search = run.search;
+  few = few;
+  certified = read_off_is_certified_lem.ended b.named.program b.dec [] g.tree (kept_point best) (no_cuts b.named.program b.dec)
+      (with_cuts b g.tree (kept_point best) formed run.search) none;
+}
+
+-- where no leaf is live
+pub ends : (b : BlockedProgram) (given : Option ℕ) (g : GroveState) (best : Option Kept) → IsFormed b → IsRunning b g best → live_count g.tree ≡ 0
+    → steps (certificate_tree g.tree) ≤ most_steps given → IsOutcome b given (ended g best)
+ends b given g None formed run none few = record {
+  searched = searched_end b (most_steps given) g None formed run none few;
+  none_live = none;
+  none_feasible = search_is_right_lem.none b.named.program b.blocking g.tree (faithful b formed) run.search none;
+}
+ends b given g (Some k) formed run none few = record {
+  searched = searched_end b (most_steps given) g (Some k) formed run none few;
+  none_live = none;
+  best = search_is_right_lem.best b.named.program b.blocking g.tree k.point (faithful b formed) run.search none;
+  is_cost = run.costs;
+}
+
+-- the remaining bound
+remains : (p : Program) (t : GrowingTree) (best : Option Kept) (v : ℤ) → kept_cost best ≡ best_cost p (kept_point best)
+    → IsLeastOf (live_bounds t ++ option_to_list (kept_cost best)) v → IsRemainingBound p t (kept_point best) v
+remains p t best v same least = subst (λ (c : Option ℤ). IsLeastOf (live_bounds t ++ option_to_list c) v) same least
+
+searched_stop : (b : BlockedProgram) (most : ℕ) (g : GroveState) (best : Option Kept) (v : ℤ) → IsFormed b → IsRunning b g best
+    → IsRemainingBound b.named.program g.tree (kept_point best) v → steps (certificate_tree g.tree) ≤ most
+    → IsSearched b most g (kept_point best) (stopped_claim b.named.program (kept_point best) v)
+searched_stop b most g best v formed run remaining few = record {
+  standing = run.standing;
+  root = run.root;
+  search = run.search;
+  few = few;
+  certified = read_off_is_certified_lem.stopped b.named.program b.dec [] g.tree (kept_point best) v (no_cuts b.named.program b.dec)
+      (with_cuts b g.tree (kept_point best) formed run.search) remaining;
+}
+
+-- where a leaf is live
+out_of_steps : (b : BlockedProgram) (most : ℕ) (g : GroveState) (best : Option Kept) (v : ℤ) → IsFormed b → IsRunning b g best
+    → 0 < live_count g.tree → steps (certificate_tree g.tree) ≡ most → IsLeastOf (live_bounds g.tree ++ option_to_list (kept_cost best)) v
+    → IsOutOfSteps b most g (as_pair best) v
+out_of_steps b most g None v formed run some spent least =
+    let rest = remains b.named.program g.tree None v refl least in
+    record {
+      searched = searched_stop b most g None v formed run rest (omega (arith, spent));
+      spent = spent;
+      some_live = some;
+      kept = tt;
+      remaining = rest;
+      none_below = search_is_right_lem.bound b.named.program b.blocking g.tree None v (faithful b formed) run.search rest;
+    }
+out_of_steps b most g (Some k) v formed run some spent least =
+    let rest = remains b.named.program g.tree (Some k) v (given_is b.named.program (Some k) run.costs) least in
+    record {
+      searched = searched_stop b most g (Some k) v formed run rest (omega (arith, spent));
+      spent = spent;
+      some_live = some;
+      kept = (run.search.feasible, run.costs);
+      remaining = rest;
+      none_below = search_is_right_lem.bound b.named.program b.blocking g.tree (Some k.point) v (faithful b formed) run.search rest;
+    }
+
+pub stops : (b : BlockedProgram) (given : Option ℕ) (g : GroveState) (best : Option Kept) (outcome : Outcome) → IsFormed b → IsRunning b g best
+    → 0 < live_count g.tree → steps (certificate_tree g.tree) ≡ most_steps given → IsStopped g best outcome → IsOutcome b given outcome
+stops b given g best outcome formed run some spent stop =
+    subst (IsOutcome b given) (sym stop.is_outcome) (out_of_steps b (most_steps given) g best stop.bound formed run some spent stop.least)
+
+-- the less of a least number and another is the least of all
+pub less_is_least : (zs : List ℤ) (a c : ℤ) → IsLeastOf zs a → IsLeastOf (zs ++ c ∷ []) (int_min a c)
+less_is_least zs a c h = by (int_lt c a) refl
+  where
+    at_most : (z w : ℤ) → int_lt z w ≡ true → z ≤ℤ w
+    at_most z w e = grind (arith, ints)
+
+    at_least : (z w : ℤ) → int_lt z w ≡ false → w ≤ℤ z
+    at_least z w e = grind (arith, ints)
+
+    through : (x y z : ℤ) → x ≤ℤ y → y ≤ℤ z → x ≤ℤ z
+    through x y z l m = omega (arith, ints, l, m)
+
+    itself : (z : ℤ) → z ≤ℤ z
+    itself z = omega (arith, ints)
+
+    by : (t : Bool) → int_lt c a ≡ t → IsLeastOf (zs ++ c ∷ []) (if t then c else a)
+    by true e = record {
+      reached = Contains-push zs c;
+      least = All-append (λ z. c ≤ℤ z) zs (c ∷ []) (λ k d l. through c a (get_or zs k d) (at_most c a e) (h.least k d l)) (All-one (λ z. c ≤ℤ z) c (itself c));
+    }
+    by false e = record {
+      reached = Contains-append_left zs (c ∷ []) a h.reached;
+      least = All-append (λ z. a ≤ℤ z) zs (c ∷ []) h.least (All-one (λ z. a ≤ℤ z) c (at_least c a e));
+    }
+
+-- the number of steps that stands for none given
+pub most_is : (given : Option ℕ) → unwrap_or given 1152921504606846976 ≡ most_steps given
+most_is None = refl
+most_is (Some n) = refl

@@ -1,0 +1,14 @@
+use Rattle.std.proofs.Common.{◌-◌, ◌≤◌}
+use Rattle.bp_theory.specs.Trees.{steps}
+use Rattle.search_laws.specs.Grove.{certificate_tree}
+use Rattle.bp_search.specs.Searches.{IsRunning}
+use Rattle.bp_search.proofs.search.Given as goal
+
+abbrev pub invariant-loop-alloc : goal.invariant-loop-alloc
+invariant-loop-alloc l = record {
+  running : IsRunning l.b l.grove l.best;
+  few : steps (certificate_tree l.grove.tree) ≤ l.most;
+}
+
+abbrev pub decreases-loop-alloc : goal.decreases-loop-alloc
+decreases-loop-alloc l = l.most - steps (certificate_tree l.grove.tree)

@@ -1,0 +1,26 @@
+use Rattle.std.proofs.Common.{subst, sym, ◌<◌, ◌^◌}
+use Rattle.std.specs.Prelude.{IfSome, unsigned_abs, Option, ℤ}
+use Rattle.bp_search.proofs.Running.{turn_of, small_cost, can_grow, runs_on, one_step}
+use Rattle.bp_search.proofs.steps.step.Goals as goal
+
+pub evaluate-requires-clause-turn : goal.evaluate-requires-clause-turn
+evaluate-requires-clause-turn c = turn_of c.args.b.now c.args.grove.now c.args.best.now c.args.turn.now c.requires.running c.requires.turn
+
+pub evaluate-requires-clause-best : goal.evaluate-requires-clause-best
+evaluate-requires-clause-best c =
+    subst (λ (o : Option ℤ). IfSome o (λ z. unsigned_abs z < 2 ^ 62)) (sym c.cost_of.ensures)
+    (small_cost c.args.b.now c.args.grove.now c.args.best.now c.blocks-2.ensures.formed c.requires.running)
+
+pub grow-requires-clause-next : goal.grow-requires-clause-next
+grow-requires-clause-next c =
+    can_grow c.args.b.now c.args.grove.now c.args.best.now c.args.turn.now c.cost_of.result c.in_ok-point.field-0 c.blocks-2.ensures.formed
+    c.requires.running c.requires.turn c.in_ok-point.ensures.verdict
+
+pub returns-clause-running : goal.returns-clause-running
+returns-clause-running c =
+    runs_on c.args.b.now c.args.grove.now c.grow.new.grove c.args.turn.now c.args.best.now c.keep.new.best c.cost_of.result c.in_ok-point.field-0
+    c.blocks-2.ensures.formed c.requires.running c.requires.turn c.cost_of.ensures c.in_ok-point.ensures.verdict
+    c.in_ok-grow.ensures.tree c.in_ok-grow.ensures.root c.in_ok-grow.ensures.standing c.keep.ensures.point c.keep.ensures.costs
+
+pub returns-clause-one : goal.returns-clause-one
+returns-clause-one c = one_step c.args.grove.now c.grow.new.grove c.args.turn.now c.in_ok-point.field-0.next c.requires.turn c.in_ok-grow.ensures.tree

@@ -1,0 +1,77 @@
+-- How a search may end.
+use Rattle.std.specs.Prelude.{◌≡◌, ℕ, ◌<◌, ◌≤◌, ◌^◌, List, [], ◌++◌, Option, Some, None, option_map, option_to_list, IfSome, ℤ, ◌≤ℤ◌}
+use Rattle.bp_theory.specs.Program.{Program, IsFeasible, IsBest, cost}
+use Rattle.bp_theory.specs.Trees.{steps}
+use Rattle.bp_theory.specs.Claims.{IsCertified}
+use Rattle.bp_theory.specs.declared.Claim.{Claim}
+use Rattle.block_form.specs.Blocked.{BlockedProgram}
+use Rattle.search_laws.specs.Grove.{live_count, live_bounds, certificate_tree}
+use Rattle.search_laws.specs.GroveFacts.{IsSearch, IsLeastOf, IsRemainingBound}
+use Rattle.search_laws.specs.Outcomes.{final_claim, stopped_claim, read_off}
+use Rattle.branch_tree.specs.Groves.{GroveState, IsStanding}
+use Rattle.branch_tree.specs.declared.outcome.Outcome.{Outcome}
+use Rattle.branch_tree.specs.declared.outcome.Outcome.TheVariants.{Optimal, Infeasible, Budget}
+use Rattle.bp_search.specs.declared.kept.Kept.{Kept}
+use Rattle.bp_search.specs.Searches.{kept_cost}
+
+-- the number of steps: 2 to the 60 where none is given
+abbrev pub most_steps : Option ℕ → ℕ
+most_steps None = 2 ^ 60
+most_steps (Some n) = n
+
+-- a tree that was searched for no more than so many steps: its depth is at most 8,256, its shut leaves are settled against the
+-- best point's cost, and the certificate of a claim that is read off it is valid
+pub record IsSearched (b : BlockedProgram) (most : ℕ) (g : GroveState) (best : Option (List ℤ)) (claim : Claim) : Type 0 where
+  pub standing : IsStanding g
+  pub root : g.root ≡ b.named.program.spans
+  pub search : IsSearch b.named.program b.blocking g.tree best
+  pub few : steps (certificate_tree g.tree) ≤ most
+  pub certified : IsCertified b.named.program b.dec (read_off claim best [] g.tree)
+
+-- no leaf is live and the kept point is best
+pub record IsOptimal (b : BlockedProgram) (most : ℕ) (g : GroveState) (point : List ℤ) (value : ℤ) : Type 0 where
+  pub searched : IsSearched b most g (Some point) (final_claim b.named.program (Some point))
+  pub none_live : live_count g.tree ≡ 0
+  pub best : IsBest b.named.program point
+  pub is_cost : value ≡ cost b.named.program point
+
+-- no leaf is live and no point is kept, since none is feasible
+pub record IsInfeasible (b : BlockedProgram) (most : ℕ) (g : GroveState) : Type 0 where
+  pub searched : IsSearched b most g None (final_claim b.named.program None)
+  pub none_live : live_count g.tree ≡ 0
+  pub none_feasible : (x : List ℤ) → IsFeasible b.named.program x → ⊥
+
+-- a point and its cost
+abbrev pub best_point : Option (List ℤ × ℤ) → Option (List ℤ)
+best_point best = option_map (λ k. k.0) best
+
+-- all steps are taken and a leaf is live: the bound is the least of the live bounds and the best cost, and no feasible point
+-- costs less
+pub record IsOutOfSteps (b : BlockedProgram) (most : ℕ) (g : GroveState) (best : Option (List ℤ × ℤ)) (bound : ℤ) : Type 0 where
+  pub searched : IsSearched b most g (best_point best) (stopped_claim b.named.program (best_point best) bound)
+  pub spent : steps (certificate_tree g.tree) ≡ most
+  pub some_live : 0 < live_count g.tree
+  pub kept : IfSome best (λ k. IsFeasible b.named.program k.0 × (k.1 ≡ cost b.named.program k.0))
+  pub remaining : IsRemainingBound b.named.program g.tree (best_point best) bound
+  pub none_below : (x : List ℤ) → IsFeasible b.named.program x → bound ≤ℤ cost b.named.program x
+
+-- an outcome of a program in blocks and the given steps
+abbrev pub IsOutcome : BlockedProgram → Option ℕ → Outcome → Type 0
+IsOutcome b given (Optimal g point value) = IsOptimal b (most_steps given) g point value
+IsOutcome b given (Infeasible g) = IsInfeasible b (most_steps given) g
+IsOutcome b given (Budget g best bound) = IsOutOfSteps b (most_steps given) g best bound
+
+-- the outcome where no leaf is live
+abbrev pub ended : GroveState → Option Kept → Outcome
+ended g None = Infeasible g
+ended g (Some k) = Optimal g k.point k.cost
+
+-- a kept point with its cost
+abbrev pub as_pair : Option Kept → Option (List ℤ × ℤ)
+as_pair best = option_map (λ k. (k.point, k.cost)) best
+
+-- the outcome where a leaf is live
+pub record IsStopped (g : GroveState) (best : Option Kept) (outcome : Outcome) : Type 0 where
+  pub bound : ℤ
+  pub is_outcome : outcome ≡ Budget g (as_pair best) bound
+  pub least : IsLeastOf (live_bounds g.tree ++ option_to_list (kept_cost best)) bound

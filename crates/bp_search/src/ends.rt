@@ -1,0 +1,73 @@
+// The outcomes of a search.
+ghost use Rattle.std.specs.Prelude.{◌≡◌, ◌<◌, ◌++◌, option_to_list};
+ghost use Rattle.std.specs.Int.{int_min};
+ghost use Rattle.search_laws.specs.Grove.{live_count, live_bounds};
+ghost use Rattle.search_laws.specs.GroveFacts.{IsLeastOf};
+ghost use Rattle.bp_search.specs.Ends.{ended, as_pair, IsStopped};
+ghost use Rattle.bp_search.specs.Searches.{kept_cost};
+ghost use Rattle.branch_tree.specs.declared.outcome.Outcome.TheVariants.{Budget};
+
+use crate::kept::Kept;
+use branch_tree::{Grove, Outcome};
+
+/// The outcome where no leaf is live.
+pub fn ended(grove: Grove, best: Option<Kept>) -> Outcome
+    ensures { result ≡ ended grove best }
+{
+    match best {
+        None => Outcome::Infeasible { grove },
+        Some(kept) => {
+            let Kept { point, cost } = kept;
+            Outcome::Optimal { grove, point, cost }
+        }
+    }
+}
+
+/// The outcome where a leaf is live: its bound is the least of the live leaves' bounds and the kept point's cost.
+pub fn stopped(grove: Grove, best: Option<Kept>) -> Outcome
+    requires { 0 < live_count grove.tree }
+    ensures { IsStopped grove best result }
+{
+    let bound = remaining(&grove, &best);
+    budget(grove, best, &bound)
+}
+
+// The least of the live leaves' bounds and the kept point's cost.
+fn remaining(grove: &Grove, best: &Option<Kept>) -> i64
+    requires { 0 < live_count grove.now.tree }
+    ensures { IsLeastOf (live_bounds grove.now.tree ++ option_to_list (kept_cost best.now)) result }
+{
+    let least = grove.least();
+    match best {
+        None => least,
+        Some(kept) => less(&least, &kept.cost),
+    }
+}
+
+// A search that is stopped with this bound.
+fn budget(grove: Grove, best: Option<Kept>, bound: &i64) -> Outcome
+    ensures { result ≡ Budget grove (as_pair best) bound.now }
+{
+    match best {
+        None => Outcome::Budget {
+            grove,
+            best: None,
+            bound: *bound,
+        },
+        Some(kept) => {
+            let Kept { point, cost } = kept;
+            Outcome::Budget {
+                grove,
+                best: Some((point, cost)),
+                bound: *bound,
+            }
+        }
+    }
+}
+
+// The less of two numbers.
+fn less(a: &i64, b: &i64) -> i64
+    ensures { result ≡ int_min a.now b.now }
+{
+    if *b < *a { *b } else { *a }
+}

@@ -1,0 +1,64 @@
+// One step of a search: a leaf is shut or forked by its verdict.
+ghost use Rattle.std.specs.Prelude.{◌≡◌, ◌+◌, ◌<◌, ◌^◌, OnOk};
+ghost use Rattle.bp_theory.specs.Trees.{steps};
+ghost use Rattle.search_laws.specs.Grove.{certificate_tree};
+ghost use Rattle.search_laws.specs.Verdicts.{grown};
+ghost use Rattle.branch_tree.specs.Groves.{IsStanding, IsGroveOf, IsLiveTurn};
+ghost use Rattle.bp_search.specs.Searches.{IsRunning, CanGrow};
+
+use crate::kept::{Kept, cost_of, keep};
+use block_form::Blocked;
+use branch_tree::{Grove, Next, Turn, Verdict};
+use node_eval::evaluate;
+use std::alloc::{AllocError, Global};
+
+/// Evaluates a live leaf, shuts or forks it, and keeps the point that was found on the way.
+pub fn step(
+    alloc: Global,
+    b: &Blocked,
+    grove: &mut Grove,
+    turn: &Turn,
+    best: &mut Option<Kept>,
+) -> Result<(), AllocError>
+    requires running { IsRunning b.now grove.old best.old }
+    requires turn { IsLiveTurn grove.old turn.now }
+    requires few { steps (certificate_tree grove.old.tree) < 2 ^ 60 }
+    ensures running { OnOk result (IsRunning b.now grove.new best.new) }
+    ensures one { OnOk result (steps (certificate_tree grove.new.tree) ≡ steps (certificate_tree grove.old.tree) + 1) }
+{
+    let _ = b.blocks();
+    let Verdict { point, next } = evaluate(alloc, b, turn, cost_of(best))?;
+    grow(alloc, b, grove, turn, next)?;
+    keep(b, best, point);
+    Ok(())
+}
+
+// Shuts or forks a live leaf.
+fn grow(
+    alloc: Global,
+    b: &Blocked,
+    grove: &mut Grove,
+    turn: &Turn,
+    next: Next,
+) -> Result<(), AllocError>
+    requires kept { IsGroveOf b.now grove.old }
+    requires turn { IsLiveTurn grove.old turn.now }
+    requires next { CanGrow b.now.blocking turn.now next }
+    requires few { steps (certificate_tree grove.old.tree) < 2 ^ 60 }
+    ensures tree { OnOk result (grove.new.tree ≡ grown grove.old.tree turn.now.path next) }
+    ensures root { grove.new.root ≡ grove.old.root }
+    ensures standing { IsStanding grove.new }
+{
+    match next {
+        Next::Shut(proof) => {
+            grove.shut(b, turn, proof);
+            Ok(())
+        }
+        Next::Fork {
+            var,
+            at,
+            proof,
+            bound,
+        } => grove.fork(alloc, b, turn, var, at, proof, bound),
+    }
+}

@@ -1,0 +1,33 @@
+-- What `check` answers.
+use Rattle.std.specs.Prelude.{◌≡◌, ℕ, List, [], Option, Some, None}
+use Rattle.bp_theory.specs.Claims.{Certificate, IsCertified, IsTrueClaim}
+use Rattle.bp_theory.specs.Judgement.{IsFirstFault, HasItsPoint, named_value}
+use Rattle.bp_theory.specs.declared.CheckKind.{CheckKind}
+use Rattle.bp_shelf.specs.Shelf.{Files}
+use Rattle.block_form.specs.Blocked.{BlockedProgram}
+use Rattle.cert_text.specs.Text.{One}
+use Rattle.cert_text.specs.Fault.{IsText}
+use Rattle.cert_text.specs.Fault as texts
+use Rattle.cert_text.specs.Written.{cert_of}
+use Rattle.cert_text.specs.Programs.{frame_for}
+use Rattle.cert_text.specs.declared.fault.CertKind.{CertKind}
+use Rattle.bp_report.specs.Report.{accepted_report, rejected_report}
+use Rattle.bp_report.specs.Refusals.{cert_refusal}
+use Rattle.bp_front.specs.Answers.{AnswersFront}
+
+-- what a program in blocks is answered by `check`: the judgement of the certificate that the file spells; what is accepted
+-- is true
+pub data ChecksBlocked (files : Files) (cert : List ℕ) (b : BlockedProgram) (status : ℕ) (report : List ℕ) : Type 0 where
+  missing : files cert ≡ None → status ≡ 11 → report ≡ [] → ChecksBlocked files cert b status report
+  faulty : (text : List ℕ) (line : ℕ) (kind : CertKind) → files cert ≡ Some text → texts.IsFirstFault (frame_for b) text line kind
+      → status ≡ 3 → report ≡ cert_refusal line kind → ChecksBlocked files cert b status report
+  accepted : (text : List ℕ) (c : Certificate) → files cert ≡ Some text → IsText (frame_for b) One (cert_of c) text
+      → IsCertified b.named.program b.dec c → IsTrueClaim b.named.program c.claim
+      → status ≡ 0 → report ≡ accepted_report c.claim → ChecksBlocked files cert b status report
+  rejected : (text : List ℕ) (c : Certificate) (line : ℕ) (kind : CheckKind) → files cert ≡ Some text → IsText (frame_for b) One (cert_of c) text
+      → HasItsPoint (named_value c.claim) c.point → IsFirstFault b.named.program b.dec c line kind
+      → status ≡ 6 → report ≡ rejected_report line kind → ChecksBlocked files cert b status report
+
+-- what `check` answers
+abbrev pub AnswersCheck : Files → (lp cert : List ℕ) → (dec : Option (List ℕ)) → (status : ℕ) → (report : List ℕ) → Type 0
+AnswersCheck files lp cert dec status report = AnswersFront files lp dec (Unit {0}) (ChecksBlocked files cert) status report

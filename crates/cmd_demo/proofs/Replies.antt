@@ -1,0 +1,79 @@
+-- Which replies are right.
+use Rattle.std.proofs.Common.{◌≡◌, ◌≢◌, ◌⊎◌, ◌∙◌, ◌++◌, refl, sym, ap, subst, ℕ, List, [], ◌∷◌, Option, Some, None, Result, Ok, Err, IfErr, IsErrAnd, take}
+use Rattle.bp_theory.specs.Claims.{Certificate, IsCertified}
+use Rattle.bp_shelf.specs.declared.shelf.ShelfFault.TheVariants.{NoMemory}
+use Rattle.block_form.specs.Blocked.{BlockedProgram}
+use Rattle.branch_tree.specs.declared.outcome.Outcome.{Outcome}
+use Rattle.bp_search.specs.Ends.{IsOutcome}
+use Rattle.cert_check.specs.Judging.{IsJudged}
+use Rattle.cert_check.specs.declared.judge.Judged.{Judged}
+use Rattle.bp_report.specs.Report.{demo_report}
+use Rattle.bp_front.specs.Front.{ends}
+use Rattle.bp_front.specs.Answers.{AnswersBy, IsOnly, CutsOff, stopped, went_on}
+use Rattle.bp_front.specs.declared.ending.Reply.{Reply}
+use Rattle.bp_front.specs.declared.front.Halt.{Halt}
+use Rattle.bp_front.specs.declared.front.Halt.TheVariants.{Refused, Stopped}
+use Rattle.bp_front.proofs.Lifts.{stop_only, printed_status}
+use Rattle.cmd_solve.specs.Solves.{outcome_status, outcome_certificate}
+use Rattle.cmd_solve.proofs.Writable.{outcome_certified}
+use Rattle.cmd_demo.specs.Demos.{made_files, MadeCome, DemosBlocked, AnswersDemo, IsDemo, DemoHalts}
+use Rattle.cmd_demo.proofs.Certified.{judged_accepted}
+
+-- the summary of an outcome whose certificate was judged
+pub demos : (seed size : ℕ) (b : BlockedProgram) (o : Outcome) (cert : Certificate) (judged : Judged) (status : ℕ) (report : List ℕ) → IsOutcome b (Some 2000) o
+    → cert ≡ outcome_certificate b.named.program o → IsJudged b cert judged → status ≡ outcome_status o → report ≡ demo_report seed size b.named o judged
+    → DemosBlocked seed size (Some o) b status report
+demos seed size b o cert judged status report is same judges ended told =
+    let valid : IsCertified b.named.program b.dec (outcome_certificate b.named.program o) = outcome_certified b (Some 2000) o is in record {
+      outcome = o;
+      is_kept = refl;
+      is_outcome = is;
+      valid = valid;
+      has_status = ended;
+      has_report = told ∙ ap (λ (j : Judged). demo_report seed size b.named o j)
+          (judged_accepted b cert (outcome_certificate b.named.program o) judged same valid judges);
+    }
+
+-- want of memory halts
+pub want_halts : {T : Type 0} (seed size : ℕ) (r : Result T Halt) → IsErrAnd r (λ halt. halt ≡ Stopped NoMemory) → IfErr r (DemoHalts seed size)
+want_halts seed size (Ok x) is = tt
+want_halts seed size (Err (Refused report)) is = let none : ⊥ = cc in absurd none
+want_halts seed size (Err (Stopped fault)) is = cc
+
+-- a summary that is printed
+pub demo_answers : (seed size : ℕ) (reply : Reply) (outcome : Outcome) (kept : Option Outcome) (status : ℕ) (before now : List ℕ) → IsDemo seed size (reply, outcome)
+    → (status ≡ reply.status) ⊎ (status ≡ 8) → (status ≢ 8 → kept ≡ Some outcome) → (status ≢ 8 → now ≡ before ++ reply.report.items)
+    → AnswersBy (AnswersDemo seed size kept) status before now
+demo_answers seed size reply outcome kept status before now demo is is_kept whole = λ no_read no_write no_want.
+    let right : DemosBlocked seed size (Some outcome) demo.0 status reply.report.items =
+    subst (λ (s : ℕ). DemosBlocked seed size (Some outcome) demo.0 s reply.report.items) (sym (printed_status status reply.status is no_write)) demo.2 in (
+      reply.report.items,
+      went_on demo.0 demo.1 (subst (λ (k : Option Outcome). DemosBlocked seed size k demo.0 status reply.report.items) (sym (is_kept no_write)) right),
+      whole no_write,
+    )
+
+pub demo_cut : (seed size : ℕ) (reply : Reply) (outcome : Outcome) (status : ℕ) (before now : List ℕ) → IsDemo seed size (reply, outcome)
+    → (status ≡ 8 → (count : ℕ) × (now ≡ before ++ take count reply.report.items)) → CutsOff (AnswersDemo seed size) status before now
+demo_cut seed size reply outcome status before now demo partly = λ is_fault.
+    let part = partly is_fault in
+    (Some outcome, reply.status, reply.report.items, part.0, went_on demo.0 demo.1 demo.2, part.1)
+
+-- a refusal that is printed
+pub refused_answers : (seed size : ℕ) (report : List ℕ) (kept : Option Outcome) (status : ℕ) (before now : List ℕ) → MadeCome seed size (ends 3 report)
+    → (status ≡ 3) ⊎ (status ≡ 8) → (status ≢ 8 → kept ≡ None) → (status ≢ 8 → now ≡ before ++ report) → AnswersBy (AnswersDemo seed size kept) status before now
+refused_answers seed size report kept status before now come is is_kept whole = λ no_read no_write no_want. (
+  report,
+  subst (λ (s : ℕ). AnswersDemo seed size kept s report) (sym (printed_status status 3 is no_write)) (stopped come (is_kept no_write)),
+  whole no_write,
+)
+
+pub refused_only : (seed size : ℕ) (report : List ℕ) (kept : Option Outcome) (status : ℕ) → MadeCome seed size (ends 3 report)
+    → (status ≡ 3) ⊎ (status ≡ 8) → IsOnly (AnswersDemo seed size kept) status
+refused_only seed size report kept status come is =
+    stop_only (made_files seed size) [] (Some (0 ∷ [])) (kept ≡ None) (DemosBlocked seed size kept) status 3 report come (printed_status status 3 is)
+
+pub refused_cut : (seed size : ℕ) (report : List ℕ) (status : ℕ) (before now : List ℕ) → MadeCome seed size (ends 3 report)
+    → (status ≡ 8 → (count : ℕ) × (now ≡ before ++ take count report)) → CutsOff (AnswersDemo seed size) status before now
+refused_cut seed size report status before now come partly = λ is_fault.
+    let part = partly is_fault in
+    (None, 3, report, part.0, stopped come refl, part.1)

@@ -1,0 +1,88 @@
+//! The command `demo`: a made problem is solved in memory, and its certificate is checked.
+#![tactic(auto)]
+
+ghost use Rattle.std.specs.Prelude.{◌≡◌, ◌⊎◌, ◌≤◌, ℕ, IfOk, IfErr, IsTrue, None, Some};
+ghost use Rattle.bp_search.specs.Ends.{IsOutcome};
+ghost use Rattle.cert_text.specs.Kept.{certificate_of};
+ghost use Rattle.cert_text.specs.Programs.{GoesWith};
+ghost use Rattle.bp_front.specs.Answers.{AnswersBy, IsOnly, CutsOff, HasCauses};
+ghost use Rattle.cmd_solve.specs.Solves.{outcome_certificate};
+ghost use Rattle.cmd_demo.specs.Demos.{AnswersDemo, IsSummary, IsDemo, DemoHalts};
+
+use block_form::Blocked;
+use bp_front::{Ended, Halt, Reply, blocks_of, print, stopped};
+use bp_gen::{make_dec, make_lp};
+use bp_report::{DEMO_STEPS, demo_text};
+use bp_search::search;
+use bp_shelf::Sink;
+use branch_tree::Outcome;
+use cert_check::check;
+use cert_text::{Cert, read_cert, write_cert};
+use cmd_solve::status_of;
+use std::alloc::{AllocError, Global};
+
+/// Makes the generator's texts for 1 to 1,024 jobs in memory, solves them within 2,000 steps, checks the certificate, and
+/// prints a summary. The certificate is always accepted.
+pub fn demonstrate<O: Sink>(alloc: Global, out: &mut O, seed: u64, size: u32) -> Ended
+    requires some { 1 ≤ size }
+    requires few { size ≤ 1024 }
+    ensures answered { IsTrue (O.tells out.old) → AnswersBy (AnswersDemo seed size result.kept) result.status (O.taken out.old) (O.taken out.new) }
+    ensures exact { IsOnly (AnswersDemo seed size result.kept) result.status }
+    ensures causes { (reads writes : ℕ) → HasCauses result.status reads reads writes writes (O.faults out.old) (O.faults out.new) }
+    ensures kept { (result.kept ≡ None) ⊎ ((result.status ≡ 0) ⊎ (result.status ≡ 4) ⊎ (result.status ≡ 5)) }
+    ensures statuses { (result.status ≡ 0) ⊎ (result.status ≡ 3) ⊎ (result.status ≡ 4) ⊎ (result.status ≡ 5) ⊎ (result.status ≡ 8) ⊎ (result.status ≡ 9) }
+    ensures silent { result.status ≡ 9 → O.taken out.new ≡ O.taken out.old }
+    ensures cut_off { IsTrue (O.tells out.old) → CutsOff (AnswersDemo seed size) result.status (O.taken out.old) (O.taken out.new) }
+{
+    match demonstrated(alloc, seed, size) {
+        Ok((reply, outcome)) => print(out, &reply, Some(outcome)),
+        Err(Halt::Refused(report)) => print(out, &Reply { status: 3, report }, None),
+        Err(Halt::Stopped(_)) => stopped(9),
+    }
+}
+
+// The summary with the outcome.
+fn demonstrated(alloc: Global, seed: u64, size: u32) -> Result<(Reply, Outcome), Halt>
+    requires { size ≤ 1024 }
+    ensures shown { IfOk result (IsDemo seed size) }
+    ensures halted { IfErr result (DemoHalts seed size) }
+{
+    let lp = make_lp(alloc, seed, size)?;
+    let dec = make_dec(alloc, size)?;
+    let b = blocks_of(alloc, &lp, &dec)?;
+    let outcome = search(alloc, &b, Some(DEMO_STEPS))?;
+    let reply = summary(alloc, seed, size, &b, &outcome)?;
+    Ok((reply, outcome))
+}
+
+// The summary of an outcome.
+fn summary(
+    alloc: Global,
+    seed: u64,
+    size: u32,
+    b: &Blocked,
+    outcome: &Outcome,
+) -> Result<Reply, AllocError>
+    requires { IsOutcome b.now (Some 2000) outcome.now }
+    ensures { IfOk result (IsSummary seed size b.now outcome.now) }
+{
+    let cert = certificate(alloc, b, outcome)?;
+    let judged = check(alloc, b, &cert)?;
+    let report = demo_text(alloc, seed, size, b, outcome, &judged)?;
+    let status = status_of(outcome);
+    Ok(Reply { status, report })
+}
+
+// The certificate of an outcome, as it is read from its text. The text has no fault, so that only memory can be wanting.
+fn certificate(alloc: Global, b: &Blocked, outcome: &Outcome) -> Result<Cert, AllocError>
+    requires { IsOutcome b.now (Some 2000) outcome.now }
+    ensures same { IfOk result (λ cert. certificate_of cert ≡ outcome_certificate b.now.named.program outcome.now) }
+    ensures goes_with { IfOk result (λ cert. GoesWith b.now (certificate_of cert)) }
+{
+    let _ = b.blocks();
+    let text = write_cert(alloc, b, outcome)?;
+    match read_cert(alloc, &text, b) {
+        Ok(cert) => Ok(cert),
+        Err(_) => Err(AllocError),
+    }
+}

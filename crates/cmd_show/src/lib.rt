@@ -1,0 +1,73 @@
+//! The command `show`: the sizes of a program in blocks, and its classes at the root.
+#![tactic(auto)]
+
+ghost use Rattle.std.specs.Prelude.{◌≡◌, ◌≢◌, ◌⊎◌, IfOk, IsTrue, None};
+ghost use Rattle.std.specs.Option.{option_map};
+ghost use Rattle.bp_shelf.specs.Shelf.{Rose};
+ghost use Rattle.bp_front.specs.Answers.{AnswersBy, IsOnly, CutsOff, HasCauses};
+ghost use Rattle.cmd_show.specs.Shows.{AnswersShow, ShowsBlocked, IsShown};
+
+use block_class::Classes;
+use block_form::{Blocked, Zone};
+use bp_front::{Ended, Halt, Reply, load, print, stopped, stopped_by};
+use bp_report::show_text;
+use bp_shelf::{Shelf, Sink};
+use std::alloc::{AllocError, Global};
+
+/// Prints the sizes of the program in blocks that the files come to, and its classes at the root.
+pub fn show<F: Shelf, O: Sink>(
+    alloc: Global,
+    shelf: &mut F,
+    out: &mut O,
+    lp: &str,
+    dec: Option<&str>,
+) -> Ended
+    ensures answered { IsTrue (F.tells shelf.old) → IsTrue (O.tells out.old) →
+        AnswersBy (AnswersShow (F.file shelf.old) lp.now (option_map (λ name. name.now) dec.entry)) result.status (O.taken out.old) (O.taken out.new) }
+    ensures exact { IsTrue (F.tells shelf.old) →
+        IsOnly (AnswersShow (F.file shelf.old) lp.now (option_map (λ name. name.now) dec.entry)) result.status }
+    ensures causes { HasCauses result.status (F.read_faults shelf.old) (F.read_faults shelf.new)
+        (F.write_faults shelf.old) (F.write_faults shelf.new) (O.faults out.old) (O.faults out.new) }
+    ensures kept { result.kept ≡ None }
+    ensures words { result.status ≢ 2 }
+    ensures files { F.file shelf.new ≡ F.file shelf.old }
+    ensures writes { F.write_faults shelf.new ≡ F.write_faults shelf.old }
+    ensures silent { (result.status ≡ 7) ⊎ (result.status ≡ 9) ⊎ (result.status ≡ 11) → O.taken out.new ≡ O.taken out.old }
+    ensures cut_off { IsTrue (F.tells shelf.old) → IsTrue (O.tells out.old) →
+        CutsOff (λ kept. AnswersShow (F.file shelf.old) lp.now (option_map (λ name. name.now) dec.entry)) result.status (O.taken out.old) (O.taken out.new) }
+{
+    match load(alloc, shelf, lp, dec) {
+        Ok(b) => show_blocks(alloc, out, &b),
+        Err(Halt::Refused(report)) => print(out, &Reply { status: 3, report }, None),
+        Err(Halt::Stopped(fault)) => stopped_by(fault),
+    }
+}
+
+// Prints the sizes and classes of a program in blocks.
+fn show_blocks<O: Sink>(alloc: Global, out: &mut O, b: &Blocked) -> Ended
+    ensures answered { IsTrue (O.tells out.old) → AnswersBy (ShowsBlocked b.now) result.status (O.taken out.old) (O.taken out.new) }
+    ensures exact { IsOnly (ShowsBlocked b.now) result.status }
+    ensures statuses { (result.status ≡ 0) ⊎ (result.status ≡ 8) ⊎ (result.status ≡ 9) }
+    ensures kept { result.kept ≡ None }
+    ensures fault { result.status ≡ 8 → Rose (O.faults out.old) (O.faults out.new) }
+    ensures quiet { result.status ≢ 8 → O.faults out.new ≡ O.faults out.old }
+    ensures silent { result.status ≡ 9 → O.taken out.new ≡ O.taken out.old }
+    ensures cut_off { IsTrue (O.tells out.old) → CutsOff (λ kept. ShowsBlocked b.now) result.status (O.taken out.old) (O.taken out.new) }
+{
+    match shown(alloc, b) {
+        Ok(reply) => print(out, &reply, None),
+        Err(_) => stopped(9),
+    }
+}
+
+// The reply to `show`.
+fn shown(alloc: Global, b: &Blocked) -> Result<Reply, AllocError>
+    ensures { IfOk result (IsShown b.now) }
+{
+    let root = Zone::root(alloc, b)?;
+    let classes = Classes::of(alloc, b, &root)?;
+    Ok(Reply {
+        status: 0,
+        report: show_text(alloc, b, &classes)?,
+    })
+}

@@ -1,0 +1,143 @@
+-- The outcome of a search may be written as a certificate.
+use Rattle.std.proofs.Common.{◌≡◌, refl, sym, subst, ℕ, List, [], ◌∷◌, ◌++◌, length, Option, Some, None, arith}
+use Rattle.std.proofs.Math.IntN.{ℤ}
+use Rattle.std.specs.Prelude.{IfSome, option_to_list}
+use Rattle.std.specs.List.{AllByRecursion}
+use Rattle.std.proofs.lemmas.Int.{ints}
+use Rattle.std.proofs.lemmas.List.Elements.{recursion_from_All, All-from_recursion, All-contains}
+use Rattle.bp_theory.specs.Program.{Program, IsFeasible, IsInside, IsWithin, cost, in_sense}
+use Rattle.bp_theory.specs.Trees.{low_part, high_part}
+use Rattle.bp_theory.specs.Claims.{IsCertified}
+use Rattle.bp_theory.specs.declared.Claim.TheVariants as claim
+use Rattle.bp_theory.specs.Blocking.{Blocking}
+use Rattle.bp_theory.specs.declared.Span.{Span}
+use Rattle.bp_theory.proofs.ZipLaws.{AllZip-length}
+use Rattle.bp_model.specs.Named.{HasSmallEnds}
+use Rattle.bp_model.proofs.PointLemmas.{cost_small}
+use Rattle.block_form.specs.Blocked.{BlockedProgram, IsFormed}
+use Rattle.search_laws.specs.Grove.{GrowingTree, live, shut, fork, leaves_below, live_bounds}
+use Rattle.search_laws.specs.GroveFacts.{IsSearch, IsGrove, IsKept, IsRemainingBound, best_cost}
+use Rattle.search_laws.specs.declared.Side.{Side}
+use Rattle.search_laws.specs.declared.Side.TheVariants.{Low, High}
+use Rattle.search_laws.proofs.Places.{recursion_parts, recursion-append}
+use Rattle.branch_tree.specs.Groves.{GroveState, IsGroveOf}
+use Rattle.branch_tree.specs.declared.outcome.Outcome.{Outcome}
+use Rattle.branch_tree.specs.declared.outcome.Outcome.TheVariants.{Optimal, Infeasible, Budget}
+use Rattle.bp_search.specs.Ends.{IsOutcome}
+use Rattle.cert_text.specs.Programs.{IsSmall, IsSmallPoint}
+use Rattle.cert_text.specs.Outcomes.{IsWritable}
+use Rattle.search_laws.specs.Outcomes.{read_off}
+use Rattle.bp_report.specs.Report.{CanTell}
+use Rattle.bp_front.specs.declared.ending.Reply.{Reply}
+use Rattle.cmd_solve.specs.Solves.{outcome_certificate, SolvesBlocked}
+use Rattle.cmd_solve.specs.Saves.{IsSolved}
+
+-- a number of a small span is small
+small_within : (s : Span) (v : ℤ) → HasSmallEnds s → IsWithin s v → IsSmall v
+small_within s v ends within =
+    let lo = ends.lo in
+    let hi = ends.hi in
+    let above = within.above in
+    let below = within.below in
+    grind (arith, ints)
+
+small_inside : (spans : List Span) (x : List ℤ) → AllByRecursion HasSmallEnds spans → IsInside spans x → AllByRecursion IsSmall x
+small_inside [] [] ends inside = tt
+small_inside [] (v ∷ vs) ends inside = absurd inside
+small_inside (s ∷ ss) [] ends inside = absurd inside
+small_inside (s ∷ ss) (v ∷ vs) ends inside = (small_within s v ends.0 inside.0, small_inside ss vs ends.1 inside.1)
+
+-- a feasible point has small numbers
+small_point : (b : BlockedProgram) (x : List ℤ) → IsFormed b → IsFeasible b.named.program x → IsSmallPoint (length b.named.program.spans) x
+small_point b x formed feasible = record {
+  each = sym (AllZip-length IsWithin b.named.program.spans x feasible.inside);
+  small = All-from_recursion IsSmall x
+      (small_inside b.named.program.spans x (recursion_from_All HasSmallEnds b.named.program.spans formed.kept.ends) feasible.inside);
+}
+
+small_cost : (b : BlockedProgram) (x : List ℤ) → IsFormed b → IsFeasible b.named.program x → IsSmall (cost b.named.program x)
+small_cost b x formed feasible = cost_small b.named x formed.kept feasible.inside
+
+-- live bounds are small
+small_lives : (b : Blocking) (t : GrowingTree) (path : List Side) (zone : List Span) → AllByRecursion (IsKept b) (leaves_below t path zone) → AllByRecursion IsSmall (live_bounds t)
+small_lives b (live proof bound) path zone kept = (kept.0.bound.size, tt)
+small_lives b (shut proof) path zone kept = tt
+small_lives b (fork v at low high) path zone kept =
+    let parts = recursion_parts (IsKept b) (leaves_below low (path ++ Low ∷ []) (low_part zone v at)) (leaves_below high (path ++ High ∷ []) (high_part zone v at)) kept in
+    recursion-append IsSmall (live_bounds low) (live_bounds high) (small_lives b low (path ++ Low ∷ []) (low_part zone v at) parts.0)
+    (small_lives b high (path ++ High ∷ []) (high_part zone v at) parts.1)
+
+small_best : (b : BlockedProgram) (best : Option (List ℤ)) → IsFormed b → IfSome best (IsFeasible b.named.program)
+    → AllByRecursion IsSmall (option_to_list (best_cost b.named.program best))
+small_best b None formed feasible = tt
+small_best b (Some x) formed feasible = (small_cost b x formed feasible, tt)
+
+-- what is still to come has a small bound
+small_remaining : (b : BlockedProgram) (t : GrowingTree) (best : Option (List ℤ)) (bound : ℤ) → IsFormed b → IsSearch b.named.program b.blocking t best
+    → IsRemainingBound b.named.program t best bound → IsSmall bound
+small_remaining b t best bound formed search remaining =
+    let lives : AllByRecursion IsSmall (live_bounds t) =
+    small_lives b.blocking t [] b.named.program.spans (recursion_from_All (IsKept b.blocking) (leaves_below t [] b.named.program.spans) search.grove.leaves) in
+    let costs : List ℤ = option_to_list (best_cost b.named.program best) in
+    All-contains IsSmall (live_bounds t ++ costs) bound
+    (All-from_recursion IsSmall (live_bounds t ++ costs) (recursion-append IsSmall (live_bounds t) costs lives (small_best b best formed search.feasible)))
+    remaining.reached
+
+grove_of_program : (b : BlockedProgram) (g : GroveState) (best : Option (List ℤ)) → g.root ≡ b.named.program.spans
+    → IsSearch b.named.program b.blocking g.tree best → IsGroveOf b g
+grove_of_program b g best root search = record {
+  root = root;
+  kept = subst (λ (zone : List Span). IsGrove b.blocking zone g.tree) (sym root) search.grove;
+}
+
+-- an outcome of a search may be written
+pub writable : (b : BlockedProgram) → IsFormed b → (steps : Option ℕ) (o : Outcome) → IsOutcome b steps o → IsWritable b o
+writable b formed steps (Optimal g point value) is = record {
+  grove = grove_of_program b g (Some point) is.searched.root is.searched.search;
+  numbers = subst IsSmall (sym is.is_cost) (small_cost b point formed is.searched.search.feasible);
+  point = small_point b point formed is.searched.search.feasible;
+}
+writable b formed steps (Infeasible g) is = record {
+  grove = grove_of_program b g None is.searched.root is.searched.search;
+  numbers = tt;
+  point = tt;
+}
+writable b formed steps (Budget g None bound) is = record {
+  grove = grove_of_program b g None is.searched.root is.searched.search;
+  numbers = (small_remaining b g.tree None bound formed is.searched.search is.remaining, tt);
+  point = tt;
+}
+writable b formed steps (Budget g (Some kept) bound) is = record {
+  grove = grove_of_program b g (Some kept.0) is.searched.root is.searched.search;
+  numbers = (
+    small_remaining b g.tree (Some kept.0) bound formed is.searched.search is.remaining,
+    subst IsSmall (sym is.kept.1) (small_cost b kept.0 formed is.kept.0),
+  );
+  point = small_point b kept.0 formed is.kept.0;
+}
+
+-- an outcome of a search can be told
+pub tellable : (b : BlockedProgram) (steps : Option ℕ) (o : Outcome) → IsOutcome b steps o → CanTell b.named o
+tellable b steps (Optimal g point value) is = is.searched.search.feasible.inside
+tellable b steps (Infeasible g) is = tt
+tellable b steps (Budget g None bound) is = λ x there. absurd (cc)
+tellable b steps (Budget g (Some kept) bound) is = λ x there.
+    let same : kept ≡ x = cc in
+    subst (λ (k : List ℤ × ℤ). IsInside b.named.program.spans k.0) same is.kept.0.inside
+
+-- the certificate of an outcome of a search is valid
+pub outcome_certified : (b : BlockedProgram) (steps : Option ℕ) (o : Outcome) → IsOutcome b steps o → IsCertified b.named.program b.dec (outcome_certificate b.named.program o)
+outcome_certified b steps (Optimal g point value) is =
+    let p : Program = b.named.program in
+    subst (λ (z : ℤ). IsCertified p b.dec (read_off (claim.Optimal (in_sense p.maximises z)) (Some point) [] g.tree)) (sym is.is_cost) is.searched.certified
+outcome_certified b steps (Infeasible g) is = is.searched.certified
+outcome_certified b steps (Budget g None bound) is = is.searched.certified
+outcome_certified b steps (Budget g (Some kept) bound) is =
+    let p : Program = b.named.program in
+    subst (λ (z : ℤ). IsCertified p b.dec (read_off (claim.Bound (in_sense p.maximises bound) (Some (in_sense p.maximises z))) (Some kept.0) [] g.tree)) (sym is.kept.1)
+    is.searched.certified
+
+-- the reply to an outcome of a search is what a program in blocks is answered
+pub solves : (b : BlockedProgram) (steps : Option ℕ) (o : Outcome) (reply : Reply) → IsOutcome b steps o → IsSolved b steps o reply
+    → SolvesBlocked steps (Some o) b reply.status reply.report.items
+solves b steps o reply is solved = record { outcome = o; is_kept = refl; is_outcome = is; has_status = solved.ended; has_report = solved.told }

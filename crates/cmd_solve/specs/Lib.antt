@@ -1,0 +1,2 @@
+pub mod Solves
+pub mod Saves

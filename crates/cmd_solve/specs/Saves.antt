@@ -1,0 +1,30 @@
+-- What `solve` prints and writes for an outcome.
+use Rattle.std.specs.Prelude.{◌≡◌, ℕ, List, Option, Some, None}
+use Rattle.bp_shelf.specs.Shelf.{Files}
+use Rattle.block_form.specs.Blocked.{BlockedProgram}
+use Rattle.branch_tree.specs.declared.outcome.Outcome.{Outcome}
+use Rattle.bp_search.specs.Ends.{most_steps}
+use Rattle.bp_report.specs.Report.{solve_report}
+use Rattle.bp_front.specs.Front.{FilesCome, blocked}
+use Rattle.bp_front.specs.declared.ending.Reply.{Reply}
+use Rattle.cmd_solve.specs.Solves.{IsSpelledOut, outcome_status}
+
+-- the report on an outcome of a search of so many steps, with its status
+pub record IsSolved (b : BlockedProgram) (steps : Option ℕ) (outcome : Outcome) (reply : Reply) : Type 0 where
+  pub ended : reply.status ≡ outcome_status outcome
+  pub told : reply.report.items ≡ solve_report b.named (most_steps steps) outcome
+
+-- the file for a certificate, where one is named, spells the certificate of an outcome, and it is valid
+abbrev pub IsSaved : BlockedProgram → Outcome → Option (List ℕ) → Files → Type 0
+IsSaved b outcome None files = Unit {0}
+IsSaved b outcome (Some name) files = (text : List ℕ) × (files name ≡ Some text) × IsSpelledOut b outcome text
+
+-- the same of an outcome that is kept
+abbrev pub SavesBlocked : BlockedProgram → Option (List ℕ) → Files → Option Outcome → Type 0
+SavesBlocked b cert files None = Unit {0}
+SavesBlocked b cert files (Some outcome) = IsSaved b outcome cert files
+
+-- the same of the program in blocks that the files come to
+abbrev pub HasCertificate : Files → List ℕ → Option (List ℕ) → Option (List ℕ) → Files → Option Outcome → Type 0
+HasCertificate before lp dec cert now None = Unit {0}
+HasCertificate before lp dec cert now (Some outcome) = (b : BlockedProgram) × FilesCome before lp dec (blocked b) × IsSaved b outcome cert now

@@ -1,0 +1,4 @@
+pub mod OnePoint
+pub mod Leaves
+pub mod EveryBlock
+pub mod Strong

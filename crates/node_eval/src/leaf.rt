@@ -1,0 +1,172 @@
+// The verdict on a leaf.
+ghost use Rattle.std.specs.Prelude.{◌≡◌, ◌<◌, ◌^◌, ◌<ℤ◌, unsigned_abs, IfOk, IfSome};
+ghost use Rattle.block_class.specs.Classes.{AreSameClasses};
+ghost use Rattle.branch_tree.specs.Turns.{IsTurn};
+ghost use Rattle.lagr_bound.specs.Forms.{forms_in};
+ghost use Rattle.lagr_bound.specs.Works.{forms_of};
+ghost use Rattle.search_laws.specs.GroveFacts.{best_cost};
+ghost use Rattle.search_laws.specs.Verdicts.{IsVerdict, IsNext, IsThorough, cheaper_cost};
+ghost use Rattle.node_eval.specs.Shown.{IsShown, IsBetter, IsOpen};
+ghost use Rattle.node_eval.specs.Openings.{IsStrong};
+
+use crate::bench::Bench;
+use crate::fork::{first_open, middle, open_or};
+use crate::hint::{Hint, hinted};
+use crate::point::{if_better, one_point};
+use crate::shown::{Opening, Shown, emptied, opened, strongest};
+use block_class::Classes;
+use block_form::Blocked;
+use bp_theory::Items;
+use branch_tree::{Next, Turn, Verdict};
+use std::alloc::{AllocError, Global};
+
+/// The verdict on a live leaf: a point that is feasible and cheaper than the best cost, where one was found, and what is
+/// done with the leaf. It is shut by a proof that settles its zone against the cheaper of the two costs, or forked with a
+/// bound below it. A zone of one point is always shut, and from depth 64 on a fork is at the middle of its span.
+pub fn evaluate(
+    alloc: Global,
+    b: &Blocked,
+    turn: &Turn,
+    best: Option<i64>,
+) -> Result<Verdict, AllocError>
+    requires turn { IsTurn b.now turn.now }
+    requires best { IfSome best (λ z. unsigned_abs z < 2 ^ 62) }
+    ensures verdict { IfOk result (IsVerdict b.now.named.program b.now.blocking turn.now.depth turn.now.zone turn.now.bound best) }
+    ensures thorough { IfOk result (λ verdict. IsThorough b.now.blocking turn.now.zone verdict.next) }
+{
+    let _ = b.model();
+    match first_open(turn.zone.spans()) {
+        None => one_point(alloc, b, turn, best),
+        Some(var) => many_points(alloc, b, turn, best, var),
+    }
+}
+
+// The verdict on a zone with an open variable.
+fn many_points(
+    alloc: Global,
+    b: &Blocked,
+    turn: &Turn,
+    best: Option<i64>,
+    var: u32,
+) -> Result<Verdict, AllocError>
+    requires turn { IsTurn b.now turn.now }
+    requires open { IsOpen turn.now.zone var }
+    ensures verdict { IfOk result (IsVerdict b.now.named.program b.now.blocking turn.now.depth turn.now.zone turn.now.bound best) }
+    ensures thorough { IfOk result (λ verdict. IsThorough b.now.blocking turn.now.zone verdict.next) }
+{
+    if let Some(proof) = emptied(alloc, b, &turn.zone)? {
+        return Ok(Verdict {
+            point: None,
+            next: Next::Shut(proof),
+        });
+    }
+    let classes = Classes::of(alloc, b, &turn.zone)?;
+    let mut bench = Bench::make(alloc, b)?;
+    match opened(alloc, b, &classes, &mut bench, turn)? {
+        Opening::Empty(proof) => Ok(Verdict {
+            point: None,
+            next: Next::Shut(proof),
+        }),
+        Opening::Open(shown) => { searched(alloc, b, &classes, &mut bench, turn, best, var, shown) }
+    }
+}
+
+// The verdict on a zone with an open variable whose blocks may have points.
+fn searched(
+    alloc: Global,
+    b: &Blocked,
+    classes: &Classes,
+    bench: &mut Bench,
+    turn: &Turn,
+    best: Option<i64>,
+    var: u32,
+    shown: Shown,
+) -> Result<Verdict, AllocError>
+    requires turn { IsTurn b.now turn.now }
+    requires open { IsOpen turn.now.zone var }
+    requires made_for { forms_of bench.old.work ≡ forms_in b.now }
+    requires classes { AreSameClasses turn.now.zone b.now.blocking classes.now }
+    requires shown { IsShown b.now.blocking turn.now.zone turn.now.bound shown.proof shown.bound }
+    requires strong { IsStrong b.now.blocking turn.now.zone shown.bound }
+    ensures verdict { IfOk result (IsVerdict b.now.named.program b.now.blocking turn.now.depth turn.now.zone turn.now.bound best) }
+    ensures thorough { IfOk result (λ verdict. IsThorough b.now.blocking turn.now.zone verdict.next) }
+{
+    let Hint {
+        mults,
+        point: found,
+        var: wanted,
+    } = hinted(alloc, b, classes, bench, turn, best)?;
+    let point = better_point(b, found, best);
+    let mults = mults.as_slice();
+    let shown = strongest(alloc, b, classes, bench, &turn.zone, shown, mults)?;
+    let known = cheaper(b, &point, best);
+    let next = settled(b, turn, shown, known, open_or(&turn.zone, wanted, var));
+    Ok(Verdict { point, next })
+}
+
+// A point, where one was found, if it is feasible and cheaper than a given cost.
+fn better_point(b: &Blocked, found: Option<Vec<i64>>, best: Option<i64>) -> Option<Items<i64>>
+    ensures { IfSome result (IsBetter b.now.named.program best) }
+{
+    match found {
+        None => None,
+        Some(point) => judged(b, Items::from_vec(point), best),
+    }
+}
+
+// A point, if it is feasible and cheaper than a given cost.
+fn judged(b: &Blocked, point: Items<i64>, best: Option<i64>) -> Option<Items<i64>>
+    ensures { IfSome result (IsBetter b.now.named.program best) }
+{
+    match b.model().misses(point.as_slice()) {
+        None => if_better(b, point, best),
+        Some(_) => None,
+    }
+}
+
+// The cheaper of a point's cost and a given cost.
+fn cheaper(b: &Blocked, point: &Option<Items<i64>>, best: Option<i64>) -> Option<i64>
+    requires { IfSome point.now (IsBetter b.now.named.program best) }
+    ensures { result ≡ cheaper_cost (best_cost b.now.named.program point.now) best }
+{
+    match point {
+        None => best,
+        Some(point) => Some(b.model().cost(point.as_slice())),
+    }
+}
+
+// What is done with a leaf of a zone with an open variable: it is shut where the bound reaches the known cost, and else forked.
+fn settled(b: &Blocked, turn: &Turn, shown: Shown, known: Option<i64>, var: u32) -> Next
+    requires turn { IsTurn b.now turn.now }
+    requires open { IsOpen turn.now.zone var }
+    requires shown { IsShown b.now.blocking turn.now.zone turn.now.bound shown.proof shown.bound }
+    requires strong { IsStrong b.now.blocking turn.now.zone shown.bound }
+    ensures thorough { IsThorough b.now.blocking turn.now.zone result }
+    ensures next { IsNext b.now.blocking turn.now.depth turn.now.zone turn.now.bound known result }
+{
+    match known {
+        Some(best) if shown.bound >= best => Next::Shut(shown.proof),
+        _ => forked(b, turn, shown, known, var),
+    }
+}
+
+// A leaf forked at the middle of a variable's span.
+fn forked(b: &Blocked, turn: &Turn, shown: Shown, known: Option<i64>, var: u32) -> Next
+    requires turn { IsTurn b.now turn.now }
+    requires open { IsOpen turn.now.zone var }
+    requires shown { IsShown b.now.blocking turn.now.zone turn.now.bound shown.proof shown.bound }
+    requires strong { IsStrong b.now.blocking turn.now.zone shown.bound }
+    requires below { IfSome known (λ z. shown.bound <ℤ z) }
+    ensures thorough { IsThorough b.now.blocking turn.now.zone result }
+    ensures next { IsNext b.now.blocking turn.now.depth turn.now.zone turn.now.bound known result }
+{
+    let _ = b;
+    let _ = known;
+    let span = turn.zone.span(var);
+    Next::Fork {
+        var,
+        at: middle(&span),
+        proof: shown.proof,
+        bound: shown.bound,
+    }
+}

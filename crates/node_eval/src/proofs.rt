@@ -1,0 +1,90 @@
+// Proofs made from their parts.
+ghost use Rattle.std.specs.Prelude.{◌≡◌, IfOk};
+ghost use Rattle.bp_theory.specs.Bound.{plain_proof};
+ghost use Rattle.search_laws.specs.Verdicts.{every_block};
+ghost use Rattle.node_eval.specs.Shown.{row_proof, block_proof};
+
+use bp_theory::{Items, Picked, Proof};
+use std::alloc::{AllocError, Global};
+
+/// The proof of scale 1 that names no row and picks no block.
+pub fn plain(alloc: Global) -> Proof
+    ensures { result ≡ plain_proof }
+{
+    Proof {
+        scale: 1,
+        mults: Items::new(alloc),
+        picked: Picked::These(Items::new(alloc)),
+    }
+}
+
+/// The proof of scale 1 that names no row and picks every block.
+pub fn every(alloc: Global) -> Proof
+    ensures { result ≡ every_block }
+{
+    Proof {
+        scale: 1,
+        mults: Items::new(alloc),
+        picked: Picked::Every,
+    }
+}
+
+/// The proof of scale 0 with one multiplier.
+pub fn by_row(alloc: Global, row: u32, mult: i64) -> Result<Proof, AllocError>
+    ensures { IfOk result (λ proof. proof ≡ row_proof row mult) }
+{
+    let mut mults = Items::new(alloc);
+    mults.push((row, mult))?;
+    Ok(Proof {
+        scale: 0,
+        mults,
+        picked: Picked::These(Items::new(alloc)),
+    })
+}
+
+/// The proof of scale 0 without multipliers that picks one block.
+pub fn by_block(alloc: Global, block: u32) -> Result<Proof, AllocError>
+    ensures { IfOk result (λ proof. proof ≡ block_proof block) }
+{
+    let mut blocks = Items::new(alloc);
+    blocks.push(block)?;
+    Ok(Proof {
+        scale: 0,
+        mults: Items::new(alloc),
+        picked: Picked::These(blocks),
+    })
+}
+
+/// A proof once more.
+pub fn copied(alloc: Global, proof: &Proof) -> Result<Proof, AllocError>
+    ensures { IfOk result (λ copy. copy ≡ proof.now) }
+{
+    let mults = copied_mults(alloc, proof.mults.as_slice())?;
+    let picked = copied_picks(alloc, &proof.picked)?;
+    Ok(Proof {
+        scale: proof.scale,
+        mults,
+        picked,
+    })
+}
+
+// Multipliers once more.
+fn copied_mults(alloc: Global, mults: &[(u32, i64)]) -> Result<Items<(u32, i64)>, AllocError>
+    ensures { IfOk result (λ copy. copy ≡ mults.now) }
+{
+    let copy = mults.to_vec(alloc)?;
+    Ok(Items::from_vec(copy))
+}
+
+// Picked blocks once more.
+fn copied_picks(alloc: Global, picked: &Picked) -> Result<Picked, AllocError>
+    ensures { IfOk result (λ copy. copy ≡ picked.now) }
+{
+    match picked {
+        Picked::Every => Ok(Picked::Every),
+        Picked::These(blocks) => {
+            let copy = blocks.as_slice().to_vec(alloc)?;
+            Ok(Picked::These(Items::from_vec(copy)))
+        }
+    }
+}

@@ -1,0 +1,204 @@
+// Bounds of a zone and the proofs that show them.
+ghost use Rattle.std.specs.Prelude.{◌≡◌, ◌<◌, ◌^◌, ◌<ℤ◌, ◌≤ℤ◌, ◌*ℤ◌, ◌↔◌, [], ℤ, pos, unsigned_abs, IfOk, IfSome, IsTrue};
+ghost use Rattle.bp_theory.specs.Bound.{IsBound};
+ghost use Rattle.bp_theory.specs.Trees.{IsZone};
+ghost use Rattle.bp_theory.specs.declared.Picked.TheVariants.{These};
+ghost use Rattle.block_class.specs.Classes.{AreSameClasses};
+ghost use Rattle.branch_tree.specs.Turns.{IsTurn};
+ghost use Rattle.lagr_bound.specs.Forms.{forms_in};
+ghost use Rattle.lagr_bound.specs.Works.{forms_of};
+ghost use Rattle.search_laws.specs.GroveFacts.{IsSoundProof};
+ghost use Rattle.node_eval.specs.Shown.{IsShown, ShutsOff};
+ghost use Rattle.node_eval.specs.Openings.{IsOpening};
+
+use crate::bench::{Bench, MOST_VISITS};
+use crate::proofs::{by_row, copied, every};
+use crate::reach::unreached;
+use crate::wide::first_wide;
+use block_class::Classes;
+use block_form::{Blocked, MAX_SCALE, Zone, fits, signs_fit};
+use bp_theory::Proof;
+use branch_tree::Turn;
+use lagr_bound::{Bounded, Work, bound, box_bound, round};
+use pricing::Cap;
+use std::alloc::{AllocError, Global};
+
+/// The scale of a short proof.
+const SHORT_SCALE: u32 = 1 << 8;
+
+/// A proof with the bound that it shows of a zone.
+#[derive(Drop)]
+pub struct Shown {
+    pub proof: Proof,
+    pub bound: i64,
+}
+
+/// What pricing every block shows of a leaf's zone.
+#[derive(Drop)]
+pub enum Opening {
+    /// A block has no point there: a proof that the zone has none.
+    Empty(Proof),
+    /// A bound, with the proof that shows it.
+    Open(Shown),
+}
+
+/// What pricing every block shows of a leaf's zone: that it has no point, or a bound no less than the leaf's own. Where the
+/// pricing of a block is cut, it is left out from then on.
+pub fn opened(
+    alloc: Global,
+    b: &Blocked,
+    classes: &Classes,
+    bench: &mut Bench,
+    turn: &Turn,
+) -> Result<Opening, AllocError>
+    requires turn { IsTurn b.now turn.now }
+    requires made_for { forms_of bench.old.work ≡ forms_in b.now }
+    requires classes { AreSameClasses turn.now.zone b.now.blocking classes.now }
+    ensures opening { IfOk result (IsOpening b.now.blocking turn.now.zone turn.now.bound) }
+    ensures made_for { forms_of bench.new.work ≡ forms_of bench.old.work }
+{
+    let _ = b.blocks();
+    let own = inherited(alloc, b, turn)?;
+    if let Some(_) = first_wide(alloc, b, &turn.zone)? {
+        bench.leave_out_wide(alloc, b, &turn.zone)?;
+        return Ok(Opening::Open(own));
+    }
+    let proof = every(alloc);
+    let cap = Cap::At(MOST_VISITS);
+    match bound(&mut bench.work, b, classes, &turn.zone, &proof, cap) {
+        Bounded::Endless => Ok(Opening::Empty(proof)),
+        Bounded::Whole(whole) => Ok(Opening::Open(raised_to(b, &turn.zone, own, proof, whole))),
+        Bounded::Cut(block) => {
+            bench.leave_out(alloc, b, classes, block)?;
+            Ok(Opening::Open(own))
+        }
+    }
+}
+
+/// A bound of a zone, or a greater one that multipliers by row show, rounded to a small scale where that does as well.
+pub fn strongest(
+    alloc: Global,
+    b: &Blocked,
+    classes: &Classes,
+    bench: &mut Bench,
+    zone: &Zone,
+    shown: Shown,
+    mults: &[i64],
+) -> Result<Shown, AllocError>
+    requires made_for { forms_of bench.old.work ≡ forms_in b.now }
+    requires classes { AreSameClasses zone.now b.now.blocking classes.now }
+    requires zone { IsZone b.now.named.program.spans zone.now }
+    requires size { unsigned_abs shown.bound < 2 ^ 62 }
+    ensures shown { (least : ℤ) → IsShown b.now.blocking zone.now least shown.proof shown.bound
+        → IfOk result (λ more. IsShown b.now.blocking zone.now least more.proof more.bound) }
+    ensures no_less { IfOk result (λ more. shown.bound ≤ℤ more.bound) }
+{
+    let short = bench.proof_at(alloc, mults, SHORT_SCALE)?;
+    let full = bench.proof_at(alloc, mults, MAX_SCALE)?;
+    let first = raised(b, classes, &mut bench.work, zone, shown, short);
+    Ok(raised(b, classes, &mut bench.work, zone, first, full))
+}
+
+// The bound that a leaf's own proof shows.
+fn inherited(alloc: Global, b: &Blocked, turn: &Turn) -> Result<Shown, AllocError>
+    requires { IsTurn b.now turn.now }
+    ensures { IfOk result (λ shown. IsShown b.now.blocking turn.now.zone turn.now.bound shown.proof shown.bound) }
+{
+    let _ = b;
+    let proof = copied(alloc, &turn.proof)?;
+    Ok(Shown {
+        proof,
+        bound: turn.bound,
+    })
+}
+
+// A bound, or a greater one that another proof shows.
+fn raised(
+    b: &Blocked,
+    classes: &Classes,
+    work: &mut Work,
+    zone: &Zone,
+    shown: Shown,
+    proof: Proof,
+) -> Shown
+    requires made_for { forms_of work.old ≡ forms_in b.now }
+    requires classes { AreSameClasses zone.now b.now.blocking classes.now }
+    requires zone { IsZone b.now.named.program.spans zone.now }
+    requires size { unsigned_abs shown.bound < 2 ^ 62 }
+    ensures shown { (least : ℤ) → IsShown b.now.blocking zone.now least shown.proof shown.bound → IsShown b.now.blocking zone.now least result.proof result.bound }
+    ensures size { unsigned_abs result.bound < 2 ^ 62 }
+    ensures no_less { shown.bound ≤ℤ result.bound }
+    ensures made_for { forms_of work.new ≡ forms_of work.old }
+{
+    if proof.scale == 0 || !is_sound(b, &proof) {
+        return shown;
+    }
+    match bound(work, b, classes, zone, &proof, Cap::At(MOST_VISITS)) {
+        Bounded::Whole(whole) => raised_to(b, zone, shown, proof, whole),
+        _ => shown,
+    }
+}
+
+// A bound, or a greater one that a sound proof of this whole bound shows.
+fn raised_to(b: &Blocked, zone: &Zone, shown: Shown, proof: Proof, whole: i128) -> Shown
+    requires sound { IsSoundProof b.now.blocking proof }
+    requires positive { 0 < proof.scale }
+    requires whole { IsBound b.now.blocking zone.now proof whole }
+    requires size { unsigned_abs shown.bound < 2 ^ 62 }
+    ensures shown { (least : ℤ) → IsShown b.now.blocking zone.now least shown.proof shown.bound → IsShown b.now.blocking zone.now least result.proof result.bound }
+    ensures size { unsigned_abs result.bound < 2 ^ 62 }
+    ensures no_less { shown.bound ≤ℤ result.bound }
+    ensures reached { proof.scale ≡ 1 → unsigned_abs whole < 2 ^ 62 → whole ≤ℤ result.bound }
+{
+    let _ = b;
+    let _ = zone;
+    if !exceeds(proof.scale, &shown.bound, &whole) {
+        return shown;
+    }
+    let bound = round(proof.scale, whole);
+    Shown { proof, bound }
+}
+
+/// A sound proof of one multiplier that a zone has no point, where a master row is seen to have none there.
+pub fn emptied(alloc: Global, b: &Blocked, zone: &Zone) -> Result<Option<Proof>, AllocError>
+    requires { IsZone b.now.named.program.spans zone.now }
+    ensures { IfOk result (λ found. IfSome found (ShutsOff b.now.blocking zone.now)) }
+{
+    let Some((row, sign)) = unreached(b, zone.spans()) else {
+        return Ok(None);
+    };
+    let proof = by_row(alloc, row, sign)?;
+    if !shuts_off(b, zone, &proof) {
+        return Ok(None);
+    }
+    Ok(Some(proof))
+}
+
+// Whether a proof fits, with fitting signs.
+pub fn is_sound(b: &Blocked, proof: &Proof) -> bool
+    ensures { IsTrue result ↔ IsSoundProof b.now.blocking proof.now }
+{
+    if !fits(b, proof) {
+        return false;
+    }
+    signs_fit(b, proof)
+}
+
+// Whether a proof without picked blocks is sound and shows that a zone has no point.
+pub fn shuts_off(b: &Blocked, zone: &Zone, proof: &Proof) -> bool
+    requires zone { IsZone b.now.named.program.spans zone.now }
+    requires picked { proof.now.picked ≡ These [] }
+    ensures { IsTrue result → ShutsOff b.now.blocking zone.now proof.now }
+{
+    if proof.scale != 0 || !is_sound(b, proof) {
+        return false;
+    }
+    box_bound(b, zone, proof) > 0
+}
+
+// Whether a number is above a scale times a bound.
+fn exceeds(scale: u32, bound: &i64, whole: &i128) -> bool
+    ensures { IsTrue result ↔ ((pos scale *ℤ bound.now) <ℤ whole.now) }
+{
+    i128::from(scale) * i128::from(*bound) < *whole
+}

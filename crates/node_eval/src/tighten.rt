@@ -1,0 +1,177 @@
+// Spans tightened by rows: hints for the search of a point.
+use crate::reach::{Reach, has_lower, has_upper, reach_of, term_ends};
+use bp_theory::{Row, Span, Term};
+use std::alloc::AllocError;
+
+/// Spans that shrink, and what they were before, in the order of the changes.
+#[derive(Drop)]
+pub struct Spans {
+    pub now: Vec<Span>,
+    pub before: Vec<(u32, Span)>,
+}
+
+/// The side that a sum of terms must keep: at most or at least a number.
+#[derive(Clone, Copy)]
+pub enum Side {
+    AtMost(i128),
+    AtLeast(i128),
+}
+
+/// What tightening found.
+#[derive(Clone, Copy, Debug, PartialEq, Eq)]
+pub enum Found {
+    /// No point is left.
+    Nothing,
+    /// Some span shrank.
+    Change,
+    /// All is as before.
+    Same,
+}
+
+/// Tightens spans by a row.
+pub fn by_row(row: &Row, spans: &mut Spans) -> Result<Found, AllocError> {
+    let mut found = Found::Same;
+    if has_upper(row) {
+        found = by_side(
+            row.terms.as_slice(),
+            Side::AtMost(i128::from(row.rhs)),
+            spans,
+        )?;
+    }
+    if found != Found::Nothing && has_lower(row) {
+        let other = by_side(
+            row.terms.as_slice(),
+            Side::AtLeast(i128::from(row.low)),
+            spans,
+        )?;
+        if other != Found::Same {
+            found = other;
+        }
+    }
+    Ok(found)
+}
+
+/// Tightens spans by one side of a sum of terms.
+pub fn by_side(terms: &[Term], side: Side, spans: &mut Spans) -> Result<Found, AllocError> {
+    let reach = reach_of(terms, spans.now.as_slice());
+    if misses(&reach, side) {
+        return Ok(Found::Nothing);
+    }
+    if keeps(&reach, side) {
+        return Ok(Found::Same);
+    }
+    let mut found = Found::Same;
+    for term in terms {
+        let own = term_ends(term, spans.now.as_slice());
+        let room = match side {
+            Side::AtMost(most) => most.saturating_sub(reach.least.saturating_sub(own.least)),
+            Side::AtLeast(least) => least.saturating_sub(reach.most.saturating_sub(own.most)),
+        };
+        if shrinks(term, side, room, spans)? {
+            found = Found::Change;
+        }
+    }
+    Ok(found)
+}
+
+// Whether no sum of a reach keeps a side.
+fn misses(reach: &Reach, side: Side) -> bool {
+    match side {
+        Side::AtMost(most) => reach.least > most,
+        Side::AtLeast(least) => reach.most < least,
+    }
+}
+
+// Whether each sum of a reach keeps a side.
+fn keeps(reach: &Reach, side: Side) -> bool {
+    match side {
+        Side::AtMost(most) => reach.most <= most,
+        Side::AtLeast(least) => reach.least >= least,
+    }
+}
+
+// Shrinks a term's span to what its room allows; whether it shrank.
+fn shrinks(term: &Term, side: Side, room: i128, spans: &mut Spans) -> Result<bool, AllocError> {
+    let Some(span) = spans.now.as_slice().get(term.var as usize) else {
+        return Ok(false);
+    };
+    let old = *span;
+    let new = shrunk(&old, &term.coef, side, room);
+    if new.lo > new.hi || (new.lo == old.lo && new.hi == old.hi) {
+        return Ok(false);
+    }
+    set(spans, term.var, new)?;
+    Ok(true)
+}
+
+/// Writes a span, and what it was before.
+pub fn set(spans: &mut Spans, var: u32, new: Span) -> Result<(), AllocError> {
+    if let Some(place) = spans.now.get_mut(var as usize) {
+        spans.before.push((var, *place))?;
+        *place = new;
+    }
+    Ok(())
+}
+
+/// Takes the last changes back, until so many are left.
+pub fn take_back(spans: &mut Spans, left: usize) {
+    for _ in left..spans.before.len() {
+        if let Some((var, old)) = spans.before.pop() {
+            if let Some(place) = spans.now.get_mut(var as usize) {
+                *place = old;
+            }
+        }
+    }
+}
+
+// The part of a span where coefficient times number keeps a side.
+fn shrunk(span: &Span, coef: &i64, side: Side, room: i128) -> Span {
+    let (upper, turned) = match side {
+        Side::AtMost(_) => (*coef > 0, room),
+        Side::AtLeast(_) => (*coef < 0, negative(room)),
+    };
+    let most = floored(turned, i128::from(coef.unsigned_abs()));
+    if *coef == 0 {
+        *span
+    } else if upper {
+        Span {
+            lo: span.lo,
+            hi: within(most, span),
+        }
+    } else {
+        Span {
+            lo: within(negative(most), span),
+            hi: span.hi,
+        }
+    }
+}
+
+// A number's negative.
+fn negative(number: i128) -> i128 {
+    let zero: i128 = 0;
+    zero.saturating_sub(number)
+}
+
+// A quotient rounded down, 0 where the divisor isn't positive.
+fn floored(number: i128, divisor: i128) -> i128 {
+    if divisor <= 0 {
+        return 0;
+    }
+    let quotient = number / divisor;
+    if number % divisor < 0 {
+        quotient.saturating_sub(1)
+    } else {
+        quotient
+    }
+}
+
+// The number of a span that is nearest.
+fn within(number: i128, span: &Span) -> i64 {
+    if number <= i128::from(span.lo) {
+        span.lo
+    } else if number >= i128::from(span.hi) {
+        span.hi
+    } else {
+        number as i64
+    }
+}
