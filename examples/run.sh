@@ -1,0 +1,55 @@
+#!/usr/bin/env bash
+# Solves each example, compares its value with the one of report.txt, and has the certificate checked that was written
+# and those that stand here. Prints a line for each, and ends with 0 where all came as expected. BPRICE names the program,
+# where it is not to be the launcher's.
+set -u
+
+here=$(cd "$(dirname "$(readlink -f "${BASH_SOURCE[0]}")")" && pwd)
+bprice=${BPRICE:-$here/../bprice}
+room=$(mktemp -d) || exit 1
+trap 'rm -rf "$room"' EXIT
+failed=0
+
+# expect WHAT WANTED SEEN
+expect() {
+    if [ "$2" = "$3" ]; then
+        echo "$1: $3"
+    else
+        echo "$1: expected '$2', came '$3'"
+        failed=1
+    fi
+}
+
+# solves FOLDER [WORDS..]: of several best points any may come, so the first line alone is compared.
+solves() {
+    local folder=$1 wanted
+    shift
+    cd "$here/$folder" || exit 1
+    wanted=$(head -n 1 report.txt)
+    "$bprice" solve model.lp "$@" --cert "$room/cert" >"$room/report"
+    expect "$folder${*:+ $*}" "$wanted" "$(head -n 1 "$room/report")"
+    expect "$folder${*:+ $*}, its certificate" "accepted $wanted" "$("$bprice" check model.lp "$room/cert" "$@")"
+}
+
+# checks FOLDER CLAIM MODEL CERT [WORDS..]
+checks() {
+    local folder=$1 claim=$2
+    shift 2
+    cd "$here/$folder" || exit 1
+    expect "$folder $*" "accepted $claim" "$("$bprice" check "$@")"
+}
+
+solves cutting-stock
+solves cutting-stock --dec model.dec
+checks cutting-stock 'optimal 2' model.lp model.cert --dec model.dec
+checks cutting-stock 'optimal 5' harder.lp harder.cert --dec harder.dec
+solves rostering
+solves rostering --dec model.dec
+solves routing
+solves routing --dec model.dec
+checks routing 'optimal 37' model.lp model.cert
+solves assignment
+solves assignment --dec model.dec
+checks assignment 'optimal 92' model.lp model.cert
+
+exit $failed
