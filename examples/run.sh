@@ -45,6 +45,7 @@ checks cutting-stock 'optimal 2' model.lp model.cert --dec model.dec
 checks cutting-stock 'optimal 5' harder.lp harder.cert --dec harder.dec
 solves rostering
 solves rostering --dec model.dec
+checks rostering 'optimal 42' model.lp model.cert --dec model.dec
 solves routing
 solves routing --dec model.dec
 checks routing 'optimal 37' model.lp model.cert
