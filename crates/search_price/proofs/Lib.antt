@@ -6,3 +6,4 @@ pub mod PlaceLaws
 pub mod TruthLaws
 pub mod SearchLaws
 pub mod BeginLaws
+pub mod StopLaws

@@ -1,5 +1,5 @@
 -- Where a search stands.
-use Rattle.std.specs.Prelude.{◌≡◌, ℕ, ◌+ℤ◌, ◌-ℤ◌, pos, Bool, if◌then◌else◌, slice_index_or, List, map, length, ℤ}
+use Rattle.std.specs.Prelude.{◌≡◌, ℕ, ◌+ℤ◌, ◌-ℤ◌, pos, ◌≤ℤ◌, Bool, true, false, if◌then◌else◌, slice_index_or, List, map, length, ℤ}
 use Rattle.std.specs.Int.{int_gap}
 use Rattle.bp_theory.specs.Bound.{box_least}
 use Rattle.bp_theory.specs.Trees.{IsSubzone, IsProper}
@@ -28,6 +28,11 @@ step_value up s step = if up then s.lo +ℤ pos step else s.hi -ℤ pos step
 -- the step of a number of a span
 abbrev pub step_of : Bool → Span → ℤ → ℕ
 step_of up s v = if up then int_gap s.lo v else int_gap v s.hi
+
+-- a cost doesn't fall in a direction of numbers: up, or down
+abbrev pub Follows : Bool → ℤ → Type 0
+Follows true cost = pos 0 ≤ℤ cost
+Follows false cost = cost ≤ℤ pos 0
 
 -- all that a search keeps but for its zone and what it can reach there
 pub record IsKept (before now : Dive) : Type 0 where

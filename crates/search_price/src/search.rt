@@ -1,12 +1,12 @@
 // The search itself: depth first over the variables.
 ghost use Rattle.std.specs.Prelude.{◌≡◌, ◌≤◌, ◌<◌, ◌+◌, ◌≤ℤ◌, IsTrue, Bool, true, false, Some, All, length, slice_set, vec_len};
 ghost use Rattle.std.specs.Bool.{OnTrue, OnFalse};
-ghost use Rattle.bp_theory.specs.Program.{IsWithin};
+ghost use Rattle.bp_theory.specs.Program.{IsWithin, span_at};
 ghost use Rattle.bp_theory.specs.Classes.{width};
 ghost use Rattle.pricing.specs.Form.{IsPriceable, HasShortEnds};
 ghost use Rattle.search_price.specs.Reach.{CanMeetRow, IsNarrowed, IsSingle, lows_of};
 ghost use Rattle.search_price.specs.Best.{AllCovered, IsReached, IsNoWorse};
-ghost use Rattle.search_price.specs.Search.{IsTracked, step_value};
+ghost use Rattle.search_price.specs.Search.{IsTracked, IsKept, Follows, step_value};
 
 use crate::dive::{Dive, Visits};
 use crate::form::Form;
@@ -66,6 +66,19 @@ fn record(dive: &mut Dive, form: &Form, zone: &[Span], costs: &[i128])
     }
 }
 
+/// Gives a variable its whole span back.
+fn give_back(dive: &mut Dive, form: &Form, zone: &[Span], costs: &[i128], level: usize)
+    requires priceable { IsPriceable form.now.spans.items zone.now costs.now }
+    requires tracked { IsTracked form.now.rows.items zone.now costs.now dive.old }
+    requires there { level < length zone.now }
+    ensures zone { dive.new.zone.items ≡ slice_set dive.old.zone.items level (span_at zone.now level) }
+    ensures tracked { IsTracked form.now.rows.items zone.now costs.now dive.new }
+    ensures kept { IsKept dive.old dive.new }
+{
+    let whole = zone[level];
+    place(dive, form, zone, costs, level, &whole);
+}
+
 /// Searches the points of the zone, in which the variables below a level have one number. Tells whether it came to
 /// the end, which it does where visits aren't capped. A zone that isn't alive is known to have no point that is cheaper than
 /// the best so far.
@@ -93,11 +106,11 @@ pub fn explore(
     ensures no_worse { OnTrue result (IsNoWorse dive.old.best dive.new.best) }
     ensures reached { OnTrue result (IsReached form.now.rows.items zone.now costs.now dive.new.best dive.new.point.items) }
 {
-    if !alive {
-        return true;
-    }
     if visits.is_spent() {
         return false;
+    }
+    if !alive {
+        return true;
     }
     if level == zone.len() {
         record(dive, form, zone, costs);
@@ -108,15 +121,21 @@ pub fn explore(
     for step in 0..count_of(&whole) {
         let value = value_at(&whole, up, step);
         let goes_on = place_value(dive, form, zone, costs, level, &value);
+        if !goes_on && !may_improve(dive) {
+            give_back(dive, form, zone, costs, level);
+            return true;
+        }
         if !explore(dive, visits, form, zone, costs, level + 1, goes_on) {
             return false;
         }
     }
-    place(dive, form, zone, costs, level, &whole);
+    give_back(dive, form, zone, costs, level);
     true
 }
 
 /// Whether a cost doesn't fall as its variable's number grows.
-fn is_upward(cost: &i128) -> bool {
+fn is_upward(cost: &i128) -> bool
+    ensures { Follows result cost.now }
+{
     *cost >= 0
 }

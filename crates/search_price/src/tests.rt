@@ -301,3 +301,39 @@ fn prefixes_and_a_cap(rt: HostRuntime) -> Result<(), Fail> {
     assert_eq!(rt; answer.0, Priced::Cut);
     Ok(())
 }
+
+/// The numbers 0 to a thousand millions.
+const WIDE: [Span; 2] = [
+    Span {
+        lo: 0,
+        hi: 1_000_000_000,
+    },
+    Span {
+        lo: 0,
+        hi: 1_000_000_000,
+    },
+];
+
+#[test]
+fn wide_spans_are_left_where_numbers_are_too_dear(rt: HostRuntime) -> Result<(), Fail> {
+    let alloc = rt.alloc();
+    let seven = block_of(&rt, alloc, &WIDE, &[line_with(Sense::Ge, 7, 7)])?;
+    let answer = priced(&rt, alloc, &seven, &WIDE, &[5, 4], Cap::At(100))?;
+    assert_eq!(rt; answer, (Priced::Least(13), 1, 2));
+    Ok(())
+}
+
+#[test]
+fn numbers_that_lead_nowhere_are_counted(rt: HostRuntime) -> Result<(), Fail> {
+    let alloc = rt.alloc();
+    let even = Line {
+        coefs: (2, 4),
+        sense: Sense::Eq,
+        low: 7,
+        rhs: 7,
+    };
+    let never = block_of(&rt, alloc, &WIDE, &[even])?;
+    let answer = priced(&rt, alloc, &never, &WIDE, &[5, 4], Cap::At(1000))?;
+    assert_eq!(rt; answer.0, Priced::Cut);
+    Ok(())
+}

@@ -6,10 +6,14 @@ use Rattle.pricing.proofs.Passed.{passed_short}
 use Rattle.bp_theory.specs.Program.{span_at}
 use Rattle.bp_theory.specs.declared.Span.{Span}
 use Rattle.search_price.specs.Reach.{CanMeetRow, IsNarrowed}
-use Rattle.search_price.specs.Best.{AllCovered, IsReached, IsNoWorse}
-use Rattle.search_price.specs.Search.{single}
+use Rattle.bp_theory.specs.Bound.{IsPoint, box_least}
+use Rattle.bp_theory.specs.Sums.{dot}
+use Rattle.bp_theory.specs.Program.{value_at}
+use Rattle.search_price.specs.Best.{IsCovered, AllCovered, IsReached, IsNoWorse}
+use Rattle.search_price.specs.Search.{single, step_of}
 use Rattle.search_price.proofs.PlaceLaws.{many_narrow}
 use Rattle.search_price.proofs.SearchLaws.{short_inside, whole_again, value_zone, moved_form, narrowed_more, covered_more, covered_all, below_level}
+use Rattle.search_price.proofs.StopLaws.{covered_rest}
 use Rattle.search_price.proofs.search.+explore.Goals as goal
 
 pub count_of-step-end-requires-clause-short : goal.count_of-step-end-requires-clause-short
@@ -89,12 +93,12 @@ loop-step-preserved t c =
 
 pub returns-clause-zone : goal.returns-clause-zone
 returns-clause-zone t c =
-    c.place.ensures.zone
+    c.give_back-2.ensures.zone
     ∙ whole_again c.args.zone.now c.args.dive.now.zone.items c.loop-step.dive.zone.items c.args.level c.requires.narrowed c.loop-step.invariant.zone
 
 pub returns-clause-covered : goal.returns-clause-covered
 returns-clause-covered t c =
-    subst (AllCovered c.args.form.now.rows.items c.args.dive.now.zone.items c.args.costs.now) (sym c.place.ensures.kept.best)
+    subst (AllCovered c.args.form.now.rows.items c.args.dive.now.zone.items c.args.costs.now) (sym c.give_back-2.ensures.kept.best)
     (covered_all c.args.form.now.rows.items c.args.zone.now c.args.dive.now.zone.items c.args.costs.now c.args.level c.loop-step.step c.is_upward-up.result c.loop-step.dive.best
     (omega (
       arith,
@@ -102,3 +106,41 @@ returns-clause-covered t c =
       below_level c.args.level (length c.args.zone.now) c.requires.level c.if-level-zone.false,
     ))
     c.requires.narrowed (omega (arith, c.loop-step-test.false, c.count_of-step-end.ensures)) c.loop-step.invariant.covered)
+
+pub returns-then-not-may_improve-clause-zone : goal.returns-then-not-may_improve-clause-zone
+returns-then-not-may_improve-clause-zone t c =
+    let there : c.args.level < length c.args.dive.now.zone.items =
+    omega (
+      arith,
+      many_narrow c.args.form.now c.args.zone.now c.args.costs.now c.args.dive.now c.requires.tracked,
+      below_level c.args.level (length c.args.zone.now) c.requires.level c.if-level-zone.false,
+    ) in
+    let placed : c.place_value-goes_on.new.dive.zone.items ≡ set c.args.dive.now.zone.items c.args.level (single c.value_at-value.result) =
+    value_zone c.args.dive.now.zone.items c.loop-step.dive.zone.items c.place_value-goes_on.new.dive.zone.items c.args.level c.value_at-value.result c.loop-step.invariant.zone
+    (c.place_value-goes_on.ensures.zone
+    ∙ ap (λ z. set c.loop-step.dive.zone.items c.args.level (single z)) (passed_short c.value_at-value.result c.value_at-value.type_inv)) in
+    c.give_back.ensures.zone
+    ∙ whole_again c.args.zone.now c.args.dive.now.zone.items c.place_value-goes_on.new.dive.zone.items c.args.level c.requires.narrowed
+    (moved_form c.args.dive.now.zone.items c.place_value-goes_on.new.dive.zone.items c.args.level c.value_at-value.result there placed)
+
+pub returns-then-not-may_improve-clause-covered : goal.returns-then-not-may_improve-clause-covered
+returns-then-not-may_improve-clause-covered t c =
+    let there : c.args.level < length c.args.dive.now.zone.items =
+    omega (
+      arith,
+      many_narrow c.args.form.now c.args.zone.now c.args.costs.now c.args.dive.now c.requires.tracked,
+      below_level c.args.level (length c.args.zone.now) c.requires.level c.if-level-zone.false,
+    ) in
+    let placed : c.place_value-goes_on.new.dive.zone.items ≡ set c.args.dive.now.zone.items c.args.level (single c.value_at-value.result) =
+    value_zone c.args.dive.now.zone.items c.loop-step.dive.zone.items c.place_value-goes_on.new.dive.zone.items c.args.level c.value_at-value.result c.loop-step.invariant.zone
+    (c.place_value-goes_on.ensures.zone
+    ∙ ap (λ z. set c.loop-step.dive.zone.items c.args.level (single z)) (passed_short c.value_at-value.result c.value_at-value.type_inv)) in
+    subst (AllCovered c.args.form.now.rows.items c.args.dive.now.zone.items c.args.costs.now) (sym (c.give_back.ensures.kept.best ∙ c.place_value-goes_on.ensures.kept.best))
+    (covered_rest c.args.form.now.rows.items c.args.zone.now c.args.dive.now.zone.items c.args.costs.now c.args.level c.loop-step.step c.is_upward-up.result
+    c.value_at-value.result c.loop-step.dive.best there
+    (c.requires.priceable.each ∙ sym (many_narrow c.args.form.now c.args.zone.now c.args.costs.now c.args.dive.now c.requires.tracked))
+    c.requires.narrowed c.value_at-value.ensures.value c.is_upward-up.ensures c.loop-step.invariant.covered
+    (subst (λ (best : Option ℤ). IsCovered best (box_least (set c.args.dive.now.zone.items c.args.level (single c.value_at-value.result)) c.args.costs.now)) c.place_value-goes_on.ensures.kept.best
+    (subst (IsCovered c.place_value-goes_on.new.dive.best)
+    (c.place_value-goes_on.ensures.tracked.least ∙ ap (λ (zs : List Span). box_least zs c.args.costs.now) placed)
+    c.if-not-may_improve.ensures.no)))
