@@ -2,13 +2,14 @@
 use Rattle.std.proofs.Common.{◌≡◌, refl, sym, ap, subst, ◌∙◌, ℕ, zero, suc, ◌+◌, ◌*◌, ◌^◌, ◌<◌, ◌≤◌, List, [], ◌∷◌, map, length, get_or, take, arith}
 use Rattle.std.proofs.Math.IntN.{ℤ, pos, ◌+ℤ◌, ◌*ℤ◌}
 use Rattle.std.proofs.Math.Nat.{mul-le-mul_left}
-use Rattle.std.specs.Prelude.{◌≤ℤ◌, unsigned_abs, sum_by, FitsSigned}
+use Rattle.std.specs.Prelude.{◌≤ℤ◌, unsigned_abs, sum_by, FitsSigned, All}
 use Rattle.std.specs.Int.{w128}
 use Rattle.std.proofs.lemmas.Int.{ints, clamps, fits_signed_from_abs}
 use Rattle.std.proofs.lemmas.List.{ext_get_or, get_or-map, length-map}
 use Rattle.std.proofs.lemmas.List.Sums.{get_or-le-sum_by, sum_by-take-le}
 use Rattle.bp_theory.specs.Program.{span_at, reach}
 use Rattle.bp_theory.specs.Bound.{end_cost, box_least}
+use Rattle.bp_theory.specs.Decomposition.{HasVariablesBelow}
 use Rattle.bp_theory.specs.Trees.{IsSubzone, IsProper}
 use Rattle.bp_theory.specs.declared.Span.{Span}
 use Rattle.bp_theory.specs.declared.Term.{Term}
@@ -136,3 +137,11 @@ map_from_places g rows sums same each =
 pub zone_itself : (zone : List Span) → IsSubzone zone zone
 zone_itself [] = tt
 zone_itself (s ∷ ss) = (record { above = omega (arith, ints); below = omega (arith, ints) }, zone_itself ss)
+
+-- the terms of a row that was read name places
+pub read_places : (rows : List Row) (n m : ℕ) → All (λ (row : Row). HasVariablesBelow n row.terms) rows → m ≡ n → (q : ℕ) → q < length rows
+    → (row : Row) → row ≡ get_or rows q row → (terms : List Term) → terms ≡ row.terms → HasVariablesBelow m terms
+read_places rows n m places same q l row is terms of =
+    subst (λ k. HasVariablesBelow k terms) (sym same)
+    (subst (λ (ts : List Term). HasVariablesBelow n ts) (sym of)
+    (subst (λ (r : Row). HasVariablesBelow n r.terms) (sym is) (places q row l)))

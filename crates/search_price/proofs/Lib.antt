@@ -7,3 +7,4 @@ pub mod TruthLaws
 pub mod SearchLaws
 pub mod BeginLaws
 pub mod StopLaws
+pub mod RelaxLaws

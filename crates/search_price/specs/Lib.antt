@@ -3,6 +3,7 @@ pub mod Shifts
 pub mod Reach
 pub mod Best
 pub mod Search
+pub mod Relax
 pub mod Sizes
 pub mod Caps
 pub mod Kept

@@ -77,7 +77,7 @@ fn sum_of_highs(terms: &[Term], zone: &[Span], spans: &[Span]) -> i128
 }
 
 /// The least cost in a zone, rows aside.
-fn least_cost(zone: &[Span], costs: &[i128]) -> i128
+pub fn least_cost(zone: &[Span], costs: &[i128]) -> i128
     requires each { length costs.now ≡ length zone.now }
     requires sizes { cost_size zone.now costs.now ≤ 2 ^ 116 }
     ensures { result ≡ box_least zone.now costs.now }
@@ -90,12 +90,13 @@ fn least_cost(zone: &[Span], costs: &[i128]) -> i128
     sum
 }
 
-/// Stands at the start of a zone, with no best point.
-pub fn begin(dive: &mut Dive, form: &Form, zone: &[Span], costs: &[i128])
+/// Stands at the start of a zone, where the least adjusted cost is given, with no best point.
+pub fn begin(dive: &mut Dive, form: &Form, zone: &[Span], costs: &[i128], paid: &i128)
     requires places { HasPlaces form.now dive.old }
     requires priceable { IsPriceable form.now.spans.items zone.now costs.now }
     ensures zone { dive.new.zone.items ≡ zone.now }
     ensures tracked { IsTracked form.now.rows.items zone.now costs.now dive.new }
+    ensures paid { dive.new.paid ≡ paid.now }
     ensures best { dive.new.best ≡ None }
 {
     copy_spans(zone, &mut dive.zone);
@@ -105,6 +106,7 @@ pub fn begin(dive: &mut Dive, form: &Form, zone: &[Span], costs: &[i128])
         dive.highs[row] = sum_of_highs(terms, zone, &form.spans);
     }
     dive.least = least_cost(zone, costs);
+    dive.paid = *paid;
     dive.best = None;
 }
 

@@ -40,7 +40,7 @@ pub fn prefixes(block: &Block, zone: &[Span]) -> u128
 }
 
 /// How many beginnings of assignments to these spans there are, cut off at `2^127`.
-fn prefixes_of(spans: &[Span]) -> u128
+pub fn prefixes_of(spans: &[Span]) -> u128
     ensures { result ≡ cut_prefixes spans.now }
 {
     let mut total = 1;

@@ -16,6 +16,8 @@ pub struct Dive {
     pub highs: Vec<i128>,
     /// The least cost in the zone, rows aside.
     pub least: i128,
+    /// The least adjusted cost in the zone.
+    pub paid: i128,
     /// The least cost of a point so far.
     pub best: Option<i128>,
     /// A point of that cost.

@@ -1,4 +1,4 @@
-//! Pricing by a search: depth first over a block's variables, pruned by what each row can still reach and by cost.
+//! Pricing by a search: depth first over a block's variables, pruned by what each row can still reach, by cost, and by cost with rows added.
 #![tactic(auto)]
 
 mod begin;
@@ -7,7 +7,9 @@ mod columns;
 mod dive;
 mod form;
 mod moves;
+mod multipliers;
 mod pricer;
+mod relax;
 mod search;
 mod shifts;
 

@@ -8,23 +8,36 @@ ghost use Rattle.pricing.specs.Priced.{HasNoPoint};
 ghost use Rattle.search_price.specs.Columns.{column_from};
 ghost use Rattle.search_price.specs.Reach.{CanMeet, CanMeetRow};
 ghost use Rattle.search_price.specs.Best.{IsCovered, AllCovered};
-ghost use Rattle.search_price.specs.Search.{IsTracked, IsKept, CanMeetAt, single};
+ghost use Rattle.search_price.specs.Relax.{IsRelaxed, IsSurpassed};
+ghost use Rattle.search_price.specs.Search.{IsTracked, IsPaid, IsKept, CanMeetAt, single};
 
 use crate::dive::Dive;
 use crate::form::Form;
+use crate::relax::Relaxed;
 use crate::shifts::{change_of_cost, shift_highs, shift_lows};
 use bp_theory::{Row, Sense, Span};
 use pricing::plus;
 
 /// Gives a variable another span.
-pub fn place(dive: &mut Dive, form: &Form, zone: &[Span], costs: &[i128], var: usize, to: &Span)
+pub fn place(
+    dive: &mut Dive,
+    form: &Form,
+    zone: &[Span],
+    costs: &[i128],
+    relaxed: &Relaxed,
+    var: usize,
+    to: &Span,
+)
     requires priceable { IsPriceable form.now.spans.items zone.now costs.now }
+    requires adjusted { IsPriceable form.now.spans.items zone.now relaxed.now.costs.items }
     requires tracked { IsTracked form.now.rows.items zone.now costs.now dive.old }
+    requires paid { IsPaid relaxed.now dive.old }
     requires there { var < length zone.now }
     requires part { IsSubspan to.now (span_at zone.now var) }
     requires proper { to.now.lo ≤ℤ to.now.hi }
     ensures zone { dive.new.zone.items ≡ slice_set dive.old.zone.items var to.now }
     ensures tracked { IsTracked form.now.rows.items zone.now costs.now dive.new }
+    ensures paid { IsPaid relaxed.now dive.new }
     ensures kept { IsKept dive.old dive.new }
 {
     let from = dive.zone[var];
@@ -33,6 +46,8 @@ pub fn place(dive: &mut Dive, form: &Form, zone: &[Span], costs: &[i128], var: u
     shift_highs(&mut dive.highs, column, &from, to);
     let change = change_of_cost(&costs[var], &from, to);
     dive.least = plus(&dive.least, &change);
+    let change_paid = change_of_cost(&relaxed.costs[var], &from, to);
+    dive.paid = plus(&dive.paid, &change_paid);
     dive.zone[var] = *to;
 }
 
@@ -115,6 +130,19 @@ pub fn may_improve(dive: &Dive) -> bool
     }
 }
 
+/// Whether the adjusted costs allow a point of the zone that is cheaper than the best so far.
+pub fn may_undercut(dive: &Dive, relaxed: &Relaxed) -> bool
+    ensures no { OnFalse result (IsSurpassed relaxed.now dive.now.best dive.now.paid) }
+{
+    match &dive.best {
+        Some(best) => match relaxed.goal(best) {
+            Some(goal) => dive.paid <= goal,
+            None => true,
+        },
+        None => true,
+    }
+}
+
 /// The span of one number.
 fn span_of(value: &i64) -> Span
     ensures { result ≡ single value.now }
@@ -131,23 +159,30 @@ pub fn place_value(
     form: &Form,
     zone: &[Span],
     costs: &[i128],
+    relaxed: &Relaxed,
     var: usize,
     value: &i64,
 ) -> bool
     requires priceable { IsPriceable form.now.spans.items zone.now costs.now }
+    requires relaxed { IsRelaxed form.now.spans.items form.now.rows.items zone.now costs.now relaxed.now }
     requires tracked { IsTracked form.now.rows.items zone.now costs.now dive.old }
+    requires paid { IsPaid relaxed.now dive.old }
     requires there { var < length zone.now }
     requires part { IsWithin (span_at zone.now var) value.now }
     requires others { All (CanMeetRow (slice_set dive.old.zone.items var (span_at zone.now var))) form.now.rows.items }
     ensures zone { dive.new.zone.items ≡ slice_set dive.old.zone.items var (single value.now) }
     ensures tracked { IsTracked form.now.rows.items zone.now costs.now dive.new }
+    ensures paid { IsPaid relaxed.now dive.new }
     ensures kept { IsKept dive.old dive.new }
     ensures yes { OnTrue result (All (CanMeetRow dive.new.zone.items) form.now.rows.items) }
     ensures no { OnFalse result (AllCovered form.now.rows.items dive.new.zone.items costs.now dive.new.best) }
 {
     let one = span_of(value);
-    place(dive, form, zone, costs, var, &one);
+    place(dive, form, zone, costs, relaxed, var, &one);
     if !may_improve(dive) {
+        return false;
+    }
+    if !may_undercut(dive, relaxed) {
         return false;
     }
     column_can_meet(dive, form, zone, costs, var)

@@ -1,23 +1,29 @@
 // The pricer by search.
+ghost use Rattle.std.specs.Prelude.{◌≡◌, vec_len};
 ghost use Rattle.search_price.specs.Sizes.{HasPlaces};
 
-use crate::begin::begin;
+use crate::begin::{begin, least_cost};
 use crate::caps::visits_under;
 use crate::dive::Dive;
 use crate::form::Form;
 use crate::moves::rows_can_meet;
+use crate::multipliers::Multipliers;
+use crate::relax::{Relaxed, relax};
 use crate::search::explore;
 use block_form::Block;
 use bp_theory::Span;
 use pricing::{Cap, Priced, Pricer};
 use std::alloc::{AllocError, Global};
 
-/// Prices by a depth first search over a block's variables, pruned by what each row can still reach and by cost. It takes all
-/// memory that it needs when it is made.
+/// Prices by a depth first search over a block's variables, pruned by what each row can still reach, by cost, and by cost
+/// with rows added. It takes all memory that it needs when it is made.
 #[derive(Drop)]
 pub struct SearchPricer {
     form: Form,
     dive: Dive,
+    relaxed: Relaxed,
+    multipliers: Multipliers,
+    ghost adjusted: { vec_len relaxed.costs ≡ vec_len form.spans },
     ghost places: { HasPlaces form dive },
 }
 
@@ -43,10 +49,16 @@ impl SearchPricer {
             lows,
             highs,
             least: 0,
+            paid: 0,
             best: None,
             point,
         };
-        Ok(SearchPricer { form, dive })
+        Ok(SearchPricer {
+            form,
+            dive,
+            relaxed: Relaxed::make(alloc, spans.len())?,
+            multipliers: Multipliers::make(alloc, rows.len())?,
+        })
     }
 }
 
@@ -60,7 +72,17 @@ impl Pricer for SearchPricer {
     ghost chosen = { kept_point };
 
     fn price(&mut self, block: &Block, zone: &[Span], costs: &[i128], cap: Cap) -> Priced {
-        begin(&mut self.dive, &self.form, zone, costs);
+        self.multipliers
+            .seek(&mut self.relaxed, &self.form, zone, costs);
+        relax(
+            &mut self.relaxed,
+            &self.form,
+            zone,
+            costs,
+            self.multipliers.best(),
+        );
+        let paid = least_cost(zone, &self.relaxed.costs);
+        begin(&mut self.dive, &self.form, zone, costs, &paid);
         let alive = rows_can_meet(&self.dive, &self.form, zone, costs);
         let mut visits = visits_under(cap, zone);
         if !explore(
@@ -69,6 +91,7 @@ impl Pricer for SearchPricer {
             &self.form,
             zone,
             costs,
+            &self.relaxed,
             0,
             alive,
         ) {

@@ -6,11 +6,13 @@ ghost use Rattle.bp_theory.specs.Classes.{width};
 ghost use Rattle.pricing.specs.Form.{IsPriceable, HasShortEnds};
 ghost use Rattle.search_price.specs.Reach.{CanMeetRow, IsNarrowed, IsSingle, lows_of};
 ghost use Rattle.search_price.specs.Best.{AllCovered, IsReached, IsNoWorse};
-ghost use Rattle.search_price.specs.Search.{IsTracked, IsKept, Follows, step_value};
+ghost use Rattle.search_price.specs.Relax.{IsRelaxed};
+ghost use Rattle.search_price.specs.Search.{IsTracked, IsPaid, IsKept, IsOver, Follows, step_value};
 
 use crate::dive::{Dive, Visits};
 use crate::form::Form;
-use crate::moves::{may_improve, place, place_value};
+use crate::moves::{may_improve, may_undercut, place, place_value};
+use crate::relax::Relaxed;
 use bp_theory::Span;
 
 /// How many numbers a span has.
@@ -55,6 +57,7 @@ fn record(dive: &mut Dive, form: &Form, zone: &[Span], costs: &[i128])
     requires can { All (CanMeetRow dive.old.zone.items) form.now.rows.items }
     requires reached { IsReached form.now.rows.items zone.now costs.now dive.old.best dive.old.point.items }
     ensures zone { dive.new.zone.items ≡ dive.old.zone.items }
+    ensures paid { dive.new.paid ≡ dive.old.paid }
     ensures tracked { IsTracked form.now.rows.items zone.now costs.now dive.new }
     ensures covered { AllCovered form.now.rows.items dive.old.zone.items costs.now dive.new.best }
     ensures no_worse { IsNoWorse dive.old.best dive.new.best }
@@ -67,16 +70,26 @@ fn record(dive: &mut Dive, form: &Form, zone: &[Span], costs: &[i128])
 }
 
 /// Gives a variable its whole span back.
-fn give_back(dive: &mut Dive, form: &Form, zone: &[Span], costs: &[i128], level: usize)
+fn give_back(
+    dive: &mut Dive,
+    form: &Form,
+    zone: &[Span],
+    costs: &[i128],
+    relaxed: &Relaxed,
+    level: usize,
+)
     requires priceable { IsPriceable form.now.spans.items zone.now costs.now }
+    requires adjusted { IsPriceable form.now.spans.items zone.now relaxed.now.costs.items }
     requires tracked { IsTracked form.now.rows.items zone.now costs.now dive.old }
+    requires paid { IsPaid relaxed.now dive.old }
     requires there { level < length zone.now }
     ensures zone { dive.new.zone.items ≡ slice_set dive.old.zone.items level (span_at zone.now level) }
     ensures tracked { IsTracked form.now.rows.items zone.now costs.now dive.new }
+    ensures paid { IsPaid relaxed.now dive.new }
     ensures kept { IsKept dive.old dive.new }
 {
     let whole = zone[level];
-    place(dive, form, zone, costs, level, &whole);
+    place(dive, form, zone, costs, relaxed, level, &whole);
 }
 
 /// Searches the points of the zone, in which the variables below a level have one number. Tells whether it came to
@@ -88,11 +101,14 @@ pub fn explore(
     form: &Form,
     zone: &[Span],
     costs: &[i128],
+    relaxed: &Relaxed,
     level: usize,
     alive: bool,
 ) -> bool
     requires priceable { IsPriceable form.now.spans.items zone.now costs.now }
+    requires relaxed { IsRelaxed form.now.spans.items form.now.rows.items zone.now costs.now relaxed.now }
     requires tracked { IsTracked form.now.rows.items zone.now costs.now dive.old }
+    requires paid { IsPaid relaxed.now dive.old }
     requires level { level ≤ length zone.now }
     requires narrowed { IsNarrowed zone.now level dive.old.zone.items }
     requires can { OnTrue alive (All (CanMeetRow dive.old.zone.items) form.now.rows.items) }
@@ -102,6 +118,7 @@ pub fn explore(
     ensures cut { OnFalse result (IsTrue visits.old.capped) }
     ensures zone { OnTrue result (dive.new.zone.items ≡ dive.old.zone.items) }
     ensures tracked { IsTracked form.now.rows.items zone.now costs.now dive.new }
+    ensures paid { IsPaid relaxed.now dive.new }
     ensures covered { OnTrue result (AllCovered form.now.rows.items dive.old.zone.items costs.now dive.new.best) }
     ensures no_worse { OnTrue result (IsNoWorse dive.old.best dive.new.best) }
     ensures reached { OnTrue result (IsReached form.now.rows.items zone.now costs.now dive.new.best dive.new.point.items) }
@@ -117,25 +134,39 @@ pub fn explore(
         return true;
     }
     let whole = zone[level];
-    let up = is_upward(&costs[level]);
+    let up = is_upward(&relaxed.costs[level], &costs[level]);
     for step in 0..count_of(&whole) {
         let value = value_at(&whole, up, step);
-        let goes_on = place_value(dive, form, zone, costs, level, &value);
-        if !goes_on && !may_improve(dive) {
-            give_back(dive, form, zone, costs, level);
+        let goes_on = place_value(dive, form, zone, costs, relaxed, level, &value);
+        if !goes_on && is_over(dive, relaxed, &costs[level], up) {
+            give_back(dive, form, zone, costs, relaxed, level);
             return true;
         }
-        if !explore(dive, visits, form, zone, costs, level + 1, goes_on) {
+        if !explore(dive, visits, form, zone, costs, relaxed, level + 1, goes_on) {
             return false;
         }
     }
-    give_back(dive, form, zone, costs, level);
+    give_back(dive, form, zone, costs, relaxed, level);
     true
 }
 
-/// Whether a cost doesn't fall as its variable's number grows.
-fn is_upward(cost: &i128) -> bool
-    ensures { Follows result cost.now }
+/// Whether numbers are to be tried from a span's lower end up: where the adjusted cost grows then, or else the cost.
+fn is_upward(adjusted: &i128, cost: &i128) -> bool
+    ensures { Follows result adjusted.now }
 {
-    *cost >= 0
+    *adjusted > 0 || *adjusted == 0 && *cost >= 0
+}
+
+/// Whether a cost doesn't fall in a direction of numbers.
+fn follows(up: bool, cost: &i128) -> bool
+    ensures { OnTrue result (Follows up cost.now) }
+{
+    if up { *cost >= 0 } else { *cost <= 0 }
+}
+
+/// Whether no later number of a variable leads to a cheaper point, since costs or adjusted costs only grow.
+fn is_over(dive: &Dive, relaxed: &Relaxed, cost: &i128, up: bool) -> bool
+    ensures { OnTrue result (IsOver relaxed.now dive.now up cost.now) }
+{
+    !may_undercut(dive, relaxed) || follows(up, cost) && !may_improve(dive)
 }

@@ -6,7 +6,7 @@ use Rattle.bp_theory.specs.declared.Span.{Span}
 use Rattle.bp_theory.specs.declared.Row.{Row}
 use Rattle.pricing.proofs.Passed.{passed}
 use Rattle.search_price.specs.Reach.{low_reach, high_reach}
-use Rattle.search_price.proofs.BeginLaws.{map_from_places, zone_itself}
+use Rattle.search_price.proofs.BeginLaws.{map_from_places, zone_itself, read_places}
 use Rattle.search_price.proofs.PlaceLaws.{many_spans}
 use Rattle.search_price.proofs.begin.begin.Goals as goal
 
@@ -26,3 +26,21 @@ returns-clause-tracked c =
           ∙ ap (λ (zs : List Span). box_least zs c.args.costs.now) (sym c.loop-row.invariant.zone);
       wide = c.loop-row.invariant.point ∙ sym (many_spans c.args.form.now c.args.zone.now c.args.costs.now c.requires.priceable);
     }
+
+pub copy_spans-requires : goal.copy_spans-requires
+copy_spans-requires c =
+    omega (arith, c.requires.places.zone, many_spans c.args.form.now c.args.zone.now c.args.costs.now c.requires.priceable, c.args.dive.now.zone.ok.0)
+
+pub sum_of_lows-requires-clause-places : goal.sum_of_lows-requires-clause-places
+sum_of_lows-requires-clause-places c =
+    read_places c.args.form.now.rows.items (length c.args.form.now.spans.items) (length c.args.zone.now) c.args.form.now.kept.places
+    (many_spans c.args.form.now c.args.zone.now c.args.costs.now c.requires.priceable)
+    c.loop-row.row (omega (arith, c.loop-row-test.true, c.args.form.now.rows.ok.0, c.len-row-end.ensures))
+    c.index.result.now c.index.ensures c.as_slice-terms.result.now c.as_slice-terms.ensures
+
+pub sum_of_highs-requires-clause-places : goal.sum_of_highs-requires-clause-places
+sum_of_highs-requires-clause-places c =
+    read_places c.args.form.now.rows.items (length c.args.form.now.spans.items) (length c.args.zone.now) c.args.form.now.kept.places
+    (many_spans c.args.form.now c.args.zone.now c.args.costs.now c.requires.priceable)
+    c.loop-row.row (omega (arith, c.loop-row-test.true, c.args.form.now.rows.ok.0, c.len-row-end.ensures))
+    c.index.result.now c.index.ensures c.as_slice-terms.result.now c.as_slice-terms.ensures

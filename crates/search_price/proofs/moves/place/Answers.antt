@@ -7,6 +7,7 @@ use mir.Val.{of_z, to_z}
 use Rattle.pricing.proofs.Passed.{passed}
 use Rattle.search_price.proofs.MoveLaws.{cost_sum_fits}
 use Rattle.search_price.proofs.PlaceLaws.{CanMove, move_rows, move_short, move_short_from, lows_short, highs_short, lows_many, highs_many, cost_short, cost_short_from, least_short, moved_lows, moved_highs, moved_least, many_narrow, set_inside, set_proper}
+use Rattle.search_price.proofs.RelaxLaws.{paid_short, paid_short_from, paid_least_short, moved_paid}
 use Rattle.search_price.proofs.moves.place.Goals as goal
 
 pub shift_lows-requires-clause-rows : goal.shift_lows-requires-clause-rows
@@ -100,3 +101,33 @@ returns-clause-tracked c =
           (passed c.change_of_cost-change.result c.change_of_cost-change.type_inv ∙ c.change_of_cost-change.ensures.change);
       wide = c.requires.tracked.wide;
     }
+
+pub change_of_cost-change_paid-requires-clause-from : goal.change_of_cost-change_paid-requires-clause-from
+change_of_cost-change_paid-requires-clause-from c =
+    paid_short_from c.args.form.now c.args.zone.now c.args.costs.now c.args.relaxed.now c.args.dive.now c.args.var c.args.to.now
+    c.requires.adjusted c.requires.paid
+    (record { priceable = c.requires.priceable; tracked = c.requires.tracked; there = c.requires.there; part = c.requires.part; fits = c.requires.proper })
+    c.index.result.now c.index.ensures c.index-3.result.now c.index-3.ensures
+
+pub change_of_cost-change_paid-requires-clause-to : goal.change_of_cost-change_paid-requires-clause-to
+change_of_cost-change_paid-requires-clause-to c =
+    paid_short c.args.form.now c.args.zone.now c.args.costs.now c.args.relaxed.now c.args.dive.now c.args.var c.args.to.now
+    c.requires.adjusted c.requires.paid
+    (record { priceable = c.requires.priceable; tracked = c.requires.tracked; there = c.requires.there; part = c.requires.part; fits = c.requires.proper })
+    c.index-3.result.now c.index-3.ensures
+
+pub plus-dive-requires-2 : goal.plus-dive-requires-2
+plus-dive-requires-2 c =
+    cost_sum_fits c.args.dive.now.paid (to_z w128 (of_z w128 c.change_of_cost-change_paid.result))
+    (paid_least_short c.args.form.now c.args.zone.now c.args.costs.now c.args.relaxed.now c.args.dive.now c.requires.adjusted c.requires.paid c.requires.tracked)
+    (subst (λ z. unsigned_abs z ≤ 2 ^ 117) (sym (passed c.change_of_cost-change_paid.result c.change_of_cost-change_paid.type_inv)) c.change_of_cost-change_paid.ensures.small)
+
+pub returns-clause-paid : goal.returns-clause-paid
+returns-clause-paid c =
+    moved_paid c.args.form.now c.args.zone.now c.args.costs.now c.args.relaxed.now c.args.dive.now c.args.var c.args.to.now
+    c.requires.adjusted c.requires.paid
+    (record { priceable = c.requires.priceable; tracked = c.requires.tracked; there = c.requires.there; part = c.requires.part; fits = c.requires.proper })
+    c.index.result.now c.index.ensures c.index-3.result.now c.index-3.ensures
+    (to_z w128 (of_z w128 c.plus-dive-2.result)) (to_z w128 (of_z w128 c.change_of_cost-change_paid.result))
+    (passed c.plus-dive-2.result c.plus-dive-2.type_inv ∙ c.plus-dive-2.ensures)
+    (passed c.change_of_cost-change_paid.result c.change_of_cost-change_paid.type_inv ∙ c.change_of_cost-change_paid.ensures.change)

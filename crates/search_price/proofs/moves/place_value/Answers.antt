@@ -12,6 +12,8 @@ use Rattle.search_price.specs.declared.columns.Entry.{Entry}
 use Rattle.std.specs.Bool.{OnTrue}
 use Rattle.search_price.proofs.TruthLaws.{map_true}
 use Rattle.search_price.proofs.PlaceLaws.{covered_by_least, all_can_meet, many_narrow}
+use Rattle.search_price.specs.Relax.{IsSurpassed}
+use Rattle.search_price.proofs.RelaxLaws.{covered_surpassed}
 use Rattle.search_price.proofs.moves.place_value.Goals as goal
 
 pub returns-then-not-may_improve-clause-no : goal.returns-then-not-may_improve-clause-no
@@ -19,6 +21,13 @@ returns-then-not-may_improve-clause-no c =
     covered_by_least c.args.form.now.rows.items c.place.new.dive.zone.items c.args.costs.now c.place.new.dive.best
     (c.requires.priceable.each ∙ sym (many_narrow c.args.form.now c.args.zone.now c.args.costs.now c.place.new.dive c.place.ensures.tracked))
     (subst (IsCovered c.place.new.dive.best) c.place.ensures.tracked.least c.if-not-may_improve.ensures.no)
+
+pub returns-then-not-may_undercut-clause-no : goal.returns-then-not-may_undercut-clause-no
+returns-then-not-may_undercut-clause-no c =
+    covered_surpassed c.args.form.now.rows.items c.place.new.dive.zone.items c.args.zone.now c.args.costs.now c.args.relaxed.now c.place.new.dive.best
+    (c.requires.relaxed.priceable.each ∙ sym (many_narrow c.args.form.now c.args.zone.now c.args.costs.now c.place.new.dive c.place.ensures.tracked))
+    c.place.ensures.tracked.inside c.requires.relaxed.below
+    (subst (IsSurpassed c.args.relaxed.now c.place.new.dive.best) c.place.ensures.paid c.if-not-may_undercut.ensures.no)
 
 pub returns-clause-yes : goal.returns-clause-yes
 returns-clause-yes c =

@@ -1,4 +1,4 @@
-use Rattle.std.proofs.Common.{◌≡◌, ◌≢◌, ◌∙◌, sym, ap, subst, ◌+◌, ◌<◌, ◌≤◌, List, length, set, arith}
+use Rattle.std.proofs.Common.{◌≡◌, refl, get_or, pos, ◌≢◌, ◌∙◌, sym, ap, subst, ◌+◌, ◌<◌, ◌≤◌, List, length, set, arith}
 use Rattle.std.proofs.Math.IntN.{ℤ}
 use Rattle.std.specs.Prelude.{All, Option}
 use Rattle.std.specs.Bool.{OnTrue}
@@ -10,10 +10,10 @@ use Rattle.bp_theory.specs.Bound.{IsPoint, box_least}
 use Rattle.bp_theory.specs.Sums.{dot}
 use Rattle.bp_theory.specs.Program.{value_at}
 use Rattle.search_price.specs.Best.{IsCovered, AllCovered, IsReached, IsNoWorse}
-use Rattle.search_price.specs.Search.{single, step_of}
+use Rattle.search_price.specs.Search.{single, step_of, Follows}
 use Rattle.search_price.proofs.PlaceLaws.{many_narrow}
 use Rattle.search_price.proofs.SearchLaws.{short_inside, whole_again, value_zone, moved_form, narrowed_more, covered_more, covered_all, below_level}
-use Rattle.search_price.proofs.StopLaws.{covered_rest}
+use Rattle.search_price.proofs.RelaxLaws.{covered_over, paid_cost}
 use Rattle.search_price.proofs.search.+explore.Goals as goal
 
 pub count_of-step-end-requires-clause-short : goal.count_of-step-end-requires-clause-short
@@ -44,8 +44,12 @@ explore-requires t c =
       (
         c.requires.priceable,
         (
+          c.requires.relaxed,
+          (
           c.place_value-goes_on.ensures.tracked,
           (
+            c.place_value-goes_on.ensures.paid,
+            (
             omega (arith, there),
             (
               subst (IsNarrowed c.args.zone.now (c.args.level + 1)) (sym placed)
@@ -60,6 +64,8 @@ explore-requires t c =
                 ),
               ),
             ),
+            ),
+          ),
           ),
         ),
       ),
@@ -83,6 +89,7 @@ loop-step-preserved t c =
       capped = c.if-not-explore.ensures.capped ∙ c.loop-step.invariant.capped;
       zone = moved_form c.args.dive.now.zone.items c.explore.new.dive.zone.items c.args.level c.value_at-value.result there (c.if-not-explore.ensures.zone ∙ placed);
       tracked = c.if-not-explore.ensures.tracked;
+      paid = c.if-not-explore.ensures.paid;
       reached = c.if-not-explore.ensures.reached;
       no_worse = λ cost h. better cost (c.loop-step.invariant.no_worse cost h);
       covered = covered_more c.args.form.now.rows.items c.args.zone.now c.args.dive.now.zone.items c.args.costs.now c.args.level c.loop-step.step c.is_upward-up.result
@@ -107,8 +114,8 @@ returns-clause-covered t c =
     ))
     c.requires.narrowed (omega (arith, c.loop-step-test.false, c.count_of-step-end.ensures)) c.loop-step.invariant.covered)
 
-pub returns-then-not-may_improve-clause-zone : goal.returns-then-not-may_improve-clause-zone
-returns-then-not-may_improve-clause-zone t c =
+pub returns-then-is_over-clause-zone : goal.returns-then-is_over-clause-zone
+returns-then-is_over-clause-zone t c =
     let there : c.args.level < length c.args.dive.now.zone.items =
     omega (
       arith,
@@ -123,8 +130,8 @@ returns-then-not-may_improve-clause-zone t c =
     ∙ whole_again c.args.zone.now c.args.dive.now.zone.items c.place_value-goes_on.new.dive.zone.items c.args.level c.requires.narrowed
     (moved_form c.args.dive.now.zone.items c.place_value-goes_on.new.dive.zone.items c.args.level c.value_at-value.result there placed)
 
-pub returns-then-not-may_improve-clause-covered : goal.returns-then-not-may_improve-clause-covered
-returns-then-not-may_improve-clause-covered t c =
+pub returns-then-is_over-clause-covered : goal.returns-then-is_over-clause-covered
+returns-then-is_over-clause-covered t c =
     let there : c.args.level < length c.args.dive.now.zone.items =
     omega (
       arith,
@@ -135,12 +142,18 @@ returns-then-not-may_improve-clause-covered t c =
     value_zone c.args.dive.now.zone.items c.loop-step.dive.zone.items c.place_value-goes_on.new.dive.zone.items c.args.level c.value_at-value.result c.loop-step.invariant.zone
     (c.place_value-goes_on.ensures.zone
     ∙ ap (λ z. set c.loop-step.dive.zone.items c.args.level (single z)) (passed_short c.value_at-value.result c.value_at-value.type_inv)) in
-    subst (AllCovered c.args.form.now.rows.items c.args.dive.now.zone.items c.args.costs.now) (sym (c.give_back.ensures.kept.best ∙ c.place_value-goes_on.ensures.kept.best))
-    (covered_rest c.args.form.now.rows.items c.args.zone.now c.args.dive.now.zone.items c.args.costs.now c.args.level c.loop-step.step c.is_upward-up.result
-    c.value_at-value.result c.loop-step.dive.best there
+    subst (AllCovered c.args.form.now.rows.items c.args.dive.now.zone.items c.args.costs.now) (sym c.give_back.ensures.kept.best)
+    (covered_over c.args.form.now.rows.items c.args.zone.now c.args.dive.now.zone.items c.args.costs.now c.args.relaxed.now c.place_value-goes_on.new.dive
+    c.args.level c.loop-step.step c.is_upward-up.result c.value_at-value.result (get_or c.args.costs.now c.args.level (pos 0)) there
     (c.requires.priceable.each ∙ sym (many_narrow c.args.form.now c.args.zone.now c.args.costs.now c.args.dive.now c.requires.tracked))
-    c.requires.narrowed c.value_at-value.ensures.value c.is_upward-up.ensures c.loop-step.invariant.covered
-    (subst (λ (best : Option ℤ). IsCovered best (box_least (set c.args.dive.now.zone.items c.args.level (single c.value_at-value.result)) c.args.costs.now)) c.place_value-goes_on.ensures.kept.best
-    (subst (IsCovered c.place_value-goes_on.new.dive.best)
-    (c.place_value-goes_on.ensures.tracked.least ∙ ap (λ (zs : List Span). box_least zs c.args.costs.now) placed)
-    c.if-not-may_improve.ensures.no)))
+    (c.requires.relaxed.priceable.each ∙ sym (many_narrow c.args.form.now c.args.zone.now c.args.costs.now c.args.dive.now c.requires.tracked))
+    c.requires.narrowed c.value_at-value.ensures.value
+    (subst (Follows c.is_upward-up.result)
+    (paid_cost c.args.form.now c.args.zone.now c.args.relaxed.now c.requires.relaxed.priceable c.args.level
+    (below_level c.args.level (length c.args.zone.now) c.requires.level c.if-level-zone.false) c.index.result.now c.index.ensures)
+    c.is_upward-up.ensures)
+    c.requires.relaxed.below
+    (subst (λ (best : Option ℤ). (y : List ℤ) → IsPoint c.args.form.now.rows.items c.args.dive.now.zone.items y
+    → step_of c.is_upward-up.result (span_at c.args.zone.now c.args.level) (value_at y c.args.level) < c.loop-step.step → IsCovered best (dot c.args.costs.now y))
+    (sym c.place_value-goes_on.ensures.kept.best) c.loop-step.invariant.covered)
+    placed c.place_value-goes_on.ensures.tracked c.place_value-goes_on.ensures.paid refl c.if-is_over.ensures)
