@@ -1,16 +1,15 @@
 -- Laws of a search's move: one span changed.
-use Rattle.std.proofs.Common.{◌≡◌, ◌≢◌, refl, sym, ap, subst, ◌∙◌, ℕ, zero, suc, ◌+◌, ◌*◌, ◌^◌, ◌<◌, ◌≤◌, max, Bool, true, false, List, [], ◌∷◌, ◌++◌, map, length, get_or, set, take, arith, ⊎_elim, inl, inr}
-use Rattle.std.proofs.Math.IntN.{ℤ, pos, ◌+ℤ◌, ◌-ℤ◌, ◌*ℤ◌}
+use Rattle.std.proofs.Common.{◌≡◌, refl, sym, ap, subst, ◌∙◌, ℕ, zero, suc, ◌+◌, ◌*◌, ◌^◌, ◌<◌, ◌≤◌, Bool, true, false, List, [], ◌∷◌, ◌++◌, map, length, get_or, set, arith, inl, inr}
+use Rattle.std.proofs.Math.IntN.{ℤ, pos, ◌+ℤ◌, ◌-ℤ◌}
 use Rattle.std.proofs.Math.Nat.{mul-le-mul_left}
-use Rattle.std.specs.Prelude.{◌≤ℤ◌, ◌==◌, if◌then◌else◌, ◌⊎◌, unsigned_abs, sum_by, FitsSigned, All}
+use Rattle.std.specs.Prelude.{◌≤ℤ◌, ◌==◌, if◌then◌else◌, ◌⊎◌, unsigned_abs, sum_by, FitsSigned}
 use Rattle.std.specs.Int.{w128}
-use Rattle.std.specs.List.{AllZip, AllByRecursion}
-use Rattle.std.proofs.lemmas.Int.{ints, clamps, fits_signed_from_abs}
-use Rattle.std.proofs.lemmas.Bool.{cases_eq, cases_lt, eqb-true}
-use Rattle.std.proofs.lemmas.List.{get_or_past, get_or-map, length-map, ext_get_or, get_or-set_same, get_or-set_other, length-set}
-use Rattle.std.proofs.lemmas.List.Elements.{recursion_from_All, All-from_recursion}
-use Rattle.std.proofs.lemmas.List.Sums.{sum_by-cons, sum_by-le-sum_by, get_or-le-sum_by}
-use Rattle.bp_theory.specs.Sums.{sum_of, sum_at}
+use Rattle.std.specs.List.{AllByRecursion}
+use Rattle.std.proofs.lemmas.Int.{ints, fits_signed_from_abs}
+use Rattle.std.proofs.lemmas.Bool.{cases_lt, eqb-true}
+use Rattle.std.proofs.lemmas.List.{get_or_past, get_or-map, length-map, ext_get_or}
+use Rattle.std.proofs.lemmas.List.Sums.{sum_by-cons, sum_by-le-sum_by}
+use Rattle.bp_theory.specs.Sums.{sum_at}
 use Rattle.bp_theory.specs.Program.{span_at, reach}
 use Rattle.bp_theory.specs.Bound.{end_cost, box_least}
 use Rattle.bp_theory.specs.Trees.{IsSubzone, IsSubspan, IsProper}
@@ -20,14 +19,13 @@ use Rattle.bp_theory.specs.declared.Sense.TheVariants.{Le}
 use Rattle.bp_theory.specs.declared.Row.{Row}
 use Rattle.bp_theory.proofs.SumLaws.{sum_of-within}
 use Rattle.bp_theory.proofs.ZipLaws.{AllZip_at, AllZip-length}
-use Rattle.pricing.specs.Ends.{top_cost}
 use Rattle.pricing.specs.Form.{term_size, row_size, cost_size}
-use Rattle.pricing.proofs.EndLaws.{end_cost-within, top_cost-within}
+use Rattle.pricing.proofs.EndLaws.{end_cost-within}
 use Rattle.search_price.specs.Columns.{entry_of, row_entries, column_from}
-use Rattle.search_price.specs.Shifts.{IsShortAt, least_change, top_change}
-use Rattle.search_price.specs.Reach.{reach_by, low_reach, high_reach}
+use Rattle.search_price.specs.Shifts.{IsShortAt}
+use Rattle.search_price.specs.Reach.{reach_by}
 use Rattle.search_price.specs.declared.columns.Entry.{Entry}
-use Rattle.search_price.proofs.ReachLaws.{reach_by-column, box_least-set}
+use Rattle.search_price.proofs.ReachLaws.{reach_by-column}
 
 -- facts of the elements of joined lists
 pub all-append : {X : Type 0} (P : X → Type 0) (xs ys : List X) → AllByRecursion P xs → AllByRecursion P ys → AllByRecursion P (xs ++ ys)

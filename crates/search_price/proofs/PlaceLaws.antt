@@ -1,18 +1,17 @@
 -- What a search's move needs and leaves.
-use Rattle.std.proofs.Common.{◌≡◌, refl, sym, ap, subst, ◌∙◌, ℕ, zero, suc, ◌+◌, ◌*◌, ◌^◌, ◌<◌, ◌≤◌, List, [], ◌∷◌, map, length, get_or, set, vec_len, arith, ⊎_elim, inl, inr}
-use Rattle.std.proofs.Math.IntN.{ℤ, pos, ◌+ℤ◌, ◌-ℤ◌, ◌*ℤ◌, +ℤ_idl}
-use Rattle.std.specs.Prelude.{Option, None, Some, ◌≤ℤ◌, ◌⊎◌, unsigned_abs, sum_by, All}
-use Rattle.std.specs.List.{AllZip, AllByRecursion}
+use Rattle.std.proofs.Common.{◌≡◌, refl, sym, ap, subst, ◌∙◌, ℕ, ◌*◌, ◌^◌, ◌<◌, ◌≤◌, List, [], ◌∷◌, map, length, get_or, set, vec_len, arith, inl, inr}
+use Rattle.std.proofs.Math.IntN.{ℤ, pos, ◌+ℤ◌, ◌-ℤ◌, +ℤ_idl}
+use Rattle.std.specs.Prelude.{Option, None, Some, ◌≤ℤ◌, ◌⊎◌, unsigned_abs, All}
+use Rattle.std.specs.List.{AllByRecursion}
 use Rattle.std.proofs.lemmas.Int.{ints}
-use Rattle.std.proofs.lemmas.Bool.{cases_eq, cases_lt}
+use Rattle.std.proofs.lemmas.Bool.{cases_eq}
 use Rattle.std.proofs.lemmas.List.{get_or_read, get_or-map, length-map, length-set, get_or-set_same, get_or-set_other}
 use Rattle.std.proofs.lemmas.List.Elements.{recursion_from_All, All-from_recursion}
-use Rattle.bp_theory.specs.Sums.{sum_of, sum_at}
+use Rattle.bp_theory.specs.Sums.{sum_at}
 use Rattle.bp_theory.specs.Program.{span_at, reach}
 use Rattle.bp_theory.specs.Bound.{end_cost, box_least}
-use Rattle.bp_theory.specs.Trees.{IsSubzone, IsSubspan, IsProper, IsZone}
+use Rattle.bp_theory.specs.Trees.{IsSubzone, IsSubspan, IsProper}
 use Rattle.bp_theory.specs.declared.Span.{Span}
-use Rattle.bp_theory.specs.declared.Term.{Term}
 use Rattle.bp_theory.specs.declared.Sense.TheVariants.{Le}
 use Rattle.bp_theory.specs.declared.Row.{Row}
 use Rattle.bp_theory.proofs.ZipLaws.{AllZip_at, AllZip-length, AllZip-set}
@@ -20,9 +19,9 @@ use Rattle.pricing.specs.Ends.{top_cost}
 use Rattle.pricing.specs.Priced.{HasNoPoint}
 use Rattle.bp_theory.specs.Decomposition.{HasVariablesBelow}
 use Rattle.bp_theory.proofs.KeyLaws.{if_other}
-use Rattle.pricing.specs.Form.{term_size, row_size, cost_size, IsForm, IsPriceable}
+use Rattle.pricing.specs.Form.{row_size, IsPriceable}
 use Rattle.pricing.proofs.EndLaws.{end_cost-within, top_cost-within}
-use Rattle.search_price.specs.Columns.{column_from, AreColumns}
+use Rattle.search_price.specs.Columns.{column_from}
 use Rattle.search_price.specs.Shifts.{IsShortAt, least_change, top_change}
 use Rattle.search_price.specs.Reach.{reach_by, low_reach, high_reach, CanMeet, CanMeetRow}
 use Rattle.search_price.specs.Search.{IsTracked, CanMeetAt}

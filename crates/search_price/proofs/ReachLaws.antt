@@ -1,19 +1,17 @@
 -- Laws of what rows can reach in a zone, and of points within narrowed zones.
-use Rattle.std.proofs.Common.{◌≡◌, ◌≢◌, refl, sym, ap, subst, ◌∙◌, ℕ, zero, suc, ◌+◌, ◌*◌, ◌^◌, ◌<◌, ◌≤◌, Bool, true, false, List, [], ◌∷◌, ◌++◌, map, length, get_or, set, arith, ⊎_elim, inl, inr}
-use Rattle.std.proofs.Math.IntN.{ℤ, pos, negsuc, ◌+ℤ◌, ◌-ℤ◌, ◌*ℤ◌, +ℤ_idl, +ℤ_idr}
-use Rattle.std.specs.Prelude.{◌≤ℤ◌, ◌==◌, if◌then◌else◌, ◌⊎◌, unsigned_abs, All}
+use Rattle.std.proofs.Common.{◌≡◌, ◌≢◌, refl, sym, ap, ◌∙◌, ℕ, zero, suc, ◌+◌, ◌<◌, Bool, true, false, List, [], ◌∷◌, length, get_or, set, arith, ⊎_elim}
+use Rattle.std.proofs.Math.IntN.{ℤ, pos, ◌+ℤ◌, ◌-ℤ◌, ◌*ℤ◌, +ℤ_idl, +ℤ_idr}
+use Rattle.std.specs.Prelude.{◌≤ℤ◌, ◌==◌, if◌then◌else◌, All}
 use Rattle.std.specs.Int.{int_min, int_max}
-use Rattle.std.specs.List.{AllZip, AllByRecursion}
-use Rattle.std.proofs.lemmas.Bool.Decides.{eqb_tells}
-use Rattle.std.proofs.lemmas.Int.{ints, clamps, by_lt_z}
-use Rattle.std.proofs.lemmas.List.{get_or-set_same, get_or-set_other, length-set}
-use Rattle.std.proofs.lemmas.List.Elements.{recursion_from_All, All-from_recursion}
-use Rattle.std.proofs.lemmas.Bool.{cases_eq, cases_lt}
+use Rattle.std.proofs.lemmas.Int.{ints, clamps}
+use Rattle.std.proofs.lemmas.List.{get_or-set_same, get_or-set_other}
+use Rattle.std.proofs.lemmas.List.Elements.{recursion_from_All}
+use Rattle.std.proofs.lemmas.Bool.{cases_eq}
 use Rattle.bp_theory.specs.Sums.{sum_of, sum_at, dot}
-use Rattle.bp_theory.specs.Program.{span_at, value_at, IsWithin, IsInside, Meets, MeetsRow, activity, reach}
+use Rattle.bp_theory.specs.Program.{span_at, value_at, IsWithin, IsInside, Meets, MeetsRow, activity}
 use Rattle.bp_theory.specs.Decomposition.{HasVariablesBelow}
-use Rattle.bp_theory.specs.Bound.{IsPoint, end_cost, box_least}
-use Rattle.bp_theory.specs.Trees.{IsSubzone, IsSubspan}
+use Rattle.bp_theory.specs.Bound.{end_cost, box_least}
+use Rattle.bp_theory.specs.Trees.{IsSubzone}
 use Rattle.bp_theory.specs.declared.Span.{Span}
 use Rattle.bp_theory.specs.declared.Term.{Term}
 use Rattle.bp_theory.specs.declared.Sense.{Sense}
@@ -22,12 +20,12 @@ use Rattle.bp_theory.specs.declared.Row.{Row}
 use Rattle.bp_theory.proofs.SumLaws.{sum_of-add, sum_of-same, sum_of-append, sum_of-le}
 use Rattle.bp_theory.proofs.KeyLaws.{if_same, if_other}
 use Rattle.bp_theory.proofs.DecompositionProof.{get_or-map_past}
-use Rattle.bp_theory.proofs.ZipLaws.{AllZip_at, AllZip-length, AllZip-set, AllZip_from-set, AllZip-from_places}
+use Rattle.bp_theory.proofs.ZipLaws.{AllZip_at, AllZip-set}
 use Rattle.pricing.specs.Ends.{top_cost}
 use Rattle.pricing.proofs.EndLaws.{end_cost-le, top_cost-ge, end_cost-one, top_cost-one}
 use Rattle.search_price.specs.Columns.{entry_of, row_entries, column_from}
 use Rattle.search_price.specs.declared.columns.Entry.{Entry}
-use Rattle.search_price.specs.Reach.{reach_by, low_reach, high_reach, CanMeet, CanMeetRow, IsNarrowed, lows_of, IsSingle}
+use Rattle.search_price.specs.Reach.{reach_by, low_reach, high_reach, CanMeet, CanMeetRow, lows_of, IsSingle}
 
 -- the span at a place that was set
 pub span_at-set : (zone : List Span) (j : ℕ) (s : Span) → j < length zone → span_at (set zone j s) j ≡ s

@@ -1,13 +1,12 @@
 -- Laws of adjusted costs.
-use Rattle.std.proofs.Common.{◌≡◌, refl, sym, ap, subst, ◌∙◌, ℕ, zero, suc, ◌+◌, ◌*◌, ◌^◌, ◌<◌, ◌≤◌, List, [], ◌∷◌, Bool, map, take, length, get_or, set, arith, ⊎_elim, inl, inr}
-use Rattle.std.proofs.Math.IntN.{ℤ, pos, negsuc, ◌+ℤ◌, ◌-ℤ◌, ◌*ℤ◌, *ℤ_comm, zero-*ℤ, *ℤ-zero}
-use Rattle.std.specs.Prelude.{Option, None, Some, ◌≤ℤ◌, ◌<ℤ◌, unsigned_abs, All}
+use Rattle.std.proofs.Common.{◌≡◌, sym, ap, subst, ◌∙◌, ℕ, zero, suc, ◌+◌, ◌*◌, ◌^◌, ◌<◌, ◌≤◌, List, [], ◌∷◌, Bool, map, take, length, get_or, set, arith, ⊎_elim, inl, inr}
+use Rattle.std.proofs.Math.IntN.{ℤ, pos, negsuc, ◌+ℤ◌, ◌-ℤ◌, ◌*ℤ◌, *ℤ_comm}
+use Rattle.std.specs.Prelude.{Option, None, Some, ◌≤ℤ◌, ◌<ℤ◌, unsigned_abs}
 use Rattle.std.proofs.lemmas.Int.{ints, by_lt_z}
 use Rattle.std.proofs.lemmas.Bool.{cases_lt}
-use Rattle.std.proofs.lemmas.List.{length-set, length-map, get_or_read}
-use Rattle.std.specs.List.{AllZip}
-use Rattle.bp_theory.specs.Sums.{dot, sum_of}
-use Rattle.bp_theory.specs.Program.{activity, value_at, span_at, reach, Meets, MeetsRow, IsInside, IsWithin}
+use Rattle.std.proofs.lemmas.List.{get_or_read}
+use Rattle.bp_theory.specs.Sums.{dot}
+use Rattle.bp_theory.specs.Program.{activity, value_at, span_at, reach, Meets, MeetsRow, IsWithin}
 use Rattle.bp_theory.specs.Bound.{IsPoint, end_cost, box_least}
 use Rattle.bp_theory.specs.Trees.{IsSubzone}
 use Rattle.bp_theory.specs.declared.Sense.{Sense}

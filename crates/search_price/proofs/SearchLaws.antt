@@ -1,29 +1,26 @@
 -- Laws of the search: what a value, a level and the end cover.
-use Rattle.std.proofs.Common.{◌≡◌, ◌≢◌, refl, sym, ap, subst, ◌∙◌, ℕ, zero, suc, ◌+◌, ◌*◌, ◌^◌, ◌<◌, ◌≤◌, Bool, true, false, List, [], ◌∷◌, map, length, get_or, set, vec_len, arith, ⊎_elim, inl, inr}
-use Rattle.std.proofs.Math.IntN.{ℤ, pos, negsuc, ◌+ℤ◌, ◌-ℤ◌, ◌*ℤ◌}
-use Rattle.std.specs.Prelude.{Option, None, Some, ◌≤ℤ◌, ◌<ℤ◌, ◌⊎◌, unsigned_abs, All, FitsSigned, if◌then◌else◌}
+use Rattle.std.proofs.Common.{◌≡◌, ◌≢◌, refl, sym, ap, subst, ◌∙◌, ℕ, zero, suc, ◌+◌, ◌^◌, ◌<◌, ◌≤◌, Bool, true, false, List, [], ◌∷◌, length, get_or, set, arith, ⊎_elim, inl, inr}
+use Rattle.std.proofs.Math.IntN.{ℤ, pos, negsuc, ◌+ℤ◌, ◌-ℤ◌}
+use Rattle.std.specs.Prelude.{Option, None, Some, ◌≤ℤ◌, ◌⊎◌, unsigned_abs, All}
 use Rattle.std.specs.Int.{w128, int_gap}
-use Rattle.std.specs.List.{AllZip, AllByRecursion}
 use Rattle.std.proofs.lemmas.Int.{ints, fits_signed_from_abs, to_z-of_z, by_lt_z}
 use mir.Val.{of_z, to_z}
 use Rattle.std.proofs.lemmas.Bool.{cases_eq, cases_lt}
-use Rattle.std.proofs.lemmas.List.{get_or_past, get_or-set_same, get_or-set_other, length-set}
+use Rattle.std.proofs.lemmas.List.{get_or_past}
 use Rattle.bp_theory.specs.Sums.{dot}
-use Rattle.bp_theory.specs.Program.{span_at, value_at, IsWithin, IsInside, MeetsRow}
+use Rattle.bp_theory.specs.Program.{span_at, value_at, IsWithin, IsInside}
 use Rattle.bp_theory.specs.Bound.{IsPoint, box_least}
 use Rattle.bp_theory.specs.Classes.{width, count_to}
 use Rattle.bp_theory.specs.Trees.{IsSubzone, IsSubspan, IsProper}
 use Rattle.bp_theory.specs.declared.Span.{Span}
 use Rattle.bp_theory.specs.declared.Row.{Row}
 use Rattle.bp_theory.proofs.ZipLaws.{AllZip-length, AllZip_at}
-use Rattle.pricing.specs.Form.{HasShortEnds, IsPriceable}
+use Rattle.pricing.specs.Form.{HasShortEnds}
 use Rattle.search_price.specs.Reach.{CanMeetRow, IsNarrowed, lows_of, IsSingle}
-use Rattle.search_price.specs.Best.{IsCovered, AllCovered, IsReached, IsNoWorse}
-use Rattle.search_price.specs.Search.{IsTracked, single, step_value, step_of}
-use Rattle.search_price.specs.declared.dive.Dive.{Dive}
-use Rattle.search_price.specs.declared.form.Form.{Form}
-use Rattle.search_price.proofs.ReachLaws.{inside_at, span_at-set, span_at-set_other, inside_set, inside_larger, lows_inside, met_single, box_least-single, box_least-le}
-use Rattle.search_price.proofs.PlaceLaws.{many_narrow, many_spans, set_inside, covered_by_least}
+use Rattle.search_price.specs.Best.{IsCovered, AllCovered, IsNoWorse}
+use Rattle.search_price.specs.Search.{single, step_value, step_of}
+use Rattle.search_price.proofs.ReachLaws.{inside_at, span_at-set, span_at-set_other, inside_set, inside_larger, lows_inside, met_single, box_least-single}
+use Rattle.search_price.proofs.PlaceLaws.{set_inside}
 
 -- a small number that was written
 pub written : (z : ℤ) → unsigned_abs z ≤ 2 ^ 116 → to_z w128 (of_z w128 z) ≡ z

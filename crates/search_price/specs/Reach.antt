@@ -1,8 +1,8 @@
 -- What rows can reach in a zone.
-use Rattle.std.specs.Prelude.{◌≡◌, ℕ, ◌<◌, ◌≤◌, List, length, map, ℤ, pos, ◌≤ℤ◌, All}
+use Rattle.std.specs.Prelude.{◌≡◌, ℕ, ◌<◌, ◌≤◌, List, map, ℤ, ◌≤ℤ◌}
 use Rattle.bp_theory.specs.Sums.{sum_of}
 use Rattle.bp_theory.specs.Program.{span_at}
-use Rattle.bp_theory.specs.Bound.{end_cost, box_least}
+use Rattle.bp_theory.specs.Bound.{end_cost}
 use Rattle.bp_theory.specs.Trees.{IsSubzone}
 use Rattle.bp_theory.specs.declared.Span.{Span}
 use Rattle.bp_theory.specs.declared.Term.{Term}

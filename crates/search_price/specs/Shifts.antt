@@ -1,5 +1,5 @@
 -- By how much a variable's entries change what rows can reach.
-use Rattle.std.specs.Prelude.{ℕ, ◌<◌, ◌*◌, ◌^◌, ◌-ℤ◌, unsigned_abs, ℤ}
+use Rattle.std.specs.Prelude.{◌<◌, ◌*◌, ◌^◌, ◌-ℤ◌, unsigned_abs, ℤ}
 use Rattle.bp_theory.specs.Program.{reach}
 use Rattle.bp_theory.specs.Bound.{end_cost}
 use Rattle.bp_theory.specs.declared.Span.{Span}

@@ -17,4 +17,6 @@ pub use caps::prefixes;
 pub use pricer::SearchPricer;
 
 #[cfg(test)]
+mod knapsack_tests;
+#[cfg(test)]
 mod tests;

@@ -1,5 +1,4 @@
-use Rattle.std.proofs.Common.{◌≡◌, ◌∙◌, sym, ap, subst, ◌<◌, ◌≤◌, List, length, map, arith}
-use Rattle.std.proofs.Math.IntN.{ℤ}
+use Rattle.std.proofs.Common.{◌≡◌, ◌∙◌, sym, ap, subst, ◌≤◌, List, length, map, arith}
 use Rattle.bp_theory.specs.Bound.{box_least}
 use Rattle.bp_theory.specs.Trees.{IsSubzone, IsProper}
 use Rattle.bp_theory.specs.declared.Span.{Span}

@@ -1,4 +1,4 @@
-use Rattle.std.proofs.Common.{◌≡◌, ℕ, ◌<◌, get_or, length, vec_len, pos}
+use Rattle.std.proofs.Common.{◌≡◌, ℕ, ◌<◌, get_or, length, pos}
 use Rattle.bp_theory.specs.declared.Row.{Row}
 use Rattle.search_price.specs.Reach.{low_reach, high_reach}
 use Rattle.search_price.proofs.begin.begin.Given as goal

@@ -1,4 +1,4 @@
-use Rattle.std.proofs.Common.{◌≡◌, ℕ, ◌<◌, get_or, length, vec_len}
+use Rattle.std.proofs.Common.{◌≡◌, ℕ, ◌<◌, length, vec_len}
 use Rattle.bp_theory.specs.Program.{span_at}
 use Rattle.search_price.proofs.begin.copy_spans.Given as goal
 

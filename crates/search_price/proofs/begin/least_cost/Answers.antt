@@ -1,9 +1,7 @@
-use Rattle.std.proofs.Common.{◌∙◌, ap, sym, pos, ◌+ℤ◌, arith, take}
+use Rattle.std.proofs.Common.{◌∙◌, ap, sym, ◌+ℤ◌, take}
 use Rattle.std.specs.Int.{w128}
 use mir.Val.{of_z, to_z}
-use Rattle.bp_theory.specs.Program.{span_at}
-use Rattle.bp_theory.specs.Bound.{end_cost, box_least}
-use Rattle.std.proofs.lemmas.List.{take_all}
+use Rattle.bp_theory.specs.Bound.{box_least}
 use Rattle.pricing.proofs.Passed.{passed}
 use Rattle.search_price.proofs.BeginLaws.{cost_fits, cost_total_fits, box_least_more}
 use Rattle.search_price.proofs.begin.least_cost.Goals as goal

@@ -1,10 +1,9 @@
-use Rattle.std.proofs.Common.{◌∙◌, subst, sym, ◌^◌, ◌<◌, pos, arith}
+use Rattle.std.proofs.Common.{◌∙◌, subst, sym, ◌^◌, ◌<◌, pos}
 use Rattle.std.specs.Prelude.{unsigned_abs}
 use Rattle.std.specs.Int.{w128}
 use mir.Val.{of_z, to_z}
 use Rattle.bp_theory.specs.Bound.{end_cost}
-use Rattle.pricing.specs.Ends.{top_cost}
-use Rattle.pricing.proofs.EndLaws.{end_cost-within, top_cost-within}
+use Rattle.pricing.proofs.EndLaws.{end_cost-within}
 use Rattle.pricing.proofs.Passed.{passed}
 use Rattle.search_price.proofs.BeginLaws.{term_short, row_sum_fits, reach_by_more}
 use Rattle.search_price.proofs.begin.sum_of_lows.Goals as goal

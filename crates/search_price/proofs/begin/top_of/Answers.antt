@@ -1,9 +1,6 @@
-use Rattle.std.proofs.Common.{◌∙◌, ap, subst, sym, ◌*◌, ◌^◌, ◌<◌, arith}
+use Rattle.std.proofs.Common.{◌∙◌, ap, subst, sym, ◌^◌, ◌<◌, arith}
 use Rattle.std.specs.Prelude.{unsigned_abs}
-use Rattle.std.specs.Int.{w128}
-use mir.Val.{of_z, to_z}
 use Rattle.bp_theory.specs.Program.{span_at}
-use Rattle.bp_theory.specs.Bound.{end_cost}
 use Rattle.pricing.specs.Ends.{top_cost}
 use Rattle.pricing.proofs.EndLaws.{top_cost-within}
 use Rattle.pricing.proofs.Passed.{passed}

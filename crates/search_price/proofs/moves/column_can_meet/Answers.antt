@@ -1,6 +1,5 @@
-use Rattle.std.proofs.Common.{◌≡◌, sym, subst, ℕ, ◌<◌, List, pos, arith, length, vec_len, take}
+use Rattle.std.proofs.Common.{subst, List, pos, arith, vec_len}
 use Rattle.std.specs.Prelude.{All}
-use Rattle.search_price.specs.Columns.{column_from}
 use Rattle.search_price.specs.Search.{CanMeetAt}
 use Rattle.search_price.specs.declared.columns.Entry.{Entry}
 use Rattle.search_price.proofs.PlaceLaws.{column_is, entries_named}

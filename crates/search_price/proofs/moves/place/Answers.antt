@@ -1,12 +1,10 @@
-use Rattle.std.proofs.Common.{◌≡◌, ◌∙◌, sym, ap, subst, ◌^◌, ◌<◌, ◌≤◌, List, pos, length, vec_len, get_or, set, arith, rules}
-use Rattle.std.proofs.Math.IntN.{ℤ}
+use Rattle.std.proofs.Common.{◌∙◌, sym, subst, ◌^◌, ◌≤◌, vec_len, arith}
 use Rattle.std.specs.Prelude.{unsigned_abs}
 use Rattle.std.specs.Int.{w128}
-use Rattle.std.proofs.lemmas.List.{length-set}
 use mir.Val.{of_z, to_z}
 use Rattle.pricing.proofs.Passed.{passed}
 use Rattle.search_price.proofs.MoveLaws.{cost_sum_fits}
-use Rattle.search_price.proofs.PlaceLaws.{CanMove, move_rows, move_short, move_short_from, lows_short, highs_short, lows_many, highs_many, cost_short, cost_short_from, least_short, moved_lows, moved_highs, moved_least, many_narrow, set_inside, set_proper}
+use Rattle.search_price.proofs.PlaceLaws.{move_rows, move_short, move_short_from, lows_short, highs_short, lows_many, highs_many, cost_short, cost_short_from, least_short, moved_lows, moved_highs, moved_least, many_narrow, set_inside, set_proper}
 use Rattle.search_price.proofs.RelaxLaws.{paid_short, paid_short_from, paid_least_short, moved_paid}
 use Rattle.search_price.proofs.moves.place.Goals as goal
 

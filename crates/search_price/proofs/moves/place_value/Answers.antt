@@ -1,7 +1,5 @@
-use Rattle.std.proofs.Common.{◌≡◌, set, ◌∙◌, sym, ap, subst, arith, length, List}
-use Rattle.std.specs.Prelude.{All, Option}
-use Rattle.std.proofs.Math.IntN.{ℤ}
-use Rattle.std.proofs.lemmas.List.{length-set}
+use Rattle.std.proofs.Common.{◌≡◌, set, ◌∙◌, sym, ap, subst, arith, List}
+use Rattle.std.specs.Prelude.{All}
 use Rattle.bp_theory.specs.Program.{span_at}
 use Rattle.bp_theory.specs.declared.Span.{Span}
 use Rattle.search_price.specs.Columns.{column_from}

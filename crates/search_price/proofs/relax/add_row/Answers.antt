@@ -1,6 +1,6 @@
-use Rattle.std.proofs.Common.{◌≡◌, ◌∙◌, sym, ap, subst, List, pos, ◌+ℤ◌}
-use Rattle.std.proofs.Math.IntN.{ℤ, ◌*ℤ◌}
-use Rattle.std.specs.Int.{w128, w64}
+use Rattle.std.proofs.Common.{◌∙◌, sym, ap, subst, List, ◌+ℤ◌}
+use Rattle.std.proofs.Math.IntN.{◌*ℤ◌}
+use Rattle.std.specs.Int.{w128}
 use Rattle.std.proofs.lemmas.Int.{to_z-of_z}
 use mir.Val.{of_z, to_z}
 use Rattle.bp_theory.specs.Sums.{dot}

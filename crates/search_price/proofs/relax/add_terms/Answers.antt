@@ -1,5 +1,5 @@
-use Rattle.std.proofs.Common.{◌≡◌, ◌∙◌, sym, ap, subst, ◌+◌, ◌<◌, ◌≤◌, ℕ, List, pos, ◌+ℤ◌, take, length, vec_len, get_or, arith}
-use Rattle.std.proofs.Math.IntN.{ℤ, ◌*ℤ◌}
+use Rattle.std.proofs.Common.{◌∙◌, ap, ◌<◌, pos, ◌+ℤ◌, length, get_or, arith}
+use Rattle.std.proofs.Math.IntN.{◌*ℤ◌}
 use Rattle.std.specs.Int.{w128}
 use Rattle.std.proofs.lemmas.Int.{to_z-of_z}
 use Rattle.std.proofs.lemmas.List.{get_or_read}

@@ -1,6 +1,5 @@
-use Rattle.std.proofs.Common.{◌≡◌, ◌∙◌, refl, sym, ap, subst, ◌<◌, length, pos, arith}
+use Rattle.std.proofs.Common.{refl, sym, subst, pos, arith}
 use Rattle.bp_theory.specs.Program.{MeetsRow}
-use Rattle.bp_theory.specs.declared.Row.{Row}
 use Rattle.search_price.proofs.PlaceLaws.{many_spans}
 use Rattle.search_price.proofs.RelaxLaws.{undercut_scaled, undercut_more}
 use Rattle.search_price.proofs.relax.adjust.Goals as goal

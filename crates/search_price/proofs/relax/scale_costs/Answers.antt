@@ -1,4 +1,4 @@
-use Rattle.std.proofs.Common.{◌≡◌, ◌∙◌, sym, ◌<◌, length, map, pos, arith}
+use Rattle.std.proofs.Common.{◌≡◌, ◌∙◌, sym, length, map, pos, arith}
 use Rattle.std.proofs.Math.IntN.{◌*ℤ◌}
 use Rattle.std.proofs.lemmas.List.{ext_get_or, length-map, get_or-map}
 use Rattle.search_price.proofs.relax.scale_costs.Goals as goal

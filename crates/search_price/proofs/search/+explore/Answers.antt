@@ -1,4 +1,4 @@
-use Rattle.std.proofs.Common.{◌≡◌, refl, get_or, pos, ◌≢◌, ◌∙◌, sym, ap, subst, ◌+◌, ◌<◌, ◌≤◌, List, length, set, arith}
+use Rattle.std.proofs.Common.{◌≡◌, refl, get_or, pos, ◌∙◌, sym, ap, subst, ◌+◌, ◌<◌, List, length, set, arith}
 use Rattle.std.proofs.Math.IntN.{ℤ}
 use Rattle.std.specs.Prelude.{All, Option}
 use Rattle.std.specs.Bool.{OnTrue}
@@ -6,7 +6,7 @@ use Rattle.pricing.proofs.Passed.{passed_short}
 use Rattle.bp_theory.specs.Program.{span_at}
 use Rattle.bp_theory.specs.declared.Span.{Span}
 use Rattle.search_price.specs.Reach.{CanMeetRow, IsNarrowed}
-use Rattle.bp_theory.specs.Bound.{IsPoint, box_least}
+use Rattle.bp_theory.specs.Bound.{IsPoint}
 use Rattle.bp_theory.specs.Sums.{dot}
 use Rattle.bp_theory.specs.Program.{value_at}
 use Rattle.search_price.specs.Best.{IsCovered, AllCovered, IsReached, IsNoWorse}
@@ -46,26 +46,26 @@ explore-requires t c =
         (
           c.requires.relaxed,
           (
-          c.place_value-goes_on.ensures.tracked,
-          (
-            c.place_value-goes_on.ensures.paid,
+            c.place_value-goes_on.ensures.tracked,
             (
-            omega (arith, there),
-            (
-              subst (IsNarrowed c.args.zone.now (c.args.level + 1)) (sym placed)
-                  (narrowed_more c.args.zone.now c.args.dive.now.zone.items c.args.level c.value_at-value.result there c.requires.narrowed c.value_at-value.ensures.within),
+              c.place_value-goes_on.ensures.paid,
               (
-                c.place_value-goes_on.ensures.yes,
+                omega (arith, there),
                 (
-                  c.place_value-goes_on.ensures.no,
-                  subst (λ (ys : List ℤ). IsReached c.args.form.now.rows.items c.args.zone.now c.args.costs.now c.place_value-goes_on.new.dive.best ys) (sym c.place_value-goes_on.ensures.kept.point)
-                      (subst (λ (best : Option ℤ). IsReached c.args.form.now.rows.items c.args.zone.now c.args.costs.now best c.loop-step.dive.point.items) (sym c.place_value-goes_on.ensures.kept.best)
-                      c.loop-step.invariant.reached),
+                  subst (IsNarrowed c.args.zone.now (c.args.level + 1)) (sym placed)
+                      (narrowed_more c.args.zone.now c.args.dive.now.zone.items c.args.level c.value_at-value.result there c.requires.narrowed c.value_at-value.ensures.within),
+                  (
+                    c.place_value-goes_on.ensures.yes,
+                    (
+                      c.place_value-goes_on.ensures.no,
+                      subst (λ (ys : List ℤ). IsReached c.args.form.now.rows.items c.args.zone.now c.args.costs.now c.place_value-goes_on.new.dive.best ys) (sym c.place_value-goes_on.ensures.kept.point)
+                          (subst (λ (best : Option ℤ). IsReached c.args.form.now.rows.items c.args.zone.now c.args.costs.now best c.loop-step.dive.point.items) (sym c.place_value-goes_on.ensures.kept.best)
+                          c.loop-step.invariant.reached),
+                    ),
+                  ),
                 ),
               ),
             ),
-            ),
-          ),
           ),
         ),
       ),

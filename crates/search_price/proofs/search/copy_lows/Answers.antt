@@ -1,4 +1,4 @@
-use Rattle.std.proofs.Common.{◌≡◌, ◌∙◌, sym, ap, ℕ, ◌<◌, length, map, get_or, pos, arith}
+use Rattle.std.proofs.Common.{◌≡◌, ◌∙◌, sym, ◌<◌, length, pos, arith}
 use Rattle.std.proofs.lemmas.List.{ext_get_or, length-map, get_or-map}
 use Rattle.bp_theory.specs.declared.Span.{Span}
 use Rattle.search_price.specs.Reach.{lows_of}

@@ -1,13 +1,13 @@
-use Rattle.std.proofs.Common.{◌≡◌, ◌∙◌, sym, ap, subst, List}
+use Rattle.std.proofs.Common.{◌≡◌, ◌∙◌, sym, subst, List}
 use Rattle.std.proofs.Math.IntN.{ℤ}
-use Rattle.std.specs.Prelude.{Some, ◌≤ℤ◌, Option}
+use Rattle.std.specs.Prelude.{◌≤ℤ◌}
 use Rattle.std.specs.Int.{w128}
 use mir.Val.{of_z, to_z}
 use Rattle.bp_theory.specs.Bound.{IsPoint}
 use Rattle.bp_theory.specs.Sums.{dot}
 use Rattle.search_price.specs.Reach.{lows_of}
-use Rattle.search_price.specs.Best.{IsCovered, AllCovered, IsReached, IsNoWorse}
-use Rattle.search_price.proofs.SearchLaws.{written, single_reached, improves}
+use Rattle.search_price.specs.Best.{IsCovered}
+use Rattle.search_price.proofs.SearchLaws.{written, single_reached}
 use Rattle.search_price.proofs.ReachLaws.{box_least-le}
 use Rattle.search_price.proofs.PlaceLaws.{covered_by_least, least_short, many_narrow}
 use Rattle.search_price.proofs.search.record.Goals as goal

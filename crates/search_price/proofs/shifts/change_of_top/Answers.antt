@@ -1,8 +1,4 @@
-use Rattle.std.proofs.Common.{arith, ◌∙◌, ◌≡◌, ◌<◌, ◌≤◌, ◌^◌}
-use Rattle.std.proofs.lemmas.Int.{ints}
-use Rattle.std.specs.Prelude.{unsigned_abs}
-use Rattle.bp_theory.specs.Bound.{end_cost}
-use Rattle.pricing.specs.Ends.{top_cost}
+use Rattle.std.proofs.Common.{arith, ◌∙◌}
 use Rattle.pricing.proofs.EndLaws.{top_cost-within}
 use Rattle.pricing.proofs.Passed.{passed}
 use Rattle.search_price.proofs.ShiftLaws.{passed_difference_fits, difference_is_small}

@@ -1,5 +1,4 @@
-use Rattle.std.proofs.Common.{◌≡◌, ◌∙◌, sym, ap, subst, ◌+◌, ◌*◌, ◌^◌, ◌<◌, ◌≤◌, ℕ, List, pos, ◌+ℤ◌, take, length, vec_len, get_or, arith, rules}
-use Rattle.std.proofs.Math.IntN.{ℤ}
+use Rattle.std.proofs.Common.{◌≡◌, ◌∙◌, sym, ap, subst, ◌+◌, ◌*◌, ◌^◌, ◌<◌, ◌≤◌, List, pos, ◌+ℤ◌, length, get_or, arith}
 use Rattle.std.specs.Prelude.{unsigned_abs}
 use Rattle.std.specs.Int.{w128}
 use Rattle.std.proofs.lemmas.List.{get_or_read, take_all}
