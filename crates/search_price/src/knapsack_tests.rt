@@ -119,19 +119,30 @@ fn tabled(alloc: Global) -> Result<i64, Fail> {
     Ok(read(&table, cells.wrapping_sub(1)))
 }
 
+/// The answer for a block in a zone.
+fn priced(
+    rt: &impl Abort,
+    alloc: Global,
+    block: &Block,
+    zone: &[Span],
+    costs: &[i128],
+    cap: Cap,
+) -> Result<Priced, Fail> {
+    assert!(rt; is_form(block.rows(), block.spans()));
+    let mut pricer = SearchPricer::make(alloc, block)?;
+    assert!(rt; is_priceable(block.spans(), zone, costs));
+    Ok(pricer.price(block, zone, costs, cap))
+}
+
 /// The answer for the items under a cap.
 fn packed(rt: &impl Abort, alloc: Global, cap: Cap) -> Result<Priced, Fail> {
     let block = knapsack(rt, alloc)?;
-    let mut zone = Vec::new(alloc);
+    let zone = Vec::from_elem(alloc, Span { lo: 0, hi: 1 }, ITEMS as usize)?;
     let mut costs = Vec::new(alloc);
     for number in 0..ITEMS {
-        zone.push(Span { lo: 0, hi: 1 })?;
         costs.push(i128::from(item_of(number).cost))?;
     }
-    assert!(rt; is_form(block.rows(), block.spans()));
-    let mut pricer = SearchPricer::make(alloc, &block)?;
-    assert!(rt; is_priceable(block.spans(), &zone, &costs));
-    Ok(pricer.price(&block, &zone, &costs, cap))
+    priced(rt, alloc, &block, zone.as_slice(), costs.as_slice(), cap)
 }
 
 #[test]
