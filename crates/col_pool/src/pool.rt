@@ -1,0 +1,157 @@
+// The columns of a block.
+ghost use Rattle.std.specs.Prelude.{◌≡◌, ℕ, ◌<◌, ◌≤◌, [], length, drop, slice_get, Some, IsTrue, ◌↔◌, IfOk, IfErr, OnErr};
+ghost use Rattle.bp_theory.specs.Bound.{IsPoint};
+ghost use Rattle.block_form.specs.Blocked.{RootBlock};
+ghost use Rattle.col_pool.specs.Pools.{AreApart, HasSmallSums, IsPoolOf, IsPooled, HasAdded, HasKept, HasPoolFault, HasKeepFault, root_block};
+
+use crate::activities::{activities, cost_of};
+use crate::column::Column;
+use crate::fault::{Added, PoolFault};
+use crate::within::Within;
+use block_form::{Block, Blocked};
+use bp_model::{first_missed, first_outside};
+use bp_theory::{Items, Span};
+use indexmap::IndexSet;
+use std::alloc::{AllocError, Global};
+use std::marker::Model;
+
+/// How many columns a pool may hold.
+pub const MAX_COLUMNS: usize = 65_536;
+
+/// Columns of a block, numbered from 0 in the order in which they came, at most 65,536. No two have the same point.
+/// Contracts see the list of the columns.
+#[derive(Drop)]
+pub struct Pool {
+    columns: IndexSet<Column>,
+}
+
+impl Model for Pool {
+    ghost use Rattle.std.specs.Prelude.{List, length, ◌≤◌};
+    ghost use Rattle.col_pool.specs.declared.column.Column.{Column};
+    ghost use Rattle.col_pool.specs.Pools.{AreApart};
+
+    ghost Value = { List Column };
+
+    ghost view = { λ p. p.columns.keys };
+
+    ghost invariant = { λ p. AreApart p.columns.keys × (length p.columns.keys ≤ 65536) };
+}
+
+impl Pool {
+    /// No columns yet of a block of this program. They are a pool of that block.
+    pub fn make(alloc: Global, b: &Blocked, block: u32) -> Result<Pool, AllocError>
+        requires { block < length b.now.blocking.blocks }
+        ensures empty { IfOk result (λ pool. pool ≡ []) }
+        ensures pool { IfOk result (IsPoolOf (root_block b.now block)) }
+    {
+        let _ = b.blocks();
+        Ok(Pool {
+            columns: IndexSet::new(alloc),
+        })
+    }
+
+    /// How many columns there are.
+    pub fn len(&self) -> u32
+        ensures len { result ≡ length self.now }
+        ensures few { result ≤ 65536 }
+        ensures apart { AreApart self.now }
+    {
+        self.columns.len() as u32
+    }
+
+    /// Whether there are no columns.
+    pub fn is_empty(&self) -> bool
+        ensures { IsTrue result ↔ (self.now ≡ []) }
+    {
+        self.len() == 0
+    }
+
+    /// The column of a number: point, cost and activities. In a pool of a block it is a column of that block.
+    pub fn column(&self, id: u32) -> &Column
+        requires { id < length self.now }
+        ensures column { slice_get self.now id ≡ Some result.now }
+        ensures pooled { (k : RootBlock) → IsPoolOf k self.now → IsPooled k result.now }
+    {
+        &self.columns.as_slice()[id as usize]
+    }
+
+    /// Adds a point of the block as the last column, if it isn't there. A point is refused, in this order, for the first
+    /// variable outside its span at the root, for the first row of the block that it doesn't meet, and, where it isn't
+    /// there, for a full pool. After an error the pool is as before.
+    pub fn add(&mut self, alloc: Global, block: &Block, point: &[i64]) -> Result<Added, PoolFault>
+        requires pool { IsPoolOf block.now self.old }
+        requires each { length point.now ≡ length block.now.block.copies }
+        ensures added { IfOk result (HasAdded block.now self.old self.new point.now) }
+        ensures fault { IfErr result (HasPoolFault block.now self.old point.now) }
+        ensures same { OnErr result (self.new ≡ self.old) }
+        ensures pool { IsPoolOf block.now self.new }
+    {
+        if let Some(place) = first_outside(block.spans(), point) {
+            return Err(PoolFault::Outside(place));
+        }
+        if let Some(row) = first_missed(block.rows(), point) {
+            return Err(PoolFault::Row(row));
+        }
+        match made(alloc, block, point) {
+            Ok(column) => self.keep(column),
+            Err(_) => Err(PoolFault::NoMemory),
+        }
+    }
+
+    // Puts a column last, if there is none with its point.
+    fn keep(&mut self, column: Column) -> Result<Added, PoolFault>
+        ensures kept { IfOk result (HasKept self.old self.new column) }
+        ensures fault { IfErr result (HasKeepFault self.old column) }
+        ensures same { OnErr result (self.new ≡ self.old) }
+    {
+        if let Some(place) = self.columns.get_index_of(&column) {
+            return Ok(Added::Known(place as u32));
+        }
+        let number = self.columns.len();
+        if number >= MAX_COLUMNS {
+            return Err(PoolFault::Full);
+        }
+        match self.columns.insert(column) {
+            Ok(_) => Ok(Added::New(number as u32)),
+            Err(_) => Err(PoolFault::NoMemory),
+        }
+    }
+
+    /// Takes out the first column, if there is one. The others move up by one.
+    pub fn drop_oldest(&mut self)
+        ensures { self.new ≡ drop 1 self.old }
+    {
+        let _ = self.columns.shift_remove_index(0);
+    }
+
+    /// The numbers of the columns inside a zone of the block, ascending. It takes no memory.
+    pub fn within<'a>(&'a self, zone: &'a [Span]) -> Within<'a>
+        ensures left { result.left.now ≡ self.now }
+        ensures zone { result.zone.now ≡ zone.now }
+        ensures first { result.place ≡ 0 }
+    {
+        Within::begin(self.columns.as_slice(), zone)
+    }
+}
+
+// A copy of a point.
+fn copied(alloc: Global, point: &[i64]) -> Result<Items<i64>, AllocError>
+    ensures { IfOk result (λ copy. copy ≡ point.now) }
+{
+    let copy = point.to_vec(alloc)?;
+    Ok(Items::from_vec(copy))
+}
+
+// The column of a point of a block.
+fn made(alloc: Global, block: &Block, point: &[i64]) -> Result<Column, AllocError>
+    requires small { HasSmallSums block.now }
+    requires point { IsPoint block.now.block.rows block.now.spans point.now }
+    requires each { length point.now ≡ length block.now.block.copies }
+    ensures pooled { IfOk result (IsPooled block.now) }
+    ensures point { IfOk result (λ column. column.point ≡ point.now) }
+{
+    let cost = cost_of(block, point);
+    let acts = activities(alloc, block, point)?;
+    let point = copied(alloc, point)?;
+    Ok(Column { point, cost, acts })
+}
