@@ -1,0 +1,5 @@
+pub mod Steps
+pub mod LeastLaws
+pub mod Bounds
+pub mod Ends
+pub mod Shared
