@@ -1,0 +1,4 @@
+pub mod DealLemmas
+pub mod CopyLemmas
+pub mod WholeLemmas
+pub mod SpreadLemmas
