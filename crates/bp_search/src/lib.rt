@@ -10,7 +10,7 @@ ghost use Rattle.std.specs.Prelude.{◌≤◌, ◌^◌, IfOk, IfSome};
 ghost use Rattle.bp_search.specs.Ends.{IsOutcome};
 
 use crate::ends::{ended, stopped};
-use crate::steps::step;
+use crate::steps::take_steps;
 use block_form::Blocked;
 use branch_tree::{Grove, Outcome};
 use std::alloc::{AllocError, Global};
@@ -31,12 +31,7 @@ pub fn search(alloc: Global, b: &Blocked, steps: Option<u64>) -> Result<Outcome,
     let _ = b.blocks();
     let mut grove = Grove::plant(alloc, b)?;
     let mut best = None;
-    while grove.count() < most {
-        let Some(turn) = grove.take(alloc)? else {
-            return Ok(ended(grove, best));
-        };
-        step(alloc, b, &mut grove, &turn, &mut best)?;
-    }
+    take_steps(alloc, b, &mut grove, &mut best, most)?;
     if grove.live() == 0 {
         Ok(ended(grove, best))
     } else {

@@ -1,33 +1,63 @@
 // One step of a search: a leaf is shut or forked by its verdict.
-ghost use Rattle.std.specs.Prelude.{◌≡◌, ◌+◌, ◌<◌, ◌^◌, OnOk};
+ghost use Rattle.std.specs.Prelude.{◌≡◌, ◌+◌, ◌<◌, ◌≤◌, ◌^◌, OnOk};
 ghost use Rattle.bp_theory.specs.Trees.{steps};
-ghost use Rattle.search_laws.specs.Grove.{certificate_tree};
+ghost use Rattle.search_laws.specs.Grove.{live_count, certificate_tree};
 ghost use Rattle.search_laws.specs.Verdicts.{grown};
 ghost use Rattle.branch_tree.specs.Groves.{IsStanding, IsGroveOf, IsLiveTurn};
+ghost use Rattle.node_hint.specs.Pools.{AreMadeFor};
 ghost use Rattle.bp_search.specs.Searches.{IsRunning, CanGrow};
 
 use crate::kept::{Kept, cost_of, keep};
 use block_form::Blocked;
 use branch_tree::{Grove, Next, Turn, Verdict};
 use node_eval::evaluate;
+use node_hint::Pools;
 use std::alloc::{AllocError, Global};
 
-/// Evaluates a live leaf, shuts or forks it, and keeps the point that was found on the way.
-pub fn step(
+/// Takes steps until so many are taken or no leaf is live.
+pub fn take_steps(
+    alloc: Global,
+    b: &Blocked,
+    grove: &mut Grove,
+    best: &mut Option<Kept>,
+    most: u64,
+) -> Result<(), AllocError>
+    requires running { IsRunning b.now grove.old best.old }
+    requires few { steps (certificate_tree grove.old.tree) ≤ most }
+    requires limit { most ≤ 2 ^ 60 }
+    ensures running { OnOk result (IsRunning b.now grove.new best.new) }
+    ensures few { OnOk result (steps (certificate_tree grove.new.tree) ≤ most) }
+    ensures spent { OnOk result (0 < live_count grove.new.tree → steps (certificate_tree grove.new.tree) ≡ most) }
+{
+    let mut pools = Pools::make(alloc, b)?;
+    while grove.count() < most {
+        let Some(turn) = grove.take(alloc)? else {
+            return Ok(());
+        };
+        step(alloc, b, grove, &turn, best, &mut pools)?;
+    }
+    Ok(())
+}
+
+// Evaluates a live leaf, shuts or forks it, and keeps the point that was found on the way.
+fn step(
     alloc: Global,
     b: &Blocked,
     grove: &mut Grove,
     turn: &Turn,
     best: &mut Option<Kept>,
+    pools: &mut Pools,
 ) -> Result<(), AllocError>
+    requires made_for { AreMadeFor b.now pools.old }
     requires running { IsRunning b.now grove.old best.old }
     requires turn { IsLiveTurn grove.old turn.now }
     requires few { steps (certificate_tree grove.old.tree) < 2 ^ 60 }
     ensures running { OnOk result (IsRunning b.now grove.new best.new) }
+    ensures made_for { AreMadeFor b.now pools.new }
     ensures one { OnOk result (steps (certificate_tree grove.new.tree) ≡ steps (certificate_tree grove.old.tree) + 1) }
 {
     let _ = b.blocks();
-    let Verdict { point, next } = evaluate(alloc, b, turn, cost_of(best))?;
+    let Verdict { point, next } = evaluate(alloc, b, turn, cost_of(best), pools)?;
     grow(alloc, b, grove, turn, next)?;
     keep(b, best, point);
     Ok(())

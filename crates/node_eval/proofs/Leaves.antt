@@ -1,5 +1,5 @@
 -- What is done with a leaf, and the bounds that proofs show of its zone.
-use Rattle.std.proofs.Common.{◌≡◌, ◌≢◌, refl, sym, ap, subst, ◌∙◌, ℕ, suc, ◌<◌, ◌^◌, ◌-◌, ◌*◌, List, [], ◌∷◌, map, length, get_or, Option, Some, None, arith, IfSome, IfOk, Result, Ok, Err, inl}
+use Rattle.std.proofs.Common.{◌≡◌, ◌≢◌, refl, sym, ap, subst, ◌∙◌, ℕ, suc, ◌<◌, ◌≤◌, ◌^◌, ◌-◌, ◌*◌, List, [], ◌∷◌, map, length, get_or, Option, Some, None, arith, IfSome, IfOk, Result, Ok, Err, inl}
 use Rattle.std.proofs.Math.IntN.{ℤ, pos, neg_ℤ, ◌+ℤ◌, ◌*ℤ◌}
 use Rattle.std.specs.Prelude.{◌≤ℤ◌, ◌<ℤ◌, unsigned_abs}
 use Rattle.std.specs.Int.{int_gap, int_min}
@@ -37,24 +37,16 @@ use Rattle.node_eval.proofs.OnePoint.{point_holds}
 pub none_open : (zone : List Span) → IsProper zone → ((k : ℕ) (d : Span) → k < length zone → (get_or zone k d).hi ≤ℤ (get_or zone k d).lo) → IsOnePoint zone
 none_open zone proper closed = λ k d l. omega (arith, ints, proper k d l, closed k d l)
 
-middle_inside : (s : Span) → s.lo <ℤ s.hi → (s.lo ≤ℤ middle s) × (middle s <ℤ s.hi)
-middle_inside s open' =
-    let n : ℕ = int_gap s.lo s.hi in
-    let far : s.hi ≡ s.lo +ℤ pos n = gap s.lo s.hi open' in
-    (omega (arith, ints), omega (arith, ints, far, open'))
-  where
-    gap : (a b : ℤ) → a <ℤ b → b ≡ a +ℤ pos (int_gap a b)
-    gap a b h = grind (arith, ints)
-
 pub fork_is : (b : Blocking) (depth : ℕ) (zone : List Span) (least : ℤ) (known : Option ℤ) (v : ℕ) (s : Span) (at : ℤ) (proof : Proof) (bound : ℤ)
-    → IsOpen zone v → s ≡ span_at zone v → at ≡ middle s → IsShown b zone least proof bound → IfSome known (λ z. bound <ℤ z)
+    → s ≡ span_at zone v → s.lo ≤ℤ at → at <ℤ s.hi → (64 ≤ depth → at ≡ middle s) → IsShown b zone least proof bound → IfSome known (λ z. bound <ℤ z)
     → IsFork b depth zone least known v at proof bound
-fork_is b depth zone least known v s at proof bound open' span_is at_is shown below =
-    let same : at ≡ middle (span_at zone v) = at_is ∙ ap middle span_is in
-    let inside = middle_inside (span_at zone v) open' in
+fork_is b depth zone least known v s at proof bound span_is above under deep shown below =
     record {
-      split = record { above = omega (arith, ints, same, inside.0); below = omega (arith, ints, same, inside.1) };
-      timely = λ deep. same;
+      split = record {
+        above = subst (λ (t : Span). t.lo ≤ℤ at) span_is above;
+        below = subst (λ (t : Span). at <ℤ t.hi) span_is under;
+      };
+      timely = λ far. deep far ∙ ap middle span_is;
       sound = shown.sound;
       keeps = shown.keeps;
       no_less = shown.no_less;

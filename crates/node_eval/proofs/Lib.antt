@@ -1,4 +1,3 @@
 pub mod OnePoint
 pub mod Leaves
-pub mod EveryBlock
 pub mod Strong

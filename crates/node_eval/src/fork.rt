@@ -1,5 +1,5 @@
 // Which variable a leaf is forked at, and where.
-ghost use Rattle.std.specs.Prelude.{◌≡◌, ◌<◌, ◌^◌, ◌<ℤ◌, ◌↔◌, length, IsTrue, MatchOption};
+ghost use Rattle.std.specs.Prelude.{◌≡◌, ◌<◌, ◌≤◌, ◌^◌, ◌<ℤ◌, ◌≤ℤ◌, ◌↔◌, length, IsTrue, MatchOption};
 ghost use Rattle.bp_theory.specs.Digits.{middle};
 ghost use Rattle.bp_theory.specs.Trees.{IsProper};
 ghost use Rattle.node_eval.specs.Shown.{IsOnePoint, IsOpen};
@@ -40,8 +40,28 @@ pub fn open_or(zone: &Zone, var: u32, other: u32) -> u32
     }
 }
 
-/// The middle of a span, rounded down.
-pub fn middle(span: &Span) -> i64
+/// Where a span is split at a depth: at a number, or the nearest that leaves both parts a number, and from depth 64 on at the
+/// middle.
+pub fn place(depth: u32, span: &Span, wanted: i64) -> i64
+    requires open { span.now.lo <ℤ span.now.hi }
+    ensures above { span.now.lo ≤ℤ result }
+    ensures below { result <ℤ span.now.hi }
+    ensures deep { 64 ≤ depth → result ≡ middle span.now }
+{
+    if depth >= 64 {
+        return middle(span);
+    }
+    if wanted < span.lo {
+        span.lo
+    } else if wanted >= span.hi {
+        span.hi - 1
+    } else {
+        wanted
+    }
+}
+
+// The middle of a span, rounded down.
+fn middle(span: &Span) -> i64
     requires open { span.now.lo <ℤ span.now.hi }
     ensures value { result ≡ middle span.now }
 {

@@ -2,22 +2,20 @@
 ghost use Rattle.std.specs.Prelude.{◌≡◌, ◌<◌, ◌^◌, ◌<ℤ◌, unsigned_abs, IfOk, IfSome};
 ghost use Rattle.block_class.specs.Classes.{AreSameClasses};
 ghost use Rattle.branch_tree.specs.Turns.{IsTurn};
-ghost use Rattle.lagr_bound.specs.Forms.{forms_in};
-ghost use Rattle.lagr_bound.specs.Works.{forms_of};
+ghost use Rattle.node_hint.specs.Pools.{AreMadeFor};
 ghost use Rattle.search_laws.specs.GroveFacts.{best_cost};
 ghost use Rattle.search_laws.specs.Verdicts.{IsVerdict, IsNext, IsThorough, cheaper_cost};
 ghost use Rattle.node_eval.specs.Shown.{IsShown, IsBetter, IsOpen};
 ghost use Rattle.node_eval.specs.Openings.{IsStrong};
 
-use crate::bench::Bench;
-use crate::fork::{first_open, middle, open_or};
-use crate::hint::{Hint, hinted};
+use crate::fork::{first_open, open_or, place};
 use crate::point::{if_better, one_point};
 use crate::shown::{Opening, Shown, emptied, opened, strongest};
 use block_class::Classes;
 use block_form::Blocked;
 use bp_theory::Items;
 use branch_tree::{Next, Turn, Verdict};
+use node_hint::{Hint, Pools, hinted};
 use std::alloc::{AllocError, Global};
 
 /// The verdict on a live leaf: a point that is feasible and cheaper than the best cost, where one was found, and what is
@@ -28,16 +26,19 @@ pub fn evaluate(
     b: &Blocked,
     turn: &Turn,
     best: Option<i64>,
+    pools: &mut Pools,
 ) -> Result<Verdict, AllocError>
+    requires made_for { AreMadeFor b.now pools.old }
     requires turn { IsTurn b.now turn.now }
     requires best { IfSome best (λ z. unsigned_abs z < 2 ^ 62) }
     ensures verdict { IfOk result (IsVerdict b.now.named.program b.now.blocking turn.now.depth turn.now.zone turn.now.bound best) }
     ensures thorough { IfOk result (λ verdict. IsThorough b.now.blocking turn.now.zone verdict.next) }
+    ensures made_for { AreMadeFor b.now pools.new }
 {
     let _ = b.model();
     match first_open(turn.zone.spans()) {
         None => one_point(alloc, b, turn, best),
-        Some(var) => many_points(alloc, b, turn, best, var),
+        Some(var) => many_points(alloc, b, turn, best, pools, var),
     }
 }
 
@@ -47,12 +48,15 @@ fn many_points(
     b: &Blocked,
     turn: &Turn,
     best: Option<i64>,
+    pools: &mut Pools,
     var: u32,
 ) -> Result<Verdict, AllocError>
+    requires made_for { AreMadeFor b.now pools.old }
     requires turn { IsTurn b.now turn.now }
     requires open { IsOpen turn.now.zone var }
     ensures verdict { IfOk result (IsVerdict b.now.named.program b.now.blocking turn.now.depth turn.now.zone turn.now.bound best) }
     ensures thorough { IfOk result (λ verdict. IsThorough b.now.blocking turn.now.zone verdict.next) }
+    ensures made_for { AreMadeFor b.now pools.new }
 {
     if let Some(proof) = emptied(alloc, b, &turn.zone)? {
         return Ok(Verdict {
@@ -61,13 +65,15 @@ fn many_points(
         });
     }
     let classes = Classes::of(alloc, b, &turn.zone)?;
-    let mut bench = Bench::make(alloc, b)?;
-    match opened(alloc, b, &classes, &mut bench, turn)? {
+    let is_even = pools.begin(alloc, b)?;
+    match opened(alloc, b, &classes, &mut pools.bench, turn)? {
         Opening::Empty(proof) => Ok(Verdict {
             point: None,
             next: Next::Shut(proof),
         }),
-        Opening::Open(shown) => { searched(alloc, b, &classes, &mut bench, turn, best, var, shown) }
+        Opening::Open(shown) => {
+            searched(alloc, b, &classes, pools, turn, best, is_even, var, shown)
+        }
     }
 }
 
@@ -76,31 +82,42 @@ fn searched(
     alloc: Global,
     b: &Blocked,
     classes: &Classes,
-    bench: &mut Bench,
+    pools: &mut Pools,
     turn: &Turn,
     best: Option<i64>,
+    is_even: bool,
     var: u32,
     shown: Shown,
 ) -> Result<Verdict, AllocError>
     requires turn { IsTurn b.now turn.now }
     requires open { IsOpen turn.now.zone var }
-    requires made_for { forms_of bench.old.work ≡ forms_in b.now }
+    requires made_for { AreMadeFor b.now pools.old }
     requires classes { AreSameClasses turn.now.zone b.now.blocking classes.now }
     requires shown { IsShown b.now.blocking turn.now.zone turn.now.bound shown.proof shown.bound }
     requires strong { IsStrong b.now.blocking turn.now.zone shown.bound }
     ensures verdict { IfOk result (IsVerdict b.now.named.program b.now.blocking turn.now.depth turn.now.zone turn.now.bound best) }
     ensures thorough { IfOk result (λ verdict. IsThorough b.now.blocking turn.now.zone verdict.next) }
+    ensures made_for { AreMadeFor b.now pools.new }
 {
     let Hint {
         mults,
         point: found,
-        var: wanted,
-    } = hinted(alloc, b, classes, bench, turn, best)?;
+        split,
+    } = hinted(alloc, b, classes, pools, turn, best, is_even)?;
     let point = better_point(b, found, best);
     let mults = mults.as_slice();
-    let shown = strongest(alloc, b, classes, bench, &turn.zone, shown, mults)?;
+    let shown = strongest(
+        alloc,
+        b,
+        classes,
+        &mut pools.bench,
+        &turn.zone,
+        shown,
+        mults,
+    )?;
     let known = cheaper(b, &point, best);
-    let next = settled(b, turn, shown, known, open_or(&turn.zone, wanted, var));
+    let var = open_or(&turn.zone, split.var, var);
+    let next = settled(b, turn, shown, known, var, split.at);
     Ok(Verdict { point, next })
 }
 
@@ -136,7 +153,7 @@ fn cheaper(b: &Blocked, point: &Option<Items<i64>>, best: Option<i64>) -> Option
 }
 
 // What is done with a leaf of a zone with an open variable: it is shut where the bound reaches the known cost, and else forked.
-fn settled(b: &Blocked, turn: &Turn, shown: Shown, known: Option<i64>, var: u32) -> Next
+fn settled(b: &Blocked, turn: &Turn, shown: Shown, known: Option<i64>, var: u32, at: i64) -> Next
     requires turn { IsTurn b.now turn.now }
     requires open { IsOpen turn.now.zone var }
     requires shown { IsShown b.now.blocking turn.now.zone turn.now.bound shown.proof shown.bound }
@@ -146,12 +163,12 @@ fn settled(b: &Blocked, turn: &Turn, shown: Shown, known: Option<i64>, var: u32)
 {
     match known {
         Some(best) if shown.bound >= best => Next::Shut(shown.proof),
-        _ => forked(b, turn, shown, known, var),
+        _ => forked(b, turn, shown, known, var, at),
     }
 }
 
-// A leaf forked at the middle of a variable's span.
-fn forked(b: &Blocked, turn: &Turn, shown: Shown, known: Option<i64>, var: u32) -> Next
+// A leaf forked in a variable's span: at a number, or the nearest that leaves both parts one, and from depth 64 on at the middle.
+fn forked(b: &Blocked, turn: &Turn, shown: Shown, known: Option<i64>, var: u32, at: i64) -> Next
     requires turn { IsTurn b.now turn.now }
     requires open { IsOpen turn.now.zone var }
     requires shown { IsShown b.now.blocking turn.now.zone turn.now.bound shown.proof shown.bound }
@@ -165,7 +182,7 @@ fn forked(b: &Blocked, turn: &Turn, shown: Shown, known: Option<i64>, var: u32) 
     let span = turn.zone.span(var);
     Next::Fork {
         var,
-        at: middle(&span),
+        at: place(turn.depth, &span, at),
         proof: shown.proof,
         bound: shown.bound,
     }

@@ -11,15 +11,13 @@ ghost use Rattle.search_laws.specs.GroveFacts.{IsSoundProof};
 ghost use Rattle.node_eval.specs.Shown.{IsShown, ShutsOff};
 ghost use Rattle.node_eval.specs.Openings.{IsOpening};
 
-use crate::bench::{Bench, MOST_VISITS};
 use crate::proofs::{by_row, copied, every};
-use crate::reach::unreached;
-use crate::wide::first_wide;
 use block_class::Classes;
 use block_form::{Blocked, MAX_SCALE, Zone, fits, signs_fit};
 use bp_theory::Proof;
 use branch_tree::Turn;
 use lagr_bound::{Bounded, Work, bound, box_bound, round};
+use node_hint::{Bench, MOST_VISITS, unreached};
 use pricing::Cap;
 use std::alloc::{AllocError, Global};
 
@@ -59,7 +57,7 @@ pub fn opened(
 {
     let _ = b.blocks();
     let own = inherited(alloc, b, turn)?;
-    if let Some(_) = first_wide(alloc, b, &turn.zone)? {
+    if let Some(_) = bench.first_wide(alloc, b, &turn.zone)? {
         bench.leave_out_wide(alloc, b, &turn.zone)?;
         return Ok(Opening::Open(own));
     }
@@ -92,6 +90,7 @@ pub fn strongest(
     ensures shown { (least : ℤ) → IsShown b.now.blocking zone.now least shown.proof shown.bound
         → IfOk result (λ more. IsShown b.now.blocking zone.now least more.proof more.bound) }
     ensures no_less { IfOk result (λ more. shown.bound ≤ℤ more.bound) }
+    ensures made_for { forms_of bench.new.work ≡ forms_of bench.old.work }
 {
     let short = bench.proof_at(alloc, mults, SHORT_SCALE)?;
     let full = bench.proof_at(alloc, mults, MAX_SCALE)?;

@@ -1,0 +1,16 @@
+use Rattle.std.proofs.Common.{◌-◌, ◌≤◌}
+use Rattle.bp_theory.specs.Trees.{steps}
+use Rattle.search_laws.specs.Grove.{certificate_tree}
+use Rattle.node_hint.specs.Pools.{AreMadeFor}
+use Rattle.bp_search.specs.Searches.{IsRunning}
+use Rattle.bp_search.proofs.steps.take_steps.Given as goal
+
+abbrev pub invariant-loop-alloc : goal.invariant-loop-alloc
+invariant-loop-alloc l = record {
+  running : IsRunning l.b l.grove l.best;
+  few : steps (certificate_tree l.grove.tree) ≤ l.most;
+  made_for : AreMadeFor l.b l.pools;
+}
+
+abbrev pub decreases-loop-alloc : goal.decreases-loop-alloc
+decreases-loop-alloc l = l.most - steps (certificate_tree l.grove.tree)

@@ -1,0 +1,17 @@
+use Rattle.std.proofs.Common.{sym, subst, Option}
+use Rattle.std.specs.Prelude.{ℤ}
+use Rattle.search_laws.specs.Verdicts.{IsNext}
+use Rattle.node_eval.proofs.Leaves.{verdict_is}
+use Rattle.node_eval.proofs.Strong.{more_is_strong}
+use Rattle.node_eval.proofs.leaf.searched.Goals as goal
+
+pub settled-next-requires-clause-strong : goal.settled-next-requires-clause-strong
+settled-next-requires-clause-strong c =
+    more_is_strong c.args.b.now.blocking c.args.turn.now.zone c.args.shown.bound c.in_ok-shown.shown.bound c.in_ok-shown.ensures.no_less c.requires.strong
+
+pub returns-clause-verdict : goal.returns-clause-verdict
+returns-clause-verdict c =
+    verdict_is c.args.b.now.named.program c.args.b.now.blocking c.args.turn.now.depth c.args.turn.now.zone c.args.turn.now.bound c.args.best
+    c.better_point-point.result c.settled-next.result c.better_point-point.ensures
+    (subst (λ (known : Option ℤ). IsNext c.args.b.now.blocking c.args.turn.now.depth c.args.turn.now.zone c.args.turn.now.bound known c.settled-next.result)
+    c.cheaper-known.ensures c.settled-next.ensures.next)

@@ -1,0 +1,2 @@
+pub mod EveryBlock
+pub mod Zones

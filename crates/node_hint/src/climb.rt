@@ -1,0 +1,432 @@
+// Multipliers by subgradient steps from the best so far along what the mean of the priced points leaves open, as the volume
+// algorithm takes them, in whole numbers: hints, which exact bounds judge. (Barahona and Anbil.)
+ghost use Rattle.std.specs.Prelude.{◌≡◌};
+ghost use Rattle.bp_theory.specs.Trees.{IsZone};
+ghost use Rattle.block_class.specs.Classes.{AreSameClasses};
+ghost use Rattle.node_hint.specs.Pools.{AreMadeFor};
+
+use crate::guide::{dense_costs, reduced_costs};
+use crate::known::{feasible_cost, is_below, is_reached};
+use crate::pools::Pools;
+use crate::reach::{at, clipped, product, put, quotient, sum_at};
+use crate::slopes::{UNIT, meets, signed, slope, write_sums};
+use block_class::Classes;
+use block_form::{Blocked, MAX_SCALE};
+use bp_theory::{MasterRow, Sense, Span};
+use branch_tree::Turn;
+use std::alloc::{AllocError, Global};
+
+/// How many steps are taken at the root and below it, where columns are generated from their multipliers, and where not.
+const ROOT_STEPS: u32 = 60;
+
+const STEPS: u32 = 20;
+
+const LONE_ROOT_STEPS: u32 = 199;
+
+const LONE_STEPS: u32 = 60;
+
+/// How many of the last steps give columns.
+const COLUMN_STEPS: u32 = 20;
+
+/// How many steps without a gain are taken before the aim is lowered.
+const PATIENCE: u32 = 3;
+
+/// The least gain that is aimed at, in units.
+const LEAST_GAIN: i128 = 1 << 9;
+
+/// The least square of what is left open that directs a step.
+const LEAST_NORM: i128 = 1 << 16;
+
+/// How many parts make one in a share of the newest point, its least and its greatest share in what directs the steps, and
+/// its share in the mean.
+const PARTS: i128 = 1024;
+
+const LEAST_SHARE: i128 = 72;
+
+const MOST_SHARE: i128 = 716;
+
+const MEAN_SHARE: i128 = 51;
+
+/// The state of the steps, and what they found: the multipliers of the best bound by row at the greatest scale, that bound,
+/// the mean of the points in units, and the cheapest feasible point that is cheaper than the known cost. Sums of the master
+/// rows are kept at the newest point, at that of the best bound, and at the mean that directs the steps.
+#[derive(Drop)]
+pub struct Climb {
+    pub best: Vec<i64>,
+    pub value: i128,
+    pub mean: Vec<i128>,
+    pub found: Option<Vec<i64>>,
+    pub known: Option<i64>,
+    mults: Vec<i64>,
+    point: Vec<i64>,
+    sums: Vec<i128>,
+    best_sums: Vec<i128>,
+    mean_sums: Vec<i128>,
+    gain: i128,
+    failures: u32,
+}
+
+/// Multipliers with a great bound in a leaf's zone, from the leaf's.
+pub fn climbed(
+    alloc: Global,
+    b: &Blocked,
+    classes: &Classes,
+    pools: &mut Pools,
+    turn: &Turn,
+    known: Option<i64>,
+    with_columns: bool,
+) -> Result<Climb, AllocError>
+    requires made_for { AreMadeFor b.now pools.old }
+    requires classes { AreSameClasses turn.now.zone b.now.blocking classes.now }
+    requires zone { IsZone b.now.named.program.spans turn.now.zone }
+    ensures made_for { AreMadeFor b.now pools.new }
+{
+    let mut climb = begun(alloc, b, turn, known)?;
+    if !began(alloc, b, classes, pools, turn, &mut climb)? {
+        return Ok(climb);
+    }
+    let steps = steps_at(turn.depth, with_columns);
+    for step in 0..steps {
+        if !went_on(alloc, b, classes, pools, turn, &mut climb)? {
+            break;
+        }
+        if with_columns && steps - step <= COLUMN_STEPS {
+            pools.add_all_priced(alloc, b, classes)?;
+        }
+    }
+    Ok(climb)
+}
+
+// How many steps are taken at a depth.
+fn steps_at(depth: u32, with_columns: bool) -> u32 {
+    match (depth == 0, with_columns) {
+        (true, true) => ROOT_STEPS,
+        (false, true) => STEPS,
+        (true, false) => LONE_ROOT_STEPS,
+        (false, false) => LONE_STEPS,
+    }
+}
+
+// Takes a step and prices it; whether there was one to take, and a bound.
+fn went_on(
+    alloc: Global,
+    b: &Blocked,
+    classes: &Classes,
+    pools: &mut Pools,
+    turn: &Turn,
+    climb: &mut Climb,
+) -> Result<bool, AllocError>
+    requires made_for { AreMadeFor b.now pools.old }
+    requires classes { AreSameClasses turn.now.zone b.now.blocking classes.now }
+    requires zone { IsZone b.now.named.program.spans turn.now.zone }
+    ensures made_for { AreMadeFor b.now pools.new }
+{
+    if reaches(climb) || !stepped(b, climb) {
+        return Ok(false);
+    }
+    let Some(value) = priced(alloc, b, classes, pools, turn, climb)? else {
+        return Ok(false);
+    };
+    write_sums(b, climb.point.as_slice(), climb.sums.as_mut_slice());
+    take(climb, value);
+    note(alloc, b, climb)?;
+    mix(b, climb);
+    Ok(true)
+}
+
+// The state before the first pricing, with the leaf's multipliers.
+fn begun(alloc: Global, b: &Blocked, turn: &Turn, known: Option<i64>) -> Result<Climb, AllocError> {
+    let rows = b.model().rows() as usize;
+    let vars = b.model().vars() as usize;
+    let mut mults = Vec::from_elem(alloc, 0i64, rows)?;
+    for mult in turn.proof.mults.as_slice() {
+        let full = at_full_scale(&mult.1, turn.proof.scale);
+        put(mults.as_mut_slice(), mult.0 as usize, full);
+    }
+    let mut point = Vec::from_elem(alloc, 0i64, vars)?;
+    write_lows(point.as_mut_slice(), turn.zone.spans());
+    Ok(Climb {
+        best: mults.as_slice().to_vec(alloc)?,
+        value: i128::MIN,
+        mean: Vec::from_elem(alloc, 0i128, vars)?,
+        found: None,
+        known,
+        mults,
+        point,
+        sums: Vec::from_elem(alloc, 0i128, rows)?,
+        best_sums: Vec::from_elem(alloc, 0i128, rows)?,
+        mean_sums: Vec::from_elem(alloc, 0i128, rows)?,
+        gain: 0,
+        failures: 0,
+    })
+}
+
+// Writes the lower ends of spans.
+fn write_lows(point: &mut [i64], spans: &[Span]) {
+    let many = point.len().min(spans.len());
+    for i in 0..many {
+        point[i] = spans[i].lo;
+    }
+}
+
+// A multiplier at the greatest scale.
+fn at_full_scale(mult: &i64, scale: u32) -> i64 {
+    clipped(quotient(product(mult, &i64::from(MAX_SCALE)), i128::from(scale)))
+}
+
+// Prices the leaf's multipliers; whether there is a bound.
+fn began(
+    alloc: Global,
+    b: &Blocked,
+    classes: &Classes,
+    pools: &mut Pools,
+    turn: &Turn,
+    climb: &mut Climb,
+) -> Result<bool, AllocError>
+    requires made_for { AreMadeFor b.now pools.old }
+    requires classes { AreSameClasses turn.now.zone b.now.blocking classes.now }
+    requires zone { IsZone b.now.named.program.spans turn.now.zone }
+    ensures made_for { AreMadeFor b.now pools.new }
+{
+    let Some(value) = priced(alloc, b, classes, pools, turn, climb)? else {
+        return Ok(false);
+    };
+    climb.value = value;
+    climb.gain = first_gain(b, turn.depth, &value);
+    write_sums(b, climb.point.as_slice(), climb.sums.as_mut_slice());
+    mix_point(climb.mean.as_mut_slice(), climb.point.as_slice(), PARTS);
+    keep(climb.best_sums.as_mut_slice(), climb.sums.as_slice());
+    keep(climb.mean_sums.as_mut_slice(), climb.sums.as_slice());
+    note(alloc, b, climb)?;
+    Ok(true)
+}
+
+// The bound of the multipliers, with a point that reaches it.
+fn priced(
+    alloc: Global,
+    b: &Blocked,
+    classes: &Classes,
+    pools: &mut Pools,
+    turn: &Turn,
+    climb: &mut Climb,
+) -> Result<Option<i128>, AllocError>
+    requires made_for { AreMadeFor b.now pools.old }
+    requires classes { AreSameClasses turn.now.zone b.now.blocking classes.now }
+    requires zone { IsZone b.now.named.program.spans turn.now.zone }
+    ensures made_for { AreMadeFor b.now pools.new }
+{
+    if pools.bench.leaves_out() {
+        write_ends(alloc, b, turn.zone.spans(), climb)?;
+    }
+    let mults = climb.mults.as_slice();
+    let point = climb.point.as_mut_slice();
+    pools.price(alloc, b, classes, &turn.zone, mults, point)
+}
+
+// Writes the cheaper ends of the spans at the multipliers.
+fn write_ends(
+    alloc: Global,
+    b: &Blocked,
+    spans: &[Span],
+    climb: &mut Climb,
+) -> Result<(), AllocError> {
+    let costs = dense_costs(alloc, b)?;
+    let reduced = reduced_costs(alloc, b, climb.mults.as_slice(), costs.as_slice())?;
+    write_cheap(climb.point.as_mut_slice(), reduced.as_slice(), spans);
+    Ok(())
+}
+
+// Writes the upper ends of spans where costs are negative, else the lower ones.
+fn write_cheap(point: &mut [i64], costs: &[i128], spans: &[Span]) {
+    let many = point.len().min(costs.len()).min(spans.len());
+    for i in 0..many {
+        point[i] = if costs[i] < 0 {
+            spans[i].hi
+        } else {
+            spans[i].lo
+        };
+    }
+}
+
+// How far above the first bound the first aim is.
+fn first_gain(b: &Blocked, depth: u32, value: &i128) -> i128 {
+    let mut most: i128 = 1;
+    for term in b.model().costs() {
+        most = most.max(i128::from(term.coef.unsigned_abs()));
+    }
+    let most = most.saturating_mul(UNIT);
+    if depth == 0 {
+        let part = quotient(*value, 4);
+        most.max(part).max(part.saturating_neg())
+    } else {
+        quotient(most, 32)
+    }
+}
+
+/// Whether the bound reaches the known cost.
+pub fn reaches(climb: &Climb) -> bool {
+    is_reached(climb.value, climb.known)
+}
+
+// Takes a step from the best multipliers towards the aim; whether there was one to take. Where the mean leaves nothing open,
+// it begins again at the point of the best bound.
+fn stepped(b: &Blocked, climb: &mut Climb) -> bool {
+    let mut norm = norm_of(b, climb);
+    if norm < LEAST_NORM {
+        keep(climb.mean_sums.as_mut_slice(), climb.best_sums.as_slice());
+        climb.gain = quotient(climb.gain, 2);
+        climb.failures = 0;
+        norm = norm_of(b, climb);
+    }
+    if norm < LEAST_NORM || climb.gain < LEAST_GAIN {
+        return false;
+    }
+    for row in 0..b.model().rows() {
+        if let Some(named) = b.master_row(row) {
+            let best = at(climb.best.as_slice(), row as usize);
+            let open = slope(
+                &named,
+                &best,
+                &sum_at(climb.mean_sums.as_slice(), row as usize),
+            );
+            let far = climb.gain.saturating_mul(open).saturating_mul(UNIT);
+            let moved = clipped(quotient(far, norm).saturating_add(i128::from(best)));
+            put(
+                climb.mults.as_mut_slice(),
+                row as usize,
+                signed(&named, moved),
+            );
+        }
+    }
+    true
+}
+
+// Sums written over others.
+fn keep(kept: &mut [i128], sums: &[i128]) {
+    let many = kept.len().min(sums.len());
+    for i in 0..many {
+        kept[i] = sums[i];
+    }
+}
+
+// The square of what the mean leaves open at the best multipliers.
+fn norm_of(b: &Blocked, climb: &Climb) -> i128 {
+    let mut norm: i128 = 0;
+    for row in 0..b.model().rows() {
+        if let Some(named) = b.master_row(row) {
+            let best = at(climb.best.as_slice(), row as usize);
+            let open = slope(
+                &named,
+                &best,
+                &sum_at(climb.mean_sums.as_slice(), row as usize),
+            );
+            norm = norm.saturating_add(open.saturating_mul(open));
+        }
+    }
+    norm
+}
+
+// Takes a bound: a greater one is kept with its multipliers, and after others the aim is lowered.
+fn take(climb: &mut Climb, value: i128) {
+    if value > climb.value {
+        if value.saturating_sub(climb.value) >= quotient(climb.gain, 2) {
+            climb.gain = climb.gain.saturating_mul(2);
+        }
+        climb.value = value;
+        climb.failures = 0;
+        keep(climb.best_sums.as_mut_slice(), climb.sums.as_slice());
+        keep_mults(climb.best.as_mut_slice(), climb.mults.as_slice());
+    } else {
+        climb.failures = climb.failures.saturating_add(1);
+        if climb.failures >= PATIENCE {
+            climb.gain = quotient(climb.gain, 2);
+            climb.failures = 0;
+        }
+    }
+}
+
+// Multipliers written over others.
+fn keep_mults(kept: &mut [i64], mults: &[i64]) {
+    let many = kept.len().min(mults.len());
+    for i in 0..many {
+        kept[i] = mults[i];
+    }
+}
+
+// Keeps the point, if it is feasible and cheaper than what is known.
+fn note(alloc: Global, b: &Blocked, climb: &mut Climb) -> Result<(), AllocError> {
+    if !all_meet(b, climb.sums.as_slice()) {
+        return Ok(());
+    }
+    if let Some(cost) = feasible_cost(b, climb.point.as_slice()) {
+        if is_below(cost, climb.known) {
+            climb.known = Some(cost);
+            climb.found = Some(climb.point.as_slice().to_vec(alloc)?);
+        }
+    }
+    Ok(())
+}
+
+// Whether each master row is met.
+fn all_meet(b: &Blocked, sums: &[i128]) -> bool {
+    for row in 0..b.model().rows() {
+        if let Some(named) = b.master_row(row) {
+            if !meets(&named, &sum_at(sums, row as usize)) {
+                return false;
+            }
+        }
+    }
+    true
+}
+
+// Takes the newest point into the means: into that which directs the steps with the share that leaves least open.
+fn mix(b: &Blocked, climb: &mut Climb) {
+    let share = best_share(b, climb);
+    mix_point(
+        climb.mean.as_mut_slice(),
+        climb.point.as_slice(),
+        MEAN_SHARE,
+    );
+    mix_sums(climb.mean_sums.as_mut_slice(), climb.sums.as_slice(), share);
+}
+
+// Takes a share of a point into a mean.
+fn mix_point(mean: &mut [i128], point: &[i64], share: i128) {
+    let many = mean.len().min(point.len());
+    for i in 0..many {
+        let unit = i128::from(point[i]).saturating_mul(UNIT);
+        mean[i] = mixed(&mean[i], &unit, &share);
+    }
+}
+
+// Takes a share of sums into others.
+fn mix_sums(mean: &mut [i128], sums: &[i128], share: i128) {
+    let many = mean.len().min(sums.len());
+    for i in 0..many {
+        mean[i] = mixed(&mean[i], &sums[i], &share);
+    }
+}
+
+// A number moved towards another by a share.
+fn mixed(number: &i128, other: &i128, share: &i128) -> i128 {
+    let far = other.saturating_sub(*number).saturating_mul(*share);
+    number.saturating_add(quotient(far, PARTS))
+}
+
+// The share of the newest point in the mean that leaves least open.
+fn best_share(b: &Blocked, climb: &Climb) -> i128 {
+    let mut along: i128 = 0;
+    let mut norm: i128 = 0;
+    for row in 0..b.model().rows() {
+        if let Some(named) = b.master_row(row) {
+            let best = at(climb.best.as_slice(), row as usize);
+            let mean = sum_at(climb.mean_sums.as_slice(), row as usize);
+            let far = sum_at(climb.sums.as_slice(), row as usize).saturating_sub(mean);
+            along = along.saturating_add(slope(&named, &best, &mean).saturating_mul(far));
+            norm = norm.saturating_add(far.saturating_mul(far));
+        }
+    }
+    quotient(along.saturating_mul(PARTS), norm)
+        .max(LEAST_SHARE)
+        .min(MOST_SHARE)
+}

@@ -1,0 +1,259 @@
+// What is searched for in a leaf's zone: multipliers, a point, and a split. All are hints.
+ghost use Rattle.std.specs.Prelude.{◌≡◌, ◌<◌, IfOk, All, length};
+ghost use Rattle.bp_theory.specs.Trees.{IsZone};
+ghost use Rattle.block_class.specs.Classes.{AreSameClasses};
+ghost use Rattle.node_hint.specs.Pools.{AreMadeFor};
+ghost use Rattle.search_laws.specs.declared.UsedColumn.{UsedColumn as AUsed};
+
+use crate::climb::{Climb, climbed};
+use crate::dive::{Style, drawn, point_by_columns};
+use crate::guide::guide_of;
+use crate::known::{Incumbent, is_reached};
+use crate::pools::Pools;
+use crate::propagation::point_in;
+use crate::reach::{quotient, whole};
+use crate::restricted::{Weighted, serves};
+use crate::rounds::{Centre, Effort, Plan, generated};
+use crate::slopes::UNIT;
+use block_class::Classes;
+use block_form::Blocked;
+use bp_theory::{Items, Span};
+use branch_tree::Turn;
+use disagg::most_mixed;
+use search_laws::UsedColumn;
+use std::alloc::{AllocError, Global};
+
+/// How many rounds of column generation are made at the root, and below it.
+const ROOT_ROUNDS: u32 = 78;
+
+const ROUNDS: u32 = 118;
+
+/// How many further dives are made at the root.
+const REPEATS: u32 = 10;
+
+/// A variable, and the number that its span is split behind.
+#[derive(Clone, Copy)]
+pub struct Split {
+    pub var: u32,
+    pub at: i64,
+}
+
+/// Multipliers by row at the greatest scale, a point, and a split.
+#[derive(Drop)]
+pub struct Hint {
+    pub mults: Vec<i64>,
+    pub point: Option<Vec<i64>>,
+    pub split: Split,
+}
+
+/// Multipliers with a great bound in a leaf's zone, a point that is cheaper than the best cost, where one was found, and a split
+/// of the variable that the columns, or else the mean of the priced points, leave farthest from whole. Dives keep columns without
+/// numbers for last at every other leaf.
+pub fn hinted(
+    alloc: Global,
+    b: &Blocked,
+    classes: &Classes,
+    pools: &mut Pools,
+    turn: &Turn,
+    best: Option<i64>,
+    is_even: bool,
+) -> Result<Hint, AllocError>
+    requires made_for { AreMadeFor b.now pools.old }
+    requires classes { AreSameClasses turn.now.zone b.now.blocking classes.now }
+    requires zone { IsZone b.now.named.program.spans turn.now.zone }
+    ensures made_for { AreMadeFor b.now pools.new }
+{
+    let with_columns = serves(b, classes);
+    let climb = climbed(alloc, b, classes, pools, turn, best, with_columns)?;
+    let probed = probed_point(alloc, b, turn, &climb)?;
+    let split = split_of_mean(climb.mean.as_slice(), turn.zone.spans());
+    let mut centre = Centre {
+        mults: climb.best,
+        value: climb.value,
+    };
+    let mut incumbent = Incumbent {
+        known: climb.known,
+        point: climb.found,
+    };
+    incumbent.take(b, probed);
+    let found = by_columns(
+        alloc,
+        b,
+        classes,
+        pools,
+        turn,
+        &mut centre,
+        &mut incumbent,
+        is_even,
+    )?;
+    Ok(Hint {
+        mults: centre.mults,
+        point: incumbent.point,
+        split: found.unwrap_or(split),
+    })
+}
+
+// A point that is cheaper than what is known, where the bound doesn't reach that and a search finds one.
+fn probed_point(
+    alloc: Global,
+    b: &Blocked,
+    turn: &Turn,
+    climb: &Climb,
+) -> Result<Option<Vec<i64>>, AllocError> {
+    if is_reached(climb.value, climb.known) {
+        return Ok(None);
+    }
+    let guide = guide_of(alloc, b, climb.best.as_slice(), climb.mean.as_slice())?;
+    point_in(alloc, b, turn, &guide, climb.known)
+}
+
+// Column generation from a centre, and dives from its columns, where it has a bound that doesn't reach what is known; the split
+// that they want.
+fn by_columns(
+    alloc: Global,
+    b: &Blocked,
+    classes: &Classes,
+    pools: &mut Pools,
+    turn: &Turn,
+    centre: &mut Centre,
+    incumbent: &mut Incumbent,
+    is_even: bool,
+) -> Result<Option<Split>, AllocError>
+    requires made_for { AreMadeFor b.now pools.old }
+    requires classes { AreSameClasses turn.now.zone b.now.blocking classes.now }
+    requires zone { IsZone b.now.named.program.spans turn.now.zone }
+    ensures made_for { AreMadeFor b.now pools.new }
+{
+    let is_done = centre.value == i128::MIN || is_reached(centre.value, incumbent.known);
+    if is_done || !serves(b, classes) {
+        return Ok(None);
+    }
+    let effort = Effort {
+        rounds: if turn.depth == 0 { ROOT_ROUNDS } else { ROUNDS },
+        width: Some(first_width(b)),
+        known: incumbent.known,
+    };
+    let Some(plan) = generated(alloc, b, classes, &turn.zone, pools, centre, effort)? else {
+        return Ok(None);
+    };
+    if is_reached(centre.value, incumbent.known) {
+        return Ok(None);
+    }
+    take_dives(alloc, b, pools, turn, centre, &plan, incumbent, is_even)?;
+    split_of_plan(alloc, b, classes, pools, &plan)
+}
+
+// Half of the greatest cost by which multipliers are kept near the best ones at first.
+fn first_width(b: &Blocked) -> i64 {
+    let mut most: u64 = 1;
+    for term in b.model().costs() {
+        most = most.max(term.coef.unsigned_abs());
+    }
+    whole(quotient(i128::from(most).saturating_mul(UNIT), 8))
+}
+
+// Dives from a plan: once, and at the root again with other weights while the bound doesn't reach what is known.
+fn take_dives(
+    alloc: Global,
+    b: &Blocked,
+    pools: &mut Pools,
+    turn: &Turn,
+    centre: &Centre,
+    plan: &Plan,
+    incumbent: &mut Incumbent,
+    is_even: bool,
+) -> Result<(), AllocError>
+    requires made_for { AreMadeFor b.now pools.old }
+    requires zone { IsZone b.now.named.program.spans turn.now.zone }
+    ensures made_for { AreMadeFor b.now pools.new }
+{
+    let used = plan.used.as_slice();
+    let mults = centre.mults.as_slice();
+    let mut style = Style {
+        is_loose: is_even,
+        seed: None,
+    };
+    let dives = if turn.depth == 0 { REPEATS } else { 0 };
+    for dive in 0..=dives {
+        if pools.bench.is_spent() || is_reached(centre.value, incumbent.known) {
+            break;
+        }
+        let known = incumbent.known;
+        style.is_loose = known.is_none() || style.is_loose;
+        let point = point_by_columns(alloc, b, &turn.zone, pools, used, mults, known, style)?;
+        incumbent.take(b, point);
+        style.is_loose = dive % 2 == 1;
+        style.seed = Some(drawn(u64::from(dive)));
+    }
+    Ok(())
+}
+
+// The split of the variable that is farthest from whole where a plan's columns are dealt out to blocks.
+fn split_of_plan(
+    alloc: Global,
+    b: &Blocked,
+    classes: &Classes,
+    pools: &Pools,
+    plan: &Plan,
+) -> Result<Option<Split>, AllocError>
+    requires each { length classes.now.classes ≡ length b.now.blocking.blocks }
+{
+    let used = used_columns(alloc, classes, pools, plan.used.as_slice())?;
+    match most_mixed(alloc, b, classes, used.as_slice())? {
+        None => Ok(None),
+        Some((var, at)) => Ok(Some(Split { var, at })),
+    }
+}
+
+// Weighted columns with their points.
+fn used_columns(
+    alloc: Global,
+    classes: &Classes,
+    pools: &Pools,
+    weighted: &[Weighted],
+) -> Result<Vec<UsedColumn>, AllocError>
+    ensures { IfOk result (λ used. All (λ (u : AUsed). u.class < length classes.now.firsts) used.items) }
+{
+    let mut used = Vec::new(alloc);
+    for column in weighted {
+        if column.class < classes.len() {
+            if let Some(found) = pools.column(column.place) {
+                let point = found.point.as_slice().to_vec(alloc)?;
+                used.push(UsedColumn {
+                    class: column.class,
+                    weight: column.weight,
+                    point: Items::from_vec(point),
+                })?;
+            }
+        }
+    }
+    Ok(used)
+}
+
+// The split of the variable with an open span whose mean in units is farthest from whole.
+fn split_of_mean(mean: &[i128], spans: &[Span]) -> Split {
+    let mut far: i128 = -1;
+    let mut split = Split { var: 0, at: 0 };
+    let mut var: u32 = 0;
+    for (number, span) in mean.iter().zip(spans) {
+        let part = distance(number);
+        if span.lo < span.hi && part > far {
+            far = part;
+            split = Split {
+                var,
+                at: span
+                    .lo
+                    .saturating_add((span.hi.saturating_sub(span.lo)) / 2),
+            };
+        }
+        var = var.saturating_add(1);
+    }
+    split
+}
+
+// How far a number in units is from whole.
+fn distance(number: &i128) -> i128 {
+    let part = number.saturating_sub(quotient(*number, UNIT).saturating_mul(UNIT));
+    let above = part.max(part.saturating_neg());
+    above.min(UNIT.saturating_sub(above))
+}
