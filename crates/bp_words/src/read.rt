@@ -53,7 +53,8 @@ fn stated_order(alloc: Global, matches: &ArgMatches) -> Result<Order, WordFault>
 
 // The fault of words that the command doesn't take.
 fn fault_of_kind(kind: ErrorKind) -> WordFault
-    ensures { result ≡ WordFault.Refused → kind ≢ ErrorKind.OutOfMemory }
+    ensures refused { result ≡ WordFault.Refused → kind ≢ ErrorKind.OutOfMemory }
+    ensures memory { result ≡ WordFault.NoMemory → kind ≡ ErrorKind.OutOfMemory }
 {
     match kind {
         ErrorKind::OutOfMemory => WordFault::NoMemory,
