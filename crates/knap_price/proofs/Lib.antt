@@ -5,3 +5,4 @@ pub mod StepLaws
 pub mod PriceLaws
 pub mod FormLaws
 pub mod SplitLaws
+pub mod NarrowLaws

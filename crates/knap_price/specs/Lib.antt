@@ -5,3 +5,4 @@ pub mod Choices
 pub mod Rooms
 pub mod Kept
 pub mod Parts
+pub mod Narrowed

@@ -4,6 +4,7 @@
 mod coefs;
 mod form;
 mod items;
+mod narrow;
 mod picks;
 mod price;
 mod pricer;

@@ -1,5 +1,5 @@
 // How many units of an item are picked at each weight.
-ghost use Rattle.std.specs.Prelude.{◌≡◌, ◌<◌, length, slice_set, IfOk};
+ghost use Rattle.std.specs.Prelude.{◌≡◌, ◌<◌, ◌≤◌, ℕ, length, slice_set, IfOk};
 ghost use Rattle.knap_price.specs.Tables.{pick_at};
 
 use std::alloc::{AllocError, Global};
@@ -19,6 +19,15 @@ impl Model for Picks {
     ghost view = { λ picks. picks.units.items };
 }
 
+/// Writes zeros below an end.
+fn clear_below(units: &mut [u32], end: usize)
+    requires { end ≤ length units.old }
+    ensures len { length units.new ≡ length units.old }
+    ensures zeros { (c : ℕ) → c < end → pick_at units.new c ≡ 0 }
+{
+    units[..end].fill(0);
+}
+
 impl Picks {
     /// No unit at so many weights.
     pub fn make(alloc: Global, count: usize) -> Result<Picks, AllocError>
@@ -35,6 +44,15 @@ impl Picks {
         ensures { result ≡ pick_at self.now weight }
     {
         self.units[weight]
+    }
+
+    /// Picks nothing at each weight below an end.
+    pub fn clear(&mut self, end: usize)
+        requires { end ≤ length self.old }
+        ensures len { length self.new ≡ length self.old }
+        ensures zeros { (c : ℕ) → c < end → pick_at self.new c ≡ 0 }
+    {
+        clear_below(&mut self.units, end);
     }
 
     /// Picks so many units at a weight.

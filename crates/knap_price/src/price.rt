@@ -1,17 +1,18 @@
 // Pricing a zone by a table.
-ghost use Rattle.std.specs.Prelude.{◌≡◌, MatchOption};
+ghost use Rattle.std.specs.Prelude.{◌≡◌, MatchOption, length, vec_len};
 ghost use Rattle.pricing.specs.Form.{IsPriceable};
 ghost use Rattle.pricing.specs.Priced.{IsCheapest, HasNoPoint};
 ghost use Rattle.knap_price.specs.Rooms.{HasRoom};
 
 use crate::form::{Form, Table};
+use crate::narrow::narrow;
 use crate::steps::{choose, product_sum, set_items, top_of, trace};
 use crate::table::fill;
 use bp_theory::Span;
 use pricing::plus;
 
 /// The least cost of a point in a zone, if there is a point, which the table's point then is.
-pub fn price_table(form: &Form, table: &mut Table, zone: &[Span], costs: &[i128]) -> Option<i128>
+fn price_table(form: &Form, table: &mut Table, zone: &[Span], costs: &[i128]) -> Option<i128>
     requires room { HasRoom form.now table.old }
     requires priceable { IsPriceable form.now.spans.items zone.now costs.now }
     ensures room { HasRoom form.now table.new }
@@ -39,4 +40,26 @@ pub fn price_table(form: &Form, table: &mut Table, zone: &[Span], costs: &[i128]
         }
         None => None,
     }
+}
+
+/// The least cost of a point in a zone, if there is a point, which the table's point then is. Variables that can't help the
+/// row stay at an end.
+pub fn price_zone(
+    form: &Form,
+    table: &mut Table,
+    part: &mut Vec<Span>,
+    zone: &[Span],
+    costs: &[i128],
+) -> Option<i128>
+    requires room { HasRoom form.now table.old }
+    requires part { vec_len part.old ≡ length form.now.spans.items }
+    requires priceable { IsPriceable form.now.spans.items zone.now costs.now }
+    ensures room { HasRoom form.now table.new }
+    ensures part { vec_len part.new ≡ length form.now.spans.items }
+    ensures answer { MatchOption result (HasNoPoint form.now.rows.items zone.now)
+        (λ v. IsCheapest form.now.rows.items zone.now costs.now table.new.point.items v) }
+{
+    let row = &form.rows[0];
+    narrow(part, row, &form.coefs, zone, costs);
+    price_table(form, table, part, costs)
 }

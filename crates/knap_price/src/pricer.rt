@@ -6,10 +6,10 @@ use crate::coefs::{is_taken, reach_of};
 use crate::form::{Form, Table};
 use crate::items::Item;
 use crate::picks::Picks;
-use crate::price::price_table;
+use crate::price::price_zone;
 use block_form::Block;
 use bp_theory::Span;
-use pricing::{Cap, Priced, Pricer};
+use pricing::{Cap, Priced, Pricer, copied_spans};
 use std::alloc::{AllocError, Global};
 
 /// Prices a block of one row by a table of least costs by weight, which it takes when it is made and uses again in each
@@ -18,7 +18,9 @@ use std::alloc::{AllocError, Global};
 pub struct KnapPricer {
     form: Form,
     table: Table,
+    part: Vec<Span>,
     ghost room: { HasRoom form table },
+    ghost many: { length part.items ≡ length form.spans.items },
 }
 
 /// A row of picks for each variable.
@@ -68,13 +70,14 @@ impl KnapPricer {
         let cells = Vec::from_elem(alloc, 0, wide)?;
         let picks = rows_of_picks(alloc, spans.len(), wide)?;
         let point = Vec::from_elem(alloc, 0, spans.len())?;
+        let part = copied_spans(alloc, spans)?;
         let table = Table {
             items,
             cells,
             picks,
             point,
         };
-        Ok(KnapPricer { form, table })
+        Ok(KnapPricer { form, table, part })
     }
 }
 
@@ -99,7 +102,7 @@ impl Pricer for KnapPricer {
         ensures same_rows { rows_of self.new ≡ rows_of self.old }
         ensures same_spans { spans_of self.new ≡ spans_of self.old }
     {
-        match price_table(&self.form, &mut self.table, zone, costs) {
+        match price_zone(&self.form, &mut self.table, &mut self.part, zone, costs) {
             Some(least) => Priced::Least(least),
             None => Priced::Nothing,
         }

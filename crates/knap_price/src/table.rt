@@ -77,18 +77,6 @@ fn cost_of(cost: &i128, units: u64) -> i128
     times(cost, &number)
 }
 
-/// Picks nothing at each weight up to the top.
-fn clear(picks: &mut Picks, top: usize)
-    requires room { top < length picks.old }
-    requires small { top ≤ 2 ^ 20 }
-    ensures len { length picks.new ≡ length picks.old }
-    ensures zeros { ArePicks 0 top picks.new }
-{
-    for weight in 0..top + 1 {
-        picks.put(weight, 0);
-    }
-}
-
 /// Puts an item in front of those whose least costs the cells have.
 pub fn add_item(cells: &mut Vec<i128>, picks: &mut Picks, item: &Item, top: usize)
     requires cells { top < vec_len cells.old }
@@ -103,10 +91,19 @@ pub fn add_item(cells: &mut Vec<i128>, picks: &mut Picks, item: &Item, top: usiz
     ensures table { (rest : List Item) (ways : ℕ → List ℕ) → IsTable rest ways top cells.old.items →
         IsTable (item.now ∷ rest) (ways_with item.now picks.new ways) top cells.new.items }
 {
-    clear(picks, top);
+    picks.clear(top + 1);
     for units in parts(item.width) {
         add_part(cells, picks, item, units, top);
     }
+}
+
+/// Writes that no load has a weight below an end.
+fn empty_below(cells: &mut [i128], end: usize)
+    requires { end ≤ length cells.old }
+    ensures len { length cells.new ≡ length cells.old }
+    ensures none { (c : ℕ) → c < end → cell_at cells.new c ≡ no_way }
+{
+    cells[..end].fill(NO_WAY);
 }
 
 /// The cells of no items: one load of no weight, which costs nothing.
@@ -116,9 +113,7 @@ fn begin(cells: &mut Vec<i128>, top: usize)
     ensures cells { vec_len cells.new ≡ vec_len cells.old }
     ensures table { IsTable [] (λ _. []) top cells.new.items }
 {
-    for weight in 0..top + 1 {
-        cells[weight] = NO_WAY;
-    }
+    empty_below(cells, top + 1);
     cells[0] = 0;
 }
 

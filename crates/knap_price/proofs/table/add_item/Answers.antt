@@ -14,7 +14,7 @@ loop-units-init c =
       picks = refl;
       within = omega (arith, ap sum same, c.parts-units-items.ensures.whole);
       growing = subst (AreGrowing 0) (sym same) (parts_grow c.args.item.now.width c.parts-units-items.result c.parts-units-items.ensures.parts);
-      added = added_start c.args.item.now c.args.top c.args.cells.now.items c.clear.new.picks c.requires.bounded c.clear.ensures.zeros;
+      added = added_start c.args.item.now c.args.top c.args.cells.now.items c.clear.new.self c.requires.bounded (λ k l. omega (arith, c.clear.ensures.zeros k (omega (arith, l))));
     }
 
 pub loop-units-preserved : goal.loop-units-preserved
