@@ -1,5 +1,7 @@
-// Multipliers by subgradient steps from the best so far along what the mean of the priced points leaves open, as the volume
-// algorithm takes them, in whole numbers: hints, which exact bounds judge. (Barahona and Anbil.)
+// Multipliers by subgradient steps in whole numbers: hints, which exact bounds judge. A step goes along what the newest point leaves
+// open, from its multipliers, with Polyak's length to a level above the best bound. Where blocks are alike, one priced point counts
+// for many blocks and leaves far too much open: there a step goes from the best multipliers along what the mean of the priced points
+// leaves open, as the volume algorithm takes it. (Polyak; Barahona and Anbil.)
 ghost use Rattle.std.specs.Prelude.{◌≡◌};
 ghost use Rattle.bp_theory.specs.Trees.{IsZone};
 ghost use Rattle.block_class.specs.Classes.{AreSameClasses};
@@ -47,9 +49,20 @@ const MOST_SHARE: i128 = 716;
 
 const MEAN_SHARE: i128 = 51;
 
+/// The least gain that goes on with the newest point, as a part of what is aimed at.
+const GAIN_PART: i128 = 8;
+
+// What directs steps: the newest point, or the mean of the points.
+#[derive(Clone, Copy, Debug, PartialEq, Eq)]
+enum Course {
+    Newest,
+    Mean,
+}
+
 /// The state of the steps, and what they found: the multipliers of the best bound by row at the greatest scale, that bound,
 /// the mean of the points in units, and the cheapest feasible point that is cheaper than the known cost. Sums of the master
-/// rows are kept at the newest point, at that of the best bound, and at the mean that directs the steps.
+/// rows are kept at the newest point, at that of the best bound, and along what the next step goes. That leaves from multipliers
+/// whose bound is short of the best.
 #[derive(Drop)]
 pub struct Climb {
     pub best: Vec<i64>,
@@ -57,12 +70,15 @@ pub struct Climb {
     pub mean: Vec<i128>,
     pub found: Option<Vec<i64>>,
     pub known: Option<i64>,
+    course: Course,
     mults: Vec<i64>,
     point: Vec<i64>,
     sums: Vec<i128>,
     best_sums: Vec<i128>,
-    mean_sums: Vec<i128>,
-    gain: i128,
+    from: Vec<i64>,
+    along: Vec<i128>,
+    short: i128,
+    pub gain: i128,
     failures: u32,
 }
 
@@ -81,7 +97,8 @@ pub fn climbed(
     requires zone { IsZone b.now.named.program.spans turn.now.zone }
     ensures made_for { AreMadeFor b.now pools.new }
 {
-    let mut climb = begun(alloc, b, turn, known)?;
+    let course = course_of(b, classes, with_columns);
+    let mut climb = begun(alloc, b, turn, known, course)?;
     if !began(alloc, b, classes, pools, turn, &mut climb)? {
         return Ok(climb);
     }
@@ -95,6 +112,20 @@ pub fn climbed(
         }
     }
     Ok(climb)
+}
+
+// What directs steps: the mean where blocks are alike, and where no columns follow.
+fn course_of(b: &Blocked, classes: &Classes, with_columns: bool) -> Course {
+    if with_columns && !are_alike(b, classes) {
+        Course::Newest
+    } else {
+        Course::Mean
+    }
+}
+
+/// Whether most blocks are like others.
+pub fn are_alike(b: &Blocked, classes: &Classes) -> bool {
+    u64::from(classes.len()) * 2 <= u64::from(b.blocks())
 }
 
 // How many steps are taken at a depth.
@@ -128,14 +159,24 @@ fn went_on(
         return Ok(false);
     };
     write_sums(b, climb.point.as_slice(), climb.sums.as_mut_slice());
-    take(climb, value);
     note(alloc, b, climb)?;
-    mix(b, climb);
+    mix_point(
+        climb.mean.as_mut_slice(),
+        climb.point.as_slice(),
+        MEAN_SHARE,
+    );
+    take(b, climb, value);
     Ok(true)
 }
 
 // The state before the first pricing, with the leaf's multipliers.
-fn begun(alloc: Global, b: &Blocked, turn: &Turn, known: Option<i64>) -> Result<Climb, AllocError> {
+fn begun(
+    alloc: Global,
+    b: &Blocked,
+    turn: &Turn,
+    known: Option<i64>,
+    course: Course,
+) -> Result<Climb, AllocError> {
     let rows = b.model().rows() as usize;
     let vars = b.model().vars() as usize;
     let mut mults = Vec::from_elem(alloc, 0i64, rows)?;
@@ -151,11 +192,14 @@ fn begun(alloc: Global, b: &Blocked, turn: &Turn, known: Option<i64>) -> Result<
         mean: Vec::from_elem(alloc, 0i128, vars)?,
         found: None,
         known,
+        course,
+        from: mults.as_slice().to_vec(alloc)?,
         mults,
         point,
         sums: Vec::from_elem(alloc, 0i128, rows)?,
         best_sums: Vec::from_elem(alloc, 0i128, rows)?,
-        mean_sums: Vec::from_elem(alloc, 0i128, rows)?,
+        along: Vec::from_elem(alloc, 0i128, rows)?,
+        short: 0,
         gain: 0,
         failures: 0,
     })
@@ -196,7 +240,7 @@ fn began(
     write_sums(b, climb.point.as_slice(), climb.sums.as_mut_slice());
     mix_point(climb.mean.as_mut_slice(), climb.point.as_slice(), PARTS);
     keep(climb.best_sums.as_mut_slice(), climb.sums.as_slice());
-    keep(climb.mean_sums.as_mut_slice(), climb.sums.as_slice());
+    keep(climb.along.as_mut_slice(), climb.sums.as_slice());
     note(alloc, b, climb)?;
     Ok(true)
 }
@@ -268,29 +312,26 @@ pub fn reaches(climb: &Climb) -> bool {
     is_reached(climb.value, climb.known)
 }
 
-// Takes a step from the best multipliers towards the aim; whether there was one to take. Where the mean leaves nothing open,
-// it begins again at the point of the best bound.
+// Takes a step towards the aim; whether there was one to take. Where nothing is left open along it, it begins again at the point of
+// the best bound.
 fn stepped(b: &Blocked, climb: &mut Climb) -> bool {
     let mut norm = norm_of(b, climb);
     if norm < LEAST_NORM {
-        keep(climb.mean_sums.as_mut_slice(), climb.best_sums.as_slice());
         climb.gain = quotient(climb.gain, 2);
         climb.failures = 0;
+        turn_back(climb);
         norm = norm_of(b, climb);
     }
     if norm < LEAST_NORM || climb.gain < LEAST_GAIN {
         return false;
     }
+    let want = climb.gain.saturating_add(climb.short);
     for row in 0..b.model().rows() {
         if let Some(named) = b.master_row(row) {
-            let best = at(climb.best.as_slice(), row as usize);
-            let open = slope(
-                &named,
-                &best,
-                &sum_at(climb.mean_sums.as_slice(), row as usize),
-            );
-            let far = climb.gain.saturating_mul(open).saturating_mul(UNIT);
-            let moved = clipped(quotient(far, norm).saturating_add(i128::from(best)));
+            let from = at(climb.from.as_slice(), row as usize);
+            let open = slope(&named, &from, &sum_at(climb.along.as_slice(), row as usize));
+            let far = want.saturating_mul(open).saturating_mul(UNIT);
+            let moved = clipped(quotient(far, norm).saturating_add(i128::from(from)));
             put(
                 climb.mults.as_mut_slice(),
                 row as usize,
@@ -301,6 +342,13 @@ fn stepped(b: &Blocked, climb: &mut Climb) -> bool {
     true
 }
 
+// Lets the next step go from the best multipliers along what their point leaves open.
+fn turn_back(climb: &mut Climb) {
+    climb.short = 0;
+    keep(climb.along.as_mut_slice(), climb.best_sums.as_slice());
+    keep_mults(climb.from.as_mut_slice(), climb.best.as_slice());
+}
+
 // Sums written over others.
 fn keep(kept: &mut [i128], sums: &[i128]) {
     let many = kept.len().min(sums.len());
@@ -309,17 +357,13 @@ fn keep(kept: &mut [i128], sums: &[i128]) {
     }
 }
 
-// The square of what the mean leaves open at the best multipliers.
+// The square of what is left open along the next step.
 fn norm_of(b: &Blocked, climb: &Climb) -> i128 {
     let mut norm: i128 = 0;
     for row in 0..b.model().rows() {
         if let Some(named) = b.master_row(row) {
-            let best = at(climb.best.as_slice(), row as usize);
-            let open = slope(
-                &named,
-                &best,
-                &sum_at(climb.mean_sums.as_slice(), row as usize),
-            );
+            let from = at(climb.from.as_slice(), row as usize);
+            let open = slope(&named, &from, &sum_at(climb.along.as_slice(), row as usize));
             norm = norm.saturating_add(open.saturating_mul(open));
         }
     }
@@ -327,22 +371,49 @@ fn norm_of(b: &Blocked, climb: &Climb) -> i128 {
 }
 
 // Takes a bound: a greater one is kept with its multipliers, and after others the aim is lowered.
-fn take(climb: &mut Climb, value: i128) {
-    if value > climb.value {
-        if value.saturating_sub(climb.value) >= quotient(climb.gain, 2) {
-            climb.gain = climb.gain.saturating_mul(2);
-        }
+fn take(b: &Blocked, climb: &mut Climb, value: i128) {
+    let more = value.saturating_sub(climb.value);
+    if more > 0 {
         climb.value = value;
-        climb.failures = 0;
         keep(climb.best_sums.as_mut_slice(), climb.sums.as_slice());
         keep_mults(climb.best.as_mut_slice(), climb.mults.as_slice());
-    } else {
-        climb.failures = climb.failures.saturating_add(1);
-        if climb.failures >= PATIENCE {
-            climb.gain = quotient(climb.gain, 2);
-            climb.failures = 0;
+    }
+    let is_lower = lowers(climb, more);
+    match climb.course {
+        Course::Mean => {
+            let share = best_share(b, climb);
+            keep_mults(climb.from.as_mut_slice(), climb.best.as_slice());
+            mix_sums(climb.along.as_mut_slice(), climb.sums.as_slice(), share);
+        }
+        Course::Newest if is_lower => turn_back(climb),
+        Course::Newest => {
+            climb.short = climb.value.saturating_sub(value);
+            keep(climb.along.as_mut_slice(), climb.sums.as_slice());
+            keep_mults(climb.from.as_mut_slice(), climb.mults.as_slice());
         }
     }
+}
+
+// Raises the aim after a great gain, and lowers it after some steps without one; whether it was lowered.
+fn lowers(climb: &mut Climb, more: i128) -> bool {
+    let least = match climb.course {
+        Course::Newest => quotient(climb.gain, GAIN_PART),
+        Course::Mean => 0,
+    };
+    if more >= quotient(climb.gain, 2) {
+        climb.gain = climb.gain.saturating_mul(2);
+    }
+    if more > least {
+        climb.failures = 0;
+        return false;
+    }
+    climb.failures = climb.failures.saturating_add(1);
+    if climb.failures < PATIENCE {
+        return false;
+    }
+    climb.gain = quotient(climb.gain, 2);
+    climb.failures = 0;
+    true
 }
 
 // Multipliers written over others.
@@ -379,17 +450,6 @@ fn all_meet(b: &Blocked, sums: &[i128]) -> bool {
     true
 }
 
-// Takes the newest point into the means: into that which directs the steps with the share that leaves least open.
-fn mix(b: &Blocked, climb: &mut Climb) {
-    let share = best_share(b, climb);
-    mix_point(
-        climb.mean.as_mut_slice(),
-        climb.point.as_slice(),
-        MEAN_SHARE,
-    );
-    mix_sums(climb.mean_sums.as_mut_slice(), climb.sums.as_slice(), share);
-}
-
 // Takes a share of a point into a mean.
 fn mix_point(mean: &mut [i128], point: &[i64], share: i128) {
     let many = mean.len().min(point.len());
@@ -420,7 +480,7 @@ fn best_share(b: &Blocked, climb: &Climb) -> i128 {
     for row in 0..b.model().rows() {
         if let Some(named) = b.master_row(row) {
             let best = at(climb.best.as_slice(), row as usize);
-            let mean = sum_at(climb.mean_sums.as_slice(), row as usize);
+            let mean = sum_at(climb.along.as_slice(), row as usize);
             let far = sum_at(climb.sums.as_slice(), row as usize).saturating_sub(mean);
             along = along.saturating_add(slope(&named, &best, &mean).saturating_mul(far));
             norm = norm.saturating_add(far.saturating_mul(far));

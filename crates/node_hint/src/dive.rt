@@ -11,7 +11,7 @@ use crate::pools::Pools;
 use crate::restricted::Weighted;
 use crate::rounds::{Centre, Effort, generated};
 use crate::slopes::UNIT;
-use crate::tighten::{Found, Side, Spans, by_row, by_side, set, take_back};
+use crate::tighten::{Found, Spans, by_all, set, take_back};
 use block_class::Classes;
 use block_form::{Block, Blocked, Zone};
 use bp_theory::Span;
@@ -58,20 +58,24 @@ pub fn point_by_columns(
     ensures made_for { AreMadeFor b.now pools.new }
 {
     let mut zone = start.copy(alloc)?;
+    let mut classes = Classes::of(alloc, b, start)?;
     let mut used = plan.to_vec(alloc)?;
     let mut centre = Centre {
         mults: mults.to_vec(alloc)?,
         value: i128::MIN,
     };
     for _ in 0..b.blocks() {
-        let Some(spans) = fixed_spans(alloc, b, &zone, pools, used.as_slice(), known, style)? else {
+        let columns = used.as_slice();
+        let found = fixed_spans(alloc, b, &classes, &zone, pools, columns, known, style)?;
+        let Some(spans) = found else {
             return Ok(None);
         };
         zone = narrowed(b, zone, spans.as_slice());
         if is_one_point(zone.spans()) {
             return Ok(Some(lows(alloc, zone.spans())?));
         }
-        let Some(next) = planned(alloc, b, &zone, pools, &mut centre, known)? else {
+        classes = Classes::of(alloc, b, &zone)?;
+        let Some(next) = planned(alloc, b, &classes, &zone, pools, &mut centre, known)? else {
             return Ok(None);
         };
         used = next;
@@ -84,22 +88,23 @@ pub fn point_by_columns(
 fn planned(
     alloc: Global,
     b: &Blocked,
+    classes: &Classes,
     zone: &Zone,
     pools: &mut Pools,
     centre: &mut Centre,
     known: Option<i64>,
 ) -> Result<Option<Vec<Weighted>>, AllocError>
     requires made_for { AreMadeFor b.now pools.old }
+    requires classes { AreSameClasses zone.now b.now.blocking classes.now }
     requires zone { IsZone b.now.named.program.spans zone.now }
     ensures made_for { AreMadeFor b.now pools.new }
 {
-    let classes = Classes::of(alloc, b, zone)?;
     let effort = Effort {
         rounds: ROUNDS,
         width: None,
         known,
     };
-    match generated(alloc, b, &classes, zone, pools, centre, effort)? {
+    match generated(alloc, b, classes, zone, pools, centre, effort)? {
         Some(plan) if !plan.is_short && !is_reached(centre.value, known) => Ok(Some(plan.used)),
         _ => Ok(None),
     }
@@ -109,15 +114,13 @@ fn planned(
 fn fixed_spans(
     alloc: Global,
     b: &Blocked,
+    classes: &Classes,
     zone: &Zone,
     pools: &Pools,
     used: &[Weighted],
     known: Option<i64>,
     style: Style,
-) -> Result<Option<Vec<Span>>, AllocError>
-    requires { IsZone b.now.named.program.spans zone.now }
-{
-    let classes = Classes::of(alloc, b, zone)?;
+) -> Result<Option<Vec<Span>>, AllocError> {
     let choices = choices(alloc, pools, used, style)?;
     let mut spans = Spans {
         now: zone.spans().to_vec(alloc)?,
@@ -129,7 +132,7 @@ fn fixed_spans(
         for _ in 0..times(choice, many) {
             if !fixes(
                 b,
-                &classes,
+                classes,
                 pools,
                 &choice.column,
                 known,
@@ -269,33 +272,13 @@ fn holds(block: &Block, point: &[i64], spans: &mut Spans) -> Result<bool, AllocE
 // Tightens the spans by all rows, and so that points are cheaper than what is known; whether a point may be left.
 fn propagates(b: &Blocked, known: Option<i64>, spans: &mut Spans) -> Result<bool, AllocError> {
     for _ in 0..PASSES {
-        match passed(b, known, spans)? {
+        match by_all(b, known, spans)? {
             Found::Nothing => return Ok(false),
             Found::Same => return Ok(true),
             Found::Change => {}
         }
     }
     Ok(true)
-}
-
-// Tightens the spans by each row once.
-fn passed(b: &Blocked, known: Option<i64>, spans: &mut Spans) -> Result<Found, AllocError> {
-    let mut found = Found::Same;
-    if let Some(known) = known {
-        let most = i128::from(known).saturating_sub(i128::from(b.model().constant()));
-        let side = Side::AtMost(most.saturating_sub(1));
-        found = by_side(b.model().costs(), side, spans)?;
-    }
-    for row in b.model().all_rows() {
-        if found == Found::Nothing {
-            return Ok(found);
-        }
-        let more = by_row(row, spans)?;
-        if more != Found::Same {
-            found = more;
-        }
-    }
-    Ok(found)
 }
 
 // The lower ends of spans.

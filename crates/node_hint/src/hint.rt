@@ -5,31 +5,34 @@ ghost use Rattle.block_class.specs.Classes.{AreSameClasses};
 ghost use Rattle.node_hint.specs.Pools.{AreMadeFor};
 ghost use Rattle.search_laws.specs.declared.UsedColumn.{UsedColumn as AUsed};
 
-use crate::climb::{Climb, climbed};
+use crate::climb::{Climb, are_alike, climbed};
 use crate::dive::{Style, drawn, point_by_columns};
 use crate::guide::guide_of;
 use crate::known::{Incumbent, is_reached};
 use crate::pools::Pools;
 use crate::propagation::point_in;
-use crate::reach::{quotient, whole};
+use crate::reach::{product, quotient, whole};
 use crate::restricted::{Weighted, serves};
 use crate::rounds::{Centre, Effort, Plan, generated};
 use crate::slopes::UNIT;
 use block_class::Classes;
-use block_form::Blocked;
+use block_form::{Block, Blocked};
 use bp_theory::{Items, Span};
 use branch_tree::Turn;
 use disagg::most_mixed;
 use search_laws::UsedColumn;
 use std::alloc::{AllocError, Global};
 
-/// How many rounds of column generation are made at the root, and below it.
+/// How many rounds of column generation are made at the root where blocks are alike, so that dives there have prices left, and
+/// elsewhere.
 const ROOT_ROUNDS: u32 = 78;
 
 const ROUNDS: u32 = 118;
 
-/// How many further dives are made at the root.
-const REPEATS: u32 = 10;
+/// How many further dives are made at the root, and below it.
+const ROOT_REPEATS: u32 = 10;
+
+const REPEATS: u32 = 1;
 
 /// A variable, and the number that its span is split behind.
 #[derive(Clone, Copy)]
@@ -76,6 +79,11 @@ pub fn hinted(
         point: climb.found,
     };
     incumbent.take(b, probed);
+    let manner = Manner {
+        with_columns,
+        width: first_width(b, classes, climb.gain),
+        is_even,
+    };
     let found = by_columns(
         alloc,
         b,
@@ -84,7 +92,7 @@ pub fn hinted(
         turn,
         &mut centre,
         &mut incumbent,
-        is_even,
+        manner,
     )?;
     Ok(Hint {
         mults: centre.mults,
@@ -107,7 +115,16 @@ fn probed_point(
     point_in(alloc, b, turn, &guide, climb.known)
 }
 
-// Column generation from a centre, and dives from its columns, where it has a bound that doesn't reach what is known; the split
+// How columns are used: whether they are, how far multipliers may go from the best ones at first, and whether dives keep columns without
+// numbers for last.
+#[derive(Clone, Copy)]
+struct Manner {
+    with_columns: bool,
+    width: i64,
+    is_even: bool,
+}
+
+// Column generation from a centre, and points from its columns, where it has a bound that doesn't reach what is known; the split
 // that they want.
 fn by_columns(
     alloc: Global,
@@ -117,7 +134,7 @@ fn by_columns(
     turn: &Turn,
     centre: &mut Centre,
     incumbent: &mut Incumbent,
-    is_even: bool,
+    manner: Manner,
 ) -> Result<Option<Split>, AllocError>
     requires made_for { AreMadeFor b.now pools.old }
     requires classes { AreSameClasses turn.now.zone b.now.blocking classes.now }
@@ -125,12 +142,16 @@ fn by_columns(
     ensures made_for { AreMadeFor b.now pools.new }
 {
     let is_done = centre.value == i128::MIN || is_reached(centre.value, incumbent.known);
-    if is_done || !serves(b, classes) {
+    if is_done || !manner.with_columns {
         return Ok(None);
     }
     let effort = Effort {
-        rounds: if turn.depth == 0 { ROOT_ROUNDS } else { ROUNDS },
-        width: Some(first_width(b)),
+        rounds: if turn.depth == 0 && are_alike(b, classes) {
+            ROOT_ROUNDS
+        } else {
+            ROUNDS
+        },
+        width: Some(manner.width),
         known: incumbent.known,
     };
     let Some(plan) = generated(alloc, b, classes, &turn.zone, pools, centre, effort)? else {
@@ -139,20 +160,107 @@ fn by_columns(
     if is_reached(centre.value, incumbent.known) {
         return Ok(None);
     }
-    take_dives(alloc, b, pools, turn, centre, &plan, incumbent, is_even)?;
+    let point = point_by_mean(
+        alloc,
+        b,
+        classes,
+        pools,
+        turn,
+        centre,
+        &plan,
+        incumbent.known,
+    )?;
+    incumbent.take(b, point);
+    take_dives(
+        alloc,
+        b,
+        pools,
+        turn,
+        centre,
+        &plan,
+        incumbent,
+        manner.is_even,
+    )?;
     split_of_plan(alloc, b, classes, pools, &plan)
 }
 
-// Half of the greatest cost by which multipliers are kept near the best ones at first.
-fn first_width(b: &Blocked) -> i64 {
+// A point that is cheaper than what is known, where blocks differ and a search that the mean of a plan's columns guides finds one.
+fn point_by_mean(
+    alloc: Global,
+    b: &Blocked,
+    classes: &Classes,
+    pools: &Pools,
+    turn: &Turn,
+    centre: &Centre,
+    plan: &Plan,
+    known: Option<i64>,
+) -> Result<Option<Vec<i64>>, AllocError> {
+    if are_alike(b, classes) {
+        return Ok(None);
+    }
+    let mean = mean_of_plan(alloc, b, classes, pools, plan)?;
+    let guide = guide_of(alloc, b, centre.mults.as_slice(), mean.as_slice())?;
+    point_in(alloc, b, turn, &guide, known)
+}
+
+// The mean of a plan's columns in units, with the columns of a class dealt out evenly to its blocks.
+fn mean_of_plan(
+    alloc: Global,
+    b: &Blocked,
+    classes: &Classes,
+    pools: &Pools,
+    plan: &Plan,
+) -> Result<Vec<i128>, AllocError> {
+    let mut mean = Vec::from_elem(alloc, 0i128, b.model().vars() as usize)?;
+    for column in plan.used.as_slice() {
+        deal_out(b, classes, pools, column, mean.as_mut_slice());
+    }
+    Ok(mean)
+}
+
+// Adds a column to a mean, by its weight, in equal parts to the blocks of its class.
+fn deal_out(b: &Blocked, classes: &Classes, pools: &Pools, column: &Weighted, mean: &mut [i128]) {
+    let class = column.class;
+    if class >= classes.len() {
+        return;
+    }
+    let Some(found) = pools.column(column.place) else {
+        return;
+    };
+    let part = column.weight / i64::from(classes.size(class)).max(1);
+    for block in classes.members(class) {
+        if *block < b.blocks() {
+            deal(b.block(*block), found.point.as_slice(), part, mean);
+        }
+    }
+}
+
+// Adds a part of a block's point to a mean.
+fn deal(block: &Block, point: &[i64], part: i64, mean: &mut [i128]) {
+    for (var, number) in block.vars().iter().zip(point) {
+        let place = *var as usize;
+        if place < mean.len() {
+            mean[place] = mean[place].saturating_add(product(&part, number));
+        }
+    }
+}
+
+// How far multipliers may go from the best ones at first: a fourth of the gain that steps still aimed at, and where blocks are alike an
+// eighth of the greatest cost.
+fn first_width(b: &Blocked, classes: &Classes, gain: i128) -> i64 {
     let mut most: u64 = 1;
     for term in b.model().costs() {
         most = most.max(term.coef.unsigned_abs());
     }
-    whole(quotient(i128::from(most).saturating_mul(UNIT), 8))
+    let widest = quotient(i128::from(most).saturating_mul(UNIT), 8);
+    whole(if are_alike(b, classes) {
+        widest
+    } else {
+        quotient(gain, 4).max(1).min(widest)
+    })
 }
 
-// Dives from a plan: once, and at the root again with other weights while the bound doesn't reach what is known.
+// Dives from a plan: with its weights, and then with others while the bound doesn't reach what is known.
 fn take_dives(
     alloc: Global,
     b: &Blocked,
@@ -173,7 +281,11 @@ fn take_dives(
         is_loose: is_even,
         seed: None,
     };
-    let dives = if turn.depth == 0 { REPEATS } else { 0 };
+    let dives = if turn.depth == 0 {
+        ROOT_REPEATS
+    } else {
+        REPEATS
+    };
     for dive in 0..=dives {
         if pools.bench.is_spent() || is_reached(centre.value, incumbent.known) {
             break;

@@ -3,7 +3,7 @@
 use crate::guide::Guide;
 use crate::known::{feasible_cost, is_below};
 use crate::reach::{has_lower, has_upper, product, sum_at};
-use crate::tighten::{Found, Side, Spans, by_row, by_side, set, take_back};
+use crate::tighten::{Found, Spans, by_all, set, take_back};
 use block_form::Blocked;
 use bp_theory::{Row, Span};
 use branch_tree::Turn;
@@ -36,14 +36,15 @@ struct Split {
     other: Span,
 }
 
-// The spans, the choices that led to them, the cheapest cost that is known, the point of that cost if it was found here, and
-// how many terms were looked at.
+// The spans, the choices that led to them, the cheapest cost that is known, the point of that cost if it was found here, how many
+// terms all rows have, and how many were looked at.
 #[derive(Drop)]
 struct Search {
     spans: Spans,
     choices: Vec<Choice>,
     known: Option<i64>,
     found: Option<Vec<i64>>,
+    terms: u64,
     effort: u64,
 }
 
@@ -71,6 +72,7 @@ pub fn point_in(
         choices: Vec::new(alloc),
         known,
         found: None,
+        terms: terms_of(b),
         effort: 0,
     };
     for _ in 0..visits(turn, known) {
@@ -79,6 +81,15 @@ pub fn point_in(
         }
     }
     Ok(search.found)
+}
+
+// How many terms all rows have.
+fn terms_of(b: &Blocked) -> u64 {
+    let mut many: u64 = 0;
+    for row in b.model().all_rows() {
+        many = many.saturating_add(row.terms.len() as u64);
+    }
+    many
 }
 
 // Visits a node, and goes on to the next; whether there is one.
@@ -157,31 +168,8 @@ fn visit(b: &Blocked, guide: &Guide, search: &mut Search) -> Result<Node, AllocE
 
 // Tightens the spans by each row and by the known cost.
 fn tightened(b: &Blocked, search: &mut Search) -> Result<Found, AllocError> {
-    let mut found = by_cost(b, search)?;
-    if found == Found::Nothing {
-        return Ok(found);
-    }
-    for row in b.model().all_rows() {
-        search.effort = search.effort.saturating_add(row.terms.len() as u64);
-        match by_row(row, &mut search.spans)? {
-            Found::Nothing => return Ok(Found::Nothing),
-            Found::Change => found = Found::Change,
-            Found::Same => {}
-        }
-    }
-    Ok(found)
-}
-
-// Tightens the spans so that a point is cheaper than what is known.
-fn by_cost(b: &Blocked, search: &mut Search) -> Result<Found, AllocError> {
-    match search.known {
-        None => Ok(Found::Same),
-        Some(known) => {
-            let most = i128::from(known).saturating_sub(i128::from(b.model().constant()));
-            let side = Side::AtMost(most.saturating_sub(1));
-            by_side(b.model().costs(), side, &mut search.spans)
-        }
-    }
+    search.effort = search.effort.saturating_add(search.terms);
+    by_all(b, search.known, &mut search.spans)
 }
 
 // The split that is needed most urgently by a row that the cheap ends miss. Among rows that are alike it is the one of the

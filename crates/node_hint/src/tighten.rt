@@ -1,5 +1,6 @@
 // Spans tightened by rows: hints for the search of a point.
 use crate::reach::{Reach, has_lower, has_upper, reach_of, term_ends};
+use block_form::Blocked;
 use bp_theory::{Row, Span, Term};
 use std::alloc::AllocError;
 
@@ -10,9 +11,9 @@ pub struct Spans {
     pub before: Vec<(u32, Span)>,
 }
 
-/// The side that a sum of terms must keep: at most or at least a number.
+// The side that a sum of terms must keep: at most or at least a number.
 #[derive(Clone, Copy)]
-pub enum Side {
+enum Side {
     AtMost(i128),
     AtLeast(i128),
 }
@@ -28,8 +29,38 @@ pub enum Found {
     Same,
 }
 
-/// Tightens spans by a row.
-pub fn by_row(row: &Row, spans: &mut Spans) -> Result<Found, AllocError> {
+/// Tightens spans by each row once, and so that points are cheaper than what is known.
+pub fn by_all(b: &Blocked, known: Option<i64>, spans: &mut Spans) -> Result<Found, AllocError> {
+    let mut found = by_cost(b, known, spans)?;
+    for row in b.model().all_rows() {
+        if found == Found::Nothing {
+            return Ok(found);
+        }
+        let more = by_row(row, spans)?;
+        if more != Found::Same {
+            found = more;
+        }
+    }
+    Ok(found)
+}
+
+// Tightens spans so that points are cheaper than what is known.
+fn by_cost(b: &Blocked, known: Option<i64>, spans: &mut Spans) -> Result<Found, AllocError> {
+    match known {
+        None => Ok(Found::Same),
+        Some(known) => {
+            let most = i128::from(known).saturating_sub(i128::from(b.model().constant()));
+            by_side(
+                b.model().costs(),
+                Side::AtMost(most.saturating_sub(1)),
+                spans,
+            )
+        }
+    }
+}
+
+// Tightens spans by a row.
+fn by_row(row: &Row, spans: &mut Spans) -> Result<Found, AllocError> {
     let mut found = Found::Same;
     if has_upper(row) {
         found = by_side(
@@ -51,8 +82,8 @@ pub fn by_row(row: &Row, spans: &mut Spans) -> Result<Found, AllocError> {
     Ok(found)
 }
 
-/// Tightens spans by one side of a sum of terms.
-pub fn by_side(terms: &[Term], side: Side, spans: &mut Spans) -> Result<Found, AllocError> {
+// Tightens spans by one side of a sum of terms.
+fn by_side(terms: &[Term], side: Side, spans: &mut Spans) -> Result<Found, AllocError> {
     let reach = reach_of(terms, spans.now.as_slice());
     if misses(&reach, side) {
         return Ok(Found::Nothing);
