@@ -52,3 +52,27 @@ two_blocks_modest = record {
 -- the same of a master that has these columns, row and count
 pub two_blocks_modest_as : (m : Restricted) → m ≡ two_blocks → IsModest m
 two_blocks_modest_as m e = rw e two_blocks_modest
+
+abbrev pub one_column : Restricted
+one_column = record { cols = idle ∷ []; rows = row ∷ []; counts = 2 ∷ [] }
+
+activity_of_one : (i : ℕ) → i < 1
+    → reach (λ c. column_activity c i) one_column + max (unsigned_abs (master_row one_column.rows i).low) (unsigned_abs (master_row one_column.rows i).rhs) < 2 ^ 62
+activity_of_one i l =
+    let first : i ≡ 0 = omega (arith, l) in
+    rw first (let small : reach (λ c. column_activity c 0) one_column + max (unsigned_abs (master_row one_column.rows 0).low) (unsigned_abs (master_row one_column.rows 0).rhs) ≡ 3 = refl in
+    omega (arith, small))
+
+pub one_column_modest : IsModest one_column
+one_column_modest = record {
+  known = All-cons (IsKnownColumn 1 1) idle [] known_idle (All-nil (IsKnownColumn 1 1));
+  few = omega arith;
+  sizes = All-cons (λ (n : ℕ). (0 < n) × (n ≤ 8192)) 2 [] (omega arith, omega arith) (All-nil (λ (n : ℕ). (0 < n) × (n ≤ 8192)));
+  each = λ k l. (0, idle, omega arith, refl, omega (arith, l));
+  costs = (let small : reach (λ c. c.cost) one_column ≡ 0 = refl in omega (arith, small));
+  activities = activity_of_one;
+}
+
+-- the same of a master that has this column, row and count
+pub one_column_modest_as : (m : Restricted) → m ≡ one_column → IsModest m
+one_column_modest_as m e = rw e one_column_modest

@@ -45,14 +45,30 @@ fn at_most_3() -> MasterRow
     }
 }
 
-// A master of two blocks whose best multiplier is -5, with so many pivots before its second column.
+// A master of two blocks with a column that does nothing.
+fn begun(alloc: Global) -> Result<Master, Fail>
+    ensures { IfOk result (λ m. m ≡ record { cols = record { class = 0; cost = pos 0; acts = [] } ∷ []; rows = record { sense = Le; low = pos 3; rhs = pos 3 } ∷ []; counts = 2 ∷ [] }) }
+{
+    let mut master = Master::make(alloc, &[at_most_3()], &[2])?;
+    master.add(alloc, &idle(alloc)?)?;
+    Ok(master)
+}
+
+// The same master after a first solution with so many pivots.
+fn solved_once(alloc: Global, pivots: u32) -> Result<Master, Fail>
+    ensures { IfOk result (λ m. m ≡ record { cols = record { class = 0; cost = pos 0; acts = [] } ∷ []; rows = record { sense = Le; low = pos 3; rhs = pos 3 } ∷ []; counts = 2 ∷ [] }) }
+{
+    let mut master = begun(alloc)?;
+    let _ = master.solve(alloc, pivots)?;
+    Ok(master)
+}
+
+// A master of two blocks whose best multiplier is -5: its second column is added after a first solution.
 #[tactic(auto, using(crate::proofs::Shared::two_blocks_modest_as))]
 fn shared(alloc: Global, pivots: u32) -> Result<Master, Fail>
     ensures { IfOk result IsModest }
 {
-    let mut master = Master::make(alloc, &[at_most_3()], &[2])?;
-    master.add(alloc, &idle(alloc)?)?;
-    let _ = master.propose(alloc, pivots)?;
+    let mut master = solved_once(alloc, pivots)?;
     master.add(alloc, &busy(alloc)?)?;
     Ok(master)
 }
