@@ -1,0 +1,9 @@
+Minimize
+obj: x
+Subject To
+c: x >= 0
+Bounds
+x <= 65536
+Generals
+x
+End

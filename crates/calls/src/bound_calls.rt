@@ -1,0 +1,210 @@
+// Bounds of proofs in zones, by classes and block by block.
+ghost use Rattle.std.specs.Prelude.{◌≡◌, IfOk};
+ghost use Rattle.bp_theory.specs.Bound.{Fits};
+ghost use Rattle.bp_theory.specs.Trees.{IsZone};
+ghost use Rattle.lagr_bound.specs.Forms.{forms_in};
+ghost use Rattle.lagr_bound.specs.Works.{forms_of};
+
+use crate::told::Told;
+use crate::zones::narrowed;
+use block_class::Classes;
+use block_form::{Blocked, Zone, fits};
+use bp_theory::{Items, Picked, Proof};
+use lagr_bound::{Bounded, Work, bound, sum_bound};
+use pricing::Cap;
+use std::alloc::{AllocError, Global};
+
+// The row over both blocks.
+const ROW: u32 = 2;
+
+// Which blocks a proof picks.
+#[derive(Clone, Copy)]
+enum Pick {
+    Every,
+    Nothing,
+    Second,
+}
+
+/// Bounds of proofs with a multiplier of the row over both blocks, at the root and in two smaller zones.
+pub fn tell_all(alloc: Global, b: &Blocked, told: &mut Told) -> Result<(), AllocError> {
+    let root = Zone::root(alloc, b)?;
+    tell_points(alloc, b, &root, told)?;
+    tell_root(alloc, b, &root, told)?;
+    tell_narrowed(alloc, b, &root, told)
+}
+
+// Bounds at the root, by the multiplier and the picked blocks.
+fn tell_root(alloc: Global, b: &Blocked, root: &Zone, told: &mut Told) -> Result<(), AllocError>
+    requires { IsZone b.now.named.program.spans root.now }
+{
+    tell_case(alloc, b, root, -3, Pick::Every, "-3, all picked", told)?;
+    tell_case(alloc, b, root, -3, Pick::Nothing, "-3, none picked", told)?;
+    tell_case(alloc, b, root, -3, Pick::Second, "-3, block 1 picked", told)?;
+    tell_case(alloc, b, root, -5, Pick::Every, "-5, all picked", told)?;
+    tell_case(alloc, b, root, -5, Pick::Nothing, "-5, none picked", told)
+}
+
+// Bounds where the first block's first variable ends at 1, and where that of the second does too.
+fn tell_narrowed(alloc: Global, b: &Blocked, root: &Zone, told: &mut Told) -> Result<(), AllocError>
+    requires { IsZone b.now.named.program.spans root.now }
+{
+    let one = narrowed(alloc, b, root, 0, 1)?;
+    let name = "-3, all picked, a1 up to 1";
+    tell_case(alloc, b, &one, -3, Pick::Every, name, told)?;
+    let both = narrowed(alloc, b, &one, 2, 1)?;
+    let name = "-3, all picked, a1 and a2 up to 1";
+    tell_case(alloc, b, &both, -3, Pick::Every, name, told)
+}
+
+// The bounds of the proof of a multiplier and picked blocks in a zone.
+fn tell_case(
+    alloc: Global,
+    b: &Blocked,
+    zone: &Zone,
+    mult: i64,
+    pick: Pick,
+    name: &str,
+    told: &mut Told,
+) -> Result<(), AllocError>
+    requires { IsZone b.now.named.program.spans zone.now }
+{
+    let proof = proof_of(alloc, mult, pick)?;
+    if !fits(b, &proof) {
+        return told.line("bound: not tried, the proof doesn't fit");
+    }
+    let shared = shared_bound(alloc, b, zone, &proof)?;
+    let single = single_bound(alloc, b, zone, &proof)?;
+    tell_answers(name, shared, single, told)
+}
+
+// The proof of scale 1 with this multiplier of the row over both blocks.
+fn proof_of(alloc: Global, mult: i64, pick: Pick) -> Result<Proof, AllocError> {
+    let mut mults = Items::new(alloc);
+    mults.push((ROW, mult))?;
+    let picked = picked_of(alloc, pick)?;
+    Ok(Proof {
+        scale: 1,
+        mults,
+        picked,
+    })
+}
+
+// The picked blocks.
+fn picked_of(alloc: Global, pick: Pick) -> Result<Picked, AllocError> {
+    match pick {
+        Pick::Every => Ok(Picked::Every),
+        Pick::Nothing => Ok(Picked::These(Items::new(alloc))),
+        Pick::Second => second_alone(alloc),
+    }
+}
+
+// The block of number 1 alone.
+fn second_alone(alloc: Global) -> Result<Picked, AllocError> {
+    let mut numbers = Items::new(alloc);
+    numbers.push(1)?;
+    Ok(Picked::These(numbers))
+}
+
+// The bound of a proof in a zone by classes.
+fn shared_bound(
+    alloc: Global,
+    b: &Blocked,
+    zone: &Zone,
+    proof: &Proof,
+) -> Result<Bounded, AllocError>
+    requires zone { IsZone b.now.named.program.spans zone.now }
+    requires fits { Fits b.now.blocking proof.now }
+{
+    let classes = Classes::of(alloc, b, zone)?;
+    let mut work = Work::make(alloc, b)?;
+    Ok(bound(&mut work, b, &classes, zone, proof, Cap::Never))
+}
+
+// The bound of a proof in a zone block by block.
+fn single_bound(
+    alloc: Global,
+    b: &Blocked,
+    zone: &Zone,
+    proof: &Proof,
+) -> Result<Bounded, AllocError>
+    requires zone { IsZone b.now.named.program.spans zone.now }
+    requires fits { Fits b.now.blocking proof.now }
+{
+    let mut work = Work::make(alloc, b)?;
+    Ok(sum_bound(&mut work, b, zone, proof, Cap::Never))
+}
+
+// The answers of both ways.
+fn tell_answers(
+    name: &str,
+    shared: Bounded,
+    single: Bounded,
+    told: &mut Told,
+) -> Result<(), AllocError> {
+    told.text("bound with ")?;
+    told.text(name)?;
+    told.text(": ")?;
+    tell_answer(shared, told)?;
+    told.text(" by classes, ")?;
+    tell_answer(single, told)?;
+    told.line(" block by block")
+}
+
+// One answer.
+fn tell_answer(answer: Bounded, told: &mut Told) -> Result<(), AllocError> {
+    match answer {
+        Bounded::Whole(whole) => told.number(whole),
+        Bounded::Endless => told.text("endless"),
+        Bounded::Cut(block) => tell_cut(block, told),
+    }
+}
+
+// The block whose pricing was cut.
+fn tell_cut(block: u32, told: &mut Told) -> Result<(), AllocError> {
+    told.text("cut at block ")?;
+    told.number(i128::from(block))
+}
+
+// The points that a bound by classes tells.
+fn tell_points(alloc: Global, b: &Blocked, zone: &Zone, told: &mut Told) -> Result<(), AllocError>
+    requires { IsZone b.now.named.program.spans zone.now }
+{
+    let proof = proof_of(alloc, -3, Pick::Every)?;
+    if !fits(b, &proof) {
+        return told.line("points: not tried, the proof doesn't fit");
+    }
+    let work = worked(alloc, b, zone, &proof)?;
+    for block in 0..b.blocks() {
+        tell_point(b, &work, block, told)?;
+    }
+    Ok(())
+}
+
+// What a bound by classes was found with.
+fn worked(alloc: Global, b: &Blocked, zone: &Zone, proof: &Proof) -> Result<Work, AllocError>
+    requires zone { IsZone b.now.named.program.spans zone.now }
+    requires fits { Fits b.now.blocking proof.now }
+    ensures { IfOk result (λ work. forms_of work ≡ forms_in b.now) }
+{
+    let classes = Classes::of(alloc, b, zone)?;
+    let mut work = Work::make(alloc, b)?;
+    let _ = bound(&mut work, b, &classes, zone, proof, Cap::Never);
+    Ok(work)
+}
+
+// The point of a block that the last bound told.
+fn tell_point(b: &Blocked, work: &Work, block: u32, told: &mut Told) -> Result<(), AllocError>
+    requires { forms_of work.now ≡ forms_in b.now }
+{
+    if block >= b.blocks() {
+        return told.line("point: not tried, the block isn't there");
+    }
+    told.text("point of block ")?;
+    told.number(i128::from(block))?;
+    told.text(" that a bound by classes tells:")?;
+    match work.point(block) {
+        None => told.text(" none")?,
+        Some(point) => told.point(point)?,
+    }
+    told.end()
+}

@@ -1,0 +1,154 @@
+// The leaf that a tree begins with, and the leaves that come next once leaves are forked.
+ghost use Rattle.std.specs.Prelude.{◌≡◌, IfOk, IfSome};
+ghost use Rattle.branch_tree.specs.Groves.{IsGroveOf, IsLiveTurn};
+ghost use Rattle.branch_tree.specs.Turns.{IsTurn};
+
+use crate::told::Told;
+use crate::zones::is_sound;
+use block_form::{Blocked, Zone};
+use bp_theory::{Items, Picked, Proof};
+use branch_tree::{Grove, MAX_DEPTH, Turn};
+use std::alloc::{AllocError, Global};
+
+// The variable whose span is split.
+const VAR: u32 = 0;
+
+// A tree of so many splits and shut leaves is not forked.
+const MOST_STEPS: u64 = 1 << 60;
+
+/// The bound of the leaf that a program's tree begins with, the leaves that come next once it is forked at 99 and the
+/// next one at 49, and the counts of the tree then.
+pub fn tell_all(alloc: Global, b: &Blocked, told: &mut Told) -> Result<(), AllocError> {
+    let mut grove = Grove::plant(alloc, b)?;
+    tell_first(alloc, &grove, told)?;
+    fork_next(alloc, b, &mut grove, 99, told)?;
+    tell_next(alloc, &grove, "after a fork at 99", told)?;
+    fork_next(alloc, b, &mut grove, 49, told)?;
+    tell_next(alloc, &grove, "after a fork of that leaf at 49", told)?;
+    tell_counts(grove.live(), grove.count(), told)
+}
+
+// The bound of the leaf that is next.
+fn tell_first(alloc: Global, grove: &Grove, told: &mut Told) -> Result<(), AllocError> {
+    let Some(turn) = grove.take(alloc)? else {
+        return told.line("first leaf: not tried, no leaf is live");
+    };
+    told.text("first leaf of tall.lp: the bound ")?;
+    told.number(i128::from(turn.bound))?;
+    told.end()
+}
+
+// The leaf that is next: its bound and the span of the variable that is split.
+fn tell_next(alloc: Global, grove: &Grove, when: &str, told: &mut Told) -> Result<(), AllocError> {
+    let Some(turn) = grove.take(alloc)? else {
+        return told.line("next leaf: not tried, no leaf is live");
+    };
+    told.text("next leaf of tall.lp ")?;
+    told.text(when)?;
+    tell_leaf(turn.bound, &turn.zone, told)
+}
+
+// A leaf's bound and the span of the variable that is split.
+fn tell_leaf(bound: i64, zone: &Zone, told: &mut Told) -> Result<(), AllocError> {
+    told.text(": the bound ")?;
+    told.number(i128::from(bound))?;
+    if (VAR as usize) < zone.spans().len() {
+        let span = zone.span(VAR);
+        tell_span(span.lo, span.hi, told)?;
+    }
+    told.end()
+}
+
+// The numbers of a span, by its ends.
+fn tell_span(low: i64, high: i64, told: &mut Told) -> Result<(), AllocError> {
+    told.text(" over the numbers ")?;
+    told.number(i128::from(low))?;
+    told.text(" to ")?;
+    told.number(i128::from(high))
+}
+
+// How many leaves are live, and how many splits and shut leaves there are together.
+fn tell_counts(live: u64, count: u64, told: &mut Told) -> Result<(), AllocError> {
+    told.text("tree of tall.lp then: ")?;
+    told.number(i128::from(live))?;
+    told.text(" live leaves, ")?;
+    told.number(i128::from(count))?;
+    told.line(" splits and shut leaves")
+}
+
+// Forks the leaf that is next behind a number, with the leaf's own proof and bound.
+fn fork_next(
+    alloc: Global,
+    b: &Blocked,
+    grove: &mut Grove,
+    at: i64,
+    told: &mut Told,
+) -> Result<(), AllocError>
+    requires { IsGroveOf b.now grove.old }
+    ensures { IsGroveOf b.now grove.new }
+{
+    match next_turn(alloc, b, grove)? {
+        None => told.line("fork: not tried, no leaf is live"),
+        Some(turn) => fork_leaf(alloc, b, grove, &turn, at, told),
+    }
+}
+
+// The leaf that is next, of a grove of a program.
+fn next_turn(alloc: Global, b: &Blocked, grove: &Grove) -> Result<Option<Turn>, AllocError>
+    requires { IsGroveOf b.now grove.now }
+    ensures live { IfOk result (λ next. IfSome next (IsLiveTurn grove.now)) }
+    ensures turn { IfOk result (λ next. IfSome next (IsTurn b.now)) }
+{
+    let _ = b;
+    grove.take(alloc)
+}
+
+// Forks a live leaf behind a number, where its zone, its depth and the count of the tree's steps allow it.
+fn fork_leaf(
+    alloc: Global,
+    b: &Blocked,
+    grove: &mut Grove,
+    turn: &Turn,
+    at: i64,
+    told: &mut Told,
+) -> Result<(), AllocError>
+    requires kept { IsGroveOf b.now grove.old }
+    requires live { IsLiveTurn grove.old turn.now }
+    requires turn { IsTurn b.now turn.now }
+    ensures { IsGroveOf b.now grove.new }
+{
+    if !is_sound(&turn.zone, VAR, at) {
+        return told.line("fork: not tried, a part has no number");
+    }
+    if turn.depth >= MAX_DEPTH || grove.count() >= MOST_STEPS {
+        return told.line("fork: not tried, the tree is too deep or has too many steps");
+    }
+    let proof = proof_copy(alloc, &turn.proof)?;
+    grove.fork(alloc, b, turn, VAR, at, proof, turn.bound)
+}
+
+// A proof once more.
+fn proof_copy(alloc: Global, proof: &Proof) -> Result<Proof, AllocError>
+    ensures { IfOk result (λ copy. copy ≡ proof.now) }
+{
+    let mults = proof.mults.as_slice().to_vec(alloc)?;
+    let picked = picked_copy(alloc, &proof.picked)?;
+    Ok(Proof {
+        scale: proof.scale,
+        mults: Items::from_vec(mults),
+        picked,
+    })
+}
+
+// Picked blocks once more.
+fn picked_copy(alloc: Global, picked: &Picked) -> Result<Picked, AllocError>
+    ensures { IfOk result (λ copy. copy ≡ picked.now) }
+{
+    match picked {
+        Picked::Every => Ok(Picked::Every),
+        Picked::These(blocks) => {
+            let copy = blocks.as_slice().to_vec(alloc)?;
+            Ok(Picked::These(Items::from_vec(copy)))
+        }
+    }
+}

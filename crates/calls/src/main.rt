@@ -1,0 +1,84 @@
+//! Calls of the libraries over worked texts, and what they answer: classes of blocks, bounds of proofs, a pool that fills
+//! up, a spread of weights, and the leaves of a tree that come next. The texts lie in `data/`, and the crate's `stdout`
+//! has what each call must answer, found by hand.
+#![tactic(auto)]
+
+mod bound_calls;
+mod class_calls;
+mod leaf_calls;
+mod pool_calls;
+mod reading;
+mod spread_calls;
+mod told;
+mod zones;
+
+use block_form::Blocked;
+use reading::blocks_of;
+use std::alloc::{AllocError, Global};
+use std::io::Write;
+use std::rt::Files;
+use std::{fs, io};
+use told::Told;
+
+fn main(rt: HostRuntime) -> io::Result<()> {
+    let mut told = Told::new(rt.alloc());
+    tell_two(&rt, &mut told)?;
+    tell_line(&rt, &mut told)?;
+    tell_tall(&rt, &mut told)?;
+    io::writer(&rt).write_all(told.bytes())?;
+    Ok(())
+}
+
+// Two blocks that are the same, with a row over both.
+fn tell_two(rt: &(impl Files + AllocGlobal), told: &mut Told) -> io::Result<()> {
+    let alloc = rt.alloc();
+    match blocks_in(rt, "two.lp", "two.dec")? {
+        None => told.line("two.lp: not tried, a text is refused")?,
+        Some(b) => tell_blocks(alloc, &b, told)?,
+    }
+    Ok(())
+}
+
+// The classes, the bounds and a spread of two blocks with a row over both.
+fn tell_blocks(alloc: Global, b: &Blocked, told: &mut Told) -> Result<(), AllocError> {
+    class_calls::tell_all(alloc, b, told)?;
+    bound_calls::tell_all(alloc, b, told)?;
+    spread_calls::tell_all(alloc, b, told)
+}
+
+// A block of one variable with one number more than a pool has room for.
+fn tell_line(rt: &(impl Files + AllocGlobal), told: &mut Told) -> io::Result<()> {
+    let alloc = rt.alloc();
+    match blocks_in(rt, "line.lp", "line.dec")? {
+        None => told.line("line.lp: not tried, a text is refused")?,
+        Some(b) => pool_calls::tell_all(alloc, &b, told)?,
+    }
+    Ok(())
+}
+
+// A span of one variable that is split twice.
+fn tell_tall(rt: &(impl Files + AllocGlobal), told: &mut Told) -> io::Result<()> {
+    let alloc = rt.alloc();
+    match plain_blocks_in(rt, "tall.lp")? {
+        None => told.line("tall.lp: not tried, a text is refused")?,
+        Some(b) => leaf_calls::tell_all(alloc, &b, told)?,
+    }
+    Ok(())
+}
+
+// The program in blocks of a model's file and of its decomposition's.
+fn blocks_in(
+    rt: &(impl Files + AllocGlobal),
+    name: &str,
+    dec: &str,
+) -> io::Result<Option<Blocked>> {
+    let text = fs::read_to_string(rt, name)?;
+    let dec = fs::read_to_string(rt, dec)?;
+    Ok(blocks_of(rt.alloc(), text.as_str(), Some(dec.as_str())))
+}
+
+// The program in blocks of a model's file alone: every row is a master row.
+fn plain_blocks_in(rt: &(impl Files + AllocGlobal), name: &str) -> io::Result<Option<Blocked>> {
+    let text = fs::read_to_string(rt, name)?;
+    Ok(blocks_of(rt.alloc(), text.as_str(), None))
+}
