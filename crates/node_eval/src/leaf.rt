@@ -5,15 +5,15 @@ ghost use Rattle.branch_tree.specs.Turns.{IsTurn};
 ghost use Rattle.node_hint.specs.Pools.{AreMadeFor};
 ghost use Rattle.search_laws.specs.GroveFacts.{best_cost};
 ghost use Rattle.search_laws.specs.Verdicts.{IsVerdict, IsNext, IsThorough, cheaper_cost};
-ghost use Rattle.node_eval.specs.Shown.{IsShown, IsBetter, IsOpen};
+ghost use Rattle.node_eval.specs.Shown.{IsShown, IsBetter, IsOpen, ShutsOff};
 ghost use Rattle.node_eval.specs.Openings.{IsStrong};
 
 use crate::fork::{first_open, open_or, place};
 use crate::point::{if_better, one_point};
-use crate::shown::{Opening, Shown, emptied, opened, strongest};
+use crate::shown::{Opening, Shown, emptied, emptied_by, opened, strongest};
 use block_class::Classes;
 use block_form::Blocked;
-use bp_theory::Items;
+use bp_theory::{Items, Proof};
 use branch_tree::{Next, Turn, Verdict};
 use node_hint::{Hint, Pools, hinted};
 use std::alloc::{AllocError, Global};
@@ -106,6 +106,13 @@ fn searched(
     } = hinted(alloc, b, classes, pools, turn, best, is_even)?;
     let point = better_point(b, found, best);
     let mults = mults.as_slice();
+    let known = cheaper(b, &point, best);
+    if let Some(proof) = left_empty(alloc, b, classes, pools, turn, known, mults)? {
+        return Ok(Verdict {
+            point,
+            next: Next::Shut(proof),
+        });
+    }
     let shown = strongest(
         alloc,
         b,
@@ -115,10 +122,31 @@ fn searched(
         shown,
         mults,
     )?;
-    let known = cheaper(b, &point, best);
     let var = open_or(&turn.zone, split.var, var);
     let next = settled(b, turn, shown, known, var, split.at);
     Ok(Verdict { point, next })
+}
+
+// A proof that a leaf's zone has no point, where no point is known and multipliers show it.
+fn left_empty(
+    alloc: Global,
+    b: &Blocked,
+    classes: &Classes,
+    pools: &mut Pools,
+    turn: &Turn,
+    known: Option<i64>,
+    mults: &[i64],
+) -> Result<Option<Proof>, AllocError>
+    requires turn { IsTurn b.now turn.now }
+    requires made_for { AreMadeFor b.now pools.old }
+    requires classes { AreSameClasses turn.now.zone b.now.blocking classes.now }
+    ensures off { IfOk result (λ found. IfSome found (ShutsOff b.now.blocking turn.now.zone)) }
+    ensures made_for { AreMadeFor b.now pools.new }
+{
+    if known.is_some() {
+        return Ok(None);
+    }
+    emptied_by(alloc, b, classes, &mut pools.bench, &turn.zone, mults)
 }
 
 // A point, where one was found, if it is feasible and cheaper than a given cost.

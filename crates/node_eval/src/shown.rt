@@ -173,6 +173,58 @@ pub fn emptied(alloc: Global, b: &Blocked, zone: &Zone) -> Result<Option<Proof>,
     Ok(Some(proof))
 }
 
+/// A sound proof of multipliers by row at scale 0 that a zone has no point, where they show it.
+pub fn emptied_by(
+    alloc: Global,
+    b: &Blocked,
+    classes: &Classes,
+    bench: &mut Bench,
+    zone: &Zone,
+    mults: &[i64],
+) -> Result<Option<Proof>, AllocError>
+    requires made_for { forms_of bench.old.work ≡ forms_in b.now }
+    requires classes { AreSameClasses zone.now b.now.blocking classes.now }
+    requires zone { IsZone b.now.named.program.spans zone.now }
+    ensures off { IfOk result (λ found. IfSome found (ShutsOff b.now.blocking zone.now)) }
+    ensures made_for { forms_of bench.new.work ≡ forms_of bench.old.work }
+{
+    let short = bench.proof_at(alloc, mults, SHORT_SCALE)?;
+    let full = bench.proof_at(alloc, mults, MAX_SCALE)?;
+    match if_off(b, classes, &mut bench.work, zone, short) {
+        Some(proof) => Ok(Some(proof)),
+        None => Ok(if_off(b, classes, &mut bench.work, zone, full)),
+    }
+}
+
+// A proof taken at scale 0, where it is sound and shows that a zone has no point.
+fn if_off(
+    b: &Blocked,
+    classes: &Classes,
+    work: &mut Work,
+    zone: &Zone,
+    scaled: Proof,
+) -> Option<Proof>
+    requires made_for { forms_of work.old ≡ forms_in b.now }
+    requires classes { AreSameClasses zone.now b.now.blocking classes.now }
+    requires zone { IsZone b.now.named.program.spans zone.now }
+    ensures off { IfSome result (ShutsOff b.now.blocking zone.now) }
+    ensures made_for { forms_of work.new ≡ forms_of work.old }
+{
+    let proof = Proof {
+        scale: 0,
+        mults: scaled.mults,
+        picked: scaled.picked,
+    };
+    if !is_sound(b, &proof) {
+        return None;
+    }
+    match bound(work, b, classes, zone, &proof, Cap::At(MOST_VISITS)) {
+        Bounded::Whole(whole) if whole > 0 => Some(proof),
+        Bounded::Endless => Some(proof),
+        _ => None,
+    }
+}
+
 // Whether a proof fits, with fitting signs.
 pub fn is_sound(b: &Blocked, proof: &Proof) -> bool
     ensures { IsTrue result ↔ IsSoundProof b.now.blocking proof.now }

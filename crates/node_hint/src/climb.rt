@@ -179,11 +179,7 @@ fn begun(
 ) -> Result<Climb, AllocError> {
     let rows = b.model().rows() as usize;
     let vars = b.model().vars() as usize;
-    let mut mults = Vec::from_elem(alloc, 0i64, rows)?;
-    for mult in turn.proof.mults.as_slice() {
-        let full = at_full_scale(&mult.1, turn.proof.scale);
-        put(mults.as_mut_slice(), mult.0 as usize, full);
-    }
+    let mults = leaf_mults(alloc, b, turn)?;
     let mut point = Vec::from_elem(alloc, 0i64, vars)?;
     write_lows(point.as_mut_slice(), turn.zone.spans());
     Ok(Climb {
@@ -203,6 +199,16 @@ fn begun(
         gain: 0,
         failures: 0,
     })
+}
+
+/// The leaf's multipliers by row at the greatest scale.
+pub fn leaf_mults(alloc: Global, b: &Blocked, turn: &Turn) -> Result<Vec<i64>, AllocError> {
+    let mut mults = Vec::from_elem(alloc, 0i64, b.model().rows() as usize)?;
+    for mult in turn.proof.mults.as_slice() {
+        let full = at_full_scale(&mult.1, turn.proof.scale);
+        put(mults.as_mut_slice(), mult.0 as usize, full);
+    }
+    Ok(mults)
 }
 
 // Writes the lower ends of spans.

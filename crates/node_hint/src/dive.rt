@@ -11,7 +11,7 @@ use crate::pools::Pools;
 use crate::restricted::Weighted;
 use crate::rounds::{Centre, Effort, generated};
 use crate::slopes::UNIT;
-use crate::tighten::{Found, Spans, by_all, set, take_back};
+use crate::tighten::{Spans, forget, set, take_back, tightened};
 use block_class::Classes;
 use block_form::{Block, Blocked, Zone};
 use bp_theory::Span;
@@ -19,9 +19,6 @@ use std::alloc::{AllocError, Global};
 
 /// How many rounds are made after each fixing.
 const ROUNDS: u32 = 5;
-
-/// How often each row is looked at after a column was fixed.
-const PASSES: u32 = 20;
 
 /// The weight of one block, and what may be missing of it.
 const ONE: i64 = 1 << 20;
@@ -122,10 +119,10 @@ fn fixed_spans(
     style: Style,
 ) -> Result<Option<Vec<Span>>, AllocError> {
     let choices = choices(alloc, pools, used, style)?;
-    let mut spans = Spans {
-        now: zone.spans().to_vec(alloc)?,
-        before: Vec::new(alloc),
-    };
+    let mut spans = Spans::make(alloc, b, zone.spans())?;
+    if !tightened(b, known, &mut spans)? {
+        return Ok(None);
+    }
     let mut taken = Vec::from_elem(alloc, 0usize, classes.len() as usize)?;
     let mut many: u32 = 0;
     for choice in choices.as_slice() {
@@ -239,9 +236,10 @@ fn fixes(
     let changes = spans.before.len();
     if *block >= b.blocks()
         || !holds(b.block(*block), found.point.as_slice(), spans)?
-        || !propagates(b, known, spans)?
+        || !tightened(b, known, spans)?
     {
         take_back(spans, changes);
+        forget(spans);
         return Ok(false);
     }
     taken[class as usize] = rank.saturating_add(1);
@@ -265,18 +263,6 @@ fn holds(block: &Block, point: &[i64], spans: &mut Spans) -> Result<bool, AllocE
             hi: number,
         };
         set(spans, vars[place], one)?;
-    }
-    Ok(true)
-}
-
-// Tightens the spans by all rows, and so that points are cheaper than what is known; whether a point may be left.
-fn propagates(b: &Blocked, known: Option<i64>, spans: &mut Spans) -> Result<bool, AllocError> {
-    for _ in 0..PASSES {
-        match by_all(b, known, spans)? {
-            Found::Nothing => return Ok(false),
-            Found::Same => return Ok(true),
-            Found::Change => {}
-        }
     }
     Ok(true)
 }

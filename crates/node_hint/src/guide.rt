@@ -17,6 +17,15 @@ pub struct Guide {
     pub costs: Vec<i64>,
     pub wants: Vec<i128>,
     pub prices: Vec<i128>,
+    pub order: Order,
+}
+
+/// Which row that is missed comes first: that whose best variable is wanted most before its next one, or that with the fewest open
+/// spans.
+#[derive(Clone, Copy, Debug, PartialEq, Eq)]
+pub enum Order {
+    Urgent,
+    Scarce,
 }
 
 /// More of a variable is wanted for a great mean and a small reduced cost at multipliers by row.
@@ -35,7 +44,28 @@ pub fn guide_of(
         costs,
         wants,
         prices,
+        order: Order::Urgent,
     })
+}
+
+/// More of a variable is wanted for a small reduced cost at multipliers by row, and rows with few open spans come first.
+pub fn plain_guide(alloc: Global, b: &Blocked, mults: &[i64]) -> Result<Guide, AllocError> {
+    let costs = dense_costs(alloc, b)?;
+    let mut wants = reduced_costs(alloc, b, mults, costs.as_slice())?;
+    turn(wants.as_mut_slice());
+    Ok(Guide {
+        costs,
+        wants,
+        prices: Vec::from_elem(alloc, 0i128, mults.len())?,
+        order: Order::Scarce,
+    })
+}
+
+// Writes the negatives of numbers.
+fn turn(numbers: &mut [i128]) {
+    for number in numbers.iter_mut() {
+        *number = number.saturating_neg();
+    }
 }
 
 // Writes how much multipliers count.

@@ -5,13 +5,13 @@ ghost use Rattle.block_class.specs.Classes.{AreSameClasses};
 ghost use Rattle.node_hint.specs.Pools.{AreMadeFor};
 ghost use Rattle.search_laws.specs.declared.UsedColumn.{UsedColumn as AUsed};
 
-use crate::climb::{Climb, are_alike, climbed};
+use crate::climb::{are_alike, climbed, leaf_mults};
 use crate::dive::{Style, drawn, point_by_columns};
-use crate::guide::guide_of;
+use crate::guide::{guide_of, plain_guide};
 use crate::known::{Incumbent, is_reached};
 use crate::pools::Pools;
 use crate::propagation::point_in;
-use crate::reach::{product, quotient, whole};
+use crate::reach::{product, quotient, reach_of, whole};
 use crate::restricted::{Weighted, serves};
 use crate::rounds::{Centre, Effort, Plan, generated};
 use crate::slopes::UNIT;
@@ -23,11 +23,8 @@ use disagg::most_mixed;
 use search_laws::UsedColumn;
 use std::alloc::{AllocError, Global};
 
-/// How many rounds of column generation are made at the root where blocks are alike, so that dives there have prices left, and
-/// elsewhere.
-const ROOT_ROUNDS: u32 = 78;
-
-const ROUNDS: u32 = 118;
+/// How many rounds of column generation are made.
+const ROUNDS: u32 = 138;
 
 /// How many further dives are made at the root, and below it.
 const ROOT_REPEATS: u32 = 10;
@@ -67,18 +64,18 @@ pub fn hinted(
     ensures made_for { AreMadeFor b.now pools.new }
 {
     let with_columns = serves(b, classes);
-    let climb = climbed(alloc, b, classes, pools, turn, best, with_columns)?;
-    let probed = probed_point(alloc, b, turn, &climb)?;
-    let split = split_of_mean(climb.mean.as_slice(), turn.zone.spans());
+    let mut incumbent = first_incumbent(alloc, b, turn, best)?;
+    let limit = limit_of(b, turn, incumbent.known);
+    let climb = climbed(alloc, b, classes, pools, turn, limit, with_columns)?;
+    incumbent.take(alloc, b, climb.found)?;
     let mut centre = Centre {
         mults: climb.best,
         value: climb.value,
     };
-    let mut incumbent = Incumbent {
-        known: climb.known,
-        point: climb.found,
-    };
-    incumbent.take(b, probed);
+    let mean = climb.mean.as_slice();
+    let probed = probed_point(alloc, b, turn, &centre, mean, incumbent.known)?;
+    incumbent.take(alloc, b, probed)?;
+    let split = split_of_mean(mean, turn.zone.spans());
     let manner = Manner {
         with_columns,
         width: first_width(b, classes, climb.gain),
@@ -101,18 +98,52 @@ pub fn hinted(
     })
 }
 
-// A point that is cheaper than what is known, where the bound doesn't reach that and a search finds one.
+// What is known before multipliers are searched for. At the root, and where no point is known, a search by plain costs is made.
+fn first_incumbent(
+    alloc: Global,
+    b: &Blocked,
+    turn: &Turn,
+    best: Option<i64>,
+) -> Result<Incumbent, AllocError> {
+    let mut incumbent = Incumbent {
+        known: best,
+        point: None,
+    };
+    if turn.depth == 0 || best.is_none() {
+        let mults = leaf_mults(alloc, b, turn)?;
+        let guide = plain_guide(alloc, b, mults.as_slice())?;
+        let point = point_in(alloc, b, turn, &guide, best)?;
+        incumbent.take(alloc, b, point)?;
+    }
+    Ok(incumbent)
+}
+
+// The known cost, or else one above that of each point of the leaf's spans: a bound that reaches it shows that there is none.
+fn limit_of(b: &Blocked, turn: &Turn, known: Option<i64>) -> Option<i64> {
+    match known {
+        Some(cost) => Some(cost),
+        None => {
+            let dearest = reach_of(b.model().costs(), turn.zone.spans()).most;
+            let constant = i128::from(b.model().constant());
+            Some(whole(dearest.saturating_add(constant).saturating_add(1)))
+        }
+    }
+}
+
+// A point that is cheaper than what is known, where the bound reaches no limit and a search finds one.
 fn probed_point(
     alloc: Global,
     b: &Blocked,
     turn: &Turn,
-    climb: &Climb,
+    centre: &Centre,
+    mean: &[i128],
+    known: Option<i64>,
 ) -> Result<Option<Vec<i64>>, AllocError> {
-    if is_reached(climb.value, climb.known) {
+    if is_reached(centre.value, limit_of(b, turn, known)) {
         return Ok(None);
     }
-    let guide = guide_of(alloc, b, climb.best.as_slice(), climb.mean.as_slice())?;
-    point_in(alloc, b, turn, &guide, climb.known)
+    let guide = guide_of(alloc, b, centre.mults.as_slice(), mean)?;
+    point_in(alloc, b, turn, &guide, known)
 }
 
 // How columns are used: whether they are, how far multipliers may go from the best ones at first, and whether dives keep columns without
@@ -141,23 +172,20 @@ fn by_columns(
     requires zone { IsZone b.now.named.program.spans turn.now.zone }
     ensures made_for { AreMadeFor b.now pools.new }
 {
-    let is_done = centre.value == i128::MIN || is_reached(centre.value, incumbent.known);
+    let limit = limit_of(b, turn, incumbent.known);
+    let is_done = centre.value == i128::MIN || is_reached(centre.value, limit);
     if is_done || !manner.with_columns {
         return Ok(None);
     }
     let effort = Effort {
-        rounds: if turn.depth == 0 && are_alike(b, classes) {
-            ROOT_ROUNDS
-        } else {
-            ROUNDS
-        },
+        rounds: ROUNDS,
         width: Some(manner.width),
-        known: incumbent.known,
+        known: limit,
     };
     let Some(plan) = generated(alloc, b, classes, &turn.zone, pools, centre, effort)? else {
         return Ok(None);
     };
-    if is_reached(centre.value, incumbent.known) {
+    if is_reached(centre.value, limit) {
         return Ok(None);
     }
     let point = point_by_mean(
@@ -170,7 +198,7 @@ fn by_columns(
         &plan,
         incumbent.known,
     )?;
-    incumbent.take(b, point);
+    incumbent.take(alloc, b, point)?;
     take_dives(
         alloc,
         b,
@@ -293,7 +321,7 @@ fn take_dives(
         let known = incumbent.known;
         style.is_loose = known.is_none() || style.is_loose;
         let point = point_by_columns(alloc, b, &turn.zone, pools, used, mults, known, style)?;
-        incumbent.take(b, point);
+        incumbent.take(alloc, b, point)?;
         style.is_loose = dive % 2 == 1;
         style.seed = Some(drawn(u64::from(dive)));
     }

@@ -1,6 +1,8 @@
 // Costs of points that may be feasible.
+use crate::exchange::exchanged;
 use crate::slopes::UNIT;
 use block_form::Blocked;
+use std::alloc::{AllocError, Global};
 
 /// The cost of a point, if it is feasible.
 pub fn feasible_cost(b: &Blocked, point: &[i64]) -> Option<i64> {
@@ -34,15 +36,30 @@ pub struct Incumbent {
 }
 
 impl Incumbent {
-    /// Takes a point, if it is feasible and cheaper than what is known.
-    pub fn take(&mut self, b: &Blocked, point: Option<Vec<i64>>) {
+    /// Takes a point, if it is feasible and cheaper than what is known, or a cheaper one near it.
+    pub fn take(
+        &mut self,
+        alloc: Global,
+        b: &Blocked,
+        point: Option<Vec<i64>>,
+    ) -> Result<(), AllocError> {
         if let Some(point) = point {
-            if let Some(cost) = feasible_cost(b, point.as_slice()) {
-                if is_below(cost, self.known) {
+            if self.better_cost(b, point.as_slice()).is_some() {
+                let near = exchanged(alloc, b, point)?;
+                if let Some(cost) = self.better_cost(b, near.as_slice()) {
                     self.known = Some(cost);
-                    self.point = Some(point);
+                    self.point = Some(near);
                 }
             }
+        }
+        Ok(())
+    }
+
+    // The cost of a point that is feasible and cheaper than what is known.
+    fn better_cost(&self, b: &Blocked, point: &[i64]) -> Option<i64> {
+        match feasible_cost(b, point) {
+            Some(cost) if is_below(cost, self.known) => Some(cost),
+            _ => None,
         }
     }
 }

@@ -1,11 +1,13 @@
 //! What is searched for freely in a leaf's zone: multipliers with a great bound, by the volume method and column generation,
-//! cheap points, by dives and tightening, and a variable to split. Nothing is promised of how good these are: exact bounds and
+//! cheap points, by dives, tightening and exchanges, and a variable to split. Nothing is promised of how good these are: exact bounds and
 //! the model judge them. What pools keep from leaf to leaf is promised: columns are points of their blocks.
 #![tactic(auto)]
 
 mod bench;
 mod climb;
 mod dive;
+mod entries;
+mod exchange;
 mod guide;
 mod hint;
 mod known;

@@ -1,9 +1,9 @@
 // A search for a feasible point by tightening spans and narrowing them further where a guide points to, depth first: the
 // point is a hint, which the model judges.
-use crate::guide::Guide;
+use crate::guide::{Guide, Order};
 use crate::known::{feasible_cost, is_below};
 use crate::reach::{has_lower, has_upper, product, sum_at};
-use crate::tighten::{Found, Spans, by_all, set, take_back};
+use crate::tighten::{Spans, set, take_back, tightened};
 use block_form::Blocked;
 use bp_theory::{Row, Span};
 use branch_tree::Turn;
@@ -13,9 +13,6 @@ use std::alloc::{AllocError, Global};
 const FIRST_VISITS: u32 = 500;
 
 const VISITS: u32 = 200;
-
-/// How often each row is looked at in a node.
-const PASSES: u32 = 8;
 
 /// How many terms are looked at in all.
 const EFFORT: u64 = 20_000_000;
@@ -65,10 +62,7 @@ pub fn point_in(
     known: Option<i64>,
 ) -> Result<Option<Vec<i64>>, AllocError> {
     let mut search = Search {
-        spans: Spans {
-            now: turn.zone.spans().to_vec(alloc)?,
-            before: Vec::new(alloc),
-        },
+        spans: Spans::make(alloc, b, turn.zone.spans())?,
         choices: Vec::new(alloc),
         known,
         found: None,
@@ -76,7 +70,9 @@ pub fn point_in(
         effort: 0,
     };
     for _ in 0..visits(turn, known) {
-        if search.effort > EFFORT || !went_on(alloc, b, guide, &mut search)? {
+        if search.effort.saturating_add(search.spans.looked) > EFFORT
+            || !went_on(alloc, b, guide, &mut search)?
+        {
             break;
         }
     }
@@ -156,20 +152,12 @@ fn turned_back(search: &mut Search) -> Result<bool, AllocError> {
 
 // Tightens the spans, and tells whether no point is left, the cheap ends are a point, or which span to narrow.
 fn visit(b: &Blocked, guide: &Guide, search: &mut Search) -> Result<Node, AllocError> {
-    for _ in 0..PASSES {
-        match tightened(b, search)? {
-            Found::Nothing => return Ok(Node::Empty),
-            Found::Change => {}
-            Found::Same => return Ok(node_of(b, guide, search.spans.now.as_slice())),
-        }
-    }
-    Ok(node_of(b, guide, search.spans.now.as_slice()))
-}
-
-// Tightens the spans by each row and by the known cost.
-fn tightened(b: &Blocked, search: &mut Search) -> Result<Found, AllocError> {
     search.effort = search.effort.saturating_add(search.terms);
-    by_all(b, search.known, &mut search.spans)
+    if tightened(b, search.known, &mut search.spans)? {
+        Ok(node_of(b, guide, search.spans.now.as_slice()))
+    } else {
+        Ok(Node::Empty)
+    }
 }
 
 // The split that is needed most urgently by a row that the cheap ends miss. Among rows that are alike it is the one of the
@@ -229,8 +217,12 @@ fn need_of(row: &Row, guide: &Guide, spans: &[Span], more: bool) -> Option<Need>
     let mut chosen = None;
     let mut most = i128::MIN;
     let mut next = i128::MIN;
+    let mut open: i128 = 0;
     for term in row.terms.as_slice() {
         if let Some(span) = spans.get(term.var as usize) {
+            if span.lo < span.hi {
+                open = open.saturating_add(1);
+            }
             let up = more == (term.coef > 0);
             let from_below = cheap_end(span, cost_of(guide, term.var)) == span.lo;
             if span.lo < span.hi && from_below == up {
@@ -249,7 +241,10 @@ fn need_of(row: &Row, guide: &Guide, spans: &[Span], more: bool) -> Option<Need>
         None => None,
         Some(split) => Some(Need {
             split,
-            urgency: most.saturating_sub(next),
+            urgency: match guide.order {
+                Order::Urgent => most.saturating_sub(next),
+                Order::Scarce => open.saturating_neg(),
+            },
         }),
     }
 }
@@ -265,9 +260,9 @@ fn want_of(guide: &Guide, var: u32, up: bool) -> i128 {
 
 // A span halved, with the upper or the lower half first.
 fn halves(var: u32, span: &Span, up: bool) -> Split {
-    let middle = span
-        .lo
-        .saturating_add((span.hi.saturating_sub(span.lo)) / 2);
+    let width = span.hi.saturating_sub(span.lo);
+    let part = if up { width.saturating_sub(1) } else { width };
+    let middle = span.lo.saturating_add(part / 2);
     let low = Span {
         lo: span.lo,
         hi: middle,

@@ -20,9 +20,6 @@ const NEAR: i128 = 64;
 /// The greatest width that multipliers are kept within.
 const WIDEST: i64 = 1 << 40;
 
-/// After how many rounds without a better bound the width is halved.
-const PATIENCE: u32 = 2;
-
 /// Multipliers by row at the greatest scale, and their bound in a zone.
 #[derive(Drop)]
 pub struct Centre {
@@ -54,7 +51,6 @@ struct Generation {
     weights: Vec<i64>,
     is_short: bool,
     width: Option<i64>,
-    failures: u32,
 }
 
 // How rounds go on.
@@ -166,7 +162,6 @@ fn begun(
         weights: Vec::new(alloc),
         is_short: true,
         width: effort.width,
-        failures: 0,
     }))
 }
 
@@ -216,8 +211,7 @@ fn went_on(
     moved(alloc, centre, all, added > 0, is_better)
 }
 
-// Moves what keeps the multipliers near: to a better centre, wider where no column is new, and narrower where columns are new
-// but the bound stays.
+// Moves what keeps the multipliers near: to a better centre, and wider where no column is new.
 fn moved(
     alloc: Global,
     centre: &Centre,
@@ -228,34 +222,20 @@ fn moved(
     let Some(width) = all.width else {
         return Ok(if is_new { Step::On } else { Step::Stuck });
     };
-    let next = next_width(all, width, is_new, is_better);
+    let next = if is_new {
+        width
+    } else {
+        width.saturating_mul(2)
+    };
     if next > WIDEST {
         return Ok(Step::Stuck);
     }
-    if is_better || next != width {
+    if is_better || !is_new {
         let mults = centre.mults.as_slice();
         all.restricted.stay_near(alloc, mults, next)?;
     }
     all.width = Some(next);
     Ok(Step::On)
-}
-
-// The width after a round.
-fn next_width(all: &mut Generation, width: i64, is_new: bool, is_better: bool) -> i64 {
-    if !is_new {
-        all.failures = 0;
-        return width.saturating_mul(2);
-    }
-    if is_better {
-        all.failures = 0;
-        return width;
-    }
-    all.failures = all.failures.saturating_add(1);
-    if all.failures < PATIENCE {
-        return width;
-    }
-    all.failures = 0;
-    (width / 2).max(1)
 }
 
 // Whether a bound rounded up reaches the master's cost rounded up.

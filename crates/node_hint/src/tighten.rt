@@ -1,14 +1,45 @@
 // Spans tightened by rows: hints for the search of a point.
+use crate::entries::Entries;
 use crate::reach::{Reach, has_lower, has_upper, reach_of, term_ends};
 use block_form::Blocked;
 use bp_theory::{Row, Span, Term};
-use std::alloc::AllocError;
+use std::alloc::{AllocError, Global};
 
-/// Spans that shrink, and what they were before, in the order of the changes.
+/// How often the cost is looked at where rows shrank spans.
+const PASSES: u32 = 8;
+
+/// How many rows are looked at between, for each row.
+const LOOKS: u32 = 8;
+
+/// Spans that shrink, what they were before, in the order of the changes, the rows that wait to be looked at since a span of theirs
+/// shrank, and how many terms were looked at.
 #[derive(Drop)]
 pub struct Spans {
     pub now: Vec<Span>,
     pub before: Vec<(u32, Span)>,
+    pub looked: u64,
+    entries: Entries,
+    waiting: Vec<u32>,
+    is_waiting: Vec<bool>,
+}
+
+impl Spans {
+    /// Spans where each row waits.
+    pub fn make(alloc: Global, b: &Blocked, spans: &[Span]) -> Result<Spans, AllocError> {
+        let rows = b.model().rows();
+        let mut waiting = Vec::new(alloc);
+        for row in 0..rows {
+            waiting.push(row)?;
+        }
+        Ok(Spans {
+            now: spans.to_vec(alloc)?,
+            before: Vec::new(alloc),
+            looked: 0,
+            entries: Entries::of(alloc, b)?,
+            waiting,
+            is_waiting: Vec::from_elem(alloc, true, rows as usize)?,
+        })
+    }
 }
 
 // The side that a sum of terms must keep: at most or at least a number.
@@ -18,30 +49,56 @@ enum Side {
     AtLeast(i128),
 }
 
-/// What tightening found.
+// What tightening found: no point is left, some span shrank, or all is as before.
 #[derive(Clone, Copy, Debug, PartialEq, Eq)]
-pub enum Found {
-    /// No point is left.
+enum Found {
     Nothing,
-    /// Some span shrank.
     Change,
-    /// All is as before.
     Same,
 }
 
-/// Tightens spans by each row once, and so that points are cheaper than what is known.
-pub fn by_all(b: &Blocked, known: Option<i64>, spans: &mut Spans) -> Result<Found, AllocError> {
-    let mut found = by_cost(b, known, spans)?;
-    for row in b.model().all_rows() {
-        if found == Found::Nothing {
-            return Ok(found);
+/// Tightens spans by the rows that wait, and so that points are cheaper than what is known; whether a point may be left. No row waits
+/// then.
+pub fn tightened(b: &Blocked, known: Option<i64>, spans: &mut Spans) -> Result<bool, AllocError> {
+    for pass in 0..PASSES {
+        let found = by_cost(b, known, spans)?;
+        if found == Found::Same && pass > 0 {
+            return Ok(true);
         }
-        let more = by_row(row, spans)?;
-        if more != Found::Same {
-            found = more;
+        if found == Found::Nothing || !by_waiting(b, spans)? {
+            forget(spans);
+            return Ok(false);
         }
     }
-    Ok(found)
+    Ok(true)
+}
+
+// Tightens spans by the rows that wait; whether a point may be left.
+fn by_waiting(b: &Blocked, spans: &mut Spans) -> Result<bool, AllocError> {
+    for _ in 0..b.model().rows().saturating_mul(LOOKS) {
+        let Some(row) = spans.waiting.pop() else {
+            return Ok(true);
+        };
+        if row < b.model().rows() && by_row(b.model().row(row), spans)? == Found::Nothing {
+            return Ok(false);
+        }
+        mark(spans, row, false);
+    }
+    forget(spans);
+    Ok(true)
+}
+
+// Notes whether a row waits.
+fn mark(spans: &mut Spans, row: u32, waits: bool) {
+    if let Some(place) = spans.is_waiting.get_mut(row as usize) {
+        *place = waits;
+    }
+}
+
+/// Lets no row wait.
+pub fn forget(spans: &mut Spans) {
+    spans.waiting.clear();
+    spans.is_waiting.fill(false);
 }
 
 // Tightens spans so that points are cheaper than what is known.
@@ -85,6 +142,7 @@ fn by_row(row: &Row, spans: &mut Spans) -> Result<Found, AllocError> {
 // Tightens spans by one side of a sum of terms.
 fn by_side(terms: &[Term], side: Side, spans: &mut Spans) -> Result<Found, AllocError> {
     let reach = reach_of(terms, spans.now.as_slice());
+    spans.looked = spans.looked.saturating_add(terms.len() as u64);
     if misses(&reach, side) {
         return Ok(Found::Nothing);
     }
@@ -94,11 +152,17 @@ fn by_side(terms: &[Term], side: Side, spans: &mut Spans) -> Result<Found, Alloc
     let mut found = Found::Same;
     for term in terms {
         let own = term_ends(term, spans.now.as_slice());
-        let room = match side {
-            Side::AtMost(most) => most.saturating_sub(reach.least.saturating_sub(own.least)),
-            Side::AtLeast(least) => least.saturating_sub(reach.most.saturating_sub(own.most)),
+        let (room, may_stay) = match side {
+            Side::AtMost(most) => {
+                let room = most.saturating_sub(reach.least.saturating_sub(own.least));
+                (room, own.most <= room)
+            }
+            Side::AtLeast(least) => {
+                let room = least.saturating_sub(reach.most.saturating_sub(own.most));
+                (room, own.least >= room)
+            }
         };
-        if shrinks(term, side, room, spans)? {
+        if !may_stay && shrinks(term, side, room, spans)? {
             found = Found::Change;
         }
     }
@@ -135,11 +199,19 @@ fn shrinks(term: &Term, side: Side, room: i128, spans: &mut Spans) -> Result<boo
     Ok(true)
 }
 
-/// Writes a span, and what it was before.
+/// Writes a span, and what it was before; the rows of its variable wait.
 pub fn set(spans: &mut Spans, var: u32, new: Span) -> Result<(), AllocError> {
     if let Some(place) = spans.now.get_mut(var as usize) {
         spans.before.push((var, *place))?;
         *place = new;
+    }
+    for entry in spans.entries.of_var(var) {
+        if let Some(waits) = spans.is_waiting.get_mut(entry.0 as usize) {
+            if !*waits {
+                *waits = true;
+                spans.waiting.push(entry.0)?;
+            }
+        }
     }
     Ok(())
 }
