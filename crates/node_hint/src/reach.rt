@@ -25,13 +25,23 @@ pub fn reach_of(terms: &[Term], spans: &[Span]) -> Reach {
 pub fn term_ends(term: &Term, spans: &[Span]) -> Reach {
     match spans.get(term.var as usize) {
         None => Reach { least: 0, most: 0 },
-        Some(span) => {
-            let low = product(&term.coef, &span.lo);
-            let high = product(&term.coef, &span.hi);
-            Reach {
-                least: low.min(high),
-                most: low.max(high),
-            }
+        Some(span) => ends(&term.coef, span),
+    }
+}
+
+/// What a coefficient can reach over a span.
+pub fn ends(coef: &i64, span: &Span) -> Reach {
+    let low = product(coef, &span.lo);
+    let high = product(coef, &span.hi);
+    if *coef < 0 {
+        Reach {
+            least: high,
+            most: low,
+        }
+    } else {
+        Reach {
+            least: low,
+            most: high,
         }
     }
 }

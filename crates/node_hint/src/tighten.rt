@@ -1,8 +1,10 @@
 // Spans tightened by rows: hints for the search of a point.
+ghost use Rattle.std.specs.Prelude.{◌<◌, length};
+
 use crate::entries::Entries;
-use crate::reach::{Reach, has_lower, has_upper, reach_of, term_ends};
+use crate::reach::{Reach, ends, has_lower, has_upper, reach_of, term_ends};
 use block_form::Blocked;
-use bp_theory::{Row, Span, Term};
+use bp_theory::{Span, Term};
 use std::alloc::{AllocError, Global};
 
 /// How often the cost is looked at where rows shrank spans.
@@ -11,14 +13,15 @@ const PASSES: u32 = 8;
 /// How many rows are looked at between, for each row.
 const LOOKS: u32 = 8;
 
-/// Spans that shrink, what they were before, in the order of the changes, the rows that wait to be looked at since a span of theirs
-/// shrank, and how many terms were looked at.
+/// Spans that shrink, what they were before, in the order of the changes, what each row can reach over them, the rows that wait to
+/// be looked at since a span of theirs shrank, and how many terms were looked at.
 #[derive(Drop)]
 pub struct Spans {
     pub now: Vec<Span>,
     pub before: Vec<(u32, Span)>,
     pub looked: u64,
     entries: Entries,
+    reaches: Vec<Reach>,
     waiting: Vec<u32>,
     is_waiting: Vec<bool>,
 }
@@ -28,14 +31,17 @@ impl Spans {
     pub fn make(alloc: Global, b: &Blocked, spans: &[Span]) -> Result<Spans, AllocError> {
         let rows = b.model().rows();
         let mut waiting = Vec::new(alloc);
+        let mut reaches = Vec::new(alloc);
         for row in 0..rows {
             waiting.push(row)?;
+            reaches.push(reach_of(b.model().row(row).terms.as_slice(), spans))?;
         }
         Ok(Spans {
             now: spans.to_vec(alloc)?,
             before: Vec::new(alloc),
             looked: 0,
             entries: Entries::of(alloc, b)?,
+            reaches,
             waiting,
             is_waiting: Vec::from_elem(alloc, true, rows as usize)?,
         })
@@ -79,7 +85,7 @@ fn by_waiting(b: &Blocked, spans: &mut Spans) -> Result<bool, AllocError> {
         let Some(row) = spans.waiting.pop() else {
             return Ok(true);
         };
-        if row < b.model().rows() && by_row(b.model().row(row), spans)? == Found::Nothing {
+        if row < b.model().rows() && by_row(b, row, spans)? == Found::Nothing {
             return Ok(false);
         }
         mark(spans, row, false);
@@ -107,31 +113,28 @@ fn by_cost(b: &Blocked, known: Option<i64>, spans: &mut Spans) -> Result<Found, 
         None => Ok(Found::Same),
         Some(known) => {
             let most = i128::from(known).saturating_sub(i128::from(b.model().constant()));
-            by_side(
-                b.model().costs(),
-                Side::AtMost(most.saturating_sub(1)),
-                spans,
-            )
+            let side = Side::AtMost(most.saturating_sub(1));
+            let costs = b.model().costs();
+            let reach = reach_of(costs, spans.now.as_slice());
+            by_side(costs, side, &reach, spans)
         }
     }
 }
 
 // Tightens spans by a row.
-fn by_row(row: &Row, spans: &mut Spans) -> Result<Found, AllocError> {
+fn by_row(b: &Blocked, number: u32, spans: &mut Spans) -> Result<Found, AllocError>
+    requires { number < length b.now.named.program.rows }
+{
+    let row = b.model().row(number);
+    let terms = row.terms.as_slice();
     let mut found = Found::Same;
     if has_upper(row) {
-        found = by_side(
-            row.terms.as_slice(),
-            Side::AtMost(i128::from(row.rhs)),
-            spans,
-        )?;
+        let reach = reach_at(spans, number);
+        found = by_side(terms, Side::AtMost(i128::from(row.rhs)), &reach, spans)?;
     }
     if found != Found::Nothing && has_lower(row) {
-        let other = by_side(
-            row.terms.as_slice(),
-            Side::AtLeast(i128::from(row.low)),
-            spans,
-        )?;
+        let reach = reach_at(spans, number);
+        let other = by_side(terms, Side::AtLeast(i128::from(row.low)), &reach, spans)?;
         if other != Found::Same {
             found = other;
         }
@@ -139,16 +142,28 @@ fn by_row(row: &Row, spans: &mut Spans) -> Result<Found, AllocError> {
     Ok(found)
 }
 
-// Tightens spans by one side of a sum of terms.
-fn by_side(terms: &[Term], side: Side, spans: &mut Spans) -> Result<Found, AllocError> {
-    let reach = reach_of(terms, spans.now.as_slice());
-    spans.looked = spans.looked.saturating_add(terms.len() as u64);
-    if misses(&reach, side) {
+// What a row can reach over spans.
+fn reach_at(spans: &Spans, row: u32) -> Reach {
+    match spans.reaches.as_slice().get(row as usize) {
+        None => Reach { least: 0, most: 0 },
+        Some(reach) => *reach,
+    }
+}
+
+// Tightens spans by one side of a sum of terms with what it can reach.
+fn by_side(
+    terms: &[Term],
+    side: Side,
+    reach: &Reach,
+    spans: &mut Spans,
+) -> Result<Found, AllocError> {
+    if misses(reach, side) {
         return Ok(Found::Nothing);
     }
-    if keeps(&reach, side) {
+    if keeps(reach, side) {
         return Ok(Found::Same);
     }
+    spans.looked = spans.looked.saturating_add(terms.len() as u64);
     let mut found = Found::Same;
     for term in terms {
         let own = term_ends(term, spans.now.as_slice());
@@ -201,10 +216,13 @@ fn shrinks(term: &Term, side: Side, room: i128, spans: &mut Spans) -> Result<boo
 
 /// Writes a span, and what it was before; the rows of its variable wait.
 pub fn set(spans: &mut Spans, var: u32, new: Span) -> Result<(), AllocError> {
+    let mut old = new;
     if let Some(place) = spans.now.get_mut(var as usize) {
-        spans.before.push((var, *place))?;
+        old = *place;
+        spans.before.push((var, old))?;
         *place = new;
     }
+    move_reaches(spans, var, &old, &new);
     for entry in spans.entries.of_var(var) {
         if let Some(waits) = spans.is_waiting.get_mut(entry.0 as usize) {
             if !*waits {
@@ -216,13 +234,30 @@ pub fn set(spans: &mut Spans, var: u32, new: Span) -> Result<(), AllocError> {
     Ok(())
 }
 
+// Moves what rows can reach where a variable's span changes.
+fn move_reaches(spans: &mut Spans, var: u32, old: &Span, new: &Span) {
+    for entry in spans.entries.of_var(var) {
+        if let Some(reach) = spans.reaches.get_mut(entry.0 as usize) {
+            let was = ends(&entry.1, old);
+            let is = ends(&entry.1, new);
+            reach.least = reach
+                .least
+                .saturating_add(is.least.saturating_sub(was.least));
+            reach.most = reach.most.saturating_add(is.most.saturating_sub(was.most));
+        }
+    }
+}
+
 /// Takes the last changes back, until so many are left.
 pub fn take_back(spans: &mut Spans, left: usize) {
     for _ in left..spans.before.len() {
         if let Some((var, old)) = spans.before.pop() {
+            let mut now = old;
             if let Some(place) = spans.now.get_mut(var as usize) {
+                now = *place;
                 *place = old;
             }
+            move_reaches(spans, var, &now, &old);
         }
     }
 }
