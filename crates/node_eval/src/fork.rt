@@ -31,7 +31,8 @@ pub fn is_open(span: &Span) -> bool
 /// A variable, if its span has more than one number, and else another whose span has.
 pub fn open_or(zone: &Zone, var: u32, other: u32) -> u32
     requires { IsOpen zone.now other }
-    ensures { IsOpen zone.now result }
+    ensures open { IsOpen zone.now result }
+    ensures wanted { var < length zone.now → IsOpen zone.now var → result ≡ var }
 {
     if (var as usize) < zone.spans().len() && is_open(&zone.span(var)) {
         var
@@ -47,6 +48,7 @@ pub fn place(depth: u32, span: &Span, wanted: i64) -> i64
     ensures above { span.now.lo ≤ℤ result }
     ensures below { result <ℤ span.now.hi }
     ensures deep { 64 ≤ depth → result ≡ middle span.now }
+    ensures wanted { depth < 64 → span.now.lo ≤ℤ wanted → wanted <ℤ span.now.hi → result ≡ wanted }
 {
     if depth >= 64 {
         return middle(span);

@@ -1,4 +1,4 @@
-use Rattle.std.proofs.Common.{sym, subst, Option}
+use Rattle.std.proofs.Common.{sym, subst, Option, ◌∙◌}
 use Rattle.std.specs.Prelude.{ℤ, IfSome}
 use Rattle.bp_theory.specs.declared.Proof.{Proof}
 use Rattle.search_laws.specs.GroveFacts.{best_cost}
@@ -27,3 +27,7 @@ returns-in-Some-clause-verdict c =
     c.better_point-point.result (Shut c.in-Some.proof) c.better_point-point.ensures
     (off_settles c.args.b.now.blocking c.args.turn.now.depth c.args.turn.now.zone c.args.turn.now.bound known c.in-Some.proof
     (subst (λ (found : Option Proof). IfSome found (ShutsOff c.args.b.now.blocking c.args.turn.now.zone)) c.in-Some.is c.in_ok-proof.ensures.off))
+
+pub returns-clause-made_for : goal.returns-clause-made_for
+returns-clause-made_for c =
+    record { pricers = c.in_ok-shown.ensures.made_for ∙ c.in_ok-proof.ensures.made_for.pricers; stores = c.in_ok-proof.ensures.made_for.stores }
