@@ -63,7 +63,7 @@ pub struct Reader {
     bound: i64,
     point: Items<i64>,
     pending: Vec<Pending>,
-    open: bool,
+    is_open: bool,
     scale: u32,
     mults: Items<(u32, i64)>,
     blocks: Items<u32>,
@@ -145,22 +145,22 @@ impl Reader {
 
     // A leaf's line ends, where all blocks are priced.
     fn end_every(&mut self, alloc: Global) -> Result<(), AllocError>
-        ensures place { OnOk result ((n : ℕ) → stage_of self.new n ≡ behind (written_claim self.old.claim self.old.point) (waits_of self.old.pending.items) (leaf_of self.old.open (written_proof (record { scale = self.old.scale; mults = self.old.mults; picked = Every })))) }
+        ensures place { OnOk result ((n : ℕ) → stage_of self.new n ≡ behind (written_claim self.old.claim self.old.point) (waits_of self.old.pending.items) (leaf_of self.old.is_open (written_proof (record { scale = self.old.scale; mults = self.old.mults; picked = Every })))) }
         ensures keeps { OnOk result (Keeps self.old self.new) }
     {
         let proof = self.take_proof(alloc, Picked::Every);
-        let tree = leaf(self.open, proof);
+        let tree = leaf(self.is_open, proof);
         self.complete(alloc, tree)
     }
 
     // A leaf's line ends, where the blocks of a list are priced.
     fn end_these(&mut self, alloc: Global) -> Result<(), AllocError>
-        ensures place { OnOk result ((n : ℕ) → stage_of self.new n ≡ behind (written_claim self.old.claim self.old.point) (waits_of self.old.pending.items) (leaf_of self.old.open (written_proof (record { scale = self.old.scale; mults = self.old.mults; picked = These self.old.blocks })))) }
+        ensures place { OnOk result ((n : ℕ) → stage_of self.new n ≡ behind (written_claim self.old.claim self.old.point) (waits_of self.old.pending.items) (leaf_of self.old.is_open (written_proof (record { scale = self.old.scale; mults = self.old.mults; picked = These self.old.blocks })))) }
         ensures keeps { OnOk result (Keeps self.old self.new) }
     {
         let blocks = mem::replace(&mut self.blocks, Items::new(alloc));
         let proof = self.take_proof(alloc, Picked::These(blocks));
-        let tree = leaf(self.open, proof);
+        let tree = leaf(self.is_open, proof);
         self.complete(alloc, tree)
     }
 
@@ -195,9 +195,9 @@ impl Reader {
 
     // A leaf's line begins.
     fn begin_leaf(&mut self, is_open: bool) -> Result<(), AllocError>
-        ensures { self.new ≡ record self.old { spot = Scale; «open» = is_open } }
+        ensures { self.new ≡ record self.old { spot = Scale; is_open = is_open } }
     {
-        self.open = is_open;
+        self.is_open = is_open;
         self.spot = Spot::Scale;
         Ok(())
     }
@@ -615,7 +615,7 @@ impl Reader {
             bound: 0,
             point: Items::new(alloc),
             pending: Vec::new(alloc),
-            open: false,
+            is_open: false,
             scale: 0,
             mults: Items::new(alloc),
             blocks: Items::new(alloc),
