@@ -2,7 +2,7 @@
 // broke. A hint, which the model judges. (Glover, ejection chains.)
 use crate::entries::Entries;
 use crate::guide::dense_costs;
-use crate::reach::{has_lower, has_upper, product, sum_at};
+use crate::reach::{at, has_lower, has_upper, product, sum_at};
 use block_form::Blocked;
 use std::alloc::{AllocError, Global};
 
@@ -72,7 +72,7 @@ fn begun(alloc: Global, b: &Blocked, point: Vec<i64>) -> Result<Exchange, AllocE
     for row in b.model().all_rows() {
         let mut sum: i128 = 0;
         for term in row.terms.as_slice() {
-            let number = number_at(point.as_slice(), term.var);
+            let number = at(point.as_slice(), term.var as usize);
             sum = sum.saturating_add(product(&term.coef, &number));
         }
         sums.push(sum)?;
@@ -93,7 +93,7 @@ fn begun(alloc: Global, b: &Blocked, point: Vec<i64>) -> Result<Exchange, AllocE
 fn passed(b: &Blocked, exchange: &mut Exchange) -> Result<bool, AllocError> {
     let mut any = false;
     for var in 0..b.model().vars() {
-        let cost = number_at(exchange.costs.as_slice(), var);
+        let cost = at(exchange.costs.as_slice(), var as usize);
         if cost != 0 {
             let by: i64 = if cost > 0 { -1 } else { 1 };
             let first = Change { var, by };
@@ -228,7 +228,7 @@ fn may_change(b: &Blocked, exchange: &Exchange, change: Change) -> bool {
         return false;
     }
     let span = b.model().span(change.var);
-    let number = number_at(exchange.point.as_slice(), change.var).saturating_add(change.by);
+    let number = at(exchange.point.as_slice(), change.var as usize).saturating_add(change.by);
     span.lo <= number && number <= span.hi
 }
 
@@ -267,7 +267,7 @@ fn make(exchange: &mut Exchange, change: Change) {
     if let Some(number) = exchange.point.get_mut(place) {
         *number = number.saturating_add(change.by);
     }
-    let cost = number_at(exchange.costs.as_slice(), change.var);
+    let cost = at(exchange.costs.as_slice(), change.var as usize);
     exchange.more = exchange.more.saturating_add(product(&cost, &change.by));
     let entries = exchange.entries.of_var(change.var);
     for entry in entries {
@@ -277,12 +277,4 @@ fn make(exchange: &mut Exchange, change: Change) {
         }
     }
     exchange.effort = exchange.effort.saturating_add(entries.len() as u64);
-}
-
-// The number of a variable, 0 where there is none.
-fn number_at(numbers: &[i64], var: u32) -> i64 {
-    match numbers.get(var as usize) {
-        None => 0,
-        Some(number) => *number,
-    }
 }
