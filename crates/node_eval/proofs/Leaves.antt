@@ -1,8 +1,8 @@
 -- What is done with a leaf, and the bounds that proofs show of its zone.
 use Rattle.std.proofs.Common.{◌≡◌, ◌≢◌, refl, sym, ap, subst, ◌∙◌, ℕ, suc, ◌<◌, ◌≤◌, ◌^◌, ◌-◌, ◌*◌, List, [], ◌∷◌, map, length, get_or, Option, Some, None, arith, IfSome, IfOk, Result, Ok, Err, inl}
-use Rattle.std.proofs.Math.IntN.{ℤ, pos, neg_ℤ, ◌+ℤ◌, ◌*ℤ◌}
+use Rattle.std.proofs.Math.IntN.{ℤ, pos, neg_ℤ, ◌*ℤ◌}
 use Rattle.std.specs.Prelude.{◌≤ℤ◌, ◌<ℤ◌, unsigned_abs}
-use Rattle.std.specs.Int.{int_gap, int_min}
+use Rattle.std.specs.Int.{int_min}
 use Rattle.std.proofs.lemmas.Int.{ints, clamps, by_lt_z}
 use Rattle.bp_theory.specs.Sums.{round_up}
 use Rattle.bp_theory.specs.Program.{Program, span_at, IsInside, IsWithin, cost}
@@ -29,7 +29,7 @@ use Rattle.search_laws.specs.GroveFacts.{IsSoundProof, best_cost, IsNoDearer}
 use Rattle.search_laws.specs.Verdicts.{IsFork, IsNext, IsVerdict, cheaper_cost, every_block}
 use Rattle.search_laws.specs.declared.Next.{Next}
 use Rattle.search_laws.specs.declared.Next.TheVariants.{Shut}
-use Rattle.node_eval.specs.Shown.{IsShown, ShutsOff, IsOnePoint, IsOpen, IsBetter}
+use Rattle.node_eval.specs.Shown.{IsShown, ShutsOff, IsOnePoint, IsBetter}
 use Rattle.node_eval.proofs.OnePoint.{point_holds}
 
 -- ---- open variables

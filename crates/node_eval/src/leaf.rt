@@ -10,12 +10,12 @@ ghost use Rattle.node_eval.specs.Openings.{IsStrong};
 
 use crate::fork::{first_open, open_or, place};
 use crate::point::{if_better, one_point};
-use crate::shown::{Opening, Shown, emptied, emptied_by, opened, strongest};
+use crate::shown::{Opening, Shown, at_both_scales, emptied, emptied_by, opened, strongest};
 use block_class::Classes;
 use block_form::Blocked;
 use bp_theory::{Items, Proof};
 use branch_tree::{Next, Turn, Verdict};
-use node_hint::{Hint, Pools, hinted};
+use node_hint::{Hint, Pools, hinted, unreached};
 use std::alloc::{AllocError, Global};
 
 /// The verdict on a live leaf: a point that is feasible and cheaper than the best cost, where one was found, and what is
@@ -58,7 +58,7 @@ fn many_points(
     ensures thorough { IfOk result (λ verdict. IsThorough b.now.blocking turn.now.zone verdict.next) }
     ensures made_for { AreMadeFor b.now pools.new }
 {
-    if let Some(proof) = emptied(alloc, b, &turn.zone)? {
+    if let Some(proof) = missed(alloc, b, turn)? {
         return Ok(Verdict {
             point: None,
             next: Next::Shut(proof),
@@ -74,6 +74,17 @@ fn many_points(
         Opening::Open(shown) => {
             searched(alloc, b, &classes, pools, turn, best, is_even, var, shown)
         }
+    }
+}
+
+// The proof that a leaf's zone has no point, where a master row is seen to have none there.
+fn missed(alloc: Global, b: &Blocked, turn: &Turn) -> Result<Option<Proof>, AllocError>
+    requires { IsTurn b.now turn.now }
+    ensures { IfOk result (λ found. IfSome found (ShutsOff b.now.blocking turn.now.zone)) }
+{
+    match unreached(b, turn.zone.spans()) {
+        None => Ok(None),
+        Some((row, sign)) => emptied(alloc, b, &turn.zone, row, sign),
     }
 }
 
@@ -113,15 +124,8 @@ fn searched(
             next: Next::Shut(proof),
         });
     }
-    let shown = strongest(
-        alloc,
-        b,
-        classes,
-        &mut pools.bench,
-        &turn.zone,
-        shown,
-        mults,
-    )?;
+    let proofs = at_both_scales(alloc, &pools.bench, mults)?;
+    let shown = strongest(b, classes, &mut pools.bench.work, &turn.zone, shown, proofs);
     let var = open_or(&turn.zone, split.var, var);
     let next = settled(b, turn, shown, known, var, split.at);
     Ok(Verdict { point, next })
@@ -146,7 +150,8 @@ fn left_empty(
     if known.is_some() {
         return Ok(None);
     }
-    emptied_by(alloc, b, classes, &mut pools.bench, &turn.zone, mults)
+    let proofs = at_both_scales(alloc, &pools.bench, mults)?;
+    Ok(emptied_by(b, classes, &mut pools.bench.work, &turn.zone, proofs))
 }
 
 // A point, where one was found, if it is feasible and cheaper than a given cost.

@@ -1,5 +1,5 @@
 // Bounds of a zone and the proofs that show them.
-ghost use Rattle.std.specs.Prelude.{◌≡◌, ◌<◌, ◌^◌, ◌<ℤ◌, ◌≤ℤ◌, ◌*ℤ◌, ◌↔◌, [], ℤ, pos, unsigned_abs, IfOk, IfSome, IsTrue};
+ghost use Rattle.std.specs.Prelude.{◌≡◌, ◌⊎◌, ◌<◌, ◌-◌, ◌^◌, ◌<ℤ◌, ◌≤ℤ◌, ◌*ℤ◌, ◌↔◌, [], ℤ, pos, unsigned_abs, IfOk, IsTrue, MatchOption};
 ghost use Rattle.bp_theory.specs.Bound.{IsBound};
 ghost use Rattle.bp_theory.specs.Trees.{IsZone};
 ghost use Rattle.bp_theory.specs.declared.Picked.TheVariants.{These};
@@ -8,8 +8,8 @@ ghost use Rattle.branch_tree.specs.Turns.{IsTurn};
 ghost use Rattle.lagr_bound.specs.Forms.{forms_in};
 ghost use Rattle.lagr_bound.specs.Works.{forms_of};
 ghost use Rattle.search_laws.specs.GroveFacts.{IsSoundProof};
-ghost use Rattle.node_eval.specs.Shown.{IsShown, ShutsOff};
-ghost use Rattle.node_eval.specs.Openings.{IsOpening};
+ghost use Rattle.node_eval.specs.Shown.{IsShown, ShutsOff, row_proof};
+ghost use Rattle.node_eval.specs.Openings.{IsOpening, IsReached, IsOfNoUse, at_zero};
 
 use crate::proofs::{by_row, copied, every};
 use block_class::Classes;
@@ -17,7 +17,7 @@ use block_form::{Blocked, MAX_SCALE, Zone, fits, signs_fit};
 use bp_theory::Proof;
 use branch_tree::Turn;
 use lagr_bound::{Bounded, Work, bound, box_bound, round};
-use node_hint::{Bench, MOST_VISITS, unreached};
+use node_hint::{Bench, MOST_VISITS};
 use pricing::Cap;
 use std::alloc::{AllocError, Global};
 
@@ -29,6 +29,13 @@ const SHORT_SCALE: u32 = 1 << 8;
 pub struct Shown {
     pub proof: Proof,
     pub bound: i64,
+}
+
+/// The proofs of multipliers by row, rounded to a small scale and to the greatest.
+#[derive(Drop)]
+pub struct Scaled {
+    pub short: Proof,
+    pub full: Proof,
 }
 
 /// What pricing every block shows of a leaf's zone.
@@ -73,29 +80,35 @@ pub fn opened(
     }
 }
 
-/// A bound of a zone, or a greater one that multipliers by row show, rounded to a small scale where that does as well.
+/// The proofs of multipliers by row, which price the blocks that hints price.
+pub fn at_both_scales(alloc: Global, bench: &Bench, mults: &[i64]) -> Result<Scaled, AllocError> {
+    Ok(Scaled {
+        short: bench.proof_at(alloc, mults, SHORT_SCALE)?,
+        full: bench.proof_at(alloc, mults, MAX_SCALE)?,
+    })
+}
+
+/// A bound of a zone, or a greater one that two proofs show, the short one where it does as well.
 pub fn strongest(
-    alloc: Global,
     b: &Blocked,
     classes: &Classes,
-    bench: &mut Bench,
+    work: &mut Work,
     zone: &Zone,
     shown: Shown,
-    mults: &[i64],
-) -> Result<Shown, AllocError>
-    requires made_for { forms_of bench.old.work ≡ forms_in b.now }
+    scaled: Scaled,
+) -> Shown
+    requires made_for { forms_of work.old ≡ forms_in b.now }
     requires classes { AreSameClasses zone.now b.now.blocking classes.now }
     requires zone { IsZone b.now.named.program.spans zone.now }
     requires size { unsigned_abs shown.bound < 2 ^ 62 }
-    ensures shown { (least : ℤ) → IsShown b.now.blocking zone.now least shown.proof shown.bound
-        → IfOk result (λ more. IsShown b.now.blocking zone.now least more.proof more.bound) }
-    ensures no_less { IfOk result (λ more. shown.bound ≤ℤ more.bound) }
-    ensures made_for { forms_of bench.new.work ≡ forms_of bench.old.work }
+    ensures shown { (least : ℤ) → IsShown b.now.blocking zone.now least shown.proof shown.bound → IsShown b.now.blocking zone.now least result.proof result.bound }
+    ensures no_less { shown.bound ≤ℤ result.bound }
+    ensures short { IsReached b.now.blocking zone.now result.bound scaled.short }
+    ensures full { IsReached b.now.blocking zone.now result.bound scaled.full }
+    ensures made_for { forms_of work.new ≡ forms_of work.old }
 {
-    let short = bench.proof_at(alloc, mults, SHORT_SCALE)?;
-    let full = bench.proof_at(alloc, mults, MAX_SCALE)?;
-    let first = raised(b, classes, &mut bench.work, zone, shown, short);
-    Ok(raised(b, classes, &mut bench.work, zone, first, full))
+    let first = raised(b, classes, work, zone, shown, scaled.short);
+    raised(b, classes, work, zone, first, scaled.full)
 }
 
 // The bound that a leaf's own proof shows.
@@ -127,6 +140,7 @@ fn raised(
     ensures shown { (least : ℤ) → IsShown b.now.blocking zone.now least shown.proof shown.bound → IsShown b.now.blocking zone.now least result.proof result.bound }
     ensures size { unsigned_abs result.bound < 2 ^ 62 }
     ensures no_less { shown.bound ≤ℤ result.bound }
+    ensures reached { IsReached b.now.blocking zone.now result.bound proof }
     ensures made_for { forms_of work.new ≡ forms_of work.old }
 {
     if proof.scale == 0 || !is_sound(b, &proof) {
@@ -134,7 +148,8 @@ fn raised(
     }
     match bound(work, b, classes, zone, &proof, Cap::At(MOST_VISITS)) {
         Bounded::Whole(whole) => raised_to(b, zone, shown, proof, whole),
-        _ => shown,
+        Bounded::Endless => shown,
+        Bounded::Cut(_) => shown,
     }
 }
 
@@ -147,7 +162,7 @@ fn raised_to(b: &Blocked, zone: &Zone, shown: Shown, proof: Proof, whole: i128) 
     ensures shown { (least : ℤ) → IsShown b.now.blocking zone.now least shown.proof shown.bound → IsShown b.now.blocking zone.now least result.proof result.bound }
     ensures size { unsigned_abs result.bound < 2 ^ 62 }
     ensures no_less { shown.bound ≤ℤ result.bound }
-    ensures reached { proof.scale ≡ 1 → unsigned_abs whole < 2 ^ 62 → whole ≤ℤ result.bound }
+    ensures reached { (whole ≤ℤ (pos proof.scale *ℤ result.bound)) ⊎ (result.bound ≡ pos (2 ^ 62 - 1)) }
 {
     let _ = b;
     let _ = zone;
@@ -158,45 +173,45 @@ fn raised_to(b: &Blocked, zone: &Zone, shown: Shown, proof: Proof, whole: i128) 
     Shown { proof, bound }
 }
 
-/// A sound proof of one multiplier that a zone has no point, where a master row is seen to have none there.
-pub fn emptied(alloc: Global, b: &Blocked, zone: &Zone) -> Result<Option<Proof>, AllocError>
+/// The proof of one row's multiplier, where it is sound and shows that a zone has no point.
+pub fn emptied(
+    alloc: Global,
+    b: &Blocked,
+    zone: &Zone,
+    row: u32,
+    mult: i64,
+) -> Result<Option<Proof>, AllocError>
     requires { IsZone b.now.named.program.spans zone.now }
-    ensures { IfOk result (λ found. IfSome found (ShutsOff b.now.blocking zone.now)) }
+    ensures { IfOk result (λ found. MatchOption found (ShutsOff b.now.blocking zone.now (row_proof row mult) → ⊥) (ShutsOff b.now.blocking zone.now)) }
 {
-    let Some((row, sign)) = unreached(b, zone.spans()) else {
-        return Ok(None);
-    };
-    let proof = by_row(alloc, row, sign)?;
+    let proof = by_row(alloc, row, mult)?;
     if !shuts_off(b, zone, &proof) {
         return Ok(None);
     }
     Ok(Some(proof))
 }
 
-/// A sound proof of multipliers by row at scale 0 that a zone has no point, where they show it.
+/// The first of two proofs that is sound at scale 0 and shows that a zone has no point.
 pub fn emptied_by(
-    alloc: Global,
     b: &Blocked,
     classes: &Classes,
-    bench: &mut Bench,
+    work: &mut Work,
     zone: &Zone,
-    mults: &[i64],
-) -> Result<Option<Proof>, AllocError>
-    requires made_for { forms_of bench.old.work ≡ forms_in b.now }
+    scaled: Scaled,
+) -> Option<Proof>
+    requires made_for { forms_of work.old ≡ forms_in b.now }
     requires classes { AreSameClasses zone.now b.now.blocking classes.now }
     requires zone { IsZone b.now.named.program.spans zone.now }
-    ensures off { IfOk result (λ found. IfSome found (ShutsOff b.now.blocking zone.now)) }
-    ensures made_for { forms_of bench.new.work ≡ forms_of bench.old.work }
+    ensures off { MatchOption result (IsOfNoUse b.now.blocking zone.now scaled.short × IsOfNoUse b.now.blocking zone.now scaled.full) (ShutsOff b.now.blocking zone.now) }
+    ensures made_for { forms_of work.new ≡ forms_of work.old }
 {
-    let short = bench.proof_at(alloc, mults, SHORT_SCALE)?;
-    let full = bench.proof_at(alloc, mults, MAX_SCALE)?;
-    match if_off(b, classes, &mut bench.work, zone, short) {
-        Some(proof) => Ok(Some(proof)),
-        None => Ok(if_off(b, classes, &mut bench.work, zone, full)),
+    match if_off(b, classes, work, zone, scaled.short) {
+        Some(proof) => Some(proof),
+        None => if_off(b, classes, work, zone, scaled.full),
     }
 }
 
-// A proof taken at scale 0, where it is sound and shows that a zone has no point.
+// A proof at scale 0, where it is sound and shows that a zone has no point.
 fn if_off(
     b: &Blocked,
     classes: &Classes,
@@ -207,7 +222,7 @@ fn if_off(
     requires made_for { forms_of work.old ≡ forms_in b.now }
     requires classes { AreSameClasses zone.now b.now.blocking classes.now }
     requires zone { IsZone b.now.named.program.spans zone.now }
-    ensures off { IfSome result (ShutsOff b.now.blocking zone.now) }
+    ensures off { MatchOption result (IsOfNoUse b.now.blocking zone.now scaled) (ShutsOff b.now.blocking zone.now) }
     ensures made_for { forms_of work.new ≡ forms_of work.old }
 {
     let proof = Proof {
@@ -220,8 +235,9 @@ fn if_off(
     }
     match bound(work, b, classes, zone, &proof, Cap::At(MOST_VISITS)) {
         Bounded::Whole(whole) if whole > 0 => Some(proof),
+        Bounded::Whole(_) => None,
         Bounded::Endless => Some(proof),
-        _ => None,
+        Bounded::Cut(_) => None,
     }
 }
 
@@ -239,7 +255,7 @@ pub fn is_sound(b: &Blocked, proof: &Proof) -> bool
 pub fn shuts_off(b: &Blocked, zone: &Zone, proof: &Proof) -> bool
     requires zone { IsZone b.now.named.program.spans zone.now }
     requires picked { proof.now.picked ≡ These [] }
-    ensures { IsTrue result → ShutsOff b.now.blocking zone.now proof.now }
+    ensures { IsTrue result ↔ ShutsOff b.now.blocking zone.now proof.now }
 {
     if proof.scale != 0 || !is_sound(b, proof) {
         return false;

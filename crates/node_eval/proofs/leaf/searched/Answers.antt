@@ -1,4 +1,4 @@
-use Rattle.std.proofs.Common.{sym, subst, Option, ◌∙◌}
+use Rattle.std.proofs.Common.{subst, Option, ◌∙◌}
 use Rattle.std.specs.Prelude.{ℤ, IfSome}
 use Rattle.bp_theory.specs.declared.Proof.{Proof}
 use Rattle.search_laws.specs.GroveFacts.{best_cost}
@@ -11,7 +11,7 @@ use Rattle.node_eval.proofs.leaf.searched.Goals as goal
 
 pub settled-next-requires-clause-strong : goal.settled-next-requires-clause-strong
 settled-next-requires-clause-strong c =
-    more_is_strong c.args.b.now.blocking c.args.turn.now.zone c.args.shown.bound c.in_ok-shown.shown.bound c.in_ok-shown.ensures.no_less c.requires.strong
+    more_is_strong c.args.b.now.blocking c.args.turn.now.zone c.args.shown.bound c.strongest-shown.result.bound c.strongest-shown.ensures.no_less c.requires.strong
 
 pub returns-clause-verdict : goal.returns-clause-verdict
 returns-clause-verdict c =
@@ -30,4 +30,4 @@ returns-in-Some-clause-verdict c =
 
 pub returns-clause-made_for : goal.returns-clause-made_for
 returns-clause-made_for c =
-    record { pricers = c.in_ok-shown.ensures.made_for ∙ c.in_ok-proof.ensures.made_for.pricers; stores = c.in_ok-proof.ensures.made_for.stores }
+    record { pricers = c.strongest-shown.ensures.made_for ∙ c.in_ok-proof.ensures.made_for.pricers; stores = c.in_ok-proof.ensures.made_for.stores }

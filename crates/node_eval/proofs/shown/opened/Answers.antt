@@ -6,7 +6,7 @@ use Rattle.bp_theory.specs.Bound.{IsBound}
 use Rattle.bp_theory.specs.declared.Proof.{Proof}
 use Rattle.search_laws.specs.Verdicts.{every_block}
 use Rattle.node_hint.proofs.EveryBlock.{every_small}
-use Rattle.node_eval.proofs.Strong.{whole_is_strong}
+use Rattle.node_eval.proofs.Strong.{whole_is_strong, reached_at_one}
 use Rattle.node_eval.proofs.shown.opened.Goals as goal
 
 pub returns-in-Whole-clause-opening : goal.returns-in-Whole-clause-opening
@@ -19,6 +19,6 @@ returns-in-Whole-clause-opening c =
     subst (IsBound c.args.b.now.blocking c.args.turn.now.zone every_block) (sym same) own in (
       c.raised_to.ensures.shown c.args.turn.now.bound c.in_ok-own.ensures,
       whole_is_strong c.args.b.now.blocking c.args.turn.now.zone whole c.raised_to.result.bound is_bound
-          (c.raised_to.ensures.reached (ap (λ (p : Proof). p.scale) c.every-proof.ensures)
-          (every_small c.args.b.now c.args.turn.now.zone whole c.blocks-2.ensures.formed c.requires.turn.in_spans is_bound)),
+          (reached_at_one c.every-proof.result.scale whole c.raised_to.result.bound (ap (λ (p : Proof). p.scale) c.every-proof.ensures)
+          (every_small c.args.b.now c.args.turn.now.zone whole c.blocks-2.ensures.formed c.requires.turn.in_spans is_bound) c.raised_to.ensures.reached),
     )

@@ -1,11 +1,11 @@
-use Rattle.std.proofs.Common.{◌≡◌, ◌∙◌, ◌^◌, ◌-◌, refl, ap, arith, to_z, of_z, subst, sym}
-use Rattle.std.specs.Prelude.{ℤ, pos}
+use Rattle.std.proofs.Common.{◌≡◌, ◌∙◌, ◌^◌, ◌-◌, refl, ap, arith, to_z, of_z, subst, sym, inl}
+use Rattle.std.specs.Prelude.{ℤ, pos, ◌*ℤ◌, ◌≤ℤ◌}
 use Rattle.std.specs.Int.{w64, w128, int_min}
 use Rattle.std.proofs.lemmas.Int.{ints}
 use Rattle.bp_theory.specs.Sums.{round_up}
 use Rattle.bp_theory.specs.Bound.{IsBound}
 use Rattle.node_eval.proofs.Leaves.{can_round, raise, raised_small, raised_no_less}
-use Rattle.node_eval.proofs.Strong.{reached_at_one, unexceeded_at_one}
+use Rattle.node_eval.proofs.Strong.{rounding_reaches, unexceeded}
 use Rattle.node_eval.proofs.shown.raised_to.Goals as goal
 
 pub round-bound-requires-clause-above : goal.round-bound-requires-clause-above
@@ -37,16 +37,16 @@ returns-clause-no_less c =
     (c.if-not-exceeds.ensures.0 refl) (rounded ∙ c.round-bound.ensures) c.requires.size
 
 pub returns-clause-reached : goal.returns-clause-reached
-returns-clause-reached c one small =
+returns-clause-reached c =
     let whole : ℤ = to_z w128 (of_z w128 c.args.whole) in
     let same : whole ≡ c.args.whole = omega (arith, ints) in
     let rounded : to_z w64 (of_z w64 c.round-bound.result) ≡ c.round-bound.result = omega (arith, ints) in
-    reached_at_one c.args.proof.scale c.args.whole (to_z w64 (of_z w64 c.round-bound.result)) one small
+    rounding_reaches c.args.proof.scale c.args.whole (to_z w64 (of_z w64 c.round-bound.result)) c.requires.positive
     (rounded ∙ c.round-bound.ensures ∙ ap (λ (z : ℤ). int_min (round_up z c.args.proof.scale) (pos (2 ^ 62 - 1))) same)
 
 pub returns-then-not-exceeds-clause-reached : goal.returns-then-not-exceeds-clause-reached
-returns-then-not-exceeds-clause-reached c one small =
+returns-then-not-exceeds-clause-reached c =
     let whole : ℤ = to_z w128 (of_z w128 c.args.whole) in
     let same : whole ≡ c.args.whole = omega (arith, ints) in
-    let less = unexceeded_at_one c.args.proof.scale c.args.shown.bound whole one c.if-not-exceeds.ensures.1 in
-    omega (arith, ints, same, less)
+    inl (subst (λ (z : ℤ). z ≤ℤ (pos c.args.proof.scale *ℤ c.args.shown.bound)) same
+    (unexceeded c.args.proof.scale c.args.shown.bound whole c.if-not-exceeds.ensures.1))
