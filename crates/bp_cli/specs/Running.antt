@@ -10,10 +10,10 @@ use Rattle.bp_words.specs.declared.order.Order.TheVariants.{Solve, Check, Show, 
 use Rattle.bp_report.specs.Refusals.{words_refusal}
 use Rattle.bp_front.specs.Answers.{FilesStand, IsUntouched}
 use Rattle.cmd_solve.specs.Solves.{AnswersSolve}
-use Rattle.cmd_solve.specs.Saves.{HasCertificate}
+use Rattle.cmd_solve.specs.Saves.{HasCertificate, LeavesCertificate}
 use Rattle.cmd_check.specs.Checks.{AnswersCheck}
 use Rattle.cmd_show.specs.Shows.{AnswersShow}
-use Rattle.cmd_gen.specs.Generates.{AnswersGen, GenLeaves}
+use Rattle.cmd_gen.specs.Generates.{AnswersGen, GenLeaves, GenWrites}
 use Rattle.cmd_demo.specs.Demos.{AnswersDemo}
 
 -- what an order is answered by the files, with what is kept
@@ -37,6 +37,15 @@ HasWritten (Check lp cert dec) before now kept status = now ≡ before
 HasWritten (Show lp dec) before now kept status = now ≡ before
 HasWritten (Gen seed size lp dec) before now kept status = GenLeaves seed size lp dec before now status
 HasWritten (Demo seed size) before now kept status = now ≡ before
+
+-- What stands where the report could not be put: it is put last, behind the certificate of an outcome of the search or both
+-- made texts.
+abbrev pub HasPutLast : Order → (before now : Files) → Type 0
+HasPutLast (Solve lp dec steps cert) before now = LeavesCertificate before lp dec steps cert now
+HasPutLast (Check lp cert dec) before now = now ≡ before
+HasPutLast (Show lp dec) before now = now ≡ before
+HasPutLast (Gen seed size lp dec) before now = GenWrites seed size lp dec before now
+HasPutLast (Demo seed size) before now = now ≡ before
 
 -- what is true of the order that the words give, if they give one
 abbrev pub OfOrder : List (List ℕ) → (Order → Type 0) → Type 0

@@ -7,7 +7,7 @@ ghost use Rattle.bp_words.specs.CommandLine.{command_line};
 ghost use Rattle.bp_words.specs.Orders.{IsInRange};
 ghost use Rattle.bp_report.specs.Refusals.{words_refusal};
 ghost use Rattle.bp_front.specs.Answers.{AnswersBy, IsOnly, CutsOff, HasCauses};
-ghost use Rattle.bp_cli.specs.Running.{Answers, AnswersOrder, HasWritten, OfOrder};
+ghost use Rattle.bp_cli.specs.Running.{Answers, AnswersOrder, HasWritten, HasPutLast, OfOrder};
 
 use bp_front::{Ended, Reply, print, stopped};
 use bp_report::words_text;
@@ -35,6 +35,9 @@ pub fn run<F: Shelf, O: Sink>(alloc: Global, words: &[String], shelf: &mut F, ou
     // What is written: the valid certificate of the outcome that is kept, or the texts that are made; and that nothing else is.
     ensures written { IsTrue (F.tells shelf.old) →
         OfOrder (map string_bytes words.now) (λ order. HasWritten order (F.file shelf.old) (F.file shelf.new) result.kept result.status) }
+    // The report is put last: where it could not be put, what is written stands whole.
+    ensures put_last { IsTrue (F.tells shelf.old) → O.faults out.old < O.faults out.new →
+        OfOrder (map string_bytes words.now) (λ order. HasPutLast order (F.file shelf.old) (F.file shelf.new)) }
     // Which status comes only where, over any shelf and sink.
     ensures causes { HasCauses result.status (F.read_faults shelf.old) (F.read_faults shelf.new)
         (F.write_faults shelf.old) (F.write_faults shelf.new) (O.faults out.old) (O.faults out.new) }
@@ -63,6 +66,7 @@ fn obey<F: Shelf, O: Sink>(alloc: Global, order: &Order, shelf: &mut F, out: &mu
         AnswersBy (AnswersOrder order.now (F.file shelf.old) result.kept) result.status (O.taken out.old) (O.taken out.new) }
     ensures exact { IsTrue (F.tells shelf.old) → IsOnly (AnswersOrder order.now (F.file shelf.old) result.kept) result.status }
     ensures written { IsTrue (F.tells shelf.old) → HasWritten order.now (F.file shelf.old) (F.file shelf.new) result.kept result.status }
+    ensures put_last { IsTrue (F.tells shelf.old) → O.faults out.old < O.faults out.new → HasPutLast order.now (F.file shelf.old) (F.file shelf.new) }
     ensures causes { HasCauses result.status (F.read_faults shelf.old) (F.read_faults shelf.new)
         (F.write_faults shelf.old) (F.write_faults shelf.new) (O.faults out.old) (O.faults out.new) }
     ensures kept { (result.kept ≡ None) ⊎ ((result.status ≡ 0) ⊎ (result.status ≡ 4) ⊎ (result.status ≡ 5)) }

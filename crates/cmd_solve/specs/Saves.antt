@@ -3,7 +3,7 @@ use Rattle.std.specs.Prelude.{◌≡◌, ℕ, List, Option, Some, None}
 use Rattle.bp_shelf.specs.Shelf.{Files}
 use Rattle.block_form.specs.Blocked.{BlockedProgram}
 use Rattle.branch_tree.specs.declared.outcome.Outcome.{Outcome}
-use Rattle.bp_search.specs.Ends.{most_steps}
+use Rattle.bp_search.specs.Ends.{IsOutcome, most_steps}
 use Rattle.bp_report.specs.Report.{solve_report}
 use Rattle.bp_front.specs.Front.{FilesCome, blocked}
 use Rattle.bp_front.specs.declared.ending.Reply.{Reply}
@@ -28,3 +28,11 @@ SavesBlocked b cert files (Some outcome) = IsSaved b outcome cert files
 abbrev pub HasCertificate : Files → List ℕ → Option (List ℕ) → Option (List ℕ) → Files → Option Outcome → Type 0
 HasCertificate before lp dec cert now None = Unit {0}
 HasCertificate before lp dec cert now (Some outcome) = (b : BlockedProgram) × FilesCome before lp dec (blocked b) × IsSaved b outcome cert now
+
+-- an outcome of a search of so many steps has its certificate in the file that is named for it
+abbrev pub LeavesBlocked : (steps : Option ℕ) → Option (List ℕ) → Files → BlockedProgram → Type 0
+LeavesBlocked steps cert files b = (outcome : Outcome) × IsOutcome b steps outcome × IsSaved b outcome cert files
+
+-- the same of a program in blocks, where the files come to one
+abbrev pub LeavesCertificate : Files → (lp : List ℕ) → (dec : Option (List ℕ)) → (steps : Option ℕ) → Option (List ℕ) → Files → Type 0
+LeavesCertificate before lp dec steps cert now = (b : BlockedProgram) → FilesCome before lp dec (blocked b) → LeavesBlocked steps cert now b

@@ -9,7 +9,7 @@ ghost use Rattle.bp_shelf.specs.Shelf.{CountsFailed, OthersAsBefore, Writes};
 ghost use Rattle.bp_shelf.specs.declared.shelf.ShelfFault.TheVariants.{Missing, NoMemory};
 ghost use Rattle.bp_front.specs.Answers.{AnswersBy, IsOnly, CutsOff, HasCauses, FilesStand, IsUntouched};
 ghost use Rattle.cmd_solve.specs.Solves.{AnswersSolve, SolvesBlocked, outcome_status};
-ghost use Rattle.cmd_solve.specs.Saves.{IsSolved, IsSaved, SavesBlocked, HasCertificate};
+ghost use Rattle.cmd_solve.specs.Saves.{IsSolved, IsSaved, SavesBlocked, HasCertificate, LeavesBlocked, LeavesCertificate};
 
 use block_form::Blocked;
 use bp_front::{Ended, Halt, Reply, load, print, stopped, stopped_by};
@@ -20,7 +20,8 @@ use branch_tree::Outcome;
 use cert_text::write_cert;
 use std::alloc::{AllocError, Global};
 
-/// Solves the model of a file, writes the certificate where a file is named for it, and prints the report.
+/// Solves the model of a file, writes the certificate where a file is named for it, and prints the report. The certificate
+/// is written first: where only the report could not be put, it stands whole.
 pub fn solve<F: Shelf, O: Sink>(
     alloc: Global,
     shelf: &mut F,
@@ -37,6 +38,8 @@ pub fn solve<F: Shelf, O: Sink>(
         IsOnly (AnswersSolve (F.file shelf.old) lp.now (option_map (λ name. name.now) dec.entry) steps result.kept) result.status }
     ensures saved { IsTrue (F.tells shelf.old) →
         HasCertificate (F.file shelf.old) lp.now (option_map (λ name. name.now) dec.entry) (option_map (λ name. name.now) cert.entry) (F.file shelf.new) result.kept }
+    ensures put_last { IsTrue (F.tells shelf.old) → O.faults out.old < O.faults out.new →
+        LeavesCertificate (F.file shelf.old) lp.now (option_map (λ name. name.now) dec.entry) steps (option_map (λ name. name.now) cert.entry) (F.file shelf.new) }
     ensures causes { HasCauses result.status (F.read_faults shelf.old) (F.read_faults shelf.new)
         (F.write_faults shelf.old) (F.write_faults shelf.new) (O.faults out.old) (O.faults out.new) }
     ensures kept { (result.kept ≡ None) ⊎ ((result.status ≡ 0) ⊎ (result.status ≡ 4) ⊎ (result.status ≡ 5)) }
@@ -69,6 +72,8 @@ fn answer<F: Shelf, O: Sink>(
         AnswersBy (SolvesBlocked steps result.kept b.now) result.status (O.taken out.old) (O.taken out.new) }
     ensures exact { IsOnly (SolvesBlocked steps result.kept b.now) result.status }
     ensures saved { IsTrue (F.tells shelf.old) → SavesBlocked b.now (option_map (λ name. name.now) cert.entry) (F.file shelf.new) result.kept }
+    ensures put_last { IsTrue (F.tells shelf.old) → O.faults out.old < O.faults out.new →
+        LeavesBlocked steps (option_map (λ name. name.now) cert.entry) (F.file shelf.new) b.now }
     ensures causes { HasCauses result.status (F.read_faults shelf.old) (F.read_faults shelf.new)
         (F.write_faults shelf.old) (F.write_faults shelf.new) (O.faults out.old) (O.faults out.new) }
     ensures kept { (result.kept ≡ None) ⊎ ((result.status ≡ 0) ⊎ (result.status ≡ 4) ⊎ (result.status ≡ 5)) }

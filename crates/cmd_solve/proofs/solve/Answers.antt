@@ -1,7 +1,10 @@
-use Rattle.std.proofs.Common.{◌≡◌, refl, None}
+use Rattle.std.proofs.Common.{◌≡◌, ◌∙◌, refl, subst, None}
 use Rattle.std.specs.Option.{option_map}
 use Rattle.bp_front.specs.Answers.{stopped}
+use Rattle.bp_front.specs.Front.{blocked, ends}
+use Rattle.bp_front.proofs.OneFront.{one_front}
 use Rattle.bp_front.proofs.Lifts.{lift_answers, lift_only, lift_cut, stop_only, fault_only, printed_status}
+use Rattle.cmd_solve.specs.Saves.{LeavesBlocked}
 use Rattle.cmd_solve.specs.Solves.{SolvesBlocked}
 use Rattle.cmd_solve.proofs.solve.Goals as goal
 
@@ -41,3 +44,16 @@ returns-in-Err-Stopped-clause-exact g c = λ told.
     fault_only (g.F.Shelf.file c.args.shelf.now) c.args.lp.now (option_map (λ name. name.now) c.args.dec) (c.stopped_by.result.kept ≡ None)
     (SolvesBlocked c.args.steps c.stopped_by.result.kept) c.stopped_by.result.status c.in-Err-Stopped.fault
     (rw c.in-Err-Stopped.field-0-is at halts) (rw c.in-Err-Stopped.field-0-is at c.stopped_by.ensures.status)
+
+pub returns-in-Ok-clause-put_last : goal.returns-in-Ok-clause-put_last
+returns-in-Ok-clause-put_last g c = λ told rose other come.
+    subst (LeavesBlocked c.args.steps (option_map (λ name. name.now) c.args.cert) (g.F.Shelf.file c.answer.new.shelf))
+    (one_front (g.F.Shelf.file c.args.shelf.now) c.args.lp.now (option_map (λ name. name.now) c.args.dec) (blocked c.in-Ok.b) (blocked other)
+    (c.in-Ok.ensures.blocked told) come)
+    (c.answer.ensures.put_last (c.load.ensures.told ∙ told) rose)
+
+pub returns-in-Err-Refused-clause-put_last : goal.returns-in-Err-Refused-clause-put_last
+returns-in-Err-Refused-clause-put_last g c = λ told rose other come.
+    let halts = c.in-Err-Refused.ensures.halted told in
+    absurd (one_front (g.F.Shelf.file c.args.shelf.now) c.args.lp.now (option_map (λ name. name.now) c.args.dec) (blocked other)
+    (ends 3 c.in-Err-Refused.report.items) come (rw c.in-Err-Refused.field-0-is at halts))
