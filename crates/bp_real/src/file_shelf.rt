@@ -2,11 +2,11 @@
 ghost use Rattle.std.specs.Prelude.{◌≡◌, ◌≤◌, ◌^◌, length, IfOk, IsOk, IsErrOf, is_ok};
 ghost use Rattle.bp_shelf.specs.Shelf.{CountsFailed};
 
-use crate::whole::{fill, write_whole};
+use crate::whole::fill;
 use bp_shelf::{Shelf, ShelfFault};
 use std::fs::OpenOptions;
 use std::io;
-use std::io::{ErrorKind, Seek, SeekFrom};
+use std::io::{ErrorKind, Seek, SeekFrom, Write};
 use std::rt::Files;
 
 // No file is read or written from this place on.
@@ -51,7 +51,7 @@ impl<'a, R: Files> FileShelf<'a, R> {
             return Err(io::Error::from(ErrorKind::FileTooLarge));
         }
         let mut file = how.open(self.rt, name)?;
-        write_whole(&mut file, bytes)
+        file.write_all(bytes)
     }
 
     // Counts a write that failed.

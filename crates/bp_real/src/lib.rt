@@ -30,6 +30,7 @@ mod tests {
         let below = "bprice_file_shelf_test/below";
         assert!(rt; shelf.read_at(below, 0, &mut buffer) == Err(ShelfFault::Missing));
         assert!(rt; shelf.replace(below, b"abc") == Err(ShelfFault::Failed));
+        assert!(rt; shelf.read_at("/", 0, &mut buffer) == Err(ShelfFault::Failed));
         fs::remove_file(&rt, name)?;
         assert!(rt; shelf.read_at(name, 0, &mut buffer) == Err(ShelfFault::Missing));
         assert!(rt; shelf.extend(name, b"f").is_ok());

@@ -1,9 +1,9 @@
 // The standard output as a sink.
 ghost use Rattle.std.specs.Prelude.{◌≡◌};
 
-use crate::whole::write_whole;
 use bp_shelf::{Sink, SinkFault};
 use std::io;
+use std::io::Write;
 
 /// The standard output. Each put that fails raises its count, which stays at its last value, `2^64 - 1`.
 #[derive(Drop)]
@@ -31,7 +31,7 @@ impl<R: Print> Sink for OutSink<'_, R> {
     ghost faults = { λ sink. sink.faults };
 
     fn put(&mut self, bytes: &[u8]) -> Result<(), SinkFault> {
-        if write_whole(&mut io::writer(self.rt), bytes).is_err() {
+        if io::writer(self.rt).write_all(bytes).is_err() {
             self.faults = self.faults.saturating_add(1);
             return Err(SinkFault);
         }
