@@ -8,8 +8,6 @@ mod model;
 mod names;
 mod parts;
 mod points;
-#[cfg(test)]
-mod tests;
 mod tidy;
 
 pub use bp_theory::{Items, Row, Sense, Span, Term};

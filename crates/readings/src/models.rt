@@ -1,5 +1,5 @@
-// Worked values of the limits, and each call once with ample memory.
-use super::*;
+// Models of parts: worked values of the limits, and each call once with ample memory.
+use bp_model::{Items, Miss, Model, ModelFault, Names, Parts, Row, Sense, Span, Term};
 use std::alloc::Global;
 use std::test::Fail;
 
@@ -55,6 +55,11 @@ fn made(
 // What making a model of spans alone gives.
 fn made_of_spans(rt: &HostRuntime, spans: Vec<Span>) -> Result<Option<ModelFault>, Fail> {
     Ok(made(rt, spans, Vec::new(rt.alloc()), Vec::new(rt.alloc()), 0)?.err())
+}
+
+// What making a model of one span alone gives.
+fn made_of_span(rt: &HostRuntime, lo: i64, hi: i64) -> Result<Option<ModelFault>, Fail> {
+    made_of_spans(rt, vec![in rt.alloc(); Span { lo, hi }]?)
 }
 
 #[test]
@@ -138,43 +143,13 @@ fn the_first_crossed_span_is_refused(rt: HostRuntime) -> Result<(), Fail> {
 
 #[test]
 fn ends_are_numbers_of_texts(rt: HostRuntime) -> Result<(), Fail> {
-    let alloc = rt.alloc();
-    assert_eq!(rt;
-        made_of_spans(
-            &rt,
-            vec![in alloc;
-                Span {
-                    lo: -MOST,
-                    hi: MOST
-                }
-            ]?
-        )?,
-        None
-    );
-    assert_eq!(rt;
-        made_of_spans(
-            &rt,
-            vec![in alloc;
-                Span {
-                    lo: MOST + 1,
-                    hi: MOST + 1
-                }
-            ]?
-        )?,
-        Some(ModelFault::Limit)
-    );
-    assert_eq!(rt;
-        made_of_spans(
-            &rt,
-            vec![in alloc;
-                Span {
-                    lo: -MOST - 1,
-                    hi: 0
-                }
-            ]?
-        )?,
-        Some(ModelFault::Limit)
-    );
+    for (lo, hi, want) in [
+        (-MOST, MOST, None),
+        (MOST + 1, MOST + 1, Some(ModelFault::Limit)),
+        (-MOST - 1, 0, Some(ModelFault::Limit)),
+    ] {
+        assert_eq!(rt; made_of_span(&rt, lo, hi)?, want);
+    }
     Ok(())
 }
 
@@ -204,8 +179,8 @@ fn variables_rows_and_terms_have_limits(rt: HostRuntime) -> Result<(), Fail> {
     Ok(())
 }
 
-#[test]
-fn terms_add_up_in_order_and_without_zeros(rt: HostRuntime) -> Result<(), Fail> {
+// Three variables, and a row and costs of the same terms, some of which add up and some of which leave nothing.
+fn added_up(rt: &HostRuntime) -> Result<Model, Fail> {
     let alloc = rt.alloc();
     let spans = vec![in alloc;
         Span { lo: 0, hi: 3 },
@@ -221,31 +196,48 @@ fn terms_add_up_in_order_and_without_zeros(rt: HostRuntime) -> Result<(), Fail> 
     ];
     let mut rows = Vec::new(alloc);
     rows.push(at_most(alloc, &terms, 20)?)?;
-    let Ok(model) = made(&rt, spans, rows, terms.to_vec(alloc)?, 4)? else {
-        return Err(Fail::new("the parts are refused"));
-    };
-    assert_eq!(rt; model.vars(), 3);
+    made(rt, spans, rows, terms.to_vec(alloc)?, 4)?.map_err(|_| Fail::new("the parts are refused"))
+}
+
+#[test]
+fn terms_add_up_in_order_and_without_zeros(rt: HostRuntime) -> Result<(), Fail> {
+    let model = added_up(&rt)?;
     assert_eq!(rt; model.rows(), 1);
     for terms in [model.costs(), model.row(0).terms.as_slice()] {
         assert_eq!(rt; terms.len(), 2);
         assert_eq!(rt; (terms[0].var, terms[0].coef), (0, 7));
         assert_eq!(rt; (terms[1].var, terms[1].coef), (2, 2));
     }
-    assert_eq!(rt; (model.name(2), model.row_name(0)), ("v2", "v0"));
-    assert_eq!(rt;
-        (
-            model.var_of("v1"),
-            model.var_of("w"),
-            model.row_of("v0"),
-            model.row_of("v1")
-        ),
-        (Some(1), None, Some(0), None)
-    );
+    Ok(())
+}
+
+#[test]
+fn a_model_tells_its_parts(rt: HostRuntime) -> Result<(), Fail> {
+    let model = added_up(&rt)?;
+    assert_eq!(rt; model.vars(), 3);
+    assert_eq!(rt; model.rows(), 1);
     assert_eq!(rt; (model.constant(), model.maximises()), (4, false));
     assert_eq!(rt;
         (model.span(1).lo, model.span(1).hi, model.spans().len()),
         (0, 3, 3)
     );
+    Ok(())
+}
+
+#[test]
+fn a_model_tells_its_names(rt: HostRuntime) -> Result<(), Fail> {
+    let model = added_up(&rt)?;
+    assert_eq!(rt; model.vars(), 3);
+    assert_eq!(rt; model.rows(), 1);
+    assert_eq!(rt; (model.name(2), model.row_name(0)), ("v2", "v0"));
+    assert_eq!(rt; (model.var_of("v1"), model.var_of("w")), (Some(1), None));
+    assert_eq!(rt; (model.row_of("v0"), model.row_of("v1")), (Some(0), None));
+    Ok(())
+}
+
+#[test]
+fn a_point_misses_its_length_a_bound_a_row_or_nothing(rt: HostRuntime) -> Result<(), Fail> {
+    let model = added_up(&rt)?;
     assert_eq!(rt; model.misses(&[0, 0]), Some(Miss::Length));
     assert_eq!(rt; model.misses(&[0, -1, 4]), Some(Miss::Bound(1)));
     assert_eq!(rt; model.misses(&[3, 0, 0]), Some(Miss::Row(0)));
