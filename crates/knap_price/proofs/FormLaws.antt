@@ -6,11 +6,13 @@ use Rattle.std.proofs.lemmas.Int.{ints, fits_signed_from_abs}
 use Rattle.bp_theory.specs.Sums.{dot}
 use Rattle.pricing.specs.Priced.{IsCheapest, HasNoPoint}
 use Rattle.knap_price.specs.Choices.{MeetsAt, IsChosen}
-use Rattle.knap_price.proofs.TableLaws.{table_bounded}
+use Rattle.knap_price.proofs.TableLaws.{worth_small}
 use Rattle.std.specs.Prelude.{Option, None, Some, FitsSigned, ◌<ℤ◌, ◌≤ℤ◌, unsigned_abs, sum_by, All}
 use Rattle.std.specs.List.{AllByRecursion}
 use Rattle.std.proofs.lemmas.List.Elements.{recursion_from_All, All-from_recursion}
-use Rattle.bp_theory.specs.Program.{IsInside}
+use Rattle.bp_theory.specs.Program.{IsInside, reach}
+use Rattle.bp_theory.specs.Bound.{box_least}
+use Rattle.std.proofs.Math.Nat.{mul-le-mul_left}
 use Rattle.bp_theory.specs.Decomposition.{HasVariablesBelow}
 use Rattle.bp_theory.specs.Trees.{IsSubspan}
 use Rattle.bp_theory.specs.declared.Span.{Span}
@@ -22,10 +24,12 @@ use Rattle.knap_price.specs.declared.items.Item.{Item}
 use Rattle.knap_price.specs.declared.form.Form.{Form}
 use Rattle.knap_price.specs.Taken.{row_reach, dense, first_terms, IsTaken}
 use Rattle.knap_price.specs.Loads.{items_of, point_of, none_of}
-use Rattle.knap_price.specs.Tables.{no_way, cell_at, IsTable, worth_size}
+use Rattle.knap_price.specs.Rooms.{room_for, room_of, form_room, cells_of}
+use Rattle.knap_price.specs.Tables.{IsTable, Reaches, worth_size, full_load}
 use Rattle.knap_price.proofs.LoadLaws.{point_of_load}
-use Rattle.knap_price.proofs.StepLaws.{length-items_of}
-use Rattle.knap_price.proofs.PriceLaws.{IsTabled, none_priced, some_priced, one_row, reach_small, many_coefs, coefs_narrow, coefs_size, coefs_reach, items_heavy, items_small, items_worth, none_fits, short_inside}
+use Rattle.knap_price.proofs.CoefLaws.{cost_size_is, dense_size}
+use Rattle.knap_price.proofs.StepLaws.{length-items_of, length-point_of, box_least-below, inside_root, room_shrinks, room_above}
+use Rattle.knap_price.proofs.PriceLaws.{IsTabled, none_priced, some_priced, one_row, reach_small, many_coefs, coefs_narrow, coefs_size, coefs_reach, items_heavy, items_small, items_worth, none_fits, short_inside, full_load-le}
 
 -- the first row, by any default
 pub first_is : (rows : List Row) (row : Row) → length rows ≡ 1 → row ≡ get_or rows 0 row → (rows ≡ row ∷ []) × (first_terms rows ≡ row.terms)
@@ -100,15 +104,70 @@ pub items_many : (f : Form) (zone : List Span) (costs : List ℤ) → IsPriceabl
     → length items ≡ length zone
 items_many f zone costs p items is = ap length is ∙ length-items_of f.coefs.items zone costs (coefs_many f zone costs p) p.each
 
+-- a zone's items whole weigh no more than the row can move
+pub full : (f : Form) (zone : List Span) (costs : List ℤ) → IsPriceable f.spans.items zone costs → (items : List Item) → items ≡ items_of f.coefs.items zone costs
+    → full_load items ≤ row_reach f.spans.items (first_terms f.rows.items)
+full f zone costs p items is =
+    subst (λ (xs : List Item). full_load xs ≤ row_reach f.spans.items (first_terms f.rows.items)) (sym is)
+    (subst (λ as'. full_load (items_of as' zone costs) ≤ row_reach f.spans.items (first_terms f.rows.items)) (sym f.dense_coefs)
+    (omega (
+      arith,
+      full_load-le (dense (first_terms f.rows.items) (length f.spans.items)) zone costs,
+      coefs_reach (first_terms f.rows.items) f.spans.items zone p.in_root.proper p.in_root.inside,
+    )))
+
+-- the coefficients' size at the root
+pub root_small : (f : Form) → cost_size f.spans.items f.coefs.items ≤ 2 ^ 116
+root_small f =
+    subst (λ as'. cost_size f.spans.items as' ≤ 2 ^ 116) (sym f.dense_coefs)
+    (omega (
+      arith,
+      terms_small f,
+      cost_size_is f.spans.items (dense (first_terms f.rows.items) (length f.spans.items)),
+      dense_size reach f.spans.items (length f.spans.items) (first_terms f.rows.items),
+    ))
+
+pub root_coefs_many : (f : Form) → length f.coefs.items ≡ length f.spans.items
+root_coefs_many f = ap length f.dense_coefs ∙ many_coefs (first_terms f.rows.items) (length f.spans.items)
+
+-- the room at the root, by its row
+pub form_room_is : (f : Form) (row : Row) → row ≡ get_or f.rows.items 0 row
+    → form_room f ≡ room_for row.sense row.rhs (box_least f.spans.items f.coefs.items) (row_reach f.spans.items (first_terms f.rows.items))
+form_room_is f row r =
+    ap (λ (rows : List Row). room_of rows (box_least f.spans.items f.coefs.items) (row_reach f.spans.items (first_terms f.rows.items)))
+    (first_is f.rows.items row f.taken.one r).0
+
+-- the room in a zone is no greater than at the root
+pub room_fits : (f : Form) (zone : List Span) (costs : List ℤ) → IsPriceable f.spans.items zone costs → (row : Row) → row ≡ get_or f.rows.items 0 row
+    → (items : List Item) → items ≡ items_of f.coefs.items zone costs → (base : ℤ)
+    → base ≡ dot f.coefs.items (point_of f.coefs.items zone costs (none_of f.coefs.items))
+    → room_for row.sense row.rhs base (full_load items) ≤ form_room f
+room_fits f zone costs p row r items is base b =
+    subst (λ n. room_for row.sense row.rhs base (full_load items) ≤ n) (sym (form_room_is f row r))
+    (room_shrinks row base (box_least f.spans.items f.coefs.items) (full_load items) (row_reach f.spans.items (first_terms f.rows.items))
+    (subst (λ z. box_least f.spans.items f.coefs.items ≤ℤ z) (sym b)
+    (box_least-below f.spans.items f.coefs.items (point_of f.coefs.items zone costs (none_of f.coefs.items)) (root_coefs_many f)
+    (inside_root zone f.spans.items (point_of f.coefs.items zone costs (none_of f.coefs.items)) p.in_root.inside (anchors_inside f zone costs p))))
+    (full f zone costs p items is))
+
+-- so the rows of a zone fit where those of the root do
+pub rows_fit : (n top room cells : ℕ) → top ≤ room → (n + 1) * (room + 1) ≤ cells → (n + 1) * (top + 1) ≤ cells
+rows_fit n top room cells l h = omega (arith, h, mul-le-mul_left (n + 1) (more top room l))
+  where
+    more : (a b : ℕ) → a ≤ b → a + 1 ≤ b + 1
+    more a b m = omega (arith, m)
+
+pub last_fits : (n top cells c : ℕ) → (n + 1) * (top + 1) ≤ cells → c ≤ top → n * (top + 1) + c < cells
+last_fits n top cells c h l = omega (arith, h, l)
+
 -- the table that was filled, as that of the row
 pub tabled : (f : Form) (zone : List Span) (costs : List ℤ) → IsPriceable f.spans.items zone costs → (row : Row) → row ≡ get_or f.rows.items 0 row
     → (items : List Item) → items ≡ items_of f.coefs.items zone costs
-    → (ways : ℕ → List ℕ) (cells : List ℤ) (base : ℤ) (top : ℕ)
+    → (cells : ℕ → ℤ) (base : ℤ) (top : ℕ)
     → base ≡ dot f.coefs.items (point_of f.coefs.items zone costs (none_of f.coefs.items))
-    → IsTable items ways top cells
-    → ((c : ℕ) → top < c → MeetsAt row base c → row_reach f.spans.items (first_terms f.rows.items) < c)
-    → IsTabled row f.spans.items zone costs ways cells base top
-tabled f zone costs p row r items is ways cells base top b table above =
+    → IsTable items top cells → top ≡ room_for row.sense row.rhs base (full_load items)
+    → IsTabled row f.spans.items zone costs cells base top
+tabled f zone costs p row r items is cells base top b table t =
     let first = first_is f.rows.items row f.taken.one r in
     let coefs : f.coefs.items ≡ dense row.terms (length f.spans.items) =
     f.dense_coefs ∙ ap (λ (ts : List Term). dense ts (length f.spans.items)) first.1 in
@@ -116,53 +175,58 @@ tabled f zone costs p row r items is ways cells base top b table above =
       places = subst (HasVariablesBelow (length f.spans.items)) first.1 (terms_places f);
       priceable = p;
       base_is = b ∙ ap (λ as'. dot as' (point_of as' zone costs (none_of as'))) coefs;
-      table = subst (λ (xs : List Item). IsTable xs ways top cells) (is ∙ ap (λ as'. items_of as' zone costs) coefs) table;
-      above = λ c more meets. subst (λ (ts : List Term). row_reach f.spans.items ts < c) first.1 (above c more meets);
+      table = subst (λ (xs : List Item). IsTable xs top cells) (is ∙ ap (λ as'. items_of as' zone costs) coefs) table;
+      above = λ c more meets. subst (λ (xs : List Item). full_load xs < c) (is ∙ ap (λ as'. items_of as' zone costs) coefs)
+          (room_above row base (full_load items) c (subst (λ n. n < c) t more) meets);
     }
 
 -- no choice: no point
 pub answer_none : (f : Form) (zone : List Span) (costs : List ℤ) (row : Row) → row ≡ get_or f.rows.items 0 row
-    → (ways : ℕ → List ℕ) (cells : List ℤ) (base : ℤ) (top : ℕ)
-    → IsTabled row f.spans.items zone costs ways cells base top → IsChosen cells row base (top + 1) None → HasNoPoint f.rows.items zone
-answer_none f zone costs row r ways cells base top t chosen =
+    → (cells : ℕ → ℤ) (base : ℤ) (top : ℕ)
+    → IsTabled row f.spans.items zone costs cells base top → IsChosen cells row base (top + 1) None → HasNoPoint f.rows.items zone
+answer_none f zone costs row r cells base top t chosen =
     subst (λ (rows : List Row). HasNoPoint rows zone) (sym (first_is f.rows.items row f.taken.one r).0)
-    (none_priced row f.spans.items zone costs ways cells base top t chosen)
+    (none_priced row f.spans.items zone costs cells base top t chosen)
 
--- a choice: its way is a cheapest point
+-- a choice: a load that reaches its cell is a cheapest point
 pub answer_some : (f : Form) (zone : List Span) (costs : List ℤ) (row : Row) → row ≡ get_or f.rows.items 0 row
-    → (ways : ℕ → List ℕ) (cells : List ℤ) (base : ℤ) (top c : ℕ) (v base_cost : ℤ) (point : List ℤ)
-    → IsTabled row f.spans.items zone costs ways cells base top → IsChosen cells row base (top + 1) (Some c)
-    → v ≡ base_cost +ℤ cell_at cells c
+    → (items : List Item) → items ≡ items_of f.coefs.items zone costs
+    → (cells : ℕ → ℤ) (base : ℤ) (top c : ℕ) (v base_cost : ℤ) (point : List ℤ)
+    → IsTabled row f.spans.items zone costs cells base top → IsChosen cells row base (top + 1) (Some c)
+    → (us : List ℕ) × Reaches items us c (cells c) × (point ≡ point_of f.coefs.items zone costs us)
+    → v ≡ base_cost +ℤ cells c
     → base_cost ≡ dot costs (point_of f.coefs.items zone costs (none_of f.coefs.items))
-    → point ≡ point_of f.coefs.items zone costs (ways c)
     → IsCheapest f.rows.items zone costs point v
-answer_some f zone costs row r ways cells base top c v base_cost point t chosen is b at =
+answer_some f zone costs row r items its cells base top c v base_cost point t chosen way is b =
     let first = first_is f.rows.items row f.taken.one r in
     let coefs : f.coefs.items ≡ dense row.terms (length f.spans.items) =
     f.dense_coefs ∙ ap (λ (ts : List Term). dense ts (length f.spans.items)) first.1 in
     subst (λ (rows : List Row). IsCheapest rows zone costs point v) (sym first.0)
-    (subst (λ (ys : List ℤ). IsCheapest (row ∷ []) zone costs ys v) (sym (at ∙ ap (λ as'. point_of as' zone costs (ways c)) coefs))
-    (some_priced row f.spans.items zone costs ways cells base top c v t chosen
-    (is ∙ ap (λ z. z +ℤ cell_at cells c) (b ∙ ap (λ as'. dot costs (point_of as' zone costs (none_of as'))) coefs))))
+    (subst (λ (ys : List ℤ). IsCheapest (row ∷ []) zone costs ys v) (sym (way.2 ∙ ap (λ as'. point_of as' zone costs way.0) coefs))
+    (some_priced row f.spans.items zone costs cells base top c v way.0 t chosen
+    (subst (λ (xs : List Item). Reaches xs way.0 c (cells c)) (its ∙ ap (λ as'. items_of as' zone costs) coefs) way.1)
+    (is ∙ ap (λ z. z +ℤ cells c) (b ∙ ap (λ as'. dot costs (point_of as' zone costs (none_of as'))) coefs))))
 
 -- a cost and a cell of the table fit together
-pub total_fits : (items : List Item) (ways : ℕ → List ℕ) (top c : ℕ) (cells : List ℤ) (base_cost cell : ℤ) → IsTable items ways top cells → worth_size items ≤ 2 ^ 117
-    → c ≤ top → cell_at cells c <ℤ no_way → cell ≡ cell_at cells c → unsigned_abs base_cost ≤ 2 ^ 116 → FitsSigned w128 (base_cost +ℤ cell)
-total_fits items ways top c cells base_cost cell table small l less is cost =
+pub total_fits : (items : List Item) (us : List ℕ) (c : ℕ) (base_cost cell : ℤ) → Reaches items us c cell → worth_size items ≤ 2 ^ 117
+    → unsigned_abs base_cost ≤ 2 ^ 116 → FitsSigned w128 (base_cost +ℤ cell)
+total_fits items us c base_cost cell r small cost =
     fits_signed_from_abs w128 (base_cost +ℤ cell)
-    (added base_cost cell cost (subst (λ z. unsigned_abs z ≤ 2 ^ 117) (sym is) (table_bounded items ways top (2 ^ 117) cells table small c l less)))
+    (added base_cost cell cost (subst (λ z. unsigned_abs z ≤ 2 ^ 117) r.costs (omega (arith, small, worth_small items us r.fits))))
   where
     added : (a b : ℤ) → unsigned_abs a ≤ 2 ^ 116 → unsigned_abs b ≤ 2 ^ 117 → unsigned_abs (a +ℤ b) < 2 ^ 127
     added a b h k = omega (arith, ints, h, k)
 
--- a row of picks has a place for each weight
-pub row_wide : (before now : List (List ℕ)) (wide : ℕ) → length now ≡ length before
-    → ((k : ℕ) → length (get_or now k []) ≡ length (get_or before k [])) → All (λ (row : List ℕ). length row ≡ wide) before
-    → All (λ (row : List ℕ). length row ≡ wide) now
-row_wide before now wide many same had k d l =
-    ap length (get_or_default now k d [] l) ∙ same k ∙ had k [] (omega (arith, l, many))
-  where
-    get_or_default : {X : Type 0} (xs : List X) (k : ℕ) (d e : X) → k < length xs → get_or xs k d ≡ get_or xs k e
-    get_or_default [] k d e l = absurd (omega arith)
-    get_or_default (x ∷ xs) zero d e l = refl
-    get_or_default (x ∷ xs) (suc k) d e l = get_or_default xs k d e (omega arith)
+-- a load's point has a number for each variable
+pub way_length : (f : Form) (zone : List Span) (costs : List ℤ) → IsPriceable f.spans.items zone costs → (us : List ℕ) (c : ℕ) (v : ℤ)
+    → Reaches (items_of f.coefs.items zone costs) us c v → length (point_of f.coefs.items zone costs us) ≡ length f.spans.items
+way_length f zone costs p us c v r =
+    length-point_of f.coefs.items zone costs us (coefs_many f zone costs p) p.each
+    (sym (AllZip-length (λ (i : Item) (u : ℕ). u ≤ i.width) (items_of f.coefs.items zone costs) us r.fits) ∙ items_many f zone costs p (items_of f.coefs.items zone costs) refl)
+    ∙ zone_many f zone costs p
+
+-- how many cells a table has, by what it is made of
+pub cells_are : (f : Form) → cells_of f.rows.items f.spans.items ≡ (length f.spans.items + 1) * (form_room f + 1)
+cells_are f =
+    ap (λ as'. (length f.spans.items + 1) * (room_of f.rows.items (box_least f.spans.items as') (row_reach f.spans.items (first_terms f.rows.items)) + 1))
+    (sym f.dense_coefs)

@@ -6,3 +6,4 @@ pub mod PriceLaws
 pub mod FormLaws
 pub mod SplitLaws
 pub mod NarrowLaws
+pub mod TraceLaws

@@ -24,12 +24,12 @@ use Rattle.pricing.specs.Priced.{IsCheapest, HasNoPoint}
 use Rattle.knap_price.specs.declared.items.Item.{Item}
 use Rattle.knap_price.specs.Taken.{term_reach, row_reach, dense, first_terms, IsTaken}
 use Rattle.knap_price.specs.Loads.{IsLoad, load, worth, item_of, number_of, items_of, point_of, none_of}
-use Rattle.knap_price.specs.Tables.{no_way, cell_at, IsTable, IsCell, Reaches, worth_size}
+use Rattle.knap_price.specs.Tables.{no_way, IsTable, Reaches, worth_size, full_load}
 use Rattle.knap_price.specs.Choices.{MeetsAt, IsChosen}
 use Rattle.knap_price.proofs.LoadLaws.{IsLoadOf, load_of_point, IsPointOf, point_of_load}
 use Rattle.knap_price.proofs.CoefLaws.{size_by, cost_size_is, dense_size, dense_activity, coefficient_short, gap-le}
 use Rattle.knap_price.proofs.StepLaws.{length-items_of, length-none_of, cost-le}
-use Rattle.knap_price.proofs.TableLaws.{worth_small}
+use Rattle.knap_price.proofs.TableLaws.{load-full}
 
 -- sizes in a smaller zone
 pub size_by_inside : (w : Span → ℕ) (small large : List Span) (rs : List ℤ) → ((s t : Span) → s.lo ≤ℤ s.hi → IsSubspan s t → w s ≤ w t)
@@ -124,14 +124,12 @@ items_worth (a ∷ as') [] rs = omega arith
 items_worth (a ∷ as') (s ∷ ss) [] = omega arith
 items_worth (a ∷ as') (s ∷ ss) (r ∷ rs) = omega (arith, item_cost a s r, items_worth as' ss rs)
 
--- a load weighs no more than the coefficients reach
-pub load-le : (as' : List ℤ) (ss : List Span) (rs : List ℤ) (us : List ℕ) → IsLoad (items_of as' ss rs) us → load (items_of as' ss rs) us ≤ size_by gap ss as'
-load-le [] ss rs us h = omega arith
-load-le (a ∷ as') [] rs us h = omega arith
-load-le (a ∷ as') (s ∷ ss) [] us h = omega arith
-load-le (a ∷ as') (s ∷ ss) (r ∷ rs) [] h = absurd h
-load-le (a ∷ as') (s ∷ ss) (r ∷ rs) (u ∷ us) h =
-    omega (arith, mul-le-mul_left (item_of a s r).weight h.0, item_weight a s r, load-le as' ss rs us h.1)
+-- all items whole weigh no more than the coefficients reach
+pub full_load-le : (as' : List ℤ) (ss : List Span) (rs : List ℤ) → full_load (items_of as' ss rs) ≤ size_by gap ss as'
+full_load-le [] ss rs = omega arith
+full_load-le (a ∷ as') [] rs = omega arith
+full_load-le (a ∷ as') (s ∷ ss) [] = omega arith
+full_load-le (a ∷ as') (s ∷ ss) (r ∷ rs) = omega (arith, item_weight a s r, full_load-le as' ss rs)
 
 -- the empty load
 pub none_fits : (as' : List ℤ) (ss : List Span) (rs : List ℤ) → length as' ≡ length ss → length rs ≡ length ss → IsLoad (items_of as' ss rs) (none_of as')
@@ -154,22 +152,22 @@ reach_small n m h = omega (arith, h, mul-le-mul_left (m + 1) (least n))
     least k = omega arith
 
 -- what pricing a zone by a table knows: the row alone, the coefficients, the base and the table up to the top
-pub record IsTabled (row : Row) (spans zone : List Span) (costs : List ℤ) (ways : ℕ → List ℕ) (cells : List ℤ) (base : ℤ) (top : ℕ) : Type 0 where
+pub record IsTabled (row : Row) (spans zone : List Span) (costs : List ℤ) (cells : ℕ → ℤ) (base : ℤ) (top : ℕ) : Type 0 where
   pub places : HasVariablesBelow (length spans) row.terms
   pub priceable : IsPriceable spans zone costs
   pub base_is : base ≡ dot (dense row.terms (length spans)) (point_of (dense row.terms (length spans)) zone costs (none_of (dense row.terms (length spans))))
-  pub table : IsTable (items_of (dense row.terms (length spans)) zone costs) ways top cells
-  pub above : (c : ℕ) → top < c → MeetsAt row base c → row_reach spans row.terms < c
+  pub table : IsTable (items_of (dense row.terms (length spans)) zone costs) top cells
+  pub above : (c : ℕ) → top < c → MeetsAt row base c → full_load (items_of (dense row.terms (length spans)) zone costs) < c
 
 pub many_coefs : (terms : List Term) (n : ℕ) → length (dense terms n) ≡ n
 many_coefs terms n = length-map (range_with_len 0 n) (coefficient terms) ∙ length-range_with_len 0 n
 
 -- a point of the row is a load of a weight in the table at which the row is met
-pub point_in_table : (row : Row) (spans zone : List Span) (costs : List ℤ) (ways : ℕ → List ℕ) (cells : List ℤ) (base : ℤ) (top : ℕ)
-    → IsTabled row spans zone costs ways cells base top → (y : List ℤ) → IsPoint (row ∷ []) zone y
-    → (c : ℕ) × (c ≤ top) × MeetsAt row base c × (cell_at cells c <ℤ no_way)
-    × ((dot costs (point_of (dense row.terms (length spans)) zone costs (none_of (dense row.terms (length spans)))) +ℤ cell_at cells c) ≤ℤ dot costs y)
-point_in_table row spans zone costs ways cells base top t y p =
+pub point_in_table : (row : Row) (spans zone : List Span) (costs : List ℤ) (cells : ℕ → ℤ) (base : ℤ) (top : ℕ)
+    → IsTabled row spans zone costs cells base top → (y : List ℤ) → IsPoint (row ∷ []) zone y
+    → (c : ℕ) × (c ≤ top) × MeetsAt row base c × (cells c <ℤ no_way)
+    × ((dot costs (point_of (dense row.terms (length spans)) zone costs (none_of (dense row.terms (length spans)))) +ℤ cells c) ≤ℤ dot costs y)
+point_in_table row spans zone costs cells base top t y p =
     by (load_of_point (dense row.terms (length spans)) zone costs y coefs_many t.priceable.each
     (recursion_from_All (λ (s : Span). s.lo ≤ℤ s.hi) zone t.priceable.in_root.proper) p.inside)
   where
@@ -188,8 +186,8 @@ point_in_table row spans zone costs ways cells base top t y p =
         ∙ ap (λ n. dot (dense row.terms n) y) (sym (sym spans_many ∙ y_many))
 
     by : (us : List ℕ) × IsLoadOf (dense row.terms (length spans)) zone costs y us
-        → (c : ℕ) × (c ≤ top) × MeetsAt row base c × (cell_at cells c <ℤ no_way)
-        × ((dot costs (point_of (dense row.terms (length spans)) zone costs (none_of (dense row.terms (length spans)))) +ℤ cell_at cells c) ≤ℤ dot costs y)
+        → (c : ℕ) × (c ≤ top) × MeetsAt row base c × (cells c <ℤ no_way)
+        × ((dot costs (point_of (dense row.terms (length spans)) zone costs (none_of (dense row.terms (length spans)))) +ℤ cells c) ≤ℤ dot costs y)
     by found =
         let weight : ℕ = load (items_of (dense row.terms (length spans)) zone costs) found.0 in
         let meets : MeetsAt row base weight =
@@ -197,21 +195,16 @@ point_in_table row spans zone costs ways cells base top t y p =
         (sum_is ∙ found.1.weighs ∙ ap (λ z. z +ℤ pos weight) (sym t.base_is))
         (p.meets 0 row (omega arith)) in
         let within : weight ≤ top = ⊎_elim
-        (λ more. absurd (omega (
-          arith,
-          t.above weight more meets,
-          load-le (dense row.terms (length spans)) zone costs found.0 found.1.fits,
-          coefs_reach row.terms spans zone t.priceable.in_root.proper t.priceable.in_root.inside,
-        )))
+        (λ more. absurd (omega (arith, t.above weight more meets, load-full (items_of (dense row.terms (length spans)) zone costs) found.0 found.1.fits)))
         (λ less. less)
         (cases_lt top weight) in
-        let least : (cell_at cells weight <ℤ no_way) × (cell_at cells weight ≤ℤ worth (items_of (dense row.terms (length spans)) zone costs) found.0) =
-        (t.table weight within).least found.0 found.1.fits refl in (
+        let least : (cells weight <ℤ no_way) × (cells weight ≤ℤ worth (items_of (dense row.terms (length spans)) zone costs) found.0) =
+        t.table weight found.0 within found.1.fits refl in (
           weight,
           within,
           meets,
           least.0,
-          joined (dot costs (point_of (dense row.terms (length spans)) zone costs (none_of (dense row.terms (length spans))))) (cell_at cells weight)
+          joined (dot costs (point_of (dense row.terms (length spans)) zone costs (none_of (dense row.terms (length spans))))) (cells weight)
               (worth (items_of (dense row.terms (length spans)) zone costs) found.0) (dot costs y) least.1 found.1.costs,
         )
       where
@@ -219,50 +212,48 @@ point_in_table row spans zone costs ways cells base top t y p =
         joined b v w d p q = omega (arith, ints, p, q)
 
 -- no weight is chosen: there is no point
-pub none_priced : (row : Row) (spans zone : List Span) (costs : List ℤ) (ways : ℕ → List ℕ) (cells : List ℤ) (base : ℤ) (top : ℕ)
-    → IsTabled row spans zone costs ways cells base top → IsChosen cells row base (top + 1) None → HasNoPoint (row ∷ []) zone
-none_priced row spans zone costs ways cells base top t chosen y p =
-    let found = point_in_table row spans zone costs ways cells base top t y p in
+pub none_priced : (row : Row) (spans zone : List Span) (costs : List ℤ) (cells : ℕ → ℤ) (base : ℤ) (top : ℕ)
+    → IsTabled row spans zone costs cells base top → IsChosen cells row base (top + 1) None → HasNoPoint (row ∷ []) zone
+none_priced row spans zone costs cells base top t chosen y p =
+    let found = point_in_table row spans zone costs cells base top t y p in
     chosen found.0 (omega (arith, found.1)) found.2 found.3
 
--- a weight is chosen: its way is a cheapest point
-pub some_priced : (row : Row) (spans zone : List Span) (costs : List ℤ) (ways : ℕ → List ℕ) (cells : List ℤ) (base : ℤ) (top c : ℕ) (v : ℤ)
-    → IsTabled row spans zone costs ways cells base top → IsChosen cells row base (top + 1) (Some c)
-    → v ≡ dot costs (point_of (dense row.terms (length spans)) zone costs (none_of (dense row.terms (length spans)))) +ℤ cell_at cells c
-    → IsCheapest (row ∷ []) zone costs (point_of (dense row.terms (length spans)) zone costs (ways c)) v
-some_priced row spans zone costs ways cells base top c v t chosen is = record {
+-- a weight is chosen: a load that reaches its cell is a cheapest point
+pub some_priced : (row : Row) (spans zone : List Span) (costs : List ℤ) (cells : ℕ → ℤ) (base : ℤ) (top c : ℕ) (v : ℤ) (us : List ℕ)
+    → IsTabled row spans zone costs cells base top → IsChosen cells row base (top + 1) (Some c)
+    → Reaches (items_of (dense row.terms (length spans)) zone costs) us c (cells c)
+    → v ≡ dot costs (point_of (dense row.terms (length spans)) zone costs (none_of (dense row.terms (length spans)))) +ℤ cells c
+    → IsCheapest (row ∷ []) zone costs (point_of (dense row.terms (length spans)) zone costs us) v
+some_priced row spans zone costs cells base top c v us t chosen reached is = record {
   is_point = record {
     inside = is_point.inside;
-    meets = λ k d l. subst (MeetsRow (point_of (dense row.terms (length spans)) zone costs (ways c))) (sym (only k d l)) meets;
+    meets = λ k d l. subst (MeetsRow (point_of (dense row.terms (length spans)) zone costs us)) (sym (only k d l)) meets;
   };
   reached = is_point.costs ∙ ap (λ z. base_cost +ℤ z) reached.costs ∙ sym is;
   least = λ y p.
-      let found = point_in_table row spans zone costs ways cells base top t y p in
-      lower base_cost (cell_at cells c) (cell_at cells found.0) (dot costs y) v is (chosen.3 found.0 (omega (arith, found.1)) found.2) found.4;
+      let found = point_in_table row spans zone costs cells base top t y p in
+      lower base_cost (cells c) (cells found.0) (dot costs y) v is (chosen.3 found.0 (omega (arith, found.1)) found.2) found.4;
 }
   where
     base_cost : ℤ
     base_cost = dot costs (point_of (dense row.terms (length spans)) zone costs (none_of (dense row.terms (length spans))))
 
-    reached : Reaches (items_of (dense row.terms (length spans)) zone costs) (ways c) c (cell_at cells c)
-    reached = (t.table c (omega (arith, chosen.0))).reached chosen.2
-
     spans_many : length zone ≡ length spans
     spans_many = AllZip-length IsSubspan zone spans t.priceable.in_root.inside
 
-    is_point : IsPointOf (dense row.terms (length spans)) zone costs (ways c)
-    is_point = point_of_load (dense row.terms (length spans)) zone costs (ways c) (many_coefs row.terms (length spans) ∙ sym spans_many) t.priceable.each
+    is_point : IsPointOf (dense row.terms (length spans)) zone costs us
+    is_point = point_of_load (dense row.terms (length spans)) zone costs us (many_coefs row.terms (length spans) ∙ sym spans_many) t.priceable.each
         (recursion_from_All (λ (s : Span). s.lo ≤ℤ s.hi) zone t.priceable.in_root.proper) reached.fits
 
-    y_many : length zone ≡ length (point_of (dense row.terms (length spans)) zone costs (ways c))
-    y_many = AllZip-length IsWithin zone (point_of (dense row.terms (length spans)) zone costs (ways c)) is_point.inside
+    y_many : length zone ≡ length (point_of (dense row.terms (length spans)) zone costs us)
+    y_many = AllZip-length IsWithin zone (point_of (dense row.terms (length spans)) zone costs us) is_point.inside
 
-    sum_is : activity row.terms (point_of (dense row.terms (length spans)) zone costs (ways c)) ≡ dot (dense row.terms (length spans)) (point_of (dense row.terms (length spans)) zone costs (ways c))
+    sum_is : activity row.terms (point_of (dense row.terms (length spans)) zone costs us) ≡ dot (dense row.terms (length spans)) (point_of (dense row.terms (length spans)) zone costs us)
     sum_is =
-        sym (dense_activity row.terms (point_of (dense row.terms (length spans)) zone costs (ways c)) (subst (λ n. HasVariablesBelow n row.terms) (sym spans_many ∙ y_many) t.places))
-        ∙ ap (λ n. dot (dense row.terms n) (point_of (dense row.terms (length spans)) zone costs (ways c))) (sym (sym spans_many ∙ y_many))
+        sym (dense_activity row.terms (point_of (dense row.terms (length spans)) zone costs us) (subst (λ n. HasVariablesBelow n row.terms) (sym spans_many ∙ y_many) t.places))
+        ∙ ap (λ n. dot (dense row.terms n) (point_of (dense row.terms (length spans)) zone costs us)) (sym (sym spans_many ∙ y_many))
 
-    meets : MeetsRow (point_of (dense row.terms (length spans)) zone costs (ways c)) row
+    meets : MeetsRow (point_of (dense row.terms (length spans)) zone costs us) row
     meets =
         subst (λ z. Meets row.sense row.low row.rhs z)
         (sym (sum_is ∙ is_point.weighs ∙ ap (λ n. dot (dense row.terms (length spans)) (point_of (dense row.terms (length spans)) zone costs (none_of (dense row.terms (length spans)))) +ℤ pos n) reached.weighs

@@ -6,19 +6,25 @@ use Rattle.std.specs.Prelude.{Option, Some, None, ◌≤ℤ◌, ◌<ℤ◌, ◌�
 use Rattle.std.specs.Int.{w128, int_gap}
 use Rattle.std.specs.List.{AllZip, AllByRecursion}
 use Rattle.std.proofs.lemmas.Bool.{cases_lt}
+use Rattle.bp_theory.specs.Bound.{end_cost, box_least}
+use Rattle.bp_theory.specs.Trees.{IsSubzone, IsSubspan}
+use Rattle.bp_theory.specs.declared.Sense.{Sense}
+use Rattle.bp_theory.specs.declared.Sense.TheVariants.{Le, Ge, Eq, In}
+use Rattle.knap_price.specs.Rooms.{room_for}
 use Rattle.bp_theory.specs.declared.Row.{Row}
 use Rattle.knap_price.specs.Choices.{IsBetter, MeetsAt, IsChosen}
-use Rattle.std.proofs.lemmas.Int.{by_lt_z, ints, fits_signed_from_abs, unsigned_abs-mul}
+use Rattle.std.proofs.lemmas.Int.{by_lt_z, ints, clamps, fits_signed_from_abs, unsigned_abs-mul}
 use Rattle.std.proofs.lemmas.List.{same_lists, ext_get_or}
 use Rattle.bp_theory.specs.Sums.{dot}
-use Rattle.bp_theory.specs.Program.{span_at, reach, IsWithin, IsInside}
+use Rattle.bp_theory.specs.Program.{span_at, reach, IsWithin, IsInside, Meets}
 use Rattle.bp_theory.specs.declared.Span.{Span}
 use Rattle.bp_theory.proofs.ZipLaws.{AllZip-length}
 use Rattle.pricing.specs.Form.{cost_size}
-use Rattle.pricing.proofs.EndLaws.{number-le_reach, product-within}
+use Rattle.bp_theory.proofs.Whole.{le-mul_pos, le-mul_negsuc}
+use Rattle.pricing.proofs.EndLaws.{number-le_reach, product-within, end_cost-within}
 use Rattle.knap_price.specs.declared.items.Item.{Item}
 use Rattle.knap_price.specs.Loads.{IsLoad, load, worth, item_of, number_of, items_of, point_of, none_of}
-use Rattle.knap_price.specs.Tables.{no_way, cell_at, pick_at, ways_by, Reaches}
+use Rattle.knap_price.specs.Tables.{no_way}
 
 -- a scalar product, one number more
 pub dot_more : (fs ns : List ℤ) (k : ℕ) → k < length fs → k < length ns
@@ -85,6 +91,111 @@ cost-le (s ∷ ss) (r ∷ rs) zero l = omega (arith, at_least (unsigned_abs r) (
     at_least a m l = omega (arith, mul-le-mul_left a l)
 cost-le (s ∷ ss) (r ∷ rs) (suc k) l = omega (arith, cost-le ss rs k (omega arith))
 
+-- the least over the first spans and one more
+pub box_least_more : (zone : List Span) (costs : List ℤ) (k : ℕ) → k < length zone → k < length costs
+    → box_least (take (k + 1) zone) costs ≡ box_least (take k zone) costs +ℤ end_cost (span_at zone k) (get_or costs k (pos 0))
+box_least_more zone costs k l m = ap (λ n. box_least (take n zone) costs) (one k) ∙ by zone costs k l m
+  where
+    one : (n : ℕ) → n + 1 ≡ suc n
+    one n = omega arith
+
+    start : (a : ℤ) → a +ℤ pos 0 ≡ pos 0 +ℤ a
+    start a = omega (arith, ints)
+
+    grouped : (a b c : ℤ) → a +ℤ (b +ℤ c) ≡ (a +ℤ b) +ℤ c
+    grouped a b c = omega (arith, ints)
+
+    by : (ss : List Span) (rs : List ℤ) (n : ℕ) → n < length ss → n < length rs
+        → box_least (take (suc n) ss) rs ≡ box_least (take n ss) rs +ℤ end_cost (span_at ss n) (get_or rs n (pos 0))
+    by [] rs n m o = absurd (omega arith)
+    by (s ∷ ss) [] n m o = absurd (omega arith)
+    by (s ∷ ss) (r ∷ rs) zero m o = start (end_cost s r)
+    by (s ∷ ss) (r ∷ rs) (suc n) m o =
+        ap (λ z. end_cost s r +ℤ z) (by ss rs n (omega arith) (omega arith))
+        ∙ grouped (end_cost s r) (box_least (take n ss) rs) (end_cost (span_at ss n) (get_or rs n (pos 0)))
+
+-- it stays within the size of the costs, and so does each end
+pub box_least_so_far : (zone : List Span) (costs : List ℤ) (k : ℕ) → unsigned_abs (box_least (take k zone) costs) ≤ cost_size zone costs
+box_least_so_far [] costs k = none k
+  where
+    none : (n : ℕ) → unsigned_abs (box_least (take n []) costs) ≤ 0
+    none zero = omega arith
+    none (suc n) = omega arith
+box_least_so_far (s ∷ ss) costs zero = omega arith
+box_least_so_far (s ∷ ss) [] (suc k) = omega arith
+box_least_so_far (s ∷ ss) (r ∷ rs) (suc k) =
+    added (end_cost s r) (box_least (take k ss) rs) (unsigned_abs r * reach s) (cost_size ss rs) (end_cost-within s r) (box_least_so_far ss rs k)
+  where
+    added : (a b : ℤ) (m n : ℕ) → unsigned_abs a ≤ m → unsigned_abs b ≤ n → unsigned_abs (a +ℤ b) ≤ m + n
+    added a b m n h k = omega (arith, ints)
+
+pub end_fits : (zone : List Span) (costs : List ℤ) (k : ℕ) → k < length zone → unsigned_abs (get_or costs k (pos 0)) * reach (span_at zone k) ≤ cost_size zone costs
+end_fits [] costs k l = absurd (omega arith)
+end_fits (s ∷ ss) [] k l = omega arith
+end_fits (s ∷ ss) (r ∷ rs) zero l = omega arith
+end_fits (s ∷ ss) (r ∷ rs) (suc k) l = omega (arith, end_fits ss rs k (omega arith))
+
+-- it is at most what numbers of the spans add up to
+end_cost-below : (s : Span) (r x : ℤ) → IsWithin s x → end_cost s r ≤ℤ (r *ℤ x)
+end_cost-below s (pos n) x h = omega (arith, ints, clamps, le-mul_pos n s.lo x h.above)
+end_cost-below s (negsuc n) x h = omega (arith, ints, clamps, le-mul_negsuc n x s.hi h.below)
+
+pub box_least-below : (spans : List Span) (costs y : List ℤ) → length costs ≡ length spans → IsInside spans y → box_least spans costs ≤ℤ dot costs y
+box_least-below [] [] y e inside = omega (arith, ints)
+box_least-below [] (r ∷ rs) y e inside = absurd (omega arith)
+box_least-below (s ∷ ss) [] y e inside = absurd (omega arith)
+box_least-below (s ∷ ss) (r ∷ rs) [] e inside = absurd inside
+box_least-below (s ∷ ss) (r ∷ rs) (x ∷ xs) e inside =
+    omega (arith, ints, end_cost-below s r x inside.0, box_least-below ss rs xs (omega arith) inside.1)
+
+-- numbers inside a zone are inside the root
+pub inside_root : (zone spans : List Span) (y : List ℤ) → IsSubzone zone spans → IsInside zone y → IsInside spans y
+inside_root [] [] [] sub h = tt
+inside_root [] [] (v ∷ y) sub h = absurd h
+inside_root [] (t ∷ ts) y sub h = absurd sub
+inside_root (s ∷ ss) [] y sub h = absurd sub
+inside_root (s ∷ ss) (t ∷ ts) [] sub h = absurd h
+inside_root (s ∷ ss) (t ∷ ts) (v ∷ y) sub h = (
+  record { above = omega (arith, ints, sub.0.above, h.0.above); below = omega (arith, ints, sub.0.below, h.0.below) },
+  inside_root ss ts y sub.1 h.1,
+)
+
+-- a greater base and a smaller reach leave no more room
+pub room_shrinks : (row : Row) (base less : ℤ) (reach more : ℕ) → less ≤ℤ base → reach ≤ more
+    → room_for row.sense row.rhs base reach ≤ room_for row.sense row.rhs less more
+room_shrinks row base less reach more l m = by row.sense
+  where
+    gap_shrinks : (a b c : ℤ) → b ≤ℤ a → int_gap a c ≤ int_gap b c
+    gap_shrinks a b c p = grind (arith, ints)
+
+    by : (sense : Sense) → room_for sense row.rhs base reach ≤ room_for sense row.rhs less more
+    by Le = omega (arith, gap_shrinks base less row.rhs l, m)
+    by Ge = m
+    by Eq = omega (arith, gap_shrinks base less row.rhs l, m)
+    by In = omega (arith, gap_shrinks base less row.rhs l, m)
+
+-- no greater weight meets the row
+pub room_above : (row : Row) (base : ℤ) (reach c : ℕ) → room_for row.sense row.rhs base reach < c → Meets row.sense row.low row.rhs (base +ℤ pos c) → reach < c
+room_above row base reach c = by row.sense
+  where
+    gap_above : (a b : ℤ) (n : ℕ) → (a +ℤ pos n) ≤ℤ b → n ≤ int_gap a b
+    gap_above a b n p = grind (arith, ints)
+
+    by : (sense : Sense) → room_for sense row.rhs base reach < c → Meets sense row.low row.rhs (base +ℤ pos c) → reach < c
+    by Le more meets = omega (arith, more, gap_above base row.rhs c meets)
+    by Ge more meets = more
+    by Eq more meets = omega (arith, more, gap_above base row.rhs c meets.1)
+    by In more meets = omega (arith, more, gap_above base row.rhs c meets.1)
+
+pub room_within : (row : Row) (base : ℤ) (reach : ℕ) → room_for row.sense row.rhs base reach ≤ reach
+room_within row base reach = by row.sense
+  where
+    by : (sense : Sense) → room_for sense row.rhs base reach ≤ reach
+    by Le = omega arith
+    by Ge = omega arith
+    by Eq = omega arith
+    by In = omega arith
+
 -- items and points by places
 pub length-items_of : (as' : List ℤ) (ss : List Span) (rs : List ℤ) → length as' ≡ length ss → length rs ≡ length ss → length (items_of as' ss rs) ≡ length ss
 length-items_of [] [] rs e f = refl
@@ -142,7 +253,7 @@ get_or-none_of (a ∷ as') zero = refl
 get_or-none_of (a ∷ as') (suc k) = get_or-none_of as' k
 
 -- the choice with one weight more
-pub chosen_new : (cells : List ℤ) (row : Row) (base : ℤ) (w : ℕ) (best : Option ℕ) → IsChosen cells row base w best → MeetsAt row base w → IsBetter cells w best
+pub chosen_new : (cells : ℕ → ℤ) (row : Row) (base : ℤ) (w : ℕ) (best : Option ℕ) → IsChosen cells row base w best → MeetsAt row base w → IsBetter cells w best
     → IsChosen cells row base (w + 1) (Some w)
 chosen_new cells row base w None had meets better = (
   omega arith,
@@ -154,11 +265,11 @@ chosen_new cells row base w None had meets better = (
       (cases_lt c w),
 )
   where
-    same : (c : ℕ) → c ≡ w → cell_at cells w ≤ℤ cell_at cells c
-    same c e = subst (λ k. cell_at cells w ≤ℤ cell_at cells k) (sym e) (omega (arith, ints))
+    same : (c : ℕ) → c ≡ w → cells w ≤ℤ cells c
+    same c e = subst (λ k. cells w ≤ℤ cells k) (sym e) (omega (arith, ints))
 
-    by : (c : ℕ) → (cell_at cells c <ℤ no_way → ⊥) → cell_at cells w ≤ℤ cell_at cells c
-    by c n = by_lt_z (cell_at cells c) no_way (λ less. absurd (n less)) (λ more. omega (arith, ints, more, better))
+    by : (c : ℕ) → (cells c <ℤ no_way → ⊥) → cells w ≤ℤ cells c
+    by c n = by_lt_z (cells c) no_way (λ less. absurd (n less)) (λ more. omega (arith, ints, more, better))
 chosen_new cells row base w (Some b) had meets better = (
   omega arith,
   meets,
@@ -169,13 +280,13 @@ chosen_new cells row base w (Some b) had meets better = (
       (cases_lt c w),
 )
   where
-    same : (c : ℕ) → c ≡ w → cell_at cells w ≤ℤ cell_at cells c
-    same c e = subst (λ k. cell_at cells w ≤ℤ cell_at cells k) (sym e) (omega (arith, ints))
+    same : (c : ℕ) → c ≡ w → cells w ≤ℤ cells c
+    same c e = subst (λ k. cells w ≤ℤ cells k) (sym e) (omega (arith, ints))
 
-    lower : (c : ℕ) → cell_at cells b ≤ℤ cell_at cells c → cell_at cells w ≤ℤ cell_at cells c
+    lower : (c : ℕ) → cells b ≤ℤ cells c → cells w ≤ℤ cells c
     lower c p = omega (arith, ints, p, better)
 
-pub chosen_unmet : (cells : List ℤ) (row : Row) (base : ℤ) (w : ℕ) (best : Option ℕ) → IsChosen cells row base w best → (MeetsAt row base w → ⊥)
+pub chosen_unmet : (cells : ℕ → ℤ) (row : Row) (base : ℤ) (w : ℕ) (best : Option ℕ) → IsChosen cells row base w best → (MeetsAt row base w → ⊥)
     → IsChosen cells row base (w + 1) best
 chosen_unmet cells row base w None had fails = λ c l m less. ⊎_elim
     (λ below. had c below m less)
@@ -197,11 +308,11 @@ chosen_unmet cells row base w (Some b) had fails = (
     here : (c : ℕ) → w ≤ c → c < w + 1 → c ≡ w
     here c a l = omega (arith, a, l)
 
-pub chosen_no_better : (cells : List ℤ) (row : Row) (base : ℤ) (w : ℕ) (best : Option ℕ) → IsChosen cells row base w best → (IsBetter cells w best → ⊥)
+pub chosen_no_better : (cells : ℕ → ℤ) (row : Row) (base : ℤ) (w : ℕ) (best : Option ℕ) → IsChosen cells row base w best → (IsBetter cells w best → ⊥)
     → IsChosen cells row base (w + 1) best
 chosen_no_better cells row base w None had fails = λ c l m less. ⊎_elim
     (λ below. had c below m less)
-    (λ above. fails (subst (λ k. cell_at cells k <ℤ no_way) (here c above l) less))
+    (λ above. fails (subst (λ k. cells k <ℤ no_way) (here c above l) less))
     (cases_lt c w)
   where
     here : (c : ℕ) → w ≤ c → c < w + 1 → c ≡ w
@@ -212,72 +323,10 @@ chosen_no_better cells row base w (Some b) had fails = (
   had.2,
   λ c l m. ⊎_elim
       (λ below. had.3 c below m)
-      (λ above. subst (λ k. cell_at cells b ≤ℤ cell_at cells k) (sym (here c above l))
-      (by_lt_z (cell_at cells w) (cell_at cells b) (λ less. absurd (fails less)) (λ more. more)))
+      (λ above. subst (λ k. cells b ≤ℤ cells k) (sym (here c above l))
+      (by_lt_z (cells w) (cells b) (λ less. absurd (fails less)) (λ more. more)))
       (cases_lt c w),
 )
   where
     here : (c : ℕ) → w ≤ c → c < w + 1 → c ≡ w
     here c a l = omega (arith, a, l)
-
--- the way from a place on
-pub length-ways_by : (items : List Item) (rows : List (List ℕ)) (c : ℕ) → length rows ≡ length items → length (ways_by items rows c) ≡ length items
-length-ways_by [] rows c e = refl
-length-ways_by (i ∷ is) [] c e = absurd (omega arith)
-length-ways_by (i ∷ is) (row ∷ rows) c e = ap suc (length-ways_by is rows (c - i.weight * pick_at row c) (omega arith))
-
--- what is known while a way is traced: the rest of the way begins with the pick at the weight that is left, and weighs as much
-pub record IsTraced (items : List Item) (rows : List (List ℕ)) (way : List ℕ) (k left : ℕ) : Type 0 where
-  pub rest : drop k way ≡ ways_by (drop k items) (drop k rows) left
-  pub fits : IsLoad (drop k items) (drop k way)
-  pub weighs : load (drop k items) (drop k way) ≡ left
-
-pub traced_head : (items : List Item) (rows : List (List ℕ)) (way : List ℕ) (k left : ℕ) (d : Item) → k < length items → k < length rows → k < length way
-    → IsTraced items rows way k left
-    → (get_or way k 0 ≡ pick_at (get_or rows k []) left)
-    × (get_or way k 0 ≤ (get_or items k d).width)
-    × ((get_or items k d).weight * get_or way k 0 ≤ left)
-    × IsTraced items rows way (k + 1) (left - (get_or items k d).weight * get_or way k 0)
-traced_head items rows way k left d l m n t =
-    by (drop k items) (drop k rows) (drop k way) (drop-cons items k d l) (drop-cons rows k [] m) (drop-cons way k 0 n) t.rest t.fits t.weighs
-  where
-    one : (n : ℕ) → suc n ≡ n + 1
-    one n = omega arith
-
-    by : (is : List Item) (rs : List (List ℕ)) (us : List ℕ) → is ≡ get_or items k d ∷ drop (suc k) items → rs ≡ get_or rows k [] ∷ drop (suc k) rows
-        → us ≡ get_or way k 0 ∷ drop (suc k) way → us ≡ ways_by is rs left → IsLoad is us → load is us ≡ left
-        → (get_or way k 0 ≡ pick_at (get_or rows k []) left)
-        × (get_or way k 0 ≤ (get_or items k d).width)
-        × ((get_or items k d).weight * get_or way k 0 ≤ left)
-        × IsTraced items rows way (k + 1) (left - (get_or items k d).weight * get_or way k 0)
-    by [] rs us e f g r h w = absurd (cc)
-    by (i ∷ is) [] us e f g r h w = absurd (cc)
-    by (i ∷ is) (row ∷ rs) [] e f g r h w = absurd (cc)
-    by (i ∷ is) (row ∷ rs) (u ∷ us) e f g r h w =
-        let i_is : i ≡ get_or items k d = cc in
-        let is_is : is ≡ drop (suc k) items = cc in
-        let row_is : row ≡ get_or rows k [] = cc in
-        let rs_is : rs ≡ drop (suc k) rows = cc in
-        let u_is : u ≡ get_or way k 0 = cc in
-        let us_is : us ≡ drop (suc k) way = cc in
-        let head : u ≡ pick_at row left = cc in
-        let tail : us ≡ ways_by is rs (left - i.weight * pick_at row left) = cc in (
-          sym u_is ∙ head ∙ ap (λ (p : List ℕ). pick_at p left) row_is,
-          subst (λ (j : Item). get_or way k 0 ≤ j.width) i_is (subst (λ v. v ≤ i.width) u_is h.0),
-          subst (λ (j : Item). j.weight * get_or way k 0 ≤ left) i_is (subst (λ v. i.weight * v ≤ left) u_is (omega (arith, w))),
-          subst (λ j. IsTraced items rows way j (left - (get_or items k d).weight * get_or way k 0)) (one k)
-              (subst (λ (j : Item). IsTraced items rows way (suc k) (left - j.weight * get_or way k 0)) i_is
-              (subst (λ v. IsTraced items rows way (suc k) (left - i.weight * v)) u_is
-              (record {
-                rest = sym us_is ∙ tail ∙ ap (λ v. ways_by is rs (left - i.weight * v)) (sym head)
-                    ∙ ap (λ (x : List Item). ways_by x rs (left - i.weight * u)) is_is
-                    ∙ ap (λ (x : List (List ℕ)). ways_by (drop (suc k) items) x (left - i.weight * u)) rs_is;
-                fits = subst (λ (x : List ℕ). IsLoad (drop (suc k) items) x) us_is (subst (λ (x : List Item). IsLoad x us) is_is h.1);
-                weighs = subst (λ (x : List ℕ). load (drop (suc k) items) x ≡ left - i.weight * u) us_is
-                    (subst (λ (x : List Item). load x us ≡ left - i.weight * u) is_is (omega (arith, w)));
-              }))),
-        )
-
-pub traced_rest : (items : List Item) (rows : List (List ℕ)) (way : List ℕ) (k left weight u v : ℕ) → u ≡ v
-    → IsTraced items rows way k (left - weight * u) → IsTraced items rows way k (left - weight * v)
-traced_rest items rows way k left weight u v e t = subst (λ n. IsTraced items rows way k (left - weight * n)) e t

@@ -1,11 +1,15 @@
--- Tables of least costs by weight, with the loads that reach them.
+-- Tables of least costs by weight: a row of cells for the items from each place on.
 use Rattle.std.specs.Prelude.{◌≡◌, ℕ, suc, ◌+◌, ◌-◌, ◌*◌, ◌^◌, ◌<◌, ◌≤◌, ◌⊎◌, unsigned_abs, List, [], ◌∷◌, length, slice_index_or, ℤ, pos, ◌+ℤ◌, ◌*ℤ◌, ◌<ℤ◌, ◌≤ℤ◌}
 use Rattle.knap_price.specs.declared.items.Item.{Item}
 use Rattle.knap_price.specs.Loads.{IsLoad, load, worth}
 
--- the cell of a weight that no load has
+-- the least cost that is none of a load's
 abbrev pub no_way : ℤ
-no_way = pos (2 ^ 127 - 1)
+no_way = pos (2 ^ 125)
+
+-- the cell of each weight but 0 where there are no items: no units bring it below `no_way`
+abbrev pub far : ℤ
+far = pos (2 ^ 126)
 
 -- a load of this weight and cost
 pub record Reaches (items : List Item) (us : List ℕ) (c : ℕ) (v : ℤ) : Type 0 where
@@ -13,53 +17,57 @@ pub record Reaches (items : List Item) (us : List ℕ) (c : ℕ) (v : ℤ) : Typ
   pub weighs : load items us ≡ c
   pub costs : worth items us ≡ v
 
--- a cell has the least cost of a load of its weight, which its way reaches, or there is none
-pub record IsCell (items : List Item) (way : List ℕ) (c : ℕ) (cell : ℤ) : Type 0 where
-  pub least : (us : List ℕ) → IsLoad items us → load items us ≡ c → (cell <ℤ no_way) × (cell ≤ℤ worth items us)
-  pub reached : cell <ℤ no_way → Reaches items way c cell
+-- each cell up to a greatest weight is a least cost of the loads of its weight
+abbrev pub IsTable : List Item → (top : ℕ) → (ℕ → ℤ) → Type 0
+IsTable items top cells =
+    (c : ℕ) (us : List ℕ) → c ≤ top → IsLoad items us → load items us ≡ c → (cells c <ℤ no_way) × (cells c ≤ℤ worth items us)
 
--- the cell of a weight
+-- the cell at a place
 abbrev pub cell_at : List ℤ → ℕ → ℤ
-cell_at cells c = slice_index_or cells c (pos 0)
+cell_at cells k = slice_index_or cells k (pos 0)
 
--- the units of an item that are picked at a weight
-abbrev pub pick_at : List ℕ → ℕ → ℕ
-pick_at picks c = slice_index_or picks c 0
+-- the row of cells from a place on
+abbrev pub row_from : List ℤ → (start : ℕ) → ℕ → ℤ
+row_from cells start c = cell_at cells (start + c)
 
--- each cell up to a greatest weight is right
-abbrev pub IsTable : List Item → (ℕ → List ℕ) → (top : ℕ) → List ℤ → Type 0
-IsTable items ways top cells = (c : ℕ) → c ≤ top → IsCell items (ways c) c (cell_at cells c)
+-- the row of this number, where rows have a cell for each weight up to a greatest
+abbrev pub row_at : List ℤ → (top : ℕ) → ℕ → ℕ → ℤ
+row_at cells top j = row_from cells (j * (top + 1))
 
--- the ways with one item more in front, by its picks
-abbrev pub ways_with : Item → List ℕ → (ℕ → List ℕ) → ℕ → List ℕ
-ways_with item picks ways c = pick_at picks c ∷ ways (c - item.weight * pick_at picks c)
+-- a cell comes from one of the row above by so many units of an item
+abbrev pub Follows : Item → (above : ℕ → ℤ) → (c : ℕ) → (cell : ℤ) → (units : ℕ) → Type 0
+Follows item above c cell units = (item.weight * units ≤ c) × (cell ≡ above (c - item.weight * units) +ℤ item.cost *ℤ pos units)
 
--- the ways by the picks of each item
-abbrev pub ways_by : List Item → List (List ℕ) → ℕ → List ℕ
-ways_by [] rows c = []
-ways_by (i ∷ is) [] c = []
-ways_by (i ∷ is) (picks ∷ rows) c = ways_with i picks (ways_by is rows) c
+-- the least costs with at most so many units of an item more than in the row above
+pub record IsTried (item : Item) (units top : ℕ) (above now : ℕ → ℤ) : Type 0 where
+  pub least : (c u : ℕ) → c ≤ top → u ≤ units → item.weight * u ≤ c → now c ≤ℤ (above (c - item.weight * u) +ℤ item.cost *ℤ pos u)
+  pub reached : (c : ℕ) → c ≤ top → (u : ℕ) × (u ≤ units) × Follows item above c (now c) u
 
--- a cell and its pick after further units were tried from another cell: either is kept, or the other and these units are better
-abbrev pub IsRelaxed : (cell : ℤ) (pick : ℕ) (other : ℤ) (other_pick : ℕ) (gain : ℤ) (units : ℕ) (new : ℤ) (new_pick : ℕ) → Type 0
-IsRelaxed cell pick other other_pick gain units new new_pick =
-    ((new ≡ cell) × (new_pick ≡ pick) × (other <ℤ no_way → (cell <ℤ no_way) × (cell ≤ℤ (other +ℤ gain))))
-    ⊎ ((other <ℤ no_way) × (new ≡ other +ℤ gain) × (new_pick ≡ other_pick + units) × (new ≤ℤ cell) × (new <ℤ no_way))
+-- the row of no items: one load of no weight, which costs nothing
+pub record IsFirstRow (top : ℕ) (row : ℕ → ℤ) : Type 0 where
+  pub none : row 0 ≡ pos 0
+  pub others : (c : ℕ) → 0 < c → c ≤ top → row c ≡ far
 
--- cells and picks up to a greatest weight after a part of an item was tried
-pub record HasPart (item : Item) (units top : ℕ) (cells now : List ℤ) (picks picked : List ℕ) : Type 0 where
-  pub low : (c : ℕ) → c ≤ top → c < item.weight * units → (cell_at now c ≡ cell_at cells c) × (pick_at picked c ≡ pick_at picks c)
-  pub high : (c : ℕ) → c ≤ top → item.weight * units ≤ c
-      → IsRelaxed (cell_at cells c) (pick_at picks c) (cell_at cells (c - item.weight * units)) (pick_at picks (c - item.weight * units))
-      (item.cost *ℤ pos units) units (cell_at now c) (pick_at picked c)
+-- rows of least costs, the last one of all items, and before it those without the first
+abbrev pub AreRows : List Item → (top : ℕ) → (rows : ℕ → ℕ → ℤ) → Type 0
+AreRows [] top rows = IsFirstRow top (rows 0)
+AreRows (i ∷ is) top rows = IsTried i i.width top (rows (length is)) (rows (suc (length is))) × AreRows is top rows
 
--- cells are no way or small
-abbrev pub AreBounded : (bound top : ℕ) → List ℤ → Type 0
-AreBounded bound top cells = (c : ℕ) → c ≤ top → cell_at cells c <ℤ no_way → unsigned_abs (cell_at cells c) ≤ bound
+-- the lesser of two costs
+pub record IsLesser (a b v : ℤ) : Type 0 where
+  pub first : v ≤ℤ a
+  pub second : v ≤ℤ b
+  pub either : (v ≡ a) ⊎ (v ≡ b)
 
--- picks are at most this many units
-abbrev pub ArePicks : (units top : ℕ) → List ℕ → Type 0
-ArePicks units top picks = (c : ℕ) → c ≤ top → pick_at picks c ≤ units
+-- cells up to a greatest weight after one more part was tried: the lesser of what was there and the part's cost with the
+-- cell of the weight without it
+pub record HasPart (shift : ℕ) (gain : ℤ) (top : ℕ) (before now : ℕ → ℤ) : Type 0 where
+  pub light : (c : ℕ) → c ≤ top → c < shift → now c ≡ before c
+  pub heavy : (c : ℕ) → c ≤ top → shift ≤ c → IsLesser (before c) (before (c - shift) +ℤ gain) (now c)
+
+-- cells are small
+abbrev pub AreBounded : (bound top : ℕ) → (ℕ → ℤ) → Type 0
+AreBounded bound top row = (c : ℕ) → c ≤ top → unsigned_abs (row c) ≤ bound
 
 -- the greatest magnitude of a load's cost
 abbrev pub worth_size : List Item → ℕ

@@ -3,9 +3,9 @@ ghost use Rattle.std.specs.Prelude.{◌≡◌, IfOk, length, vec_len};
 ghost use Rattle.pricing.specs.Form.{IsForm};
 ghost use Rattle.knap_price.specs.Taken.{IsTaken, dense, first_terms};
 
-use crate::coefs::coefs_of;
+use crate::coefs::{coefs_of, reach_of};
 use crate::items::Item;
-use crate::picks::Picks;
+use crate::steps::{least_sum, top_of};
 use bp_theory::{Row, Span};
 use pricing::{copied_rows, copied_spans};
 use std::alloc::{AllocError, Global};
@@ -21,16 +21,17 @@ pub struct Form {
     ghost dense_coefs: { coefs.items ≡ dense (first_terms rows.items) (length spans.items) },
 }
 
-/// The table of least costs by weight, with the picks, items and point.
+/// The items of a row, and the point.
 #[derive(Drop)]
 pub struct Table {
     pub items: Vec<Item>,
-    pub cells: Vec<i128>,
-    pub picks: Vec<Picks>,
     pub point: Vec<i64>,
 }
 
 impl Form {
+    ghost use Rattle.std.specs.Prelude.{◌≡◌, ◌≤◌, ◌^◌, ◌+◌, ◌*◌, length};
+    ghost use Rattle.knap_price.specs.Rooms.{form_room};
+
     /// A copy of a row and root spans.
     pub fn make(alloc: Global, rows: &[Row], spans: &[Span]) -> Result<Form, AllocError>
         requires form { IsForm rows.now spans.now }
@@ -46,5 +47,24 @@ impl Form {
             spans: spans_copied,
             coefs,
         })
+    }
+
+    /// The greatest weight of a table at the root: the lesser of how far the row's sum can move and of how far its upper side is
+    /// above the least sum.
+    pub fn room(&self) -> usize
+        ensures value { result ≡ form_room self.now }
+        ensures small { result ≤ 2 ^ 20 }
+    {
+        let row = &self.rows[0];
+        let reach = reach_of(row.terms.as_slice(), &self.spans) as usize;
+        let base = least_sum(&self.coefs, &self.spans);
+        top_of(row, &base, reach)
+    }
+
+    /// How many cells a table has.
+    pub fn cells(&self) -> usize
+        ensures { result ≡ (length self.now.spans.items + 1) * (form_room self.now + 1) }
+    {
+        (self.spans.len() + 1) * (self.room() + 1)
     }
 }

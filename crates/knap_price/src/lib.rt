@@ -5,14 +5,14 @@ mod coefs;
 mod form;
 mod items;
 mod narrow;
-mod picks;
 mod price;
 mod pricer;
 mod splits;
 mod steps;
 mod table;
+mod trace;
 
-pub use pricer::KnapPricer;
+pub use pricer::{KnapPlan, KnapPricer};
 pub use splits::{Doubles, parts};
 
 #[cfg(test)]

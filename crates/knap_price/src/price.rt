@@ -1,20 +1,29 @@
 // Pricing a zone by a table.
-ghost use Rattle.std.specs.Prelude.{◌≡◌, MatchOption, length, vec_len};
+ghost use Rattle.std.specs.Prelude.{◌≡◌, ◌≤◌, ◌+◌, ◌*◌, MatchOption, length, vec_len};
 ghost use Rattle.pricing.specs.Form.{IsPriceable};
 ghost use Rattle.pricing.specs.Priced.{IsCheapest, HasNoPoint};
-ghost use Rattle.knap_price.specs.Rooms.{HasRoom};
+ghost use Rattle.knap_price.specs.Rooms.{HasRoom, form_room};
 
 use crate::form::{Form, Table};
 use crate::narrow::narrow;
-use crate::steps::{choose, product_sum, set_items, top_of, trace};
+use crate::steps::{choose, product_sum, set_items, top_of, whole_load};
 use crate::table::fill;
+use crate::trace::trace;
 use bp_theory::Span;
 use pricing::plus;
 
 /// The least cost of a point in a zone, if there is a point, which the table's point then is.
-fn price_table(form: &Form, table: &mut Table, zone: &[Span], costs: &[i128]) -> Option<i128>
+fn price_table(
+    form: &Form,
+    cells: &mut Vec<i128>,
+    table: &mut Table,
+    zone: &[Span],
+    costs: &[i128],
+) -> Option<i128>
+    requires cells { (length form.now.spans.items + 1) * (form_room form.now + 1) ≤ vec_len cells.old }
     requires room { HasRoom form.now table.old }
     requires priceable { IsPriceable form.now.spans.items zone.now costs.now }
+    ensures cells { vec_len cells.new ≡ vec_len cells.old }
     ensures room { HasRoom form.now table.new }
     ensures answer { MatchOption result (HasNoPoint form.now.rows.items zone.now)
         (λ v. IsCheapest form.now.rows.items zone.now costs.now table.new.point.items v) }
@@ -23,20 +32,22 @@ fn price_table(form: &Form, table: &mut Table, zone: &[Span], costs: &[i128]) ->
     let base = product_sum(&form.coefs, &table.point, zone);
     let base_cost = product_sum(costs, &table.point, zone);
     let row = &form.rows[0];
-    let top = top_of(row, &base, table.cells.len() - 1);
-    fill(&mut table.cells, &mut table.picks, &table.items, top);
-    match choose(&table.cells, row, &base, top) {
+    let top = top_of(row, &base, whole_load(&table.items));
+    fill(cells, &table.items, top);
+    let last = zone.len() * (top + 1);
+    match choose(cells, last, row, &base, top) {
         Some(weight) => {
             trace(
                 &mut table.point,
-                &table.picks,
+                cells,
                 &table.items,
                 &form.coefs,
                 zone,
                 costs,
+                top,
                 weight,
             );
-            Some(plus(&base_cost, &table.cells[weight]))
+            Some(plus(&base_cost, &cells[last + weight]))
         }
         None => None,
     }
@@ -46,14 +57,17 @@ fn price_table(form: &Form, table: &mut Table, zone: &[Span], costs: &[i128]) ->
 /// row stay at an end.
 pub fn price_zone(
     form: &Form,
+    cells: &mut Vec<i128>,
     table: &mut Table,
     part: &mut Vec<Span>,
     zone: &[Span],
     costs: &[i128],
 ) -> Option<i128>
+    requires cells { (length form.now.spans.items + 1) * (form_room form.now + 1) ≤ vec_len cells.old }
     requires room { HasRoom form.now table.old }
     requires part { vec_len part.old ≡ length form.now.spans.items }
     requires priceable { IsPriceable form.now.spans.items zone.now costs.now }
+    ensures cells { vec_len cells.new ≡ vec_len cells.old }
     ensures room { HasRoom form.now table.new }
     ensures part { vec_len part.new ≡ length form.now.spans.items }
     ensures answer { MatchOption result (HasNoPoint form.now.rows.items zone.now)
@@ -61,5 +75,5 @@ pub fn price_zone(
 {
     let row = &form.rows[0];
     narrow(part, row, &form.coefs, zone, costs);
-    price_table(form, table, part, costs)
+    price_table(form, cells, table, part, costs)
 }

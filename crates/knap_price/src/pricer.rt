@@ -1,21 +1,19 @@
 // The pricer by a table.
-ghost use Rattle.knap_price.specs.Rooms.{HasRoom};
-ghost use Rattle.std.specs.Prelude.{◌≡◌, IfOk, All, length};
+ghost use Rattle.knap_price.specs.Rooms.{HasRoom, cells_of};
+ghost use Rattle.std.specs.Prelude.{◌≡◌, ◌≤◌, length, vec_len};
 
-use crate::coefs::{is_taken, reach_of};
+use crate::coefs::is_taken;
 use crate::form::{Form, Table};
 use crate::items::Item;
-use crate::picks::Picks;
 use crate::price::price_zone;
 use block_form::Block;
 use bp_theory::Span;
 use pricing::{Cap, Priced, Pricer, copied_spans};
 use std::alloc::{AllocError, Global};
 
-/// Prices a block of one row by a table of least costs by weight, which it takes when it is made and uses again in each
-/// call. It is never cut.
+/// What pricing a block by a table takes, but for the table's cells, which several plans may use one after the other.
 #[derive(Drop)]
-pub struct KnapPricer {
+pub struct KnapPlan {
     form: Form,
     table: Table,
     part: Vec<Span>,
@@ -23,16 +21,86 @@ pub struct KnapPricer {
     ghost many: { length part.items ≡ length form.spans.items },
 }
 
-/// A row of picks for each variable.
-fn rows_of_picks(alloc: Global, count: usize, wide: usize) -> Result<Vec<Picks>, AllocError>
-    ensures many { IfOk result (λ picks. length picks.items ≡ count) }
-    ensures wide { IfOk result (λ picks. All (λ row. length row ≡ wide) picks.items) }
-{
-    let mut picks = Vec::new(alloc);
-    for _ in 0..count {
-        picks.push(Picks::make(alloc, wide)?)?;
+impl KnapPlan {
+    ghost use Rattle.std.specs.Prelude.{◌≡◌, ◌≤◌, IfOk, vec_len};
+    ghost use Rattle.pricing.specs.Form.{IsForm, IsPriceable, AreOf};
+    ghost use Rattle.pricing.specs.Priced.{IsPriced};
+    ghost use Rattle.pricing.specs.declared.Cap.TheVariants.{Never};
+    ghost use Rattle.knap_price.specs.Kept.{plan_rows, plan_spans, plan_point};
+    ghost use Rattle.knap_price.specs.Rooms.{cells_of};
+    ghost use Rattle.knap_price.specs.Taken.{IsTaken};
+
+    /// The plan of a block that a table takes.
+    pub fn make(alloc: Global, block: &Block) -> Result<KnapPlan, AllocError>
+        requires form { IsForm block.now.block.rows block.now.spans }
+        requires taken { IsTaken block.now.block.rows block.now.spans }
+        ensures { IfOk result (λ plan. AreOf block.now (plan_rows plan) (plan_spans plan)) }
+    {
+        let spans = block.spans();
+        let form = Form::make(alloc, block.rows(), spans)?;
+        let none = Item {
+            weight: 0,
+            width: 0,
+            cost: 0,
+        };
+        let items = Vec::from_elem(alloc, none, spans.len())?;
+        let point = Vec::from_elem(alloc, 0, spans.len())?;
+        let part = copied_spans(alloc, spans)?;
+        let table = Table { items, point };
+        Ok(KnapPlan { form, table, part })
     }
-    Ok(picks)
+
+    /// How many cells pricing takes.
+    pub fn cells(&self) -> usize
+        ensures { result ≡ cells_of (plan_rows self.now) (plan_spans self.now) }
+    {
+        self.form.cells()
+    }
+
+    /// The least cost over the points of a block in a zone, if there is a point, which `point` then gives.
+    pub fn price(
+        &mut self,
+        cells: &mut Vec<i128>,
+        block: &Block,
+        zone: &[Span],
+        costs: &[i128],
+    ) -> Priced
+        requires same_block { AreOf block.now (plan_rows self.old) (plan_spans self.old) }
+        requires priceable { IsPriceable (plan_spans self.old) zone.now costs.now }
+        requires cells { cells_of (plan_rows self.old) (plan_spans self.old) ≤ vec_len cells.old }
+        ensures answer { IsPriced (plan_rows self.old) zone.now costs.now Never result (plan_point self.new) }
+        ensures cells { vec_len cells.new ≡ vec_len cells.old }
+        ensures same_rows { plan_rows self.new ≡ plan_rows self.old }
+        ensures same_spans { plan_spans self.new ≡ plan_spans self.old }
+    {
+        match price_zone(
+            &self.form,
+            cells,
+            &mut self.table,
+            &mut self.part,
+            zone,
+            costs,
+        ) {
+            Some(least) => Priced::Least(least),
+            None => Priced::Nothing,
+        }
+    }
+
+    /// The point that the last `Least` reached, as long as no other call of `price` came.
+    pub fn point(&self) -> &[i64]
+        ensures { result.now ≡ plan_point self.now }
+    {
+        self.table.point.as_slice()
+    }
+}
+
+/// Prices a block of one row by a table of least costs by weight, whose cells it takes when it is made and uses again in
+/// each call. It is never cut.
+#[derive(Drop)]
+pub struct KnapPricer {
+    plan: KnapPlan,
+    cells: Vec<i128>,
+    ghost enough: { cells_of plan.form.rows.items plan.form.spans.items ≤ vec_len cells },
 }
 
 impl KnapPricer {
@@ -57,27 +125,9 @@ impl KnapPricer {
         requires taken { IsTaken block.now.block.rows block.now.spans }
         ensures { IfOk result (λ pricer. AreOf block.now (rows_of pricer) (spans_of pricer)) }
     {
-        let rows = block.rows();
-        let spans = block.spans();
-        let form = Form::make(alloc, rows, spans)?;
-        let wide = reach_of(form.rows[0].terms.as_slice(), &form.spans) as usize + 1;
-        let none = Item {
-            weight: 0,
-            width: 0,
-            cost: 0,
-        };
-        let items = Vec::from_elem(alloc, none, spans.len())?;
-        let cells = Vec::from_elem(alloc, 0, wide)?;
-        let picks = rows_of_picks(alloc, spans.len(), wide)?;
-        let point = Vec::from_elem(alloc, 0, spans.len())?;
-        let part = copied_spans(alloc, spans)?;
-        let table = Table {
-            items,
-            cells,
-            picks,
-            point,
-        };
-        Ok(KnapPricer { form, table, part })
+        let plan = KnapPlan::make(alloc, block)?;
+        let cells = Vec::from_elem(alloc, 0, plan.cells())?;
+        Ok(KnapPricer { plan, cells })
     }
 }
 
@@ -102,13 +152,10 @@ impl Pricer for KnapPricer {
         ensures same_rows { rows_of self.new ≡ rows_of self.old }
         ensures same_spans { spans_of self.new ≡ spans_of self.old }
     {
-        match price_zone(&self.form, &mut self.table, &mut self.part, zone, costs) {
-            Some(least) => Priced::Least(least),
-            None => Priced::Nothing,
-        }
+        self.plan.price(&mut self.cells, block, zone, costs)
     }
 
     fn point(&self) -> &[i64] {
-        self.table.point.as_slice()
+        self.plan.point()
     }
 }

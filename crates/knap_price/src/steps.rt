@@ -1,18 +1,20 @@
 // The steps of pricing by a table.
-ghost use Rattle.std.specs.Prelude.{◌≡◌, ◌<◌, ◌≤◌, ◌+◌, ◌*◌, ◌^◌, ◌↔◌, ◌+ℤ◌, ◌<ℤ◌, ◌≤ℤ◌, pos, ℕ, List, [], Option, IfSome, IsTrue, All, length, vec_len, unsigned_abs, slice_index_or};
+ghost use Rattle.std.specs.Prelude.{◌≡◌, ◌<◌, ◌≤◌, ◌+◌, ◌*◌, ◌^◌, ◌↔◌, ◌+ℤ◌, ◌≤ℤ◌, pos, ℕ, Option, IfSome, IsTrue, All, length, vec_len, unsigned_abs, min};
+ghost use Rattle.std.specs.Int.{int_gap};
 ghost use Rattle.bp_theory.specs.Sums.{dot};
 ghost use Rattle.bp_theory.specs.Program.{IsInside, Meets};
+ghost use Rattle.bp_theory.specs.Bound.{box_least};
 ghost use Rattle.bp_theory.specs.Trees.{IsProper};
 ghost use Rattle.pricing.specs.Form.{HasShortEnds, cost_size};
-ghost use Rattle.knap_price.specs.Loads.{IsLoad, load, items_of, point_of, none_of};
+ghost use Rattle.knap_price.specs.Loads.{items_of, point_of, none_of};
 ghost use Rattle.knap_price.specs.Choices.{IsBetter, IsChosen};
-ghost use Rattle.knap_price.specs.Tables.{no_way, cell_at, pick_at, ways_by};
+ghost use Rattle.knap_price.specs.Rooms.{room_for};
+ghost use Rattle.knap_price.specs.Tables.{row_from, full_load};
 
 use crate::items::{Item, make_item, number_with};
-use crate::picks::Picks;
 use crate::table::NO_WAY;
 use bp_theory::{Row, Sense, Span};
-use pricing::{plus, times};
+use pricing::{least_end, plus, times};
 
 /// The scalar product of factors with numbers of a zone.
 pub fn product_sum(factors: &[i128], numbers: &[i64], zone: &[Span]) -> i128
@@ -26,6 +28,33 @@ pub fn product_sum(factors: &[i128], numbers: &[i64], zone: &[Span]) -> i128
     for k in 0..zone.len() {
         let more = times(&factors[k], &numbers[k]);
         sum = plus(&sum, &more);
+    }
+    sum
+}
+
+/// The least that a row can add up to within spans, by the coefficients of each variable.
+pub fn least_sum(coefs: &[i128], spans: &[Span]) -> i128
+    requires each { length coefs.now ≡ length spans.now }
+    requires small { cost_size spans.now coefs.now ≤ 2 ^ 116 }
+    ensures value { result ≡ box_least spans.now coefs.now }
+    ensures small { unsigned_abs result ≤ 2 ^ 116 }
+{
+    let mut sum = 0;
+    for k in 0..spans.len() {
+        let end = least_end(&spans[k], &coefs[k]);
+        sum = plus(&sum, &end);
+    }
+    sum
+}
+
+/// The weight of all items whole.
+pub fn whole_load(items: &[Item]) -> usize
+    requires { full_load items.now ≤ 2 ^ 20 }
+    ensures { result ≡ full_load items.now }
+{
+    let mut sum = 0;
+    for k in (0..items.len()).rev() {
+        sum += (items[k].weight * items[k].width) as usize;
     }
     sum
 }
@@ -80,12 +109,10 @@ fn is_least(sum: &i128, side: &i64) -> bool
     i128::from(*side) <= *sum
 }
 
-/// The greatest weight up to a reach with which a row may be met.
+/// The greatest weight up to a reach that a row's upper side leaves above a base.
 pub fn top_of(row: &Row, base: &i128, reach: usize) -> usize
     requires base { unsigned_abs base.now ≤ 2 ^ 116 }
-    requires reach { reach ≤ 2 ^ 20 }
-    ensures within { result ≤ reach }
-    ensures above { (c : ℕ) → result < c → Meets row.now.sense row.now.low row.now.rhs (base.now +ℤ pos c) → reach < c }
+    ensures { result ≡ room_for row.now.sense row.now.rhs base.now reach }
 {
     match row.sense {
         Sense::Ge => reach,
@@ -93,12 +120,10 @@ pub fn top_of(row: &Row, base: &i128, reach: usize) -> usize
     }
 }
 
-/// The greatest weight up to a reach that stays below a side, or 0.
+/// How far a side is above a base, up to a reach.
 fn room_of(side: &i64, base: &i128, reach: usize) -> usize
     requires base { unsigned_abs base.now ≤ 2 ^ 116 }
-    requires reach { reach ≤ 2 ^ 20 }
-    ensures within { result ≤ reach }
-    ensures above { (c : ℕ) → result < c → (base.now +ℤ pos c) ≤ℤ side.now → reach < c }
+    ensures { result ≡ min reach (int_gap base.now side.now) }
 {
     let room = i128::from(*side) - *base;
     if room <= 0 {
@@ -110,51 +135,52 @@ fn room_of(side: &i64, base: &i128, reach: usize) -> usize
     }
 }
 
-/// Whether a weight has a load that is cheaper than that of the best weight so far.
-fn improves(cells: &Vec<i128>, weight: usize, best: Option<usize>) -> bool
-    requires there { weight < vec_len cells.now }
-    requires best { IfSome best (λ b. b < vec_len cells.now) }
-    ensures { IsTrue result ↔ IsBetter cells.now.items weight best }
+/// Whether a weight has a load that is cheaper than that of the best weight so far, by a row of cells.
+fn improves(cells: &[i128], start: usize, weight: usize, best: Option<usize>) -> bool
+    requires there { start + weight < length cells.now }
+    requires best { IfSome best (λ b. start + b < length cells.now) }
+    ensures { IsTrue result ↔ IsBetter (row_from cells.now start) weight best }
 {
     match best {
-        Some(known) => cells[weight] < cells[known],
-        None => cells[weight] < NO_WAY,
+        Some(known) => cells[start + weight] < cells[start + known],
+        None => cells[start + weight] < NO_WAY,
     }
 }
 
-/// The weight of the least cost among those that meet the row.
-pub fn choose(cells: &Vec<i128>, row: &Row, base: &i128, top: usize) -> Option<usize>
-    requires room { top < vec_len cells.now }
+/// The weight of the least cost among those that meet the row, by a row of cells.
+pub fn choose(cells: &[i128], start: usize, row: &Row, base: &i128, top: usize) -> Option<usize>
+    requires room { start + top < length cells.now }
     requires small { top ≤ 2 ^ 20 }
     requires base { unsigned_abs base.now ≤ 2 ^ 116 }
-    ensures { IsChosen cells.now.items row.now base.now (top + 1) result }
+    ensures { IsChosen (row_from cells.now start) row.now base.now (top + 1) result }
 {
     let mut best = None;
     for weight in 0..top + 1 {
-        best = better_of(cells, row, base, weight, best);
+        best = better_of(cells, start, row, base, weight, best);
     }
     best
 }
 
 /// The better one of a weight and the best weight so far.
 fn better_of(
-    cells: &Vec<i128>,
+    cells: &[i128],
+    start: usize,
     row: &Row,
     base: &i128,
     weight: usize,
     best: Option<usize>,
 ) -> Option<usize>
-    requires there { weight < vec_len cells.now }
+    requires there { start + weight < length cells.now }
     requires small { weight ≤ 2 ^ 20 }
     requires base { unsigned_abs base.now ≤ 2 ^ 116 }
-    requires best { IsChosen cells.now.items row.now base.now weight best }
-    ensures { IsChosen cells.now.items row.now base.now (weight + 1) result }
+    requires best { IsChosen (row_from cells.now start) row.now base.now weight best }
+    ensures { IsChosen (row_from cells.now start) row.now base.now (weight + 1) result }
 {
     let sum = moved(base, weight);
     if !meets(row, &sum) {
         return best;
     }
-    if improves(cells, weight, best) {
+    if improves(cells, start, weight, best) {
         return Some(weight);
     }
     best
@@ -167,34 +193,4 @@ fn moved(base: &i128, weight: usize) -> i128
     ensures { result ≡ base.now +ℤ pos weight }
 {
     *base + weight as i128
-}
-
-/// Writes the point of the picks from a weight on.
-pub fn trace(
-    point: &mut Vec<i64>,
-    picks: &Vec<Picks>,
-    items: &[Item],
-    coefs: &[i128],
-    zone: &[Span],
-    costs: &[i128],
-    weight: usize,
-)
-    requires point { vec_len point.old ≡ length zone.now }
-    requires coefs { length coefs.now ≡ length zone.now }
-    requires costs { length costs.now ≡ length zone.now }
-    requires many { vec_len picks.now ≡ length zone.now }
-    requires picks { All (λ row. weight < length row) picks.now.items }
-    requires proper { IsProper zone.now }
-    requires short { All HasShortEnds zone.now }
-    requires items { items.now ≡ items_of coefs.now zone.now costs.now }
-    requires fits { IsLoad items.now (ways_by items.now picks.now.items weight) }
-    requires weighs { load items.now (ways_by items.now picks.now.items weight) ≡ weight }
-    ensures { point.new.items ≡ point_of coefs.now zone.now costs.now (ways_by items.now picks.now.items weight) }
-{
-    let mut left = weight;
-    for k in 0..zone.len() {
-        let units = u64::from(picks[k].at(left));
-        point[k] = number_with(&coefs[k], &zone[k], &costs[k], units);
-        left -= (items[k].weight * units) as usize;
-    }
 }

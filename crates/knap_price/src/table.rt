@@ -1,138 +1,135 @@
-// The table of least costs by weight.
-ghost use Rattle.std.specs.Prelude.{◌≡◌, ◌≢◌, ◌+◌, ◌-◌, ◌*◌, ◌<◌, ◌≤◌, ◌^◌, ◌<ℤ◌, ◌*ℤ◌, ◌∷◌, [], All, slice_index_or, pos, ℕ, List, length, vec_len, min, unsigned_abs};
-ghost use Rattle.knap_price.specs.declared.items.Item.{Item};
-ghost use Rattle.knap_price.specs.Tables.{no_way, cell_at, pick_at, IsRelaxed, HasPart, IsTable, AreBounded, ArePicks, ways_with, ways_by, worth_size};
+// The table of least costs by weight: a row of cells for the items from each place on, from which the units are read off again.
+ghost use Rattle.std.specs.Prelude.{◌≡◌, ◌≢◌, ◌+◌, ◌-◌, ◌*◌, ◌<◌, ◌≤◌, ◌^◌, ◌+ℤ◌, ◌*ℤ◌, All, pos, ℕ, length, vec_len, unsigned_abs};
+ghost use Rattle.knap_price.specs.Tables.{far, cell_at, row_from, row_at, IsTried, IsFirstRow, AreRows, IsLesser, HasPart, AreBounded, worth_size};
 
 use crate::items::Item;
-use crate::picks::Picks;
 use crate::splits::parts;
 use pricing::{plus, times};
 
-/// The cell of a weight that no load has.
-pub const NO_WAY: i128 = i128::MAX;
+/// The least cost that is none of a load's.
+pub const NO_WAY: i128 = 1 << 125;
 
-/// Tries further units at a weight: the cell at the weight without them, and what they cost.
-fn relax(
-    cells: &mut Vec<i128>,
-    picks: &mut Picks,
-    weight: usize,
-    shift: usize,
-    gain: &i128,
-    units: u32,
-)
-    requires cell { weight < vec_len cells.old }
-    requires pick { weight < length picks.old }
-    requires shift { shift ≤ weight }
-    requires small { cell_at cells.old.items (weight - shift) <ℤ no_way →
-        unsigned_abs (cell_at cells.old.items (weight - shift)) ≤ 2 ^ 118 }
-    requires gain { unsigned_abs gain.now ≤ 2 ^ 118 }
-    requires units { pick_at picks.old (weight - shift) + units < 2 ^ 32 }
-    ensures cells { vec_len cells.new ≡ vec_len cells.old }
-    ensures picks { length picks.new ≡ length picks.old }
-    ensures relaxed { IsRelaxed (cell_at cells.old.items weight) (pick_at picks.old weight)
-        (cell_at cells.old.items (weight - shift)) (pick_at picks.old (weight - shift)) gain.now units
-        (cell_at cells.new.items weight) (pick_at picks.new weight) }
-    ensures other_cells { (k : ℕ) → k ≢ weight → cell_at cells.new.items k ≡ cell_at cells.old.items k }
-    ensures other_picks { (k : ℕ) → k ≢ weight → pick_at picks.new k ≡ pick_at picks.old k }
+/// The cell of each weight but 0 where there are no items.
+const FAR: i128 = 1 << 126;
+
+/// The lesser of two costs.
+fn lesser(a: &i128, b: &i128) -> i128
+    ensures { IsLesser a.now b.now result }
 {
-    let other = &cells[weight - shift];
-    if *other == NO_WAY {
-        return;
-    }
-    let cost = plus(other, gain);
-    if cost < cells[weight] {
-        cells[weight] = cost;
-        let more = picks.at(weight - shift) + units;
-        picks.put(weight, more);
-    }
+    if *a < *b { *a } else { *b }
 }
 
-/// Tries a part of an item at each weight up to the top.
-fn add_part(cells: &mut Vec<i128>, picks: &mut Picks, item: &Item, units: u64, top: usize)
-    requires cells { top < vec_len cells.old }
-    requires picks { top < length picks.old }
-    requires small { item.now.weight * units ≤ 2 ^ 20 }
-    requires cost { unsigned_abs item.now.cost * units ≤ 2 ^ 118 }
-    requires units { units < 2 ^ 31 }
-    requires bounded { AreBounded (2 ^ 118) top cells.old.items }
-    requires few { ArePicks (2 ^ 31) top picks.old }
-    ensures cells { vec_len cells.new ≡ vec_len cells.old }
-    ensures picks { length picks.new ≡ length picks.old }
-    ensures part { HasPart item.now units top cells.old.items cells.new.items picks.old picks.new }
+/// Takes the lesser of a cell and what further units cost with the cell of the weight without them.
+fn relax(cells: &mut [i128], start: usize, weight: usize, shift: usize, gain: &i128)
+    requires there { start + weight < length cells.old }
+    requires shift { shift ≤ weight }
+    requires small { unsigned_abs (row_from cells.old start (weight - shift)) ≤ 2 ^ 126 + 2 ^ 118 }
+    requires gain { unsigned_abs gain.now ≤ 2 ^ 118 }
+    ensures len { length cells.new ≡ length cells.old }
+    ensures lesser { IsLesser (row_from cells.old start weight) (row_from cells.old start (weight - shift) +ℤ gain.now) (row_from cells.new start weight) }
+    ensures others { (k : ℕ) → k ≢ start + weight → cell_at cells.new k ≡ cell_at cells.old k }
 {
-    let shift = (item.weight * units) as usize;
-    let gain = cost_of(&item.cost, units);
-    for weight in (shift..top + 1).rev() {
-        relax(cells, picks, weight, shift, &gain, units as u32);
-    }
+    let other = plus(&cells[start + (weight - shift)], gain);
+    cells[start + weight] = lesser(&cells[start + weight], &other);
 }
 
 /// What so many units cost.
 fn cost_of(cost: &i128, units: u64) -> i128
     requires units { units < 2 ^ 31 }
     requires small { unsigned_abs cost.now * units ≤ 2 ^ 118 }
-    ensures { result ≡ cost.now *ℤ pos units }
+    ensures value { result ≡ cost.now *ℤ pos units }
+    ensures small { unsigned_abs result ≤ 2 ^ 118 }
 {
     let number = units as i64;
     times(cost, &number)
 }
 
-/// Puts an item in front of those whose least costs the cells have.
-pub fn add_item(cells: &mut Vec<i128>, picks: &mut Picks, item: &Item, top: usize)
-    requires cells { top < vec_len cells.old }
-    requires picks { top < length picks.old }
+/// Tries a part of an item at each weight of a row, from the greatest down.
+fn add_part(cells: &mut [i128], start: usize, item: &Item, units: u64, top: usize)
+    requires room { start + top < length cells.old }
+    requires top { top ≤ 2 ^ 20 }
+    requires small { item.now.weight * units ≤ 2 ^ 20 }
+    requires units { units < 2 ^ 31 }
+    requires cost { unsigned_abs item.now.cost * units ≤ 2 ^ 118 }
+    requires bounded { AreBounded (2 ^ 126 + 2 ^ 118) top (row_from cells.old start) }
+    ensures len { length cells.new ≡ length cells.old }
+    ensures part { HasPart (item.now.weight * units) (item.now.cost *ℤ pos units) top (row_from cells.old start) (row_from cells.new start) }
+    ensures below { (k : ℕ) → k < start → cell_at cells.new k ≡ cell_at cells.old k }
+{
+    let shift = (item.weight * units) as usize;
+    let gain = cost_of(&item.cost, units);
+    for weight in (shift..top + 1).rev() {
+        relax(cells, start, weight, shift, &gain);
+    }
+}
+
+/// Copies a row to the place after it.
+fn copy_row(cells: &mut [i128], start: usize, top: usize)
+    requires room { start + (top + 1) + top < length cells.old }
+    ensures len { length cells.new ≡ length cells.old }
+    ensures row { (c : ℕ) → c ≤ top → row_from cells.new (start + (top + 1)) c ≡ row_from cells.old start c }
+    ensures below { (k : ℕ) → k < start + (top + 1) → cell_at cells.new k ≡ cell_at cells.old k }
+{
+    let next = start + (top + 1);
+    cells.copy_within(start..next, next);
+}
+
+/// Writes the row of the least costs with an item more, after the row without it.
+fn add_item(cells: &mut [i128], start: usize, item: &Item, top: usize)
+    requires room { start + (top + 1) + top < length cells.old }
     requires top { top ≤ 2 ^ 20 }
     requires heavy { 0 < item.now.width → 0 < item.now.weight }
     requires small { item.now.weight * item.now.width ≤ 2 ^ 20 }
     requires cost { unsigned_abs item.now.cost * item.now.width ≤ 2 ^ 117 }
-    requires bounded { AreBounded (2 ^ 117) top cells.old.items }
-    ensures cells { vec_len cells.new ≡ vec_len cells.old }
-    ensures picks { length picks.new ≡ length picks.old }
-    ensures table { (rest : List Item) (ways : ℕ → List ℕ) → IsTable rest ways top cells.old.items →
-        IsTable (item.now ∷ rest) (ways_with item.now picks.new ways) top cells.new.items }
+    requires bounded { AreBounded (2 ^ 126 + 2 ^ 117) top (row_from cells.old start) }
+    ensures len { length cells.new ≡ length cells.old }
+    ensures tried { IsTried item.now item.now.width top (row_from cells.old start) (row_from cells.new (start + (top + 1))) }
+    ensures below { (k : ℕ) → k < start + (top + 1) → cell_at cells.new k ≡ cell_at cells.old k }
 {
-    picks.clear(top + 1);
+    copy_row(cells, start, top);
+    let next = start + (top + 1);
     for units in parts(item.width) {
-        add_part(cells, picks, item, units, top);
+        add_part(cells, next, item, units, top);
     }
 }
 
-/// Writes that no load has a weight below an end.
-fn empty_below(cells: &mut [i128], end: usize)
-    requires { end ≤ length cells.old }
+/// Writes the row of no items.
+fn begin(cells: &mut [i128], top: usize)
+    requires room { top < length cells.old }
     ensures len { length cells.new ≡ length cells.old }
-    ensures none { (c : ℕ) → c < end → cell_at cells.new c ≡ no_way }
+    ensures row { IsFirstRow top (row_from cells.new 0) }
 {
-    cells[..end].fill(NO_WAY);
-}
-
-/// The cells of no items: one load of no weight, which costs nothing.
-fn begin(cells: &mut Vec<i128>, top: usize)
-    requires room { top < vec_len cells.old }
-    requires small { top ≤ 2 ^ 20 }
-    ensures cells { vec_len cells.new ≡ vec_len cells.old }
-    ensures table { IsTable [] (λ _. []) top cells.new.items }
-{
-    empty_below(cells, top + 1);
+    cells[..top + 1].fill(FAR);
     cells[0] = 0;
 }
 
-/// Finds the least costs of items by weight, and the picks that reach them.
-pub fn fill(cells: &mut Vec<i128>, picks: &mut Vec<Picks>, items: &[Item], top: usize)
-    requires cells { top < vec_len cells.old }
-    requires many { vec_len picks.old ≡ length items.now }
-    requires picks { All (λ row. top < length row) picks.old.items }
+/// Writes the rows of least costs of items, up to a greatest weight.
+fn fill_rows(cells: &mut [i128], items: &[Item], top: usize)
+    requires room { (length items.now + 1) * (top + 1) ≤ length cells.old }
     requires top { top ≤ 2 ^ 20 }
     requires heavy { All (λ item. 0 < item.width → 0 < item.weight) items.now }
     requires small { All (λ item. item.weight * item.width ≤ 2 ^ 20) items.now }
     requires cost { worth_size items.now ≤ 2 ^ 117 }
-    ensures cells { vec_len cells.new ≡ vec_len cells.old }
-    ensures many { vec_len picks.new ≡ vec_len picks.old }
-    ensures picks { (k : ℕ) → length (slice_index_or picks.new.items k []) ≡ length (slice_index_or picks.old.items k []) }
-    ensures table { IsTable items.now (ways_by items.now picks.new.items) top cells.new.items }
+    ensures len { length cells.new ≡ length cells.old }
+    ensures rows { AreRows items.now top (row_at cells.new top) }
 {
     begin(cells, top);
+    let mut start = 0;
     for k in (0..items.len()).rev() {
-        add_item(cells, &mut picks[k], &items[k], top);
+        add_item(cells, start, &items[k], top);
+        start += top + 1;
     }
+}
+
+/// Writes the rows of least costs of items into the cells of a table, up to a greatest weight.
+pub fn fill(cells: &mut Vec<i128>, items: &[Item], top: usize)
+    requires room { (length items.now + 1) * (top + 1) ≤ vec_len cells.old }
+    requires top { top ≤ 2 ^ 20 }
+    requires heavy { All (λ item. 0 < item.width → 0 < item.weight) items.now }
+    requires small { All (λ item. item.weight * item.width ≤ 2 ^ 20) items.now }
+    requires cost { worth_size items.now ≤ 2 ^ 117 }
+    ensures len { vec_len cells.new ≡ vec_len cells.old }
+    ensures rows { AreRows items.now top (row_at cells.new.items top) }
+{
+    fill_rows(cells, items, top);
 }

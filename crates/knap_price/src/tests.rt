@@ -213,23 +213,28 @@ fn case_of(shown: &Shown) -> Case {
     }
 }
 
+/// Compares a pricer's answer for a case with all points tried.
+fn compared(rt: &impl Abort, alloc: Global, case: &Case) -> Result<(), Fail> {
+    let root = [Span { lo: -2, hi: 3 }, Span { lo: -2, hi: 3 }];
+    let block = block_of(rt, alloc, &root, &case.lines)?;
+    let (answer, a, b) = priced(rt, alloc, &block, &case.zone, &case.costs, Cap::Never)?;
+    match tried(case) {
+        Some(least) => {
+            assert_eq!(rt; answer, Priced::Least(least));
+            assert!(rt; is_point(case, a, b));
+            assert_eq!(rt; cost_of(case, a, b), least);
+        }
+        None => assert_eq!(rt; answer, Priced::Nothing),
+    }
+    Ok(())
+}
+
 #[test]
 fn all_points_tried_give_the_same(rt: HostRuntime) -> Result<(), Fail> {
     let alloc = rt.alloc();
-    let root = [Span { lo: -2, hi: 3 }, Span { lo: -2, hi: 3 }];
     let cases = CASES;
     for shown in &cases {
-        let case = case_of(shown);
-        let block = block_of(&rt, alloc, &root, &case.lines)?;
-        let (answer, a, b) = priced(&rt, alloc, &block, &case.zone, &case.costs, Cap::Never)?;
-        match tried(&case) {
-            Some(least) => {
-                assert_eq!(rt; answer, Priced::Least(least));
-                assert!(rt; is_point(&case, a, b));
-                assert_eq!(rt; cost_of(&case, a, b), least);
-            }
-            None => assert_eq!(rt; answer, Priced::Nothing),
-        }
+        compared(&rt, alloc, &case_of(shown))?;
     }
     Ok(())
 }
@@ -264,4 +269,39 @@ fn the_parts_of_small_numbers(rt: HostRuntime) {
     assert_eq!(rt; seven.next(), Some(4));
     assert_eq!(rt; seven.next(), None);
     assert_eq!(rt; parts(0).next(), None);
+}
+
+/// Costs of both signs, none, and close to the greatest that a pricer takes.
+const COSTS: [[i128; 2]; 5] = [[-5, 3], [4, -7], [-1, -1], [0, 2], [1 << 113, -(1 << 113)]];
+
+/// Zones within the root, narrow and whole.
+const ZONES: [[[i64; 2]; 2]; 3] = [[[-2, 3], [-2, 3]], [[-1, 3], [0, 1]], [[2, 2], [-2, 2]]];
+
+#[test]
+fn small_rows_of_each_sense(rt: HostRuntime) -> Result<(), Fail> {
+    let alloc = rt.alloc();
+    let senses = [Sense::Le, Sense::Ge, Sense::Eq, Sense::In];
+    let all_costs = COSTS;
+    let zones = ZONES;
+    let firsts = [-3, -1, 0, 2];
+    let seconds = [-2, 0, 1, 3];
+    for first in &firsts {
+        for second in &seconds {
+            for sense in &senses {
+                for low in -4..5 {
+                    for costs in &all_costs {
+                        for zone in &zones {
+                            let case = case_of(&(
+                                ([*first, *second], *sense, [low, low + 1]),
+                                *zone,
+                                *costs,
+                            ));
+                            compared(&rt, alloc, &case)?;
+                        }
+                    }
+                }
+            }
+        }
+    }
+    Ok(())
 }

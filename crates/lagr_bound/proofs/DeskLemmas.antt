@@ -1,12 +1,12 @@
 -- Lists of desks and of what they are filled with, place by place.
 use Rattle.std.proofs.Common.{◌≡◌, refl, sym, ap, subst, ◌∙◌, ℕ, zero, suc, ◌+◌, ◌<◌, ◌≤◌, Bool, true, false, if◌then◌else◌, List, [], ◌∷◌, ◌++◌, map, take, length, get_or, set, Option, Some, None, ⊎_elim, arith}
 use Rattle.std.proofs.lemmas.Bool.{cases_lt}
-use Rattle.std.proofs.lemmas.List.{get_or-set_same, get_or-set_other, get_or-map, get_or_past, get_or_default, length-map, length-set, map-set, map-append, take_more}
+use Rattle.std.proofs.lemmas.List.{get_or-set_same, get_or-set_other, get_or_append_left, get_or_at, length-append, get_or-map, get_or_past, get_or_default, length-map, length-set, map-set, map-append, take_more}
 use Rattle.std.specs.List.{AllByRecursion}
 use Rattle.std.proofs.lemmas.Int.{ints}
 use Rattle.std.proofs.lemmas.List.Elements.{All-from_recursion}
 use Rattle.std.proofs.Math.IntN.{ℤ, pos}
-use Rattle.std.specs.Prelude.{◌≤ℤ◌}
+use Rattle.std.specs.Prelude.{◌≤ℤ◌, All}
 use Rattle.bp_theory.specs.Program.{span_at}
 use Rattle.bp_theory.specs.Blocking.{Copy}
 use Rattle.bp_theory.specs.Trees.{IsSubspan, IsSubzone, IsProper}
@@ -23,6 +23,7 @@ use Rattle.block_form.specs.Blocked.{BlockedProgram, RootBlock, IsFormed}
 use Rattle.pricing.specs.Form.{IsForm}
 use Rattle.pricing.proofs.BlockLaws.{blocks_have_form_lem}
 use Rattle.lagr_bound.specs.Forms.{BlockForm, form_in, form_with, forms_in}
+use Rattle.lagr_bound.specs.Pricers.{IsEnough, AreEnough}
 
 -- one place more is as it should be
 pub same_more : {X : Type 0} (d : X) (xs ys : List X) (k : ℕ) (v : X) → k < length xs → v ≡ get_or ys k d
@@ -139,6 +140,32 @@ one_desk_more b k n desks all desk e l is_block spans_are form silent had none_h
   where
     form_of_spans : RootBlock → List Span → BlockForm
     form_of_spans k ss = record { rows = k.block.rows; spans = ss }
+
+-- ---- the cells that tables share
+
+pub all_more : {X : Type 0} (P : X → Type 0) (xs : List X) (x : X) → All P xs → P x → All P (xs ++ x ∷ [])
+all_more P xs x h px k d l = ⊎_elim
+    (λ less. subst P (sym (get_or_append_left xs (x ∷ []) d k less)) (h k d less))
+    (λ more. subst P (sym (get_or_at xs x [] d k (omega (arith, l, more, length-append xs (x ∷ []))))) px)
+    (cases_lt k (length xs))
+
+-- one desk more, and as many cells as it takes
+pub enough_more : (most now own : ℕ) (desks all : List Desk) (desk : Desk) → all ≡ desks ++ desk ∷ [] → most ≤ now → own ≤ now
+    → AreEnough most (map form_of desks) → IsEnough own (form_of desk).rows (form_of desk).spans → AreEnough now (map form_of all)
+enough_more most now own desks all desk e l m had more =
+    subst (AreEnough now) (sym (ap (λ (ds : List Desk). map form_of ds) e ∙ map-append form_of desks (desk ∷ [])))
+    (all_more (λ (f : BlockForm). IsEnough now f.rows f.spans) (map form_of desks) (form_of desk)
+    (λ k d h taken. omega (arith, had k d h taken, l))
+    (λ taken. omega (arith, more taken, m)))
+
+-- the cells are enough for each desk
+pub enough_at : (cells : ℕ) (desks : List Desk) (k : ℕ) (desk : Desk) → k < length desks → desk ≡ get_or desks k desk
+    → AreEnough cells (map form_of desks) → IsEnough cells (form_of desk).rows (form_of desk).spans
+enough_at cells desks k desk l is enough =
+    let nothing : BlockForm = record { rows = []; spans = [] } in
+    let same : form_of desk ≡ get_or (map form_of desks) k nothing =
+    ap form_of is ∙ sym (get_or-map form_of desks k desk nothing l) in
+    subst (λ (f : BlockForm). IsEnough cells f.rows f.spans) (sym same) (enough k nothing (omega (arith, l, length-map desks form_of)))
 
 -- ---- the spans of a block in a zone
 

@@ -87,7 +87,15 @@ fn shared_part(
     if let Some(least) = work.known_at(first) {
         return Priced::Least(least);
     }
-    let answer = price_at(&mut work.desks, b, number, zone, proof, cap);
+    let answer = price_at(
+        &mut work.desks,
+        &mut work.cells,
+        b,
+        number,
+        zone,
+        proof,
+        cap,
+    );
     if let Priced::Least(least) = answer {
         work.keep(first, number, &least);
     }

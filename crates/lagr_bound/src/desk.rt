@@ -5,10 +5,10 @@ ghost use Rattle.lagr_bound.specs.Sizes.{IsSmallCopy, IsSmallProof, reduced_cost
 ghost use Rattle.lagr_bound.specs.Rooms.{HasRoom};
 
 use crate::costs::reduced_cost;
-use crate::pricers::BlockPricer;
+use crate::pricers::{BlockPricer, GraphRoom};
 use block_form::{Block, Zone};
 use bp_theory::{Proof, Span};
-use pricing::{Cap, Priced, Pricer};
+use pricing::{Cap, Priced};
 use std::alloc::{AllocError, Global};
 
 /// A block's pricer, with room for the block's reduced costs and for its spans in a zone, and whether the pricer's point
@@ -23,7 +23,8 @@ pub struct Desk {
 }
 
 impl Desk {
-    ghost use Rattle.std.specs.Prelude.{◌≡◌, IfOk, IsTrue, MatchOption};
+    ghost use Rattle.std.specs.Prelude.{◌≡◌, IfOk, IsTrue, MatchOption, vec_len};
+    ghost use Rattle.lagr_bound.specs.Pricers.{IsEnough, IsFitting};
     ghost use Rattle.bp_theory.specs.Bound.{spans_of};
     ghost use Rattle.bp_theory.specs.Trees.{IsZone};
     ghost use Rattle.pricing.specs.Form.{IsForm};
@@ -33,12 +34,13 @@ impl Desk {
     ghost use Rattle.lagr_bound.specs.Desks.{form_of, told_point, priced_point};
 
     /// The desk of a block, which tells no point.
-    pub fn make(alloc: Global, block: &Block) -> Result<Desk, AllocError>
+    pub fn make(alloc: Global, block: &Block, room: &mut GraphRoom) -> Result<Desk, AllocError>
         requires { IsForm block.now.block.rows block.now.spans }
         ensures form { IfOk result (λ desk. form_of desk ≡ form_in block.now) }
         ensures silent { IfOk result (λ desk. told_point desk ≡ None) }
+        ensures kind { IfOk result (λ desk. IsFitting desk.pricer) }
     {
-        let pricer = BlockPricer::make(alloc, block)?;
+        let pricer = BlockPricer::make(alloc, block, room)?;
         let many = block.spans().len();
         let costs = Vec::from_elem(alloc, 0, many)?;
         let spans = Vec::from_elem(alloc, Span { lo: 0, hi: 0 }, many)?;
@@ -51,12 +53,21 @@ impl Desk {
     }
 
     /// Prices the block in a zone at its reduced costs.
-    pub fn price(&mut self, block: &Block, zone: &Zone, proof: &Proof, cap: Cap) -> Priced
+    pub fn price(
+        &mut self,
+        cells: &mut Vec<i128>,
+        block: &Block,
+        zone: &Zone,
+        proof: &Proof,
+        cap: Cap,
+    ) -> Priced
         requires same_block { form_of self.old ≡ form_in block.now }
         requires zone { IsZone block.now.spans (spans_of zone.now block.now.block) }
         requires block { IsSmallBlock zone.now proof.now block.now.block }
         requires proof { IsSmallProof proof.now }
+        requires cells { IsEnough (vec_len cells.old) (form_of self.old).rows (form_of self.old).spans }
         ensures answer { IsPriced block.now.block.rows (spans_of zone.now block.now.block) (reduced_costs proof.now block.now.block) cap result (priced_point self.new) }
+        ensures cells { vec_len cells.new ≡ vec_len cells.old }
         ensures form { form_of self.new ≡ form_of self.old }
         ensures tells { self.new.tells ≡ self.old.tells }
     {
@@ -64,7 +75,15 @@ impl Desk {
         fill_spans(&mut self.spans, block, zone);
         let zone = self.spans.as_slice();
         let costs = self.costs.as_slice();
-        self.pricer.price(block, zone, costs, cap)
+        self.pricer.price(cells, block, zone, costs, cap)
+    }
+
+    /// How many cells of a table pricing takes.
+    pub fn cells(&self) -> usize
+        requires { IsFitting self.now.pricer }
+        ensures { IsEnough result (form_of self.now).rows (form_of self.now).spans }
+    {
+        self.pricer.cells()
     }
 
     /// Whether the pricer's point is to be told from now on.

@@ -9,6 +9,7 @@ ghost use Rattle.pricing.specs.Priced.{IsPriced};
 ghost use Rattle.lagr_bound.specs.declared.desk.Desk.{Desk};
 ghost use Rattle.lagr_bound.specs.Desks.{form_of, told_point, priced_point};
 ghost use Rattle.lagr_bound.specs.Forms.{forms_in};
+ghost use Rattle.lagr_bound.specs.Pricers.{AreEnough};
 ghost use Rattle.lagr_bound.specs.Sizes.{reduced_costs};
 ghost use Rattle.lagr_bound.specs.Bounded.{IsPartAnswer};
 
@@ -22,6 +23,7 @@ use pricing::{Cap, Priced};
 /// Prices a block at its desk, which tells no point.
 pub fn price_at(
     desks: &mut Vec<Desk>,
+    cells: &mut Vec<i128>,
     b: &Blocked,
     number: u32,
     zone: &Zone,
@@ -29,6 +31,7 @@ pub fn price_at(
     cap: Cap,
 ) -> Priced
     requires made_for { map form_of desks.old.items ≡ forms_in b.now }
+    requires cells { AreEnough (vec_len cells.old) (map form_of desks.old.items) }
     requires there { number < length b.now.blocking.blocks }
     requires zone { IsZone b.now.named.program.spans zone.now }
     requires fits { Fits b.now.blocking proof.now }
@@ -37,10 +40,11 @@ pub fn price_at(
     ensures answer { (d : Desk) → IsPriced (block_at b.now.blocking number).rows (spans_of zone.now (block_at b.now.blocking number))
         (reduced_costs proof.now (block_at b.now.blocking number)) cap result (priced_point (slice_index_or desks.new.items number d)) }
     ensures len { vec_len desks.new ≡ vec_len desks.old }
+    ensures cells { vec_len cells.new ≡ vec_len cells.old }
     ensures made_for { map form_of desks.new.items ≡ map form_of desks.old.items }
     ensures told { map told_point desks.new.items ≡ map told_point desks.old.items }
 {
-    desks[number as usize].price(b.block(number), zone, proof, cap)
+    desks[number as usize].price(cells, b.block(number), zone, proof, cap)
 }
 
 /// What a block that isn't picked gives to a bound.
@@ -58,6 +62,7 @@ pub fn box_part(b: &Blocked, number: u32, zone: &Zone, proof: &Proof) -> i128
 /// What a block gives to a bound, priced by itself where it is picked.
 pub fn part(
     desks: &mut Vec<Desk>,
+    cells: &mut Vec<i128>,
     b: &Blocked,
     number: u32,
     zone: &Zone,
@@ -65,17 +70,19 @@ pub fn part(
     cap: Cap,
 ) -> Priced
     requires made_for { map form_of desks.old.items ≡ forms_in b.now }
+    requires cells { AreEnough (vec_len cells.old) (map form_of desks.old.items) }
     requires there { number < length b.now.blocking.blocks }
     requires zone { IsZone b.now.named.program.spans zone.now }
     requires fits { Fits b.now.blocking proof.now }
     requires silent { slice_index_or (map told_point desks.old.items) number None ≡ None }
     ensures answer { IsPartAnswer b.now.blocking zone.now proof.now cap number result }
     ensures len { vec_len desks.new ≡ vec_len desks.old }
+    ensures cells { vec_len cells.new ≡ vec_len cells.old }
     ensures made_for { map form_of desks.new.items ≡ map form_of desks.old.items }
     ensures told { map told_point desks.new.items ≡ map told_point desks.old.items }
 {
     if is_picked(&proof.picked, b.blocks() as usize, number) {
-        return price_at(desks, b, number, zone, proof, cap);
+        return price_at(desks, cells, b, number, zone, proof, cap);
     }
     Priced::Least(box_part(b, number, zone, proof))
 }

@@ -1,57 +1,149 @@
 // Whichever pricer suits a block.
+ghost use Rattle.std.specs.Prelude.{IfOk, IfSome};
+ghost use Rattle.pricing.specs.Form.{IsForm, AreOf};
+ghost use Rattle.state_price.specs.Kept.{rows_of as states_rows, spans_of as states_spans};
+
 use block_form::Block;
 use bp_theory::Span;
-use knap_price::KnapPricer;
+use knap_price::{KnapPlan, KnapPricer};
 use pricing::{Cap, Priced, Pricer};
 use search_price::SearchPricer;
+use state_price::StatePricer;
 use std::alloc::{AllocError, Global};
 
-/// The pricer of a block: a table where one takes the block, else a search.
+/// How many arcs the graphs of a program's blocks may have together until no more are made.
+const MOST_ARCS: usize = 1 << 19;
+
+/// How many blocks are tried that no graph suits.
+const MOST_DECLINED: u32 = 2;
+
+/// What may still be spent on graphs of states: arcs, and blocks that no graph suits.
+#[derive(Drop)]
+pub struct GraphRoom {
+    arcs: usize,
+    declined: u32,
+}
+
+impl GraphRoom {
+    /// All that may be spent for a program.
+    pub fn whole() -> GraphRoom {
+        GraphRoom {
+            arcs: MOST_ARCS,
+            declined: MOST_DECLINED,
+        }
+    }
+
+    // Whether a graph of a block is tried.
+    fn serves(&self, block: &Block) -> bool {
+        self.arcs > 0 && self.declined > 0 && !block.rows().is_empty()
+    }
+
+    // Spends what a graph that was tried took.
+    fn spend(&mut self, made: &Option<StatePricer>) {
+        match made {
+            Some(pricer) => self.arcs = self.arcs.saturating_sub(pricer.arcs()),
+            None => self.declined = self.declined.saturating_sub(1),
+        }
+    }
+}
+
+/// The pricer of a block: a table where one takes the block, else a graph of states where one is tried and suits it, else a
+/// search. The cells of all tables are the same ones.
 #[derive(Drop)]
 pub enum BlockPricer {
-    Table(KnapPricer),
+    Table(KnapPlan),
+    States(StatePricer),
     Search(SearchPricer),
 }
 
 impl BlockPricer {
-    ghost use Rattle.std.specs.Prelude.{IfOk};
-    ghost use Rattle.pricing.specs.Form.{IsForm, AreOf};
-    ghost use Rattle.lagr_bound.specs.Pricers.{rows_of, spans_of};
+    ghost use Rattle.std.specs.Prelude.{◌≡◌, IfOk, vec_len};
+    ghost use Rattle.pricing.specs.Form.{IsForm, IsPriceable, AreOf};
+    ghost use Rattle.pricing.specs.Priced.{IsPriced};
+    ghost use Rattle.lagr_bound.specs.Pricers.{rows_of, spans_of, kept_point, IsEnough, IsFitting};
 
     /// The pricer of a block.
-    pub fn make(alloc: Global, block: &Block) -> Result<BlockPricer, AllocError>
+    pub fn make(
+        alloc: Global,
+        block: &Block,
+        room: &mut GraphRoom,
+    ) -> Result<BlockPricer, AllocError>
         requires { IsForm block.now.block.rows block.now.spans }
-        ensures { IfOk result (λ pricer. AreOf block.now (rows_of pricer) (spans_of pricer)) }
+        ensures block { IfOk result (λ pricer. AreOf block.now (rows_of pricer) (spans_of pricer)) }
+        ensures kind { IfOk result (λ pricer. IsFitting pricer) }
     {
         if KnapPricer::takes(block) {
-            let table = KnapPricer::make(alloc, block)?;
-            return Ok(BlockPricer::Table(table));
+            let plan = KnapPlan::make(alloc, block)?;
+            return Ok(BlockPricer::Table(plan));
+        }
+        if let Some(states) = states_of(alloc, block, room)? {
+            return Ok(BlockPricer::States(states));
         }
         let search = SearchPricer::make(alloc, block)?;
         Ok(BlockPricer::Search(search))
     }
-}
 
-impl Pricer for BlockPricer {
-    ghost use Rattle.lagr_bound.specs.Pricers.{rows_of, spans_of, kept_point};
-
-    ghost rows = { rows_of };
-
-    ghost spans = { spans_of };
-
-    ghost chosen = { kept_point };
-
-    fn price(&mut self, block: &Block, zone: &[Span], costs: &[i128], cap: Cap) -> Priced {
+    /// How many cells of a table pricing takes.
+    pub fn cells(&self) -> usize
+        requires { IsFitting self.now }
+        ensures { IsEnough result (rows_of self.now) (spans_of self.now) }
+    {
         match self {
-            BlockPricer::Table(pricer) => pricer.price(block, zone, costs, cap),
+            BlockPricer::Table(plan) => plan.cells(),
+            BlockPricer::States(_) => 0,
+            BlockPricer::Search(_) => 0,
+        }
+    }
+
+    /// The least cost over the points of a block in a zone, if there is a point.
+    pub fn price(
+        &mut self,
+        cells: &mut Vec<i128>,
+        block: &Block,
+        zone: &[Span],
+        costs: &[i128],
+        cap: Cap,
+    ) -> Priced
+        requires same_block { AreOf block.now (rows_of self.old) (spans_of self.old) }
+        requires priceable { IsPriceable (spans_of self.old) zone.now costs.now }
+        requires cells { IsEnough (vec_len cells.old) (rows_of self.old) (spans_of self.old) }
+        ensures answer { IsPriced (rows_of self.old) zone.now costs.now cap result (kept_point self.new) }
+        ensures cells { vec_len cells.new ≡ vec_len cells.old }
+        ensures same_rows { rows_of self.new ≡ rows_of self.old }
+        ensures same_spans { spans_of self.new ≡ spans_of self.old }
+    {
+        match self {
+            BlockPricer::Table(plan) => plan.price(cells, block, zone, costs),
+            BlockPricer::States(pricer) => pricer.price(block, zone, costs, cap),
             BlockPricer::Search(pricer) => pricer.price(block, zone, costs, cap),
         }
     }
 
-    fn point(&self) -> &[i64] {
+    /// The point that the last `Least` reached, as long as no other call of `price` came.
+    pub fn point(&self) -> &[i64]
+        ensures { result.now ≡ kept_point self.now }
+    {
         match self {
-            BlockPricer::Table(pricer) => pricer.point(),
+            BlockPricer::Table(plan) => plan.point(),
+            BlockPricer::States(pricer) => pricer.point(),
             BlockPricer::Search(pricer) => pricer.point(),
         }
     }
+}
+
+// The graph of a block, where one is tried and suits it.
+fn states_of(
+    alloc: Global,
+    block: &Block,
+    room: &mut GraphRoom,
+) -> Result<Option<StatePricer>, AllocError>
+    requires { IsForm block.now.block.rows block.now.spans }
+    ensures { IfOk result (λ made. IfSome made (λ pricer. AreOf block.now (states_rows pricer) (states_spans pricer))) }
+{
+    if !room.serves(block) {
+        return Ok(None);
+    }
+    let made = StatePricer::make(alloc, block)?;
+    room.spend(&made);
+    Ok(made)
 }

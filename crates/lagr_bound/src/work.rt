@@ -1,18 +1,31 @@
 // What pricing all blocks of a program takes.
-ghost use Rattle.std.specs.Prelude.{◌≡◌, vec_len};
+ghost use Rattle.std.specs.Prelude.{◌≡◌, ◌≤◌, map, vec_len};
+ghost use Rattle.lagr_bound.specs.Desks.{form_of};
+ghost use Rattle.lagr_bound.specs.Pricers.{AreEnough};
 
 use crate::desk::Desk;
 use crate::desks::{clear, silence};
+use crate::pricers::GraphRoom;
 use block_form::Blocked;
 use std::alloc::{AllocError, Global};
 
-/// A pricer for each block of a program in blocks, a table where one takes the block, else a search, with all memory that
-/// pricing needs; and the points that the last bound told.
+/// A pricer for each block of a program in blocks, a table where one takes the block, else a graph of states where
+/// one suits it, else a search, with all memory that pricing needs, where all tables share their cells; and the points that the last bound told.
 #[derive(Drop)]
 pub struct Work {
     pub(crate) desks: Vec<Desk>,
     pub(crate) known: Vec<Option<i128>>,
+    pub(crate) cells: Vec<i128>,
     ghost room: { vec_len known ≡ vec_len desks },
+    ghost enough: { AreEnough (vec_len cells) (map form_of desks.items) },
+}
+
+/// The larger of two counts.
+fn larger(a: usize, b: usize) -> usize
+    ensures first { a ≤ result }
+    ensures second { b ≤ result }
+{
+    if a < b { b } else { a }
 }
 
 impl Work {
@@ -28,12 +41,20 @@ impl Work {
         ensures silent { IfOk result (λ work. IsSilent work) }
     {
         let mut desks = Vec::new(alloc);
+        let mut most = 0;
+        let mut room = GraphRoom::whole();
         for number in 0..b.blocks() {
-            let desk = Desk::make(alloc, b.block(number))?;
+            let desk = Desk::make(alloc, b.block(number), &mut room)?;
+            most = larger(most, desk.cells());
             desks.push(desk)?;
         }
         let known = Vec::from_elem(alloc, None, desks.len())?;
-        Ok(Work { desks, known })
+        let cells = Vec::from_elem(alloc, 0, most)?;
+        Ok(Work {
+            desks,
+            known,
+            cells,
+        })
     }
 
     /// The point of a block that the last bound told: after a whole bound by classes a point of the lowest picked block

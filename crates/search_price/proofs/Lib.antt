@@ -8,3 +8,4 @@ pub mod SearchLaws
 pub mod BeginLaws
 pub mod StopLaws
 pub mod RelaxLaws
+pub mod OrderLaws

@@ -18,7 +18,6 @@ use Rattle.bp_theory.proofs.Whole.{mul-add, add-mul, sub-mul, mul_assoc, le-mul_
 use Rattle.bp_theory.proofs.SumLaws.{sum_of_more}
 use Rattle.bp_theory.proofs.ZipLaws.{AllZip-length}
 use Rattle.search_price.specs.Best.{IsCovered, AllCovered}
-use Rattle.search_price.specs.Reach.{IsNarrowed}
 use Rattle.search_price.specs.Search.{IsTracked, IsPaid, IsOver, single, step_value, step_of, Follows}
 use Rattle.search_price.specs.declared.dive.Dive.{Dive}
 use Rattle.search_price.proofs.StopLaws.{later_undercut, covered_rest}
@@ -26,6 +25,7 @@ use Rattle.search_price.specs.Relax.{HasFittingSign, IsUndercut, IsSurpassed, pa
 use Rattle.search_price.specs.declared.relax.Relaxed.{Relaxed}
 use Rattle.pricing.specs.Form.{IsPriceable}
 use Rattle.search_price.specs.declared.form.Form.{Form}
+use Rattle.search_price.proofs.SearchLaws.{IsWholeAt}
 use Rattle.search_price.proofs.ReachLaws.{box_least-le, inside_larger}
 use Rattle.search_price.proofs.PlaceLaws.{CanMove, cost_short, cost_short_from, moved_least, least_short}
 
@@ -150,7 +150,7 @@ covered_surpassed rows narrow zone costs r best e inside below h y point =
 
 -- where the adjusted least with a number surpasses what the best so far allows, the loop over the span's numbers is done
 pub rest_surpassed : (rows : List Row) (zone narrow : List Span) (costs : List ℤ) (r : Relaxed) (level step : ℕ) (up : Bool) (v : ℤ) (best : Option ℤ)
-    → level < length narrow → length r.costs.items ≡ length narrow → IsNarrowed zone level narrow
+    → level < length narrow → length r.costs.items ≡ length narrow → IsWholeAt zone level narrow
     → v ≡ step_value up (span_at zone level) step → Follows up (get_or r.costs.items level (pos 0)) → IsUndercut rows zone costs r
     → ((y : List ℤ) → IsPoint rows narrow y → step_of up (span_at zone level) (value_at y level) < step → IsCovered best (dot costs y))
     → IsSurpassed r best (box_least (set narrow level (single v)) r.costs.items)
@@ -164,7 +164,7 @@ rest_surpassed rows zone narrow costs r level step up v best l e n is f below ha
 
 -- a loop that is over has covered all
 pub covered_over : (rows : List Row) (zone narrow : List Span) (costs : List ℤ) (r : Relaxed) (d : Dive) (level step : ℕ) (up : Bool) (v cost : ℤ)
-    → level < length narrow → length costs ≡ length narrow → length r.costs.items ≡ length narrow → IsNarrowed zone level narrow
+    → level < length narrow → length costs ≡ length narrow → length r.costs.items ≡ length narrow → IsWholeAt zone level narrow
     → v ≡ step_value up (span_at zone level) step → Follows up (get_or r.costs.items level (pos 0)) → IsUndercut rows zone costs r
     → ((y : List ℤ) → IsPoint rows narrow y → step_of up (span_at zone level) (value_at y level) < step → IsCovered d.best (dot costs y))
     → d.zone.items ≡ set narrow level (single v) → IsTracked rows zone costs d → IsPaid r d → cost ≡ get_or costs level (pos 0)

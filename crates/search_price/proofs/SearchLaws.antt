@@ -16,7 +16,7 @@ use Rattle.bp_theory.specs.declared.Span.{Span}
 use Rattle.bp_theory.specs.declared.Row.{Row}
 use Rattle.bp_theory.proofs.ZipLaws.{AllZip-length, AllZip_at}
 use Rattle.pricing.specs.Form.{HasShortEnds}
-use Rattle.search_price.specs.Reach.{CanMeetRow, IsNarrowed, lows_of, IsSingle}
+use Rattle.search_price.specs.Reach.{CanMeetRow, IsFixedOrWhole, IsNarrowed, lows_of, IsSingle}
 use Rattle.search_price.specs.Best.{IsCovered, AllCovered, IsNoWorse}
 use Rattle.search_price.specs.Search.{single, step_value, step_of}
 use Rattle.search_price.proofs.ReachLaws.{inside_at, span_at-set, span_at-set_other, inside_set, inside_larger, lows_inside, met_single, box_least-single}
@@ -45,46 +45,67 @@ single_reached rows narrow zone costs least inside one can is = (
   sym (is ∙ box_least-single narrow costs one),
 )
 
--- where all places are below the level each span has one number
-pub narrowed_single : (zone narrow : List Span) (level : ℕ) → length zone ≤ level → IsNarrowed zone level narrow → IsSingle narrow
-narrowed_single zone narrow level l n k = ⊎_elim
-    (λ below. n.fixed k below)
-    (λ above. past above)
-    (cases_lt k level)
-  where
-    past : level ≤ k → (span_at narrow k).lo ≡ (span_at narrow k).hi
-    past above =
-        let e : span_at narrow k ≡ record { lo = pos 0; hi = pos 0 } =
-        n.whole k above ∙ get_or_past zone k (record { lo = pos 0; hi = pos 0 }) (omega (arith, l, above)) in
-        ap (λ (s : Span). s.lo) e ∙ sym (ap (λ (s : Span). s.hi) e)
+-- a zone within another, in which a place has all of its numbers
+pub record IsWholeAt (zone : List Span) (var : ℕ) (narrow : List Span) : Type 0 where
+  pub inside : IsSubzone narrow zone
+  pub whole : span_at narrow var ≡ span_at zone var
 
--- one level more
-pub narrowed_more : (zone narrow : List Span) (level : ℕ) (v : ℤ) → level < length zone → IsNarrowed zone level narrow → IsWithin (span_at zone level) v
-    → IsNarrowed zone (level + 1) (set narrow level (single v))
-narrowed_more zone narrow level v l n within = record {
-  inside = set_inside narrow zone level (single v) n.inside (record { above = within.above; below = within.below });
-  fixed = λ k below. fixed_at k (cases_eq k level) below;
-  whole = λ k above. span_at-set_other narrow level k (single v) (apart k above) ∙ n.whole k (omega (arith, above));
+-- at the end of the order each span has one number
+pub narrowed_single : (zone narrow : List Span) (order : List ℕ) (level : ℕ) → length order ≤ level → IsNarrowed zone order level narrow → IsSingle narrow
+narrowed_single zone narrow order level l n k = ⊎_elim
+    (λ single. single)
+    (λ whole. absurd (omega (arith, l, whole.0.1, whole.0.2)))
+    (n.each k)
+
+-- one level more, where the level's variable was whole
+pub narrowed_more : (zone narrow : List Span) (order : List ℕ) (level var : ℕ) (v : ℤ) → var < length zone → var ≡ get_or order level 0
+    → IsNarrowed zone order level narrow → IsWithin (span_at zone var) v
+    → IsNarrowed zone order (level + 1) (set narrow var (single v))
+narrowed_more zone narrow order level var v l at n within = record {
+  inside = set_inside narrow zone var (single v) n.inside (record { above = within.above; below = within.below });
+  each = λ k. by k (cases_eq k var);
 }
   where
-    apart : (k : ℕ) → level + 1 ≤ k → k ≢ level
-    apart k above e = omega (arith, above, e)
-
-    there : level < length narrow
+    there : var < length narrow
     there = omega (arith, l, AllZip-length IsSubspan narrow zone n.inside)
 
-    fixed_at : (k : ℕ) → (k ≡ level) ⊎ (k ≡ level → ⊥) → k < level + 1
-        → (span_at (set narrow level (single v)) k).lo ≡ (span_at (set narrow level (single v)) k).hi
-    fixed_at k (inl same) below =
-        let e : span_at (set narrow level (single v)) k ≡ single v =
-        ap (span_at (set narrow level (single v))) same ∙ span_at-set narrow level (single v) there in
-        ap (λ (s : Span). s.lo) e ∙ sym (ap (λ (s : Span). s.hi) e)
-    fixed_at k (inr other) below =
-        let e : span_at (set narrow level (single v)) k ≡ span_at narrow k = span_at-set_other narrow level k (single v) other in
-        ap (λ (s : Span). s.lo) e ∙ n.fixed k (below_from k other below) ∙ sym (ap (λ (s : Span). s.hi) e)
-      where
-        below_from : (k : ℕ) → (k ≡ level → ⊥) → k < level + 1 → k < level
-        below_from k o b = ⊎_elim (λ less. less) (λ more. absurd (o (omega (arith, b, more)))) (cases_lt k level)
+    past : (i : ℕ) → level ≤ i → (i ≡ level → ⊥) → level + 1 ≤ i
+    past i m o = ⊎_elim (λ less. omega (arith, less)) (λ more. absurd (o (omega (arith, m, more)))) (cases_lt level i)
+
+    by : (k : ℕ) → (k ≡ var) ⊎ (k ≡ var → ⊥) → IsFixedOrWhole order (level + 1) zone (set narrow var (single v)) k
+    by k (inl same) =
+        let e : span_at (set narrow var (single v)) k ≡ single v =
+        ap (span_at (set narrow var (single v))) same ∙ span_at-set narrow var (single v) there in
+        inl (ap (λ (s : Span). s.lo) e ∙ sym (ap (λ (s : Span). s.hi) e))
+    by k (inr other) =
+        let e : span_at (set narrow var (single v)) k ≡ span_at narrow k = span_at-set_other narrow var k (single v) other in
+        ⊎_elim
+        (λ one. inl (ap (λ (s : Span). s.lo) e ∙ one ∙ sym (ap (λ (s : Span). s.hi) e)))
+        (λ whole. inr (
+          (whole.0.0, past whole.0.0 whole.0.1 (λ here. other (sym whole.0.3 ∙ ap (λ j. get_or order j 0) here ∙ sym at)), whole.0.2, whole.0.3),
+          e ∙ whole.1,
+        ))
+        (n.each k)
+
+-- one level more, where the level's variable wasn't
+pub narrowed_past : (zone narrow : List Span) (order : List ℕ) (level var : ℕ) → var ≡ get_or order level 0 → (span_at narrow var ≡ span_at zone var → ⊥)
+    → IsNarrowed zone order level narrow → IsNarrowed zone order (level + 1) narrow
+narrowed_past zone narrow order level var at changed n = record { inside = n.inside; each = λ k. by k (n.each k) }
+  where
+    past : (i : ℕ) → level ≤ i → (i ≡ level → ⊥) → level + 1 ≤ i
+    past i m o = ⊎_elim (λ less. omega (arith, less)) (λ more. absurd (o (omega (arith, m, more)))) (cases_lt level i)
+
+    by : (k : ℕ) → IsFixedOrWhole order level zone narrow k → IsFixedOrWhole order (level + 1) zone narrow k
+    by k (inl one) = inl one
+    by k (inr whole) = inr (
+      (
+        whole.0.0,
+        past whole.0.0 whole.0.1 (λ here. changed (subst (λ j. span_at narrow j ≡ span_at zone j) (sym whole.0.3 ∙ ap (λ j. get_or order j 0) here ∙ sym at) whole.1)),
+        whole.0.2,
+        whole.0.3,
+      ),
+      whole.1,
+    )
 
 -- a place written twice
 pub set_twice : (zone : List Span) (j : ℕ) (s t : Span) → set (set zone j s) j t ≡ set zone j t
@@ -99,12 +120,12 @@ set_back (u ∷ us) zero = refl
 set_back (u ∷ us) (suc j) = ap (λ zs. u ∷ zs) (set_back us j)
 
 -- the zone in which a level has its whole span again
-pub whole_again : (zone narrow moved : List Span) (level : ℕ) → IsNarrowed zone level narrow → moved ≡ set narrow level (span_at moved level)
+pub whole_again : (zone narrow moved : List Span) (level : ℕ) → IsWholeAt zone level narrow → moved ≡ set narrow level (span_at moved level)
     → set moved level (span_at zone level) ≡ narrow
 whole_again zone narrow moved level n is =
     ap (λ (zs : List Span). set zs level (span_at zone level)) is
     ∙ set_twice narrow level (span_at moved level) (span_at zone level)
-    ∙ ap (set narrow level) (sym (n.whole level (omega arith)))
+    ∙ ap (set narrow level) (sym n.whole)
     ∙ set_back narrow level
 
 -- the zone of a value, from where the search stands
@@ -148,7 +169,7 @@ step_in_width false s v h = by (s.hi -ℤ s.lo) refl (gap_is v s.hi h.below)
 
 -- a loop's step: one value more is covered
 pub covered_more : (rows : List Row) (zone narrow : List Span) (costs : List ℤ) (level step : ℕ) (up : Bool) (v : ℤ) (before now : Option ℤ)
-    → level < length narrow → IsNarrowed zone level narrow
+    → level < length narrow → IsWholeAt zone level narrow
     → v ≡ step_value up (span_at zone level) step
     → ((y : List ℤ) → IsPoint rows narrow y → step_of up (span_at zone level) (value_at y level) < step → IsCovered before (dot costs y))
     → IsNoWorse before now → AllCovered rows (set narrow level (single v)) costs now
@@ -159,7 +180,7 @@ covered_more rows zone narrow costs level step up v before now l n is had better
     (cases_lt (step_of up (span_at zone level) (value_at y level)) step)
   where
     within : IsWithin (span_at zone level) (value_at y level)
-    within = subst (λ (s : Span). IsWithin s (value_at y level)) (n.whole level (omega arith))
+    within = subst (λ (s : Span). IsWithin s (value_at y level)) (n.whole)
         (inside_at narrow y point.inside level l)
 
     inside : step_of up (span_at zone level) (value_at y level) ≡ step → IsInside (set narrow level (single v)) y
@@ -170,7 +191,7 @@ covered_more rows zone narrow costs level step up v before now l n is had better
 
 -- at the loop's end each point is covered
 pub covered_all : (rows : List Row) (zone narrow : List Span) (costs : List ℤ) (level count : ℕ) (up : Bool) (best : Option ℤ)
-    → level < length narrow → IsNarrowed zone level narrow → width (span_at zone level) ≤ count
+    → level < length narrow → IsWholeAt zone level narrow → width (span_at zone level) ≤ count
     → ((y : List ℤ) → IsPoint rows narrow y → step_of up (span_at zone level) (value_at y level) < count → IsCovered best (dot costs y))
     → AllCovered rows narrow costs best
 covered_all rows zone narrow costs level count up best l n wide had y point =
@@ -178,7 +199,7 @@ covered_all rows zone narrow costs level count up best l n wide had y point =
       arith,
       wide,
       step_in_width up (span_at zone level) (value_at y level)
-          (subst (λ (s : Span). IsWithin s (value_at y level)) (n.whole level (omega arith)) (inside_at narrow y point.inside level l)),
+          (subst (λ (s : Span). IsWithin s (value_at y level)) (n.whole) (inside_at narrow y point.inside level l)),
     ))
 
 -- the ends of a zone within the root are short

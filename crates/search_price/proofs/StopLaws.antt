@@ -12,11 +12,10 @@ use Rattle.bp_theory.specs.Bound.{IsPoint, end_cost, box_least}
 use Rattle.bp_theory.specs.declared.Span.{Span}
 use Rattle.bp_theory.specs.declared.Row.{Row}
 use Rattle.bp_theory.proofs.Whole.{le-mul_pos, le-mul_negsuc}
-use Rattle.search_price.specs.Reach.{IsNarrowed}
 use Rattle.search_price.specs.Best.{IsCovered, AllCovered}
 use Rattle.search_price.specs.Search.{single, step_value, step_of, Follows}
 use Rattle.search_price.proofs.ReachLaws.{inside_at, box_least-set, box_least-le, inside_set}
-use Rattle.search_price.proofs.SearchLaws.{value_of_step}
+use Rattle.search_price.proofs.SearchLaws.{IsWholeAt, value_of_step}
 
 -- a later number of a span costs no less
 pub later_dearer : (up : Bool) (s : Span) (r v w : ℤ) (step : ℕ) → Follows up r → IsWithin s w → v ≡ step_value up s step → step ≤ step_of up s w
@@ -61,19 +60,19 @@ box_undercuts narrow costs y level v l e inside h =
 
 -- the least with a span's number at a step undercuts each point with a later one
 pub later_undercut : (zone narrow : List Span) (costs y : List ℤ) (level step : ℕ) (up : Bool) (v : ℤ)
-    → level < length narrow → length costs ≡ length narrow → IsNarrowed zone level narrow
+    → level < length narrow → length costs ≡ length narrow → IsWholeAt zone level narrow
     → v ≡ step_value up (span_at zone level) step → Follows up (get_or costs level (pos 0))
     → IsInside narrow y → step ≤ step_of up (span_at zone level) (value_at y level)
     → box_least (set narrow level (single v)) costs ≤ℤ dot costs y
 later_undercut zone narrow costs y level step up v l e n is f inside later =
     box_undercuts narrow costs y level v l e inside
     (later_dearer up (span_at zone level) (get_or costs level (pos 0)) v (value_at y level) step f
-    (subst (λ (s : Span). IsWithin s (value_at y level)) (n.whole level (omega arith)) (inside_at narrow y inside level l))
+    (subst (λ (s : Span). IsWithin s (value_at y level)) n.whole (inside_at narrow y inside level l))
     is later)
 
 -- where the least with a number is covered, the loop over the span's numbers is done
 pub covered_rest : (rows : List Row) (zone narrow : List Span) (costs : List ℤ) (level step : ℕ) (up : Bool) (v : ℤ) (best : Option ℤ)
-    → level < length narrow → length costs ≡ length narrow → IsNarrowed zone level narrow
+    → level < length narrow → length costs ≡ length narrow → IsWholeAt zone level narrow
     → v ≡ step_value up (span_at zone level) step → Follows up (get_or costs level (pos 0))
     → ((y : List ℤ) → IsPoint rows narrow y → step_of up (span_at zone level) (value_at y level) < step → IsCovered best (dot costs y))
     → IsCovered best (box_least (set narrow level (single v)) costs)

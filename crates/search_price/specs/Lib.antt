@@ -1,3 +1,4 @@
+pub mod Orders
 pub mod Columns
 pub mod Shifts
 pub mod Reach

@@ -1,5 +1,5 @@
 -- What rows can reach in a zone.
-use Rattle.std.specs.Prelude.{◌≡◌, ℕ, ◌<◌, ◌≤◌, List, map, ℤ, ◌≤ℤ◌}
+use Rattle.std.specs.Prelude.{◌≡◌, ℕ, ◌⊎◌, List, map, ℤ, ◌≤ℤ◌}
 use Rattle.bp_theory.specs.Sums.{sum_of}
 use Rattle.bp_theory.specs.Program.{span_at}
 use Rattle.bp_theory.specs.Bound.{end_cost}
@@ -10,6 +10,7 @@ use Rattle.bp_theory.specs.declared.Sense.{Sense}
 use Rattle.bp_theory.specs.declared.Sense.TheVariants.{Le, Ge, Eq, In}
 use Rattle.bp_theory.specs.declared.Row.{Row}
 use Rattle.pricing.specs.Ends.{top_cost}
+use Rattle.search_price.specs.Orders.{StandsFrom}
 
 -- the sum of one end's product for each term
 abbrev pub reach_by : (Span → ℤ → ℤ) → List Span → List Term → ℤ
@@ -34,11 +35,15 @@ CanMeet In low rhs least most = (low ≤ℤ most) × (least ≤ℤ rhs)
 abbrev pub CanMeetRow : List Span → Row → Type 0
 CanMeetRow zone row = CanMeet row.sense row.low row.rhs (low_reach zone row.terms) (high_reach zone row.terms)
 
--- a zone within another: the places below a level have one number, and those from it on have all of theirs
-pub record IsNarrowed (zone : List Span) (level : ℕ) (narrow : List Span) : Type 0 where
+-- a place has one number, or it stands in an order from a level on and has all of its numbers
+abbrev pub IsFixedOrWhole : (order : List ℕ) (level : ℕ) (zone narrow : List Span) → ℕ → Type 0
+IsFixedOrWhole order level zone narrow k =
+    ((span_at narrow k).lo ≡ (span_at narrow k).hi) ⊎ (StandsFrom order level k × (span_at narrow k ≡ span_at zone k))
+
+-- a zone within another, in which the places that an order has from a level on have all of their numbers, or one, and each other one has one
+pub record IsNarrowed (zone : List Span) (order : List ℕ) (level : ℕ) (narrow : List Span) : Type 0 where
   pub inside : IsSubzone narrow zone
-  pub fixed : (k : ℕ) → k < level → (span_at narrow k).lo ≡ (span_at narrow k).hi
-  pub whole : (k : ℕ) → level ≤ k → span_at narrow k ≡ span_at zone k
+  pub each : (k : ℕ) → IsFixedOrWhole order level zone narrow k
 
 -- the lower ends of spans
 abbrev pub lows_of : List Span → List ℤ

@@ -8,15 +8,28 @@ use bp_theory::{Items, Row, Span};
 use pricing::{copied_rows, copied_spans};
 use std::alloc::{AllocError, Global};
 
+/// How many terms few are.
+const FEW_TERMS: usize = 3;
+
 /// Rows and root spans, and the rows by variables.
 #[derive(Drop)]
 pub struct Form {
     pub rows: Vec<Row>,
     pub spans: Vec<Span>,
     pub columns: Vec<Items<Entry>>,
+    short: bool,
     ghost kept: { IsForm rows.items spans.items },
     ghost wide: { vec_len columns ≡ vec_len spans },
     ghost by_variables: { AreColumns rows.items columns.items },
+}
+
+/// Whether rows have few terms in the mean.
+fn are_short(rows: &[Row]) -> bool {
+    let mut terms: usize = 0;
+    for row in rows {
+        terms = terms.saturating_add(row.terms.len());
+    }
+    terms <= rows.len().saturating_mul(FEW_TERMS)
 }
 
 impl Form {
@@ -29,10 +42,17 @@ impl Form {
         let rows_copied = copied_rows(alloc, rows)?;
         let spans_copied = copied_spans(alloc, spans)?;
         let columns = columns_of(alloc, spans.len(), rows)?;
+        let short = are_short(rows);
         Ok(Form {
             rows: rows_copied,
             spans: spans_copied,
             columns,
+            short,
         })
+    }
+
+    /// Whether rows have few terms in the mean, so that each number of a variable that sits in many rows decides much.
+    pub fn is_short(&self) -> bool {
+        self.short
     }
 }

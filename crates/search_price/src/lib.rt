@@ -8,6 +8,7 @@ mod dive;
 mod form;
 mod moves;
 mod multipliers;
+mod order;
 mod pricer;
 mod relax;
 mod search;

@@ -8,6 +8,7 @@ use crate::dive::Dive;
 use crate::form::Form;
 use crate::moves::rows_can_meet;
 use crate::multipliers::Multipliers;
+use crate::order::set_order;
 use crate::relax::{Relaxed, relax};
 use crate::search::explore;
 use block_form::Block;
@@ -23,8 +24,12 @@ pub struct SearchPricer {
     dive: Dive,
     relaxed: Relaxed,
     multipliers: Multipliers,
+    order: Vec<usize>,
+    keys: Vec<u128>,
     ghost adjusted: { vec_len relaxed.costs ≡ vec_len form.spans },
     ghost places: { HasPlaces form dive },
+    ghost long: { vec_len order ≡ vec_len form.spans },
+    ghost wide: { vec_len keys ≡ vec_len form.spans },
 }
 
 impl SearchPricer {
@@ -58,6 +63,8 @@ impl SearchPricer {
             dive,
             relaxed: Relaxed::make(alloc, spans.len())?,
             multipliers: Multipliers::make(alloc, rows.len())?,
+            order: Vec::from_elem(alloc, 0, spans.len())?,
+            keys: Vec::from_elem(alloc, 0, spans.len())?,
         })
     }
 }
@@ -84,6 +91,13 @@ impl Pricer for SearchPricer {
         let paid = least_cost(zone, &self.relaxed.costs);
         begin(&mut self.dive, &self.form, zone, costs, &paid);
         let alive = rows_can_meet(&self.dive, &self.form, zone, costs);
+        let open = set_order(
+            &mut self.order,
+            &mut self.keys,
+            &self.form,
+            zone,
+            &self.relaxed.costs,
+        );
         let mut visits = visits_under(cap, zone);
         if !explore(
             &mut self.dive,
@@ -92,6 +106,7 @@ impl Pricer for SearchPricer {
             zone,
             costs,
             &self.relaxed,
+            &self.order[..open],
             0,
             alive,
         ) {

@@ -76,25 +76,33 @@ fn give_back(
     zone: &[Span],
     costs: &[i128],
     relaxed: &Relaxed,
-    level: usize,
+    var: usize,
 )
     requires priceable { IsPriceable form.now.spans.items zone.now costs.now }
     requires adjusted { IsPriceable form.now.spans.items zone.now relaxed.now.costs.items }
     requires tracked { IsTracked form.now.rows.items zone.now costs.now dive.old }
     requires paid { IsPaid relaxed.now dive.old }
-    requires there { level < length zone.now }
-    ensures zone { dive.new.zone.items ≡ slice_set dive.old.zone.items level (span_at zone.now level) }
+    requires there { var < length zone.now }
+    ensures zone { dive.new.zone.items ≡ slice_set dive.old.zone.items var (span_at zone.now var) }
     ensures tracked { IsTracked form.now.rows.items zone.now costs.now dive.new }
     ensures paid { IsPaid relaxed.now dive.new }
     ensures kept { IsKept dive.old dive.new }
 {
-    let whole = zone[level];
-    place(dive, form, zone, costs, relaxed, level, &whole);
+    let whole = zone[var];
+    place(dive, form, zone, costs, relaxed, var, &whole);
 }
 
-/// Searches the points of the zone, in which the variables below a level have one number. Tells whether it came to
-/// the end, which it does where visits aren't capped. A zone that isn't alive is known to have no point that is cheaper than
-/// the best so far.
+/// Whether two spans are the same.
+fn is_same(a: &Span, b: &Span) -> bool
+    ensures yes { OnTrue result (a.now ≡ b.now) }
+    ensures no { OnFalse result (a.now ≡ b.now → ⊥) }
+{
+    a.lo == b.lo && a.hi == b.hi
+}
+
+/// Searches the points of the zone, in which the variables that an order has before a level have one number, and so do those
+/// that it lacks. Tells whether it came to the end, which it does where visits aren't capped. A zone that isn't alive is known
+/// to have no point that is cheaper than the best so far.
 pub fn explore(
     dive: &mut Dive,
     visits: &mut Visits,
@@ -102,6 +110,7 @@ pub fn explore(
     zone: &[Span],
     costs: &[i128],
     relaxed: &Relaxed,
+    order: &[usize],
     level: usize,
     alive: bool,
 ) -> bool
@@ -109,8 +118,9 @@ pub fn explore(
     requires relaxed { IsRelaxed form.now.spans.items form.now.rows.items zone.now costs.now relaxed.now }
     requires tracked { IsTracked form.now.rows.items zone.now costs.now dive.old }
     requires paid { IsPaid relaxed.now dive.old }
-    requires level { level ≤ length zone.now }
-    requires narrowed { IsNarrowed zone.now level dive.old.zone.items }
+    requires order { All (λ v. v < length zone.now) order.now }
+    requires level { level ≤ length order.now }
+    requires narrowed { IsNarrowed zone.now order.now level dive.old.zone.items }
     requires can { OnTrue alive (All (CanMeetRow dive.old.zone.items) form.now.rows.items) }
     requires covered { OnFalse alive (AllCovered form.now.rows.items dive.old.zone.items costs.now dive.old.best) }
     requires reached { IsReached form.now.rows.items zone.now costs.now dive.old.best dive.old.point.items }
@@ -129,24 +139,48 @@ pub fn explore(
     if !alive {
         return true;
     }
-    if level == zone.len() {
+    if level == order.len() {
         record(dive, form, zone, costs);
         return true;
     }
-    let whole = zone[level];
-    let up = is_upward(&relaxed.costs[level], &costs[level]);
+    let var = order[level];
+    let whole = zone[var];
+    if !is_same(&dive.zone[var], &whole) {
+        return explore(
+            dive,
+            visits,
+            form,
+            zone,
+            costs,
+            relaxed,
+            order,
+            level + 1,
+            alive,
+        );
+    }
+    let up = is_upward(&relaxed.costs[var], &costs[var]);
     for step in 0..count_of(&whole) {
         let value = value_at(&whole, up, step);
-        let goes_on = place_value(dive, form, zone, costs, relaxed, level, &value);
-        if !goes_on && is_over(dive, relaxed, &costs[level], up) {
-            give_back(dive, form, zone, costs, relaxed, level);
+        let goes_on = place_value(dive, form, zone, costs, relaxed, var, &value);
+        if !goes_on && is_over(dive, relaxed, &costs[var], up) {
+            give_back(dive, form, zone, costs, relaxed, var);
             return true;
         }
-        if !explore(dive, visits, form, zone, costs, relaxed, level + 1, goes_on) {
+        if !explore(
+            dive,
+            visits,
+            form,
+            zone,
+            costs,
+            relaxed,
+            order,
+            level + 1,
+            goes_on,
+        ) {
             return false;
         }
     }
-    give_back(dive, form, zone, costs, relaxed, level);
+    give_back(dive, form, zone, costs, relaxed, var);
     true
 }
 

@@ -1,13 +1,13 @@
-use Rattle.std.proofs.Common.{◌≡◌, ◌+◌, length, vec_len, sum}
+use Rattle.std.proofs.Common.{◌≡◌, ◌+◌, ◌<◌, ℕ, length, sum}
 use Rattle.knap_price.specs.Parts.{AreGrowing}
-use Rattle.knap_price.proofs.TableLaws.{IsAdded}
+use Rattle.knap_price.specs.Tables.{cell_at, row_from, IsTried}
 use Rattle.knap_price.proofs.table.add_item.Given as goal
 
 abbrev pub invariant-loop-units : goal.invariant-loop-units
 invariant-loop-units l = record {
-  cells : vec_len l.cells ≡ vec_len l.initial.cells;
-  picks : length l.picks ≡ length l.initial.picks;
+  len : length l.cells ≡ length l.initial.cells;
   within : sum l.yielded + sum l.units-iterator ≡ l.item.width;
   growing : AreGrowing (sum l.yielded) l.units-iterator;
-  added : IsAdded l.item (sum l.yielded) l.top l.initial.cells.items l.cells.items l.picks;
+  tried : IsTried l.item (sum l.yielded) l.top (row_from l.fn.cells l.start) (row_from l.cells l.next);
+  below : (k : ℕ) → k < l.next → cell_at l.cells k ≡ cell_at l.fn.cells k;
 }

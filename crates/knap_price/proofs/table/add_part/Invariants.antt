@@ -1,10 +1,11 @@
-use Rattle.std.proofs.Common.{◌≡◌, length, vec_len}
-use Rattle.knap_price.proofs.TableLaws.{IsTried}
+use Rattle.std.proofs.Common.{◌≡◌, ◌<◌, ℕ, length}
+use Rattle.knap_price.specs.Tables.{cell_at, row_from}
+use Rattle.knap_price.proofs.TableLaws.{IsRelaxing}
 use Rattle.knap_price.proofs.table.add_part.Given as goal
 
 abbrev pub invariant-loop-weight : goal.invariant-loop-weight
 invariant-loop-weight l = record {
-  cells : vec_len l.cells ≡ vec_len l.initial.cells;
-  picks : length l.picks ≡ length l.initial.picks;
-  tried : IsTried l.shift l.top l.weight l.units l.gain l.initial.cells.items l.cells.items l.initial.picks l.picks;
+  len : length l.cells ≡ length l.initial.cells;
+  relaxing : IsRelaxing l.shift l.top l.weight l.gain (row_from l.initial.cells l.start) (row_from l.cells l.start);
+  below : (k : ℕ) → k < l.start → cell_at l.cells k ≡ cell_at l.initial.cells k;
 }

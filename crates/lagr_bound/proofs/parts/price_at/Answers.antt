@@ -13,7 +13,7 @@ use Rattle.lagr_bound.specs.Desks.{form_of, told_point, priced_point}
 use Rattle.lagr_bound.specs.declared.desk.Desk.{Desk}
 use Rattle.lagr_bound.proofs.Magnitude.{blocks_small, proof_small}
 use Rattle.lagr_bound.proofs.PartLemmas.{no_block}
-use Rattle.lagr_bound.proofs.DeskLemmas.{form_at, map-set_alike, silent_still, zone_of_block, desk_there}
+use Rattle.lagr_bound.proofs.DeskLemmas.{form_at, map-set_alike, silent_still, zone_of_block, desk_there, enough_at}
 use Rattle.lagr_bound.proofs.parts.price_at.Goals as goal
 
 pub price-requires-clause-same_block : goal.price-requires-clause-same_block
@@ -36,6 +36,11 @@ price-requires-clause-block c =
 
 pub price-requires-clause-proof : goal.price-requires-clause-proof
 price-requires-clause-proof c = proof_small c.args.b.now c.args.proof.now c.requires.formed c.requires.fits
+
+pub price-requires-clause-cells : goal.price-requires-clause-cells
+price-requires-clause-cells c =
+    let there : c.args.number < length c.args.desks.now.items = desk_there c.args.b.now c.args.desks.now.items c.args.number c.requires.made_for c.requires.there in
+    enough_at _ c.args.desks.now.items c.args.number c.index_mut.result.now there c.index_mut.ensures.value c.requires.cells
 
 pub returns-clause-answer : goal.returns-clause-answer
 returns-clause-answer c d =

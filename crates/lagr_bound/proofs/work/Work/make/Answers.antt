@@ -1,5 +1,5 @@
 use Rattle.std.proofs.Common.{◌≡◌, ◌∙◌, sym, ap, ℕ, ◌<◌, ◌+◌, arith}
-use Rattle.lagr_bound.proofs.DeskLemmas.{has_form, one_desk_more}
+use Rattle.lagr_bound.proofs.DeskLemmas.{has_form, one_desk_more, enough_more}
 use Rattle.lagr_bound.proofs.work.Work.make.Goals as goal
 
 pub make-requires : goal.make-requires
@@ -9,6 +9,11 @@ make-requires c =
 
 pub loop-number-preserved : goal.loop-number-preserved
 loop-number-preserved c =
-    one_desk_more c.args.b.now c.block.result.now c.loop-number.number c.loop-number.desks.items c.push.new.self.items c.in_ok-desk.desk c.in_ok-push.ensures.items
+    let more = one_desk_more c.args.b.now c.block.result.now c.loop-number.number c.loop-number.desks.items c.push.new.self.items c.in_ok-desk.desk c.in_ok-push.ensures.items
     (omega (arith, c.loop-number-test.true, c.blocks-number-end.ensures.blocks)) c.block.ensures.block c.block.ensures.spans
-    c.in_ok-desk.ensures.form c.in_ok-desk.ensures.silent c.loop-number.invariant.0 c.loop-number.invariant.1
+    c.in_ok-desk.ensures.form c.in_ok-desk.ensures.silent c.loop-number.invariant.0 c.loop-number.invariant.1 in (
+      more.0,
+      more.1,
+      enough_more c.loop-number.most c.larger-most.result c.cells.result c.loop-number.desks.items c.push.new.self.items c.in_ok-desk.desk c.in_ok-push.ensures.items
+          c.larger-most.ensures.first c.larger-most.ensures.second c.loop-number.invariant.2 c.cells.ensures,
+    )

@@ -1,0 +1,117 @@
+-- Laws of graphs: their ways are what completes their states.
+use Rattle.std.proofs.Common.{◌≡◌, sym, ap, subst, ◌∙◌, ℕ, zero, suc, ◌+◌, ◌<◌, ◌≤◌, List, [], ◌∷◌, ◌++◌, length, get_or, arith, inl, inr, drop, append_assoc, drop-cons}
+use Rattle.std.proofs.Math.IntN.{ℤ, pos}
+use Rattle.std.specs.Prelude.{◌^◌}
+use Rattle.std.specs.List.{AllByRecursion}
+use Rattle.std.proofs.lemmas.List.{get_or_default}
+use Rattle.std.proofs.lemmas.List.Elements.{recursion_from_All, All-from_recursion}
+use Rattle.bp_theory.specs.declared.Span.{Span}
+use Rattle.state_price.specs.Windows.{IsMoved}
+use Rattle.state_price.specs.Layers.{IsCompletion, AreHulls, IsShaped, AreLayers}
+use Rattle.state_price.specs.Graphs.{arc_at, IsWay, IsArcSafe, IsStepSafe, IsSafe}
+use Rattle.state_price.specs.Expansions.{state_at, HaveRows, IsServed, IsExpanded, IsRight, AreRight, IsEndState}
+use Rattle.state_price.specs.declared.graph.Arc.{Arc}
+use Rattle.state_price.specs.declared.layers.Layer.{Layer}
+use Rattle.state_price.proofs.WindowLaws.{completes_moved, moved_completes, lost_completes_nothing}
+
+-- a layer in front of a graph that is right for the states behind it
+pub expanded_right : (l : Layer) (ls : List Layer) (states next : List (List Span)) (arcs : List Arc) (steps : List (List Arc))
+    → ((i : ℕ) → i < length states → length l.hulls ≡ length (state_at states i)) → AreHulls ls l.hulls
+    → IsExpanded l states next arcs → AreRight ls next steps → AreRight (l ∷ ls) states (arcs ∷ steps)
+expanded_right l ls states next arcs steps each hulls x right i there = record { sound = sound; complete = complete }
+  where
+    sound : (ys : List ℤ) → IsWay (arcs ∷ steps) i ys → IsCompletion (l ∷ ls) (state_at states i) ys
+    sound [] way = absurd way
+    sound (y ∷ ys) (j, leads, way) =
+        subst (λ k. IsCompletion (l ∷ ls) (state_at states k) (y ∷ ys)) leads.from
+        (moved_completes l ls (state_at states (arc_at arcs j).from) (state_at next (arc_at arcs j).to) y ys
+        ((x.sound j leads.there).within y leads.within) ((x.sound j leads.there).moves y leads.within)
+        ((right (arc_at arcs j).to (x.sound j leads.there).to).sound ys way))
+
+    by : (y : ℤ) (ys : List ℤ) → IsCompletion (l ∷ ls) (state_at states i) (y ∷ ys) → IsServed l states arcs i y → IsWay (arcs ∷ steps) i (y ∷ ys)
+    by y ys h (inl lost) = absurd (lost_completes_nothing l ls (state_at states i) y ys (each i there) hulls lost h)
+    by y ys h (inr (j, leads)) = (
+      j,
+      leads,
+      (right (arc_at arcs j).to (x.sound j leads.there).to).complete ys
+          (completes_moved l ls (state_at states i) (state_at next (arc_at arcs j).to) y ys (each i there) hulls
+          (subst (λ k. IsMoved l.column l.hulls (state_at states k) y (state_at next (arc_at arcs j).to)) leads.from ((x.sound j leads.there).moves y leads.within)) h),
+    )
+
+    complete : (ys : List ℤ) → IsCompletion (l ∷ ls) (state_at states i) ys → IsWay (arcs ∷ steps) i ys
+    complete [] h = absurd h.inside
+    complete (y ∷ ys) h = by y ys h (x.served i y there h.inside.0)
+
+-- behind the last layer nothing completes but nothing
+pub end_right : (states : List (List Span)) → ((i : ℕ) → i < length states → IsEndState (state_at states i)) → AreRight [] states []
+end_right states ends i there = record {
+  sound = sound;
+  complete = complete;
+}
+  where
+    sound : (ys : List ℤ) → IsWay [] i ys → IsCompletion [] (state_at states i) ys
+    sound [] way = record { inside = tt; meets = λ row r. ends i there row (record { lo = pos 0; hi = pos 0 }) r }
+    sound (y ∷ ys) way = absurd way
+
+    complete : (ys : List ℤ) → IsCompletion [] (state_at states i) ys → IsWay [] i ys
+    complete [] h = tt
+    complete (y ∷ ys) h = absurd h.inside
+
+-- a layer is shaped and has the hulls of those behind it
+pub layer_at : (rows : ℕ) (layers : List Layer) (k : ℕ) (d : Layer) → AreLayers rows layers → k < length layers
+    → IsShaped rows (get_or layers k d) × AreHulls (drop (suc k) layers) (get_or layers k d).hulls
+layer_at rows [] k d h l = absurd (omega arith)
+layer_at rows (x ∷ xs) zero d h l = (h.0, h.1)
+layer_at rows (x ∷ xs) (suc k) d h l = layer_at rows xs k d h.2 (omega arith)
+
+-- a loop's step: one layer more
+pub graph_more : (rows : ℕ) (layers : List Layer) (k : ℕ) (d : Layer) (l : Layer) (root : List Span) (states next : List (List Span)) (arcs : List Arc) (steps : List (List Arc))
+    → k < length layers → l ≡ get_or layers k d → AreLayers rows layers → HaveRows rows states → IsExpanded l states next arcs
+    → ((rest : List (List Arc)) → AreRight (drop k layers) states rest → IsRight layers root (steps ++ rest) 0)
+    → (rest : List (List Arc)) → AreRight (drop (k + 1) layers) next rest → IsRight layers root ((steps ++ (arcs ∷ [])) ++ rest) 0
+graph_more rows layers k d l root states next arcs steps there is shaped have x so_far rest right =
+    subst (λ (ss : List (List Arc)). IsRight layers root ss 0) (sym (append_assoc steps (arcs ∷ []) rest))
+    (so_far (arcs ∷ rest) (subst (λ (ls : List Layer). AreRight ls states (arcs ∷ rest)) (sym front) now))
+  where
+    at : IsShaped rows (get_or layers k d) × AreHulls (drop (suc k) layers) (get_or layers k d).hulls
+    at = layer_at rows layers k d shaped there
+
+    front : drop k layers ≡ l ∷ drop (suc k) layers
+    front = drop-cons layers k d there ∙ ap (λ (x : Layer). x ∷ drop (suc k) layers) (sym is)
+
+    one : k + 1 ≡ suc k
+    one = omega arith
+
+    shape : IsShaped rows l
+    shape = subst (IsShaped rows) (sym is) at.0
+
+    hulls : AreHulls (drop (suc k) layers) l.hulls
+    hulls = subst (λ (x : Layer). AreHulls (drop (suc k) layers) x.hulls) (sym is) at.1
+
+    each : (i : ℕ) → i < length states → length l.hulls ≡ length (state_at states i)
+    each i lt = shape.hulls ∙ sym (have i [] lt)
+
+    now : AreRight (l ∷ drop (suc k) layers) states (arcs ∷ rest)
+    now = expanded_right l (drop (suc k) layers) states next arcs rest each hulls x (subst (λ n. AreRight (drop n layers) next rest) one right)
+
+-- arcs stay safe
+pub graph_safe : (l : Layer) (states next : List (List Span)) (arcs : List Arc) (steps : List (List Arc)) (wide wider : ℕ)
+    → IsExpanded l states next arcs → length states ≤ wide → length arcs < 2 ^ 32 → IsSafe wide steps
+    → wide ≤ wider → length next ≤ wider → IsSafe wider (steps ++ (arcs ∷ []))
+graph_safe l states next arcs steps wide wider x few short safe more many =
+    All-from_recursion (IsStepSafe wider) (steps ++ (arcs ∷ [])) (joined steps (recursion_from_All (IsStepSafe wide) steps safe))
+  where
+    last : IsStepSafe wider arcs
+    last = record {
+      few = short;
+      each = λ j e lt. let is = x.sound j lt in
+          let same : get_or arcs j e ≡ arc_at arcs j = get_or_default arcs j e (record { from = 0; to = 0; label = record { lo = pos 0; hi = pos 0 } }) lt in
+          subst (IsArcSafe wider) (sym same) (record { from = omega (arith, is.from, few, more); to = omega (arith, is.to, many) });
+    }
+
+    grown : (s : List Arc) → IsStepSafe wide s → IsStepSafe wider s
+    grown s h = record { few = h.few; each = λ j e lt. record { from = omega (arith, (h.each j e lt).from, more); to = omega (arith, (h.each j e lt).to, more) } }
+
+    joined : (ss : List (List Arc)) → AllByRecursion (IsStepSafe wide) ss → AllByRecursion (IsStepSafe wider) (ss ++ (arcs ∷ []))
+    joined [] h = (last, tt)
+    joined (s ∷ ss) h = (grown s h.0, joined ss h.1)

@@ -1,0 +1,9 @@
+pub mod WindowLaws
+pub mod GraphLaws
+pub mod ExpandLaws
+pub mod BestLaws
+pub mod PassLaws
+pub mod WalkLaws
+pub mod PriceLaws
+pub mod ColumnLaws
+pub mod BlockLaws

@@ -1,0 +1,11 @@
+use Rattle.std.proofs.Common.{◌≡◌, ◌≤◌, ◌^◌, length, vec_len}
+use Rattle.state_price.specs.Expansions.{IsBuilt}
+use Rattle.state_price.proofs.expand.expand.Given as goal
+
+abbrev pub invariant-loop-from : goal.invariant-loop-from
+invariant-loop-from l = record {
+  room : vec_len l.moved ≡ length l.layer.column;
+  arcs : length l.frontier.arcs ≤ l.room;
+  states : vec_len l.frontier.states.list ≤ 2 ^ 20;
+  built : IsBuilt l.layer l.states.items l.from l.layer.span.lo l.frontier.states.list.items l.frontier.arcs;
+}

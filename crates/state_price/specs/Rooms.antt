@@ -1,0 +1,12 @@
+-- The sizes of what a pass keeps.
+use Rattle.std.specs.Prelude.{◌≡◌, length, All}
+use Rattle.state_price.specs.declared.graph.Graph.{Graph}
+use Rattle.state_price.specs.declared.pass.Work.{Work}
+
+-- a cell and a pick of each layer for each node, and a place for each variable
+pub record HasRoom (graph : Graph) (work : Work) : Type 0 where
+  pub now : length work.now.items ≡ graph.wide
+  pub next : length work.next.items ≡ graph.wide
+  pub many : length work.picks.items ≡ length graph.steps.items
+  pub picks : All (λ row. length row ≡ graph.wide) work.picks.items
+  pub point : length work.point.items ≡ length graph.steps.items

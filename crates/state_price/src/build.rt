@@ -1,0 +1,99 @@
+// The graph of a block.
+ghost use Rattle.std.specs.Prelude.{◌≡◌, ◌≤◌, ◌↔◌, pos, All, IfOk, IfSome, IsTrue, length, vec_len};
+ghost use Rattle.bp_theory.specs.Program.{IsWithin};
+ghost use Rattle.pricing.specs.Form.{IsForm, HasShortEnds};
+ghost use Rattle.state_price.specs.Graphs.{IsGraphOf};
+ghost use Rattle.state_price.specs.Layers.{AreLayers};
+ghost use Rattle.state_price.specs.Expansions.{IsRight, IsEndState};
+
+use crate::columns::layers_of;
+use crate::expand::{Frontier, MOST_STATES, expand};
+use crate::graph::Graph;
+use crate::layers::Layer;
+use crate::root::root_of;
+use bp_theory::{Items, Row, Span};
+use std::alloc::{AllocError, Global};
+
+/// The most arcs of a graph.
+const MOST_ARCS: usize = 1 << 18;
+
+/// The most nodes of a graph, as if each layer had as many as the widest: a pass clears a cell for each and keeps a pick.
+const MOST_CELLS: usize = 1 << 21;
+
+/// Whether a window allows the empty sum.
+fn has_zero(window: &Span) -> bool
+    ensures { IsTrue result ↔ IsWithin window.now (pos 0) }
+{
+    window.lo <= 0 && 0 <= window.hi
+}
+
+/// Whether a state allows that no variables are left.
+fn is_end(state: &Items<Span>) -> bool
+    ensures { IsTrue result ↔ IsEndState state.now }
+{
+    state.as_slice().iter().all(|window| has_zero(window))
+}
+
+/// Whether each state allows that no variables are left.
+fn are_ends(states: &Vec<Items<Span>>) -> bool
+    ensures { IsTrue result ↔ All IsEndState states.now.items }
+{
+    states.iter().all(|state| is_end(state))
+}
+
+/// The larger one of two numbers.
+fn larger(a: usize, b: usize) -> usize
+    ensures first { a ≤ result }
+    ensures second { b ≤ result }
+{
+    if a < b { b } else { a }
+}
+
+/// The graph of layers from a first state on; none where it has too many arcs or states.
+fn graph_of(alloc: Global, layers: &[Layer], root: Items<Span>) -> Result<Option<Graph>, AllocError>
+    requires layers { AreLayers (length root) layers.now }
+    requires short { All (λ l. HasShortEnds l.span) layers.now }
+    ensures many { IfOk result (λ made. IfSome made (λ g. vec_len g.steps ≡ length layers.now)) }
+    ensures right { IfOk result (λ made. IfSome made (λ g. IsRight layers.now root g.steps.items 0)) }
+{
+    let mut states = Vec::new(alloc);
+    states.push(root)?;
+    let mut steps = Vec::new(alloc);
+    let mut wide = 1;
+    let mut room = MOST_ARCS;
+    for layer in layers {
+        match expand(alloc, layer, &states, room)? {
+            Some(Frontier { arcs, states: next }) => {
+                room -= arcs.len().min(room);
+                steps.push(arcs)?;
+                states = next.into_list();
+                wide = larger(wide, states.len());
+            }
+            None => return Ok(None),
+        }
+    }
+    if wide.saturating_mul(layers.len()) > MOST_CELLS {
+        return Ok(None);
+    }
+    if !are_ends(&states) {
+        return Ok(None);
+    }
+    Ok(Some(Graph { steps, wide }))
+}
+
+/// The graph whose ways are the points of rows within spans; none where the limits don't allow it.
+pub fn build(alloc: Global, rows: &[Row], spans: &[Span]) -> Result<Option<Graph>, AllocError>
+    requires { IsForm rows.now spans.now }
+    ensures many { IfOk result (λ made. IfSome made (λ g. vec_len g.steps ≡ length spans.now)) }
+    ensures graph { IfOk result (λ made. IfSome made (λ g. IsGraphOf rows.now spans.now g.steps.items)) }
+{
+    let layers = match layers_of(alloc, rows, spans)? {
+        Some(layers) => layers,
+        None => return Ok(None),
+    };
+    let root = root_of(alloc, rows, layers.hulls.as_slice())?;
+    match graph_of(alloc, layers.layers.as_slice(), root)? {
+        Some(graph) => Ok(Some(graph)),
+        None => Ok(None),
+    }
+}

@@ -1,0 +1,23 @@
+// The graph: nodes in layers, and what leads from one layer to the next.
+ghost use Rattle.std.specs.Prelude.{◌<◌};
+ghost use Rattle.state_price.specs.Graphs.{IsSafe};
+
+use bp_theory::{Items, Span};
+
+/// Numbers of a layer's variable that lead from a node of the layer to a node of the next.
+#[derive(Clone, Copy)]
+pub struct Arc {
+    pub from: u32,
+    pub to: u32,
+    pub label: Span,
+}
+
+/// The arcs of each layer, and one more than the greatest number of a node in a layer. Node 0 of the first layer is the
+/// root; each node behind the last layer is an end.
+#[derive(Drop)]
+pub struct Graph {
+    pub steps: Vec<Items<Arc>>,
+    pub wide: usize,
+    ghost rooted: { 0 < wide },
+    ghost safe: { IsSafe wide steps.items },
+}

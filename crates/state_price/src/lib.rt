@@ -1,0 +1,21 @@
+//! Pricing by a graph of states: layer by layer, what the rows that have begun still leave to the variables behind. The
+//! graph is made once; its ways are the block's points, whatever the costs and the zone, and a price is one pass over it.
+#![tactic(auto)]
+
+mod build;
+mod clip;
+mod columns;
+mod expand;
+mod graph;
+mod layers;
+mod pass;
+mod picks;
+mod pricer;
+mod root;
+mod states;
+mod walk;
+
+pub use pricer::StatePricer;
+
+#[cfg(test)]
+mod tests;
