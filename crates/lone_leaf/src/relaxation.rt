@@ -1,0 +1,251 @@
+// The relaxation of a program's rows, and what is kept from leaf to leaf.
+ghost use Rattle.std.specs.Prelude.{IsTrue};
+ghost use Rattle.lone_leaf.specs.Rowless.{AreRowless};
+
+use crate::bases::Bases;
+use crate::numbers::{at, part_of, range_of_row, range_of_span, span_at};
+use crate::scores::Scores;
+use block_form::Blocked;
+use bp_model::Model;
+use bp_theory::Span;
+use lp_core::{ENDLESS, Effort, End, Lp, Snapshot};
+use lp_factor::{Entry, Vectors, put};
+use std::alloc::{AllocError, Global};
+use std::num::{nearest_i64_to_f64, nearest_u64_to_f64};
+
+// How much work an iteration may take in all, in numbers of the relaxation, and the least and greatest count of iterations of a leaf.
+const WORK: u64 = 1 << 31;
+
+const LEAST_ITERATIONS: u64 = 500;
+
+const MOST_ITERATIONS: u64 = 100_000;
+
+/// How far below a whole cost the objective may be that counts as that cost.
+pub const SLACK: f64 = 1e-4;
+
+/// The relaxation of a program's rows with the basis of the last leaf, the bases of the leaves that were forked, the scores of
+/// variables, and how many iterations dives took. Kept bases take 64 MB at most; the rest grows with the program alone.
+#[derive(Drop)]
+pub struct LoneLeaves {
+    pub(crate) lp: Lp,
+    pub(crate) bases: Bases,
+    pub(crate) scores: Scores,
+    pub(crate) snapshot: Snapshot,
+    pub(crate) constant: f64,
+    pub(crate) root: Vec<Span>,
+    pub(crate) most: u32,
+    pub(crate) leaves: u32,
+    pub(crate) dived: u64,
+    pub(crate) last: Option<u64>,
+    pub(crate) whole: Vec<i128>,
+    pub(crate) queue: Vec<u32>,
+    pub(crate) is_queued: Vec<bool>,
+}
+
+/// Whether no block of a program has rows, as where each is a single variable.
+pub fn serves(b: &Blocked) -> bool
+    ensures { IsTrue result → AreRowless b.now.blocking }
+{
+    for number in 0..b.blocks() {
+        if !b.block(number).rows().is_empty() {
+            return false;
+        }
+    }
+    true
+}
+
+impl LoneLeaves {
+    /// The relaxation of a program's rows, where nothing is known of leaves.
+    pub fn make(alloc: Global, b: &Blocked) -> Result<LoneLeaves, AllocError> {
+        let model = b.model();
+        let lp = relaxation_of(alloc, model)?;
+        let vars = model.vars() as usize;
+        let most = most_iterations(model);
+        Ok(LoneLeaves {
+            lp,
+            bases: Bases::make(alloc),
+            scores: Scores::make(alloc, vars)?,
+            snapshot: Snapshot::make(alloc),
+            constant: nearest_i64_to_f64(model.constant()),
+            root: model.spans().to_vec(alloc)?,
+            most,
+            leaves: 0,
+            dived: 0,
+            last: None,
+            whole: Vec::from_elem(alloc, 0i128, vars)?,
+            queue: Vec::new(alloc),
+            is_queued: Vec::from_elem(alloc, false, model.rows() as usize)?,
+        })
+    }
+
+    /// Takes the spans of a leaf.
+    pub(crate) fn set_spans(&mut self, spans: &[Span]) {
+        for (var, span) in spans.iter().enumerate() {
+            self.lp.set_span(var, &range_of_span(span));
+        }
+    }
+
+    /// The objective that shows that nothing cheaper than a cost is left.
+    pub(crate) fn cutoff(&self, best: Option<i64>) -> Option<f64> {
+        match best {
+            None => None,
+            Some(best) => Some(nearest_i64_to_f64(best) - 1.0 + SLACK - self.constant),
+        }
+    }
+
+    /// Solves from the basis that there is; where a cutoff was feigned, without it. The multipliers are then written.
+    pub(crate) fn relax(&mut self, best: Option<i64>) -> Result<Relaxed, AllocError> {
+        let cutoff = self.cutoff(best);
+        let mut effort = Effort {
+            iterations: self.most,
+            cutoff,
+            keeps_factors: false,
+        };
+        let mut end = self.lp.solve(effort)?;
+        let mut value = self.dual_value();
+        if end == End::Cutoff && !is_above(value, cutoff) {
+            effort.cutoff = None;
+            end = self.lp.solve(effort)?;
+            value = self.dual_value();
+        }
+        Ok(Relaxed {
+            end,
+            value,
+            is_reached: is_above(value, cutoff),
+        })
+    }
+
+    // The bound of the multipliers of the basis, without the constant.
+    fn dual_value(&mut self) -> f64 {
+        let _ = self.lp.multipliers();
+        let mults = self.lp.last_multipliers();
+        let mut sum = 0.0;
+        for (row, mult) in mults.iter().enumerate() {
+            let range = self.lp.range(row);
+            if *mult > 0.0 && range.lower > -ENDLESS {
+                sum += *mult * range.lower;
+            } else if *mult < 0.0 && range.upper < ENDLESS {
+                sum += *mult * range.upper;
+            }
+        }
+        for column in 0..self.lp.columns() {
+            let reduced = self.lp.reduced_cost(column, mults);
+            let span = self.lp.span(column);
+            sum += if reduced > 0.0 {
+                reduced * span.lower
+            } else {
+                reduced * span.upper
+            };
+        }
+        sum
+    }
+
+    /// The variables whose values are fractional and within their spans, with how far they are above whole numbers.
+    pub(crate) fn fractions(&self, alloc: Global) -> Result<Vec<Fraction>, AllocError> {
+        let mut fractions = Vec::new(alloc);
+        for basic in self.lp.head() {
+            let var = *basic as usize;
+            if var < self.lp.columns() {
+                let value = self.lp.value(var);
+                let span = self.lp.span(var);
+                if crate::numbers::is_fractional(value)
+                    && value > span.lower
+                    && value < span.upper
+                {
+                    fractions.push(Fraction {
+                        var: *basic,
+                        value,
+                        part: part_of(value),
+                        score: 0.0,
+                    })?;
+                }
+            }
+        }
+        Ok(fractions)
+    }
+
+    /// Whether dives took less than a part of all iterations.
+    pub(crate) fn may_dive(&self, percent: u64) -> bool {
+        self.dived.saturating_mul(100) <= self.lp.iterations().saturating_mul(percent)
+    }
+
+    /// The span of a variable at the root.
+    pub(crate) fn root_span(&self, var: usize) -> Span {
+        span_at(self.root.as_slice(), var)
+    }
+}
+
+/// How a relaxation ended: its bound without the constant, and whether nothing cheaper than what is known is left.
+#[derive(Clone, Copy)]
+pub(crate) struct Relaxed {
+    pub end: End,
+    pub value: f64,
+    pub is_reached: bool,
+}
+
+/// A variable with a fractional value: how far it is above a whole number, and its score.
+#[derive(Clone, Copy)]
+pub(crate) struct Fraction {
+    pub var: u32,
+    pub value: f64,
+    pub part: f64,
+    pub score: f64,
+}
+
+// Whether a bound is above a cutoff, where there is one.
+fn is_above(value: f64, cutoff: Option<f64>) -> bool {
+    match cutoff {
+        None => false,
+        Some(cutoff) => value > cutoff,
+    }
+}
+
+// The relaxation of a model's rows.
+fn relaxation_of(alloc: Global, model: &Model) -> Result<Lp, AllocError> {
+    let vars = model.vars() as usize;
+    let mut by_rows = Vectors::make(alloc);
+    let mut ranges = Vec::new(alloc);
+    for row in model.all_rows() {
+        for term in row.terms.as_slice() {
+            by_rows.add(Entry {
+                place: term.var,
+                value: nearest_i64_to_f64(term.coef),
+            })?;
+        }
+        by_rows.close()?;
+        ranges.push(range_of_row(row))?;
+    }
+    let mut by_columns = Vectors::make(alloc);
+    by_rows.transpose(vars, &mut by_columns)?;
+    let mut costs = Vec::from_elem(alloc, 0.0, vars)?;
+    for term in model.costs() {
+        put(
+            costs.as_mut_slice(),
+            term.var as usize,
+            nearest_i64_to_f64(term.coef),
+        );
+    }
+    let mut spans = Vec::new(alloc);
+    for span in model.spans() {
+        spans.push(range_of_span(span))?;
+    }
+    Lp::make(
+        alloc,
+        by_columns,
+        ranges.as_slice(),
+        spans.as_slice(),
+        costs.as_slice(),
+    )
+}
+
+// How many iterations a leaf's relaxation may take.
+fn most_iterations(model: &Model) -> u32 {
+    let mut size = u64::from(model.rows()).saturating_add(u64::from(model.vars()));
+    for row in model.all_rows() {
+        size = size.saturating_add(row.terms.len() as u64);
+    }
+    let many = (WORK / size.saturating_mul(4).max(1))
+        .max(LEAST_ITERATIONS)
+        .min(MOST_ITERATIONS);
+    many as u32
+}
