@@ -1,0 +1,346 @@
+#!/usr/bin/env bash
+# Tries ./bprice, ./prove, the gate's check, release/make.sh and `make install` as a new user meets them: on small clones
+# in a temporary folder whose name has a space, with no commands but bash and coreutils on the PATH, and a stand-in for rt
+# where one is needed. The program that is tried is the one named, or release/bprice. Prints each fault and a count.
+set -u
+
+here=$(cd "$(dirname "$(readlink -f "${BASH_SOURCE[0]}")")/.." && pwd)
+program=$(readlink -f "${1:-$here/release/bprice}")
+if ! [ -x "$program" ]; then
+    echo "release/test.sh: there is no program ${1:-release/bprice}"
+    exit 1
+fi
+room=$(mktemp -d "${TMPDIR:-/tmp}/bprice test.XXXXXX") || exit 1
+trap 'chmod -R u+w "$room"; rm -rf "$room"' EXIT
+tried=0
+failed=0
+
+# Nothing but these can be found by what is tried: bash, and of coreutils what the scripts use.
+mkdir "$room/bin" "$room/user" "$room/kit"
+for it in bash cat chmod cp cut dirname du head install mkdir mktemp mv readlink rm sha256sum sort touch uname; do
+    ln -s "$(command -v "$it")" "$room/bin/$it"
+done
+
+# A stand-in for rt: it builds the program of the room, and ends as the file `ended` says; or it adds to the sources.
+cat >"$room/kit/rt" <<'END'
+#!/usr/bin/env bash
+room=$(dirname "$(dirname "$(readlink -f "$0")")")
+case $1 in
+version) cat "$room/kit/version" ;;
+run)
+    echo "rt: proving"
+    [ -f "$room/kit/meddles" ] && echo changed >>src/main.rt
+    mkdir -p out && cp "$room/program" out/bprice
+    exit "$(cat "$room/kit/ended")"
+    ;;
+ci)
+    echo "rt: the gate"
+    [ "$(cat "$room/kit/ended")" -eq 11 ] || exit 1
+    mkdir -p crates/bprice/out && cp "$room/program" crates/bprice/out/bprice
+    ;;
+esac
+END
+chmod +x "$room/kit/rt"
+cp "$program" "$room/program"
+echo "kit of the test" >"$room/kit/version"
+echo 11 >"$room/kit/ended"
+
+# A clone with three small crates: the program's, one that it stands on, and one that only tests it.
+fresh() { # NAME
+    clone=$room/$1
+    mkdir -p "$clone/crates"/{bprice,low}/{src,specs,proofs/main} "$clone/crates/apart/src" "$clone/crates/low/must-fail"
+    mkdir -p "$clone/release" "$clone/examples" "$clone/docs" "$clone/completion"
+    cp "$here"/{bprice,prove,Makefile} "$clone"
+    cp "$here"/release/*.sh "$clone/release"
+    cp "$here/docs/bprice.1" "$clone/docs"
+    cp "$here/completion/bprice" "$clone/completion"
+    cp "$here/examples/first.lp" "$clone/examples"
+    printf '%s\n' '# the crates' 'low:' 'apart: low' 'bprice: low std' >"$clone/crates.txt"
+    echo 'Handles allowed: none.' >"$clone/HANDLES"
+    echo 'fn main() {}' >"$clone/crates/bprice/src/main.rt"
+    echo 'an invariant' >"$clone/crates/bprice/proofs/main/Invariants.antt"
+    echo 'fn low() {}' >"$clone/crates/low/src/lib.rt"
+    echo 'a definition' >"$clone/crates/low/specs/Low.antt"
+    echo 'an edit' >"$clone/crates/low/must-fail/one.edit"
+    echo 'fn apart() {}' >"$clone/crates/apart/src/lib.rt"
+    cp "$program" "$clone/release/bprice"
+    record
+}
+
+# Records the released program as one of the sources that now stand in the clone.
+record() {
+    (PATH=$room/kit:$PATH && . "$clone/release/common.sh" && write_record "$released" "$(sum_of_sources)")
+}
+
+# Runs a command without rt, in the user's folder.
+bare() {
+    (cd "$room/user" && exec env -i PATH="$room/bin" HOME="$room/user" "$@") >"$room/put" 2>"$room/told"
+    ended=$?
+}
+
+with_rt() {
+    (cd "$room/user" && exec env -i PATH="$room/kit:$room/bin" HOME="$room/user" "$@") >"$room/put" 2>"$room/told"
+    ended=$?
+}
+
+# expect WHAT STATUS OUTPUT LINES [WORDS]: so many lines on standard error, which have these words.
+expect() {
+    tried=$((tried + 1))
+    local put told lines
+    put=$(cat "$room/put")
+    told=$(cat "$room/told")
+    lines=$(grep -c '' "$room/told")
+    if [ "$ended" -ne "$2" ] || [ "$put" != "$3" ] || [ "$lines" -ne "$4" ] || [[ $told != *"${5-}"* ]]; then
+        echo "$1: ended with $ended, put '$put', said '$told'"
+        failed=$((failed + 1))
+    fi
+}
+
+# holds WHAT COMMAND..
+holds() {
+    tried=$((tried + 1))
+    if ! "${@:2}"; then
+        echo "$1"
+        failed=$((failed + 1))
+    fi
+}
+
+report=$'optimal 8\nx 2\ny 1'
+other='proved from other sources than those here'
+
+first() {
+    bare "$clone/bprice" solve "$clone/examples/first.lp"
+}
+
+# A first run, from elsewhere.
+fresh 'a clone'
+first
+expect 'the first run' 0 "$report" 0
+holds 'the first run remembers nothing' [ -s "$clone/release/out/sum" ]
+first
+expect 'the second run' 0 "$report" 0
+cp "$clone/examples/first.lp" "$room/user/own.lp"
+bare ../'a clone'/bprice solve own.lp --cert own.cert
+expect 'relative names' 0 "$report" 0
+bare ../'a clone'/bprice check own.lp own.cert
+expect 'the certificate that was written' 0 'accepted optimal 8' 0
+ln -s "$clone/bprice" "$room/user/link"
+ln -s link "$room/user/other-link"
+bare ./other-link solve own.lp
+expect 'a link to a link' 0 "$report" 0
+bare "$clone/bprice" solve missing.lp
+expect 'a file that is not there' 11 '' 0
+bare "$clone/bprice" solve "own lp.lp" --steps
+expect 'words that are no command line' 2 'refused words' 0
+
+# Two runs at once.
+fresh 'two at once'
+(cd "$room/user" && env -i PATH="$room/bin" "$clone/bprice" solve own.lp >"$room/put2" 2>&1) &
+first
+expect 'one of two' 0 "$report" 0
+wait $!
+holds 'the other of two failed' [ "$(cat "$room/put2")" = "$report" ]
+first
+expect 'after the two' 0 "$report" 0
+
+# Sources that change.
+fresh changed
+first
+printf 'x' >>"$clone/crates/low/specs/Low.antt"
+first
+expect 'sources changed by one byte' 0 "$report" 1 "$other"
+first
+expect 'sources that stay changed' 0 "$report" 1 "$other"
+echo 'a definition' >"$clone/crates/low/specs/Low.antt"
+first
+expect 'sources as they were' 0 "$report" 0
+touch "$clone/crates/low/src/lib.rt"
+first
+expect 'a newer time alone' 0 "$report" 0
+echo >"$clone/crates/low/specs/New.antt"
+first
+expect 'a file more' 0 "$report" 1 "$other"
+rm "$clone/crates/low/specs/New.antt"
+first
+expect 'that file gone' 0 "$report" 0
+mv "$clone/crates/low/specs/Low.antt" "$clone/crates/low/specs/Lo.antt"
+first
+expect 'a file of another name' 0 "$report" 1 "$other"
+mv "$clone/crates/low/specs/Lo.antt" "$clone/crates/low/specs/Low.antt"
+echo 'x' >>"$clone/crates/low/must-fail/one.edit"
+echo 'x' >>"$clone/crates/apart/src/lib.rt"
+echo 'more: apart' >>"$clone/crates.txt"
+first
+expect 'what the proof does not read' 0 "$report" 0
+sed -i 's/^low:$/low: itoa/' "$clone/crates.txt"
+first
+expect 'a crate that stands on another' 0 "$report" 1 "$other"
+
+# A release that cannot be run.
+fresh faulty
+first
+mv "$clone/release/bprice" "$room/whole"
+first
+expect 'no release and no rt' 126 '' 1 "rt is needed"
+head -c 1000 "$room/whole" >"$clone/release/bprice"
+chmod +x "$clone/release/bprice"
+first
+expect 'a truncated release' 126 '' 1 'is not the program that release/SOURCES names'
+: >"$clone/release/bprice"
+first
+expect 'an empty release' 126 '' 1 'is not the program that release/SOURCES names'
+printf '#!/bin/sh\necho optimal 9\n' >"$clone/release/bprice"
+first
+expect 'a foreign program' 126 '' 1 'is not the program that release/SOURCES names'
+cp "$room/whole" "$clone/release/bprice"
+printf '\xb7' | dd of="$clone/release/bprice" bs=1 seek=18 conv=notrunc 2>/dev/null
+record
+first
+expect 'a release of another processor' 126 '' 1 'does not run on this machine'
+sed 's|/lib64/ld-linux-x86-64|/lib64/no-linux-x86-64|' "$room/whole" >"$clone/release/bprice"
+record
+first
+expect 'a machine without its C library' 126 '' 1 'does not run on this machine'
+cp "$room/whole" "$clone/release/bprice"
+record
+chmod -x "$clone/release/bprice"
+first
+expect 'a release without its run bit' 126 '' 1 'may not be run'
+chmod +x "$clone/release/bprice"
+first
+expect 'that bit given back' 0 "$report" 0
+rm "$clone/release/SOURCES"
+first
+expect 'a release without SOURCES' 126 '' 1 'is not the program that release/SOURCES names'
+
+# What is proved here.
+fresh proved
+rm "$clone"/release/{bprice,SOURCES}
+with_rt "$clone/bprice" solve own.lp
+expect 'no release, with rt' 0 "$report" 2 'the program is proved and built'
+with_rt "$clone/bprice" solve own.lp
+expect 'what was built runs at once' 0 "$report" 0
+first
+expect 'it runs without rt too' 0 "$report" 0
+printf 'x' >>"$clone/crates/low/src/lib.rt"
+first
+expect 'built from older sources, no release, no rt' 126 '' 1 "rt is needed"
+with_rt "$clone/prove"
+expect 'prove' 0 '' 1 'rt: proving'
+first
+expect 'what prove built' 0 "$report" 0
+echo 1 >"$room/kit/ended"
+with_rt "$clone/prove"
+expect 'a proof that fails' 126 '' 2 'the program was not built'
+echo 11 >"$room/kit/ended"
+touch "$room/kit/meddles"
+with_rt "$clone/prove"
+expect 'sources that change during the proof' 126 '' 2 'the sources changed while they were proved'
+rm "$room/kit/meddles"
+
+# Built here and released: what is of the sources at hand comes first.
+fresh both
+printf 'x' >>"$clone/crates/low/src/lib.rt"
+with_rt "$clone/prove"
+echo 'kit of the test' >"$clone/crates/bprice/out/kept"
+first
+expect 'built here, the release is of others' 0 "$report" 0
+echo 'more' >>"$clone/crates/bprice/out/bprice"
+first
+expect 'what was built is damaged' 0 "$report" 1 "$other"
+with_rt "$clone/prove"
+printf 'x' >>"$clone/crates/low/src/lib.rt"
+first
+expect 'neither is of the sources' 0 "$report" 1 "$other"
+
+# The gate's check.
+gate() {
+    with_rt "$clone/release/gate.sh" "$(. "$clone/release/common.sh" && sum_of_sources)"
+}
+fresh gate
+(cd "$clone" && PATH=$room/kit:$PATH rt ci >/dev/null)
+gate
+expect 'the gate' 0 'release: it is the program that the gate built from these sources' 0
+first
+expect 'what the gate built' 0 "$report" 0
+with_rt "$clone/release/gate.sh" other
+expect 'the gate, sources that changed meanwhile' 1 'release: the sources changed while the gate ran' 0
+printf 'x' >>"$clone/release/bprice"
+gate
+expect 'the gate, a release that SOURCES does not name' 1 'release: release/bprice is not the program that release/SOURCES names' 0
+record
+gate
+expect 'the gate, a foreign release' 1 'release: release/bprice is not the program that the gate built from the sources of release/SOURCES' 0
+echo 'another kit' >"$room/kit/version"
+gate
+expect 'the gate, another kit' 0 'release: it was proved from these sources with another kit; release/make.sh renews it' 0
+echo 'kit of the test' >"$room/kit/version"
+printf 'x' >>"$clone/crates/low/src/lib.rt"
+gate
+expect 'the gate, older sources' 0 'release: it was proved from other sources than these; release/make.sh renews it' 0
+with_rt "$clone/release/make.sh"
+holds 'make.sh failed' [ "$ended" -eq 0 ]
+gate
+expect 'the gate, after make.sh' 0 'release: it is the program that the gate built from these sources' 0
+printf 'x' >>"$clone/crates/low/src/lib.rt"
+with_rt "$clone/release/make.sh" "$clone/crates/bprice/out/bprice"
+holds 'make.sh of a named program failed' [ "$ended" -eq 0 ]
+gate
+expect 'the gate, after make.sh of a named program' 0 'release: it is the program that the gate built from these sources' 0
+cp "$clone/release/SOURCES" "$room/SOURCES"
+printf 'x' >>"$clone/crates/low/src/lib.rt"
+echo 1 >"$room/kit/ended"
+with_rt "$clone/release/make.sh"
+holds 'make.sh, a gate that fails' [ "$ended" -ne 0 ]
+holds 'make.sh, a gate that fails, changed SOURCES' [ "$(cat "$room/SOURCES")" = "$(cat "$clone/release/SOURCES")" ]
+echo 11 >"$room/kit/ended"
+rm "$clone/release/SOURCES"
+gate
+expect 'the gate, half a release' 1 'release: release/bprice is not the program that release/SOURCES names' 0
+rm "$clone/release/bprice"
+gate
+expect 'the gate, no release' 0 'release: there is none; release/make.sh makes one' 0
+rm "$clone/crates/bprice/out/bprice"
+gate
+expect 'the gate, no program' 1 'release: the gate built no program' 0
+
+# The same files in another place and order have the same checksum.
+fresh here
+one=$(. "$clone/release/common.sh" && sum_of_sources)
+fresh there
+two=$(. "$clone/release/common.sh" && sum_of_sources)
+holds 'two clones, two checksums' [ "$one" = "$two" ]
+
+# Installed and taken away.
+if command -v make >/dev/null; then
+    ln -s "$(command -v make)" "$room/bin/make"
+    ln -s "$(command -v sh)" "$room/bin/sh"
+    bare make -s -C "$clone" install PREFIX="$room/user/a prefix"
+    expect 'make install' 0 '' 0
+    bare "$room/user/a prefix/bin/bprice" solve own.lp
+    expect 'the installed program' 0 "$report" 0
+    holds 'no man page' [ -s "$room/user/a prefix/share/man/man1/bprice.1" ]
+    holds 'no completion' [ -s "$room/user/a prefix/share/bash-completion/completions/bprice" ]
+    bare make -s -C "$clone" uninstall PREFIX="$room/user/a prefix"
+    expect 'make uninstall' 0 '' 0
+    holds 'files stay after make uninstall' [ -z "$(find "$room/user/a prefix" -type f)" ]
+    bare make -s -C "$clone" install DESTDIR="$room/user/stage" PREFIX=/usr
+    holds 'no program below DESTDIR' [ -x "$room/user/stage/usr/bin/bprice" ]
+    chmod -x "$clone/release/bprice"
+    bare make -s -C "$clone" install PREFIX="$room/user/none"
+    holds 'make install, nothing to install' [ "$ended" -ne 0 ]
+    holds 'make install, nothing to install, left something' [ ! -e "$room/user/none" ]
+fi
+
+# complete WORDS..: prints what the last word of a command line can become.
+complete_words() {
+    bash --norc -c '. "$0/completion/bprice"; COMP_WORDS=(bprice "$@"); COMP_CWORD=$#; _bprice; printf "%s " "${COMPREPLY[@]}"' "$here" "$@"
+}
+holds 'commands are not completed' [ "$(complete_words s)" = 'solve show ' ]
+holds 'words of solve are not completed' [ "$(complete_words solve a.lp --s)" = '--steps ' ]
+holds 'a word that was given is offered again' [ "$(complete_words solve a.lp --dec b.dec --d)" = ' ' ]
+holds 'a number is completed' [ "$(complete_words solve a.lp --steps '')" = ' ' ]
+holds 'files are not completed' [ "$(cd "$clone/examples" && complete_words solve fi)" = 'first.lp ' ]
+
+echo "release/test.sh: $((tried - failed)) of $tried came as expected"
+[ "$failed" -eq 0 ]
