@@ -1,11 +1,13 @@
 #!/usr/bin/env bash
 # Solves each example, compares its value with the one of report.txt, and has the certificate checked that was written
-# and those that stand here. Prints a line for each, and ends with 0 where all came as expected. BPRICE names the program,
-# where it is not to be the launcher's.
+# and those that stand here. Prints a line for each, and ends with 0 where all came as expected. It may be called in any
+# folder. BPRICE names the program, where it is not to be the launcher's.
 set -u
 
 here=$(cd "$(dirname "$(readlink -f "${BASH_SOURCE[0]}")")" && pwd)
 bprice=${BPRICE:-$here/../bprice}
+# A path goes on meaning the same file in the folders of the examples; a name without one is looked up on the PATH.
+case $bprice in */*) bprice=$(readlink -f "$bprice") ;; esac
 room=$(mktemp -d) || exit 1
 trap 'rm -rf "$room"' EXIT
 failed=0

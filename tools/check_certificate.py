@@ -1,0 +1,400 @@
+#!/usr/bin/env python3
+"""Judges a certificate without bprice: it prints what `bprice check` prints, and was written from docs/FORMATS.md alone. All its numbers
+are exact. A block that a leaf prices is solved variable by variable, over the sums that its rows can still have.
+
+    tools/check_certificate.py LP CERT [--dec DEC] [--states N]
+
+`accepted CLAIM` has status 0, `refused ..` 3, `rejected LINE KIND` 6; a file that can't be read 7, one that is not there 11. Where a block
+takes more than N states (5,000,000 without the option) it prints `unknown LINE`, with status 10: then a greater N may judge the certificate.
+The limits on sizes of models and a decomposition's lists of variables are not looked at: no claim rests on these."""
+import argparse
+import re
+import sys
+from collections import namedtuple
+
+LARGEST, BLOCKS, DEPTH, SCALE, MULTIPLIER = 2**62 - 1, 4_096, 8_256, 2**20, 2**40
+INFINITE = 2**200  # all sums of finite numbers are below 2^116
+SECTIONS = {word: section for section, words in {
+    "objective": "maximize,maximum,max,minimize,minimum,min", "rows": "subject to,such that,st,s.t.,st.", "bounds": "bounds,bound",
+    "generals": "general,generals,gen,integer,integers,int", "binaries": "binary,binaries,bin", "end": "end",
+    "feature": "semi,semis,sos,sos1,sos2,pwlobj,lazy constraints,user cuts"}.items() for word in words.split(",")}
+LETTER = rb"""A-Za-z!"#$%&(),;?@_`'{}~/|"""
+NAME = rb"[" + LETTER + rb"][" + LETTER + rb"0-9.]*"
+TOKEN = re.compile(rb"(?P<blank>[ \t\r]+|\\[^\n]*)|(?P<line>\n)|(?P<number>([0-9]+(\.[0-9]*)?|\.[0-9]+)([eE][+-]?[0-9]+)?)|(?P<name>"
+                   + NAME + rb")|(?P<feature>->|[\[\]^*])|(?P<compare><=|=<|>=|=>|<|>|=)|(?P<sign>[+-])|(?P<colon>:)")
+SECTION = re.compile(rb"(?i:(?:subject|such|lazy|user)[ \t\r]+)?" + NAME + rb"(?![" + LETTER + rb"0-9.]|[ \t]*:)")
+ONCE, NAMING, LISTS = (words.split() for words in (
+    "NBLOCKS CONSDEFAULTMASTER PRESOLVED", "BLOCK BLOCKCONSS BLOCKVARS", "MASTERCONSS MASTERVARS LINKINGVARS"))
+INTEGER, SPELLED = re.compile(rb"-?[0-9]+"), re.compile(rb"0|-?[1-9][0-9]*")
+Row = namedtuple("Row", "terms sides")  # terms: a coefficient for each variable; sides: the least and the greatest sum
+Token, Block = namedtuple("Token", "kind value line"), namedtuple("Block", "variables rows")
+Node = namedtuple("Node", "line word number at rows priced")  # number: a split's variable, or a leaf's scale
+
+
+class Stop(Exception):
+    """The report that ends the run; its first word tells the status."""
+
+
+def need(is_right, *report):
+    if not is_right:
+        raise Stop(" ".join(map(str, report)))
+
+
+def whole(text, in_bounds):
+    """The number that a text spells, or the kind of its fault. No power of ten is made that is past all limits."""
+    digits, _, power = text.lower().partition("e")
+    before, _, behind = digits.partition(".")
+    figures, size = (before + behind).rstrip("0"), power.lstrip("+-").lstrip("0")
+    zeros = (-1 if power[:1] == "-" else 1) * (int(size or 0) if len(size) < 12 else 10**12) + len(before) - len(figures)
+    if figures.strip("0") and zeros < 0:
+        return "not-whole"
+    figures = figures.lstrip("0")
+    value = 0 if not figures else int(figures) * 10**zeros if len(figures) + zeros <= 20 else INFINITE
+    return value if value <= LARGEST or in_bounds and value == INFINITE else "too-large"
+
+
+def cut(text):
+    """The tokens of an LP text. The kind of a section word is its section; signs are 1 and -1, comparisons `<`, `>` and `=`."""
+    tokens, at, line, is_first, section = [], 0, 1, True, None
+    while at < len(text) and section != "end":
+        found = TOKEN.match(text, at)
+        need(found, "refused lp", line, "bad-byte")
+        at, kind, value = found.end(), found.lastgroup, found.group().decode("latin-1")
+        if kind in ("line", "blank"):
+            line, is_first = line + (kind == "line"), is_first or kind == "line"
+            continue
+        if kind == "name":
+            need(len(value) <= 255, "refused lp", line, "long-name")
+            word = is_first and SECTION.match(text, found.start())
+            word = word and (SECTIONS.get(" ".join(word[0].decode().lower().split())), word.end())
+            if word and word[0]:
+                (kind, at), section = word, word[0]
+            elif section == "bounds" and value.lower() in ("inf", "infinity"):
+                kind, value = "number", INFINITE
+        elif kind in ("number", "sign", "compare"):
+            value = whole(value, section == "bounds") if kind == "number" else {"+": 1, "-": -1}.get(value) or value.strip("=") or "="
+        tokens.append(Token(kind, value, line))
+        is_first = False
+    return tokens + [Token("none", None, line)] * 2
+
+
+class Model:
+    """What an LP text means: spans by variable, costs of the form that minimises, rows."""
+    def __init__(self, text):
+        self.tokens, self.at, self.constant, costs = cut(text), 0, 0, {}
+        self.names, self.born, self.spans, self.listed, self.rows, self.row_names = {}, [], [], [], [], {}
+        self.sign = -1 if self.take("objective").lower().startswith("max") else 1
+        self.at += 2 * self.is_labelled()
+        if self.next.kind in ("name", "number", "sign"):
+            self.read_expression(costs, True)
+        self.take("rows")
+        while self.next.kind in ("name", "number", "sign"):
+            self.read_row()
+        while self.next.kind != "end":
+            section = self.next.kind
+            self.take(section if section in ("bounds", "generals", "binaries") else "end")
+            while section == "bounds" and self.next.kind in ("name", "number", "sign"):
+                self.read_bound()
+            while section != "bounds" and self.next.kind == "name":
+                self.listed[self.variable()].add(section)
+        for born, span, listed in zip(self.born, self.spans, self.listed):
+            if "binaries" in listed:
+                span[:] = [max(span[0], 0), min(span[1], 1)]
+            need(span[0] <= span[1], "refused lp", born, "crossed")
+            need(INFINITE not in map(abs, span), "refused lp", born, "unbounded")
+            need(listed or span[0] == span[1], "refused lp", born, "continuous")
+        self.costs = [self.sign * costs.get(j, 0) for j in range(len(self.names))]
+
+    @property
+    def next(self):
+        return self.tokens[self.at]
+
+    def need(self, is_right, kind="syntax"):
+        """Where the next token is wrong, its own fault comes before that of its place."""
+        own = {"none": "no-end", "feature": "feature", "number": self.next.value}.get(self.next.kind)
+        need(is_right, "refused lp", self.next.line, own if isinstance(own, str) else kind)
+
+    def take(self, kind):
+        self.need(self.next.kind == kind and not (kind == "number" and isinstance(self.next.value, str)))
+        self.at += 1
+        return self.tokens[self.at - 1].value
+
+    def is_labelled(self):
+        return self.next.kind == "name" and self.tokens[self.at + 1].kind == "colon"
+
+    def signs(self):
+        sign = 1
+        while self.next.kind == "sign":
+            sign *= self.take("sign")
+        return sign
+
+    def variable(self):
+        if self.next.kind == "name" and self.next.value not in self.names:
+            self.names[self.next.value] = len(self.names)
+            self.born.append(self.next.line), self.spans.append([0, INFINITE]), self.listed.append(set())
+        return self.names[self.take("name")]
+
+    def read_expression(self, terms, has_constants=False):
+        is_first = True
+        while is_first or self.next.kind == "sign":
+            is_first, factor, is_number = False, self.signs(), self.next.kind == "number"
+            factor *= self.take("number") if is_number else 1
+            if has_constants and is_number and self.next.kind != "name":
+                self.constant += factor
+            else:
+                variable = self.variable()
+                terms[variable] = terms.get(variable, 0) + factor
+
+    def read_row(self):
+        row = Row({}, [-INFINITE, INFINITE])
+        name = self.next.value if self.is_labelled() else f"c{len(self.rows) + 1}"
+        self.need(name not in self.row_names, "row-twice")
+        self.row_names[name] = len(self.rows)
+        self.rows.append(row)
+        self.at += 2 * self.is_labelled()
+        ahead = next(place for place in range(self.at, len(self.tokens)) if self.tokens[place].kind != "sign")
+        if [token.kind for token in self.tokens[ahead:ahead + 2]] == ["number", "compare"]:
+            self.read_between(self.signs() * self.take("number"), lambda: self.read_expression(row.terms) or row.sides)
+        else:
+            self.read_expression(row.terms)
+            set_side(row.sides, self.take("compare"), self.signs() * self.take("number"))
+
+    def read_bound(self):
+        if self.next.kind != "name":
+            return self.read_between(self.signs() * self.take("number"), lambda: self.spans[self.variable()])
+        span = self.spans[self.variable()]
+        if self.next.kind == "name" and self.next.value.lower() == "free":
+            self.at, span[:] = self.at + 1, [-INFINITE, INFINITE]
+            return None
+        return set_side(span, self.take("compare"), self.signs() * self.take("number"))
+
+    def read_between(self, value, read):
+        mark, sides = self.take("compare"), read()
+        set_side(sides, {"<": ">", ">": "<", "=": "="}[mark], value)
+        if self.next.kind == "compare":
+            self.need(mark == self.next.value != "=")
+            set_side(sides, self.take("compare"), self.signs() * self.take("number"))
+
+
+def set_side(sides, mark, value):
+    sides[:] = [value if mark in ">=" else sides[0], value if mark in "<=" else sides[1]]
+
+
+def read_dec(text, model):
+    """Each row's block from 1, 0 for master rows, and how many blocks are named. Lists of variables only say again what the rows say."""
+    block_of, given, keyword, wants, block = {}, {}, None, False, 0
+    for line, written in enumerate(text.split(b"\n"), 1):
+        def right(is_right, kind, line=line):
+            need(is_right, "refused dec", line, kind)
+        for place, token in enumerate(re.findall(r"[^ \t\r]+", written.decode("latin-1").partition("\\")[0])):
+            right(not re.search("[^!-~]", token), "bad-byte")
+            if place == 0 and token.upper() in ONCE + NAMING + LISTS:
+                keyword, block = token.upper(), 0
+                right(not wants and (keyword not in ONCE or keyword not in given), "syntax")
+                right(keyword not in NAMING or "NBLOCKS" in given, "no-nblocks")
+                wants = keyword not in LISTS
+            elif wants:
+                right(token.isdigit(), "syntax")
+                block, wants = int(token.lstrip("0")[:9] or 0), False  # nine digits are past each limit
+                right(keyword not in ONCE[1:] or block <= 1, "syntax")
+                right(keyword != "PRESOLVED" or block == 0, "presolved")
+                right(keyword not in NAMING or 1 <= block <= given["NBLOCKS"], "block-number")
+                right(keyword != "NBLOCKS" or block <= BLOCKS, "limit")
+                given[keyword] = block
+            else:
+                right(keyword and keyword not in ONCE, "syntax")
+                if not keyword.endswith("VARS"):
+                    right(token in model.row_names, "unknown-row")
+                    right(model.row_names[token] not in block_of, "row-twice")
+                    block_of[model.row_names[token]] = block
+    right(not wants, "syntax")
+    right("NBLOCKS" in given, "no-nblocks")
+    right(given.get("CONSDEFAULTMASTER", 1) or len(block_of) == len(model.rows), "unassigned")
+    return [block_of.get(i, 0) for i in range(len(model.rows))], given["NBLOCKS"]
+
+
+def form_blocks(model, block_of, count):
+    """The blocks of the decomposition, and behind them each variable that stands in no block's row."""
+    names, rows, home = list(model.names), list(model.row_names), {}
+    blocks = [Block([], []) for _ in range(count)]
+    for i, row in ((i, row) for i, row in enumerate(model.rows) if block_of[i]):
+        blocks[block_of[i] - 1].rows.append(row)
+        for j, a in row.terms.items():
+            home.setdefault(j, []).extend([i] * (a != 0))
+    for j, name in enumerate(names):
+        found = home.get(j) or []
+        others = [i for i in found if block_of[i] != block_of[found[0]]]
+        need(not others, "refused blocks linking", name, *(rows[i] for i in found[:1] + others[:1]))
+        (blocks[block_of[found[0]] - 1].variables if found else blocks).append(j if found else Block([j], []))
+    return block_of, blocks
+
+
+class Certificate:
+    """A claim, its point if it has one, and the tree's nodes in the order of their lines."""
+    def __init__(self, text, variables, block_of, blocks):
+        self.text, self.at, self.line, self.value, self.bound, self.nodes = text, 0, 1, None, None, []
+        self.take(b"bpcert 1\n"), self.take(b"claim ")
+        begin, self.word = self.at, self.take(b"optimal ", b"infeasible", b"bound ")
+        if self.word == b"bound ":
+            self.bound = self.number(LARGEST)
+        if self.word == b"optimal " or self.word == b"bound " and self.take(b" value ", b""):
+            self.value = self.number(LARGEST)
+        self.claim = text[begin:self.at].decode()
+        self.take(b"\n")
+        self.point = None if self.value is None else self.read_point(variables)
+        depths = [0]
+        while depths:
+            line, word, depth = self.line, self.take(b"split", b"leaf ", b"open "), depths.pop()
+            number = next(self.ascending(1, variables)) if word == b"split" else self.number(SCALE, 0)
+            need(depth <= DEPTH, "refused cert", line, "depth")
+            at = self.take(b" ") and self.number(LARGEST) if word == b"split" else None
+            proof = (None, None) if word == b"split" else self.read_proof(block_of, blocks)
+            self.nodes.append(Node(line, word, number, at, *proof))
+            depths += [depth + 1] * 2 * (word == b"split")
+            self.take(b"\n")
+        self.take(b"end\n")
+        need(self.at == len(text), "refused cert", self.line, "syntax")
+
+    def take(self, *words):
+        word = next((word for word in words if self.text.startswith(word, self.at)), None)
+        need(word is not None, "refused cert", self.line, "syntax")
+        self.at, self.line = self.at + len(word), self.line + word.count(b"\n")
+        return word
+
+    def number(self, most, least=-INFINITE):
+        found = INTEGER.match(self.text, self.at)
+        need(found and SPELLED.fullmatch(found[0]) and (least < 0 or found[0][:1] != b"-"), "refused cert", self.line, "syntax")
+        self.at, value = found.end(), int(found[0][:30])  # thirty digits are past each limit, and no text has so many numbers
+        need(abs(value) <= most, "refused cert", self.line, "too-large")
+        return value
+
+    def ascending(self, count, most):
+        """So many numbers of variables, rows or blocks, each above the one before it. Here they count from 0."""
+        last = 0
+        for _ in range(count):
+            self.take(b" ")
+            number = self.number(INFINITE, 0)
+            need(last < number <= most, "refused cert", self.line, "number")
+            yield (last := number) - 1
+
+    def read_point(self, variables):
+        point = []
+        self.take(b"point")
+        while not self.text.startswith(b"\n", self.at):
+            self.take(b" ")
+            point.append(self.number(LARGEST))
+            need(len(point) <= variables, "refused cert", self.line, "length")
+        need(len(point) == variables, "refused cert", self.line, "length")
+        self.take(b"\n")
+        return point
+
+    def read_proof(self, block_of, blocks):
+        rows = []
+        self.take(b" rows ")
+        for row in self.ascending(self.number(INFINITE, 0), len(block_of)):
+            need(block_of[row] == 0, "refused cert", self.line, "number")
+            self.take(b" ")
+            rows.append((row, self.number(MULTIPLIER)))
+            need(rows[-1][1] != 0, "refused cert", self.line, "number")
+        self.take(b" priced ")
+        return rows, set(range(blocks) if self.take(b"all", b"") else self.ascending(self.number(INFINITE, 0), blocks))
+
+
+class Judge:
+    def __init__(self, model, blocks, most_states):
+        self.model, self.blocks, self.most_states, self.known = model, blocks, most_states, {}
+
+    def judge(self, cert):
+        zones, model = [[tuple(span) for span in self.model.spans]], self.model
+        if cert.point is not None:
+            sums = [sum(a * cert.point[j] for j, a in row.terms.items()) for row in model.rows]
+            value = model.constant + model.sign * sum(c * x for c, x in zip(model.costs, cert.point))
+            need(all(low <= x <= high for x, (low, high) in zip(cert.point, zones[0])), "rejected 3 point-bound")
+            need(all(row.sides[0] <= total <= row.sides[1] for row, total in zip(model.rows, sums)), "rejected 3 point-row")
+            need(value == cert.value, "rejected 3 value")
+        claimed = cert.value if cert.bound is None else cert.bound
+        for node in cert.nodes:
+            zone = zones.pop()
+            if node.word == b"split":
+                low, high = zone[node.number]
+                need(low <= node.at < high, "rejected", node.line, "split")
+                zones += [zone[:node.number] + [part] + zone[node.number + 1:] for part in ((node.at + 1, high), (low, node.at))]
+                continue
+            bound = self.bound(node, zone)
+            is_empty = bound > INFINITE // 2 or node.number == 0 and bound > 0
+            need(is_empty if claimed is None else bound > node.number * (model.sign * claimed - 1), "rejected", node.line, "weak")
+            need(node.word == b"leaf " or cert.word == b"bound ", "rejected", node.line, "open")
+
+    def bound(self, leaf, zone):
+        bound, reduced = leaf.number * self.model.sign * self.model.constant, [leaf.number * cost for cost in self.model.costs]
+        for row, p in ((self.model.rows[i], p) for i, p in leaf.rows):
+            need(abs(row.sides[p < 0]) != INFINITE, "rejected", leaf.line, "sign")
+            bound += p * row.sides[p < 0]
+            for j, a in row.terms.items():
+                reduced[j] -= p * a
+        for k, block in enumerate(self.blocks):
+            key = (k, k in leaf.priced, tuple((reduced[j], zone[j]) for j in block.variables))
+            if key not in self.known:
+                self.known[key] = self.least(block.variables, block.rows if k in leaf.priced else [], reduced, zone, leaf.line)
+            bound += self.known[key]
+        return bound
+
+    def least(self, variables, rows, reduced, zone, line):
+        """The least sum over the zone's points that meet the rows, for each state: the rows' sums so far, None if they can't be missed."""
+        def settle(total, row, rest):
+            return None if total is None or row.sides[0] <= total + rest[0] and total + rest[1] <= row.sides[1] else total
+        rests, states = [[(0, 0)] * len(rows)], 0  # what the variables behind each place can add to each row
+        for j in reversed(variables):
+            ends = [sorted(row.terms.get(j, 0) * end for end in zone[j]) for row in rows]
+            rests.append([(rest[0] + end[0], rest[1] + end[1]) for rest, end in zip(rests[-1], ends)])
+        rest = rests.pop()
+        can_meet = all(row.sides[0] <= most and least <= row.sides[1] for row, (least, most) in zip(rows, rest))
+        least_of = {tuple(map(settle, [0] * len(rows), rows, rest)): 0} if can_meet else {}
+        for j in variables:
+            following, rest, column = {}, rests.pop(), [row.terms.get(j, 0) for row in rows]
+            for state, cost in least_of.items():
+                low, high = zone[j]
+                weighed = [part for part in zip(state, column, rows, rest) if part[0] is not None and part[1]]
+                for total, a, row, (least, most) in weighed:
+                    first, last = ((side - total) * (a // abs(a)) for side in (row.sides[0] - most, row.sides[1] - least)[::a // abs(a)])
+                    low, high = max(low, -(-first // abs(a))), min(high, last // abs(a))
+                picks = range(low, high + 1)
+                if not weighed or not rests:  # then any of them will do
+                    picks = picks[:1] if reduced[j] >= 0 else picks[-1:]
+                need((states := states + max(0, picks.stop - picks.start)) <= self.most_states, "unknown", line)
+                for x in picks:
+                    after = tuple(map(settle, (None if total is None else total + a * x for total, a in zip(state, column)), rows, rest))
+                    following[after] = min(following.get(after, INFINITE), cost + reduced[j] * x)
+            least_of = following
+        return min(least_of.values(), default=INFINITE)
+
+
+def check(lp, cert, dec=None, most_states=5_000_000):
+    """The report for the texts of a model, a certificate and perhaps a decomposition."""
+    try:
+        model = Model(lp)
+        block_of, blocks = form_blocks(model, *read_dec(b"NBLOCKS 0" if dec is None else dec, model))
+        cert = Certificate(cert, len(model.names), block_of, len(blocks))
+        Judge(model, blocks, most_states).judge(cert)
+    except Stop as stop:
+        return str(stop)
+    return f"accepted {cert.claim}"
+
+
+def main():
+    words = argparse.ArgumentParser(description=__doc__.split("\n\n", 1)[0])
+    for word, options in (("lp", {}), ("cert", {}), ("--dec", {}), ("--states", {"type": int, "default": 5_000_000})):
+        words.add_argument(word, **options)
+    words = words.parse_args()
+    try:
+        texts = [open(name, "rb").read() for name in (words.lp, words.cert, words.dec) if name]
+    except OSError as fault:
+        print(f"check_certificate.py: {fault}", file=sys.stderr)
+        return 11 if isinstance(fault, FileNotFoundError) else 7
+    report = check(*texts, most_states=words.states)
+    print(report)
+    return {"accepted": 0, "refused": 3, "rejected": 6, "unknown": 10}[report.split(" ", 1)[0]]
+
+
+if __name__ == "__main__":
+    sys.exit(main())

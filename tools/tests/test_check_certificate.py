@@ -1,0 +1,220 @@
+"""The checker for strangers says of each certificate what `bprice check` says: of those that stand in the repository, of those that
+`solve` writes, and of mutated ones. So it does of mutated LP and DEC texts."""
+import pathlib
+import random
+import re
+import subprocess
+import sys
+
+import pytest
+
+from conftest import TOP, load_tool, run
+
+TOOL = TOP / "tools" / "check_certificate.py"
+checker = load_tool(TOOL)
+STATUS = {"accepted": 0, "refused": 3, "rejected": 6}
+PROGRAM_ALONE = re.compile(r"refused (lp [0-9]+ (limit|activity)|dec 0 limit|dec [0-9]+ (unknown-var|linking-list)|blocks var-place \S+)\n")
+EXAMPLES = [
+    ("cutting-stock/model.lp", "cutting-stock/model.cert", "cutting-stock/model.dec"),
+    ("cutting-stock/harder.lp", "cutting-stock/harder.cert", "cutting-stock/harder.dec"),
+    ("rostering/model.lp", "rostering/model.cert", "rostering/model.dec"),
+    ("routing/model.lp", "routing/model.cert", None),
+    ("assignment/model.lp", "assignment/model.cert", None),
+]
+
+
+class Room:
+    """A folder in which both checkers see the same texts."""
+
+    def __init__(self, path):
+        self.path = pathlib.Path(path)
+
+    def told(self, lp, cert, dec=None):
+        names = []
+        for name, text in (("lp", lp), ("cert", cert), ("dec", dec)):
+            if text is not None:
+                (self.path / name).write_bytes(text)
+                names += ["--dec", name] if name == "dec" else [name]
+        return run("check", *names, cwd=self.path)
+
+    def agree(self, lp, cert, dec=None):
+        """What both say, once it is the same, or what the program alone looks at."""
+        report, status = self.told(lp, cert, dec)
+        own = checker.check(lp, cert, dec)
+        if PROGRAM_ALONE.fullmatch(report):
+            return report.rstrip("\n")
+        assert (own + "\n", STATUS[own.split(" ", 1)[0]]) == (report, status)
+        return own
+
+
+@pytest.fixture(name="room")
+def room_fixture(tmp_path):
+    return Room(tmp_path)
+
+
+def text_of(name):
+    return None if name is None else (TOP / "examples" / name).read_bytes()
+
+
+def worked():
+    """The texts of each `check`, `solve` or `show` of the worked scripts, as (script, LP, certificate or None, DEC or None)."""
+    for script in sorted((TOP / "crates/worked/data").glob("*.txt")):
+        files, lines = {}, iter(script.read_text(encoding="latin-1").split("\n"))
+        for line in lines:
+            if line.startswith("file "):
+                text = []
+                for row in lines:
+                    if row == ".":
+                        break
+                    text.append(row + "\n")
+                files[line[5:]] = "".join(text).encode("latin-1")
+            found = re.fullmatch(r"(?:run|first) (?:check (\S+) (\S+)|(?:solve|show) (\S+))(?: --dec (\S+))?.*", line)
+            if found:
+                lp, cert, other, dec = found.groups()
+                if (lp or other) in files and (cert is None or cert in files) and (dec is None or dec in files):
+                    yield script.name, files[lp or other], files.get(cert), files.get(dec)
+
+
+def test_worked_texts(room):
+    """A text that is refused is so whatever the certificate is; one that is accepted is judged with a certificate of its own."""
+    count = 0
+    for _, lp, cert, dec in worked():
+        room.agree(lp, b"bpcert 1\n" if cert is None else cert, dec)
+        count += 1
+    assert count > 150
+
+
+@pytest.mark.parametrize("lp, cert, dec", EXAMPLES)
+def test_examples(room, lp, cert, dec):
+    assert room.agree(text_of(lp), text_of(cert), text_of(dec)).startswith("accepted optimal ")
+
+
+def solved(room, lp, dec=None, steps=None):
+    """The certificate that `solve` writes."""
+    (room.path / "lp").write_bytes(lp)
+    words = ["solve", "lp", "--cert", "written"]
+    if dec is not None:
+        (room.path / "dec").write_bytes(dec)
+        words += ["--dec", "dec"]
+    if steps is not None:
+        words += ["--steps", steps]
+    run(*words, cwd=room.path)
+    return (room.path / "written").read_bytes()
+
+
+@pytest.mark.parametrize("seed", range(4))
+def test_generated_models(room, seed):
+    run("gen", seed, 5 + 4 * seed, "lp", "dec", cwd=room.path)
+    lp, dec = (room.path / "lp").read_bytes(), (room.path / "dec").read_bytes()
+    for steps in (0, 3, None):
+        assert room.agree(lp, solved(room, lp, dec, steps), dec).startswith("accepted ")
+        assert room.agree(lp, solved(room, lp, None, 20 if steps is None else steps)).startswith("accepted ")
+
+
+def random_model(draw):
+    """A small model with all kinds of rows and bounds, and a decomposition or None."""
+    many, rows = draw.randint(1, 5), draw.randint(0, 4)
+    names = [f"v{j}" for j in range(many)]
+
+    def sum_of(some):
+        return " ".join(f"{draw.choice('+-')} {draw.randint(0, 6)} {name}" for name in some)
+    lines = [draw.choice(["Maximize", "Minimize"]), f" obj: {sum_of(names)} + {draw.randint(0, 9)}", "Subject To"]
+    for i in range(rows):
+        some, side = draw.sample(names, draw.randint(1, many)), draw.randint(-8, 12)
+        lines.append(f" r{i}: " + draw.choice([
+            f"{sum_of(some)} <= {side}", f"{sum_of(some)} >= {side - 10}", f"{sum_of(some)} = {side}", f"{side} >= {sum_of(some)}",
+            f"{side - 7} <= {sum_of(some)} <= {side}", f"{side} >= {sum_of(some)} >= {side - 5}"]))
+    lines += ["Bounds", *(f" {low} <= {name} <= {low + draw.randint(0, 6)}" for name in names for low in [draw.randint(-3, 2)])]
+    lines += ["Generals", " " + " ".join(names), "End", ""]
+    dec = None
+    if draw.random() < 0.7:
+        blocks = draw.randint(1, 2)
+        places = [draw.randint(0, blocks) for _ in range(rows)]
+        dec = "\n".join([f"NBLOCKS {blocks}", *(row for k in range(1, blocks + 1) for row in
+                         [f"BLOCK {k}", *(f"r{i}" for i in range(rows) if places[i] == k)])]) + "\n"
+    return "\n".join(lines).encode(), dec and dec.encode()
+
+
+def test_random_models(room):
+    draw, claims = random.Random(26), set()
+    for _ in range(90):
+        lp, dec = random_model(draw)
+        if room.agree(lp, b"", dec).startswith("refused blocks"):
+            continue
+        cert = solved(room, lp, dec, draw.choice([None, None, 0, 1, 5]))
+        report = room.agree(lp, cert, dec)
+        assert report.startswith("accepted ")
+        claims.add(report.split(" ")[1])
+        every = re.sub(rb"priced .*", b"priced all", cert)
+        room.agree(lp, every, dec)
+        room.agree(lp, mutated(draw, every), dec)
+    assert claims == {"optimal", "infeasible", "bound"}
+
+
+def mutated(draw, text):
+    """A text with one to three changes: of a number, a word, a byte, or of lines."""
+    for _ in range(draw.choice([1, 1, 1, 2, 3])):
+        kind = draw.randrange(9)
+        numbers, lines = list(re.finditer(rb"-?[0-9]+", text)), text.split(b"\n")
+        if kind <= 3 and numbers:
+            found = draw.choice(numbers)
+            old = int(found[0])
+            new = draw.choice([old + 1, old - 1, -old, 0, old * 10, old + draw.randint(-5, 5), 2**40, 2**62, 2**20 + 1])
+            text = text[:found.start()] + str(new).encode() + text[found.end():]
+        elif kind == 4 and text:
+            place = draw.randrange(len(text))
+            text = text[:place] + text[place + 1:]
+        elif kind == 5:
+            place = draw.randrange(len(text) + 1)
+            text = text[:place] + bytes([draw.choice(b" \n-01x9<=:\\.e\xff\r")]) + text[place:]
+        elif kind == 6:
+            del lines[draw.randrange(len(lines))]
+            text = b"\n".join(lines)
+        elif kind == 7:
+            lines.insert(draw.randrange(len(lines)), draw.choice(lines))
+            text = b"\n".join(lines)
+        else:
+            one, other = draw.choice(WORDS), draw.choice(WORDS)
+            text = text.replace(one, other, 1)
+    return text
+
+
+WORDS = [b"leaf", b"open", b"split", b"optimal", b"infeasible", b"bound", b"value", b"rows", b"priced all", b"priced 0", b" ", b"<=", b">=", b"=",
+         b"Bounds", b"Generals", b"Binaries", b"+", b"-", b"BLOCK", b"MASTERCONSS", b"NBLOCKS", b"free", b"inf"]
+
+
+@pytest.mark.parametrize("seed, example", enumerate(EXAMPLES))
+def test_mutated_certificates(room, seed, example):
+    lp, cert, dec = map(text_of, example)
+    draw, kinds = random.Random(seed), set()
+    written = [cert, solved(room, lp, dec, 2), solved(room, lp, None, 5)]
+    for _ in range(70):
+        base = draw.choice(written)
+        own_dec = dec if base is not written[2] else None
+        report = room.agree(lp, mutated(draw, base), own_dec)
+        kinds.add(report.split(" ")[0])
+    assert kinds == {"accepted", "rejected", "refused"}
+
+
+@pytest.mark.parametrize("seed, example", enumerate(EXAMPLES))
+def test_mutated_models(room, seed, example):
+    lp, cert, dec = map(text_of, example)
+    draw = random.Random(100 + seed)
+    for _ in range(25):
+        room.agree(mutated(draw, lp), cert, dec)
+        if dec is not None:
+            room.agree(lp, cert, mutated(draw, dec))
+
+
+def test_command(tmp_path):
+    """The tool as a command: its report, statuses, and its limit of states."""
+    def told(*words):
+        ran = subprocess.run([sys.executable, TOOL, *words], capture_output=True, text=True, check=False, cwd=TOP / "examples/cutting-stock")
+        return ran.stdout, ran.returncode
+    assert told("model.lp", "model.cert", "--dec", "model.dec") == ("accepted optimal 2\n", 0)
+    assert told("model.lp", "model.cert") == ("rejected 4 weak\n", 6)
+    assert told("model.lp", "model.dec") == ("refused cert 1 syntax\n", 3)
+    assert told("model.lp", "none.cert") == ("", 11)
+    assert told("model.lp", ".") == ("", 7)
+    assert told("model.lp", "model.cert", "--dec", "model.dec", "--states", "2") == ("unknown 4\n", 10)
+    assert len(TOOL.read_text(encoding="ascii").splitlines()) <= 400
