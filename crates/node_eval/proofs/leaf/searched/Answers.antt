@@ -31,3 +31,6 @@ returns-in-Some-clause-verdict c =
 pub returns-clause-made_for : goal.returns-clause-made_for
 returns-clause-made_for c =
     record { pricers = c.strongest-shown.ensures.made_for ∙ c.in_ok-proof.ensures.made_for.pricers; stores = c.in_ok-proof.ensures.made_for.stores }
+
+pub settled-next-requires-clause-shown : goal.settled-next-requires-clause-shown
+settled-next-requires-clause-shown c = c.strongest-shown.ensures.shown c.args.turn.now.bound c.requires.shown
