@@ -14,6 +14,3 @@ mod trace;
 
 pub use pricer::{KnapPlan, KnapPricer};
 pub use splits::{Doubles, parts};
-
-#[cfg(test)]
-mod tests;

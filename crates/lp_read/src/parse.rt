@@ -11,7 +11,7 @@ ghost use Rattle.lp_read.specs.declared.stage.Stage.TheVariants as stages;
 ghost use Rattle.lp_read.specs.declared.notes.ParseFault.TheVariants as faults;
 
 use crate::notes::{Notes, ParseFault, no_notes, note};
-use crate::stage::Stage;
+use crate::stage::{Stage, let_go};
 use crate::step::step;
 use crate::symbol::Symbol;
 use crate::tree::{Site, Tree};
@@ -61,8 +61,13 @@ fn advance(
     ensures room { IfOk result (λ r. HaveRoom r.notes) }
     ensures fault { IfErr result (IsRoleFault notes at (seen_in bytes.now site symbol next)) }
 {
-    let notes = note(alloc, bytes, notes, at, site, symbol, next)?;
-    Ok(State { stage, notes })
+    match note(alloc, bytes, notes, at, site, symbol, next) {
+        Ok(notes) => Ok(State { stage, notes }),
+        Err(fault) => {
+            let_go(stage);
+            Err(fault)
+        }
+    }
 }
 
 /// Reads the next symbol, which has no fault of its own, by the one behind it.
@@ -134,7 +139,10 @@ fn finish(state: State) -> Result<Parsed, ParseFault>
     let State { stage, notes } = state;
     match stage {
         Stage::Done(tree) => Ok(Parsed { tree, notes }),
-        _ => Err(ParseFault::NoEnd),
+        other => {
+            let_go(other);
+            Err(ParseFault::NoEnd)
+        }
     }
 }
 

@@ -1,5 +1,7 @@
 // Reading rows: what the next symbol makes of one.
-ghost use Rattle.std.specs.Prelude.{◌≡◌, ℕ, List, IfOk};
+ghost use Rattle.std.specs.Prelude.{◌≡◌, ℕ, List, IfOk, Some};
+ghost use Rattle.lp_read.specs.Tree.{row_first};
+ghost use Rattle.lp_read.specs.declared.stage.Stage.TheVariants as stages;
 ghost use Rattle.lp_read.specs.TreeIn.{symbol_in, name_in, label_in, term_in};
 ghost use Rattle.lp_read.specs.StageIn.{step_in, front_in, term_sum_in, gap_in, row_stage_in};
 ghost use Rattle.lp_read.specs.Parser.{step as specs_step, from_r_row, from_r_name, from_r_signs, from_r_number, from_r_open, from_r_factor, from_r_sum, from_r_compared, from_n_open, from_n_factor, from_n_sum, from_n_compared, direction_of as specs_direction_of, second_row as specs_second_row};
@@ -52,18 +54,27 @@ pub fn from_row(alloc: Global, front: Front, stage: RowStage, symbol: Symbol) ->
 fn from_start(alloc: Global, front: Front, symbol: Symbol) -> Step
     ensures { (text : List ℕ) → IfOk result (λ r. step_in text r ≡ from_r_row (front_in text front) (symbol_in text symbol)) }
 {
-    let mut signs = Items::new(alloc);
-    let stage = match symbol {
-        Symbol::Name(name) => RowStage::Name(name),
-        Symbol::Number(size) => RowStage::Number(None, signs, size),
-        Symbol::Sign(sign) => {
-            signs.push(sign)?;
-            RowStage::Signs(None, signs)
+    match symbol {
+        Symbol::Name(name) => Ok(begun(front, RowStage::Name(name))),
+        Symbol::Number(size) => {
+            let signs = Items::new(alloc);
+            Ok(begun(front, RowStage::Number(None, signs, size)))
         }
-        Symbol::Word(section) => return Ok(from_word(alloc, front, Items::new(alloc), section)),
-        _ => return Ok(None),
-    };
-    Ok(Some((Site::RowFirst, Stage::Row(front, stage))))
+        Symbol::Sign(sign) => {
+            let mut signs = Items::new(alloc);
+            signs.push(sign)?;
+            Ok(begun(front, RowStage::Signs(None, signs)))
+        }
+        Symbol::Word(section) => Ok(from_word(alloc, front, Items::new(alloc), section)),
+        _ => Ok(None),
+    }
+}
+
+/// A row that its first symbol begins.
+fn begun(front: Front, stage: RowStage) -> Option<(Site, Stage)>
+    ensures { result ≡ Some (row_first, stages.Row front stage) }
+{
+    Some((Site::RowFirst, Stage::Row(front, stage)))
 }
 
 /// A symbol behind a row's first name.

@@ -92,6 +92,38 @@ pub enum Stage {
 /// What a symbol does and the next stage, or nothing where no text goes on so; or want of memory.
 pub type Step = Result<Option<(Site, Stage)>, AllocError>;
 
+/// Lets a stage go, part by part. Each form of a part goes in its own way, so a caller that let a whole stage go by itself
+/// would have as many paths to prove as the forms of all its parts together.
+pub fn let_go(stage: Stage) {
+    match stage {
+        Stage::Start => {}
+        Stage::Objective(_maximises, stage) => let_objective_go(stage),
+        Stage::Row(front, stage) => {
+            let_front_go(front);
+            let_row_go(stage);
+        }
+        Stage::Generals(front, _parts, _names) => let_front_go(front),
+        Stage::Binaries(front, _parts, _names) => let_front_go(front),
+        Stage::Bounds(within, stage) => {
+            let_within_go(within);
+            let_bound_go(stage);
+        }
+        Stage::Done(tree) => let_tree_go(tree),
+    }
+}
+
+fn let_front_go(_front: Front) {}
+
+fn let_within_go(_within: Within) {}
+
+fn let_objective_go(_stage: ObjectiveStage) {}
+
+fn let_row_go(_stage: RowStage) {}
+
+fn let_bound_go(_stage: BoundStage) {}
+
+fn let_tree_go(_tree: Tree) {}
+
 /// A sum of one summand.
 pub fn lone<A: Drop>(alloc: Global, first: A) -> Sum<A>
     ensures first { result.first ≡ first }

@@ -1,6 +1,10 @@
-//! Tests of models at their limits. They stand apart from the crate that they test, since a crate that has tests is proved
-//! twice, and all others wait for that one.
+//! Tests of what LP texts and certificates read as, and of models at their limits. They stand apart from the crates that
+//! they test, since a crate that has tests is proved twice, and others wait for these.
 #![tactic(auto)]
 
+#[cfg(test)]
+mod certificates;
+#[cfg(test)]
+mod lp_texts;
 #[cfg(test)]
 mod models;

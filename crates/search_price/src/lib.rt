@@ -16,8 +16,3 @@ mod shifts;
 
 pub use caps::prefixes;
 pub use pricer::SearchPricer;
-
-#[cfg(test)]
-mod knapsack_tests;
-#[cfg(test)]
-mod tests;

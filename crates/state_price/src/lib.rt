@@ -16,6 +16,3 @@ mod states;
 mod walk;
 
 pub use pricer::StatePricer;
-
-#[cfg(test)]
-mod tests;

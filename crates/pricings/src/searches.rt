@@ -1,7 +1,7 @@
-use crate::{KnapPricer, parts};
 use block_form::Block;
 use bp_theory::{Items, Row, Sense, Span, Term};
 use pricing::{Cap, Priced, Pricer, is_form, is_priceable};
+use search_price::{SearchPricer, prefixes};
 use std::alloc::Global;
 use std::process::Abort;
 use std::test::Fail;
@@ -64,8 +64,8 @@ fn priced(
     costs: &[i128; 2],
     cap: Cap,
 ) -> Result<(Priced, i64, i64), Fail> {
-    assert!(rt; is_form(block.rows(), block.spans()) && KnapPricer::takes(block));
-    let mut pricer = KnapPricer::make(alloc, block)?;
+    assert!(rt; is_form(block.rows(), block.spans()));
+    let mut pricer = SearchPricer::make(alloc, block)?;
     assert!(rt; is_priceable(block.spans(), zone, costs));
     let answer = pricer.price(block, zone, costs, cap);
     let point = pricer.point();
@@ -119,7 +119,7 @@ fn an_at_most_row_in_three_zones(rt: HostRuntime) -> Result<(), Fail> {
 /// A block of two variables from -2 to 3, a zone in it and costs.
 #[derive(Drop)]
 struct Case {
-    lines: [Line; 1],
+    lines: [Line; 2],
     zone: [Span; 2],
     costs: [i128; 2],
 }
@@ -174,22 +174,70 @@ fn tried(case: &Case) -> Option<i128> {
 type Numbers = ([i64; 2], Sense, [i64; 2]);
 
 /// The numbers of a case: rows, zone and costs.
-type Shown = (Numbers, [[i64; 2]; 2], [i128; 2]);
+type Shown = ([Numbers; 2], [[i64; 2]; 2], [i128; 2]);
 
 /// Cases with each sense, negative coefficients and narrowed zones, some of them without a point.
 const CASES: [Shown; 12] = [
-    (([3, 2], Sense::Le, [5, 5]), [[-2, 3], [-2, 3]], [-5, -4]),
-    (([3, -2], Sense::Le, [4, 4]), [[-2, 3], [-2, 3]], [-5, 4]),
-    (([-3, -2], Sense::Le, [-5, -5]), [[-2, 3], [-2, 3]], [5, 4]),
-    (([3, -2], Sense::Ge, [7, 7]), [[-1, 2], [-2, 1]], [5, -4]),
-    (([-1, 4], Sense::Ge, [-3, -3]), [[0, 3], [-2, 0]], [-2, 7]),
-    (([2, -3], Sense::Eq, [5, 5]), [[-2, 3], [-2, 3]], [-1, 3]),
-    (([2, 4], Sense::Eq, [5, 5]), [[-2, 3], [-2, 3]], [1, 1]),
-    (([3, 5], Sense::In, [4, 7]), [[-2, 3], [-2, 3]], [2, -3]),
-    (([-3, 5], Sense::In, [6, 6]), [[-2, 2], [0, 2]], [-7, -1]),
-    (([0, 2], Sense::In, [1, 3]), [[-2, 1], [-2, 3]], [-3, 5]),
-    (([3, 2], Sense::In, [1, 1]), [[0, 3], [0, 3]], [5, 4]),
-    (([2, 2], Sense::Le, [-9, -9]), [[-2, 3], [-2, 3]], [1, 1]),
+    (
+        [([3, 2], Sense::Le, [5, 5]), ([1, -1], Sense::Ge, [-1, -1])],
+        [[-2, 3], [-2, 3]],
+        [-5, -4],
+    ),
+    (
+        [([3, -2], Sense::Le, [4, 4]), ([1, 1], Sense::In, [1, 2])],
+        [[-2, 3], [-2, 3]],
+        [-5, 4],
+    ),
+    (
+        [([-3, -2], Sense::Le, [-5, -5]), ([1, 2], Sense::Ge, [4, 4])],
+        [[-2, 3], [-2, 3]],
+        [5, 4],
+    ),
+    (
+        [([3, -2], Sense::Ge, [7, 7]), ([0, 0], Sense::Le, [0, 0])],
+        [[-1, 2], [-2, 1]],
+        [5, -4],
+    ),
+    (
+        [([-1, 4], Sense::Ge, [-3, -3]), ([1, 1], Sense::Eq, [1, 1])],
+        [[0, 3], [-2, 0]],
+        [-2, 7],
+    ),
+    (
+        [([2, -3], Sense::Eq, [5, 5]), ([1, 1], Sense::Eq, [0, 0])],
+        [[-2, 3], [-2, 3]],
+        [-1, 3],
+    ),
+    (
+        [([2, 4], Sense::Eq, [6, 6]), ([1, 0], Sense::Ge, [2, 2])],
+        [[-2, 3], [-2, 3]],
+        [1, 1],
+    ),
+    (
+        [([3, 5], Sense::In, [4, 7]), ([-1, 2], Sense::In, [-3, 3])],
+        [[-2, 3], [-2, 3]],
+        [2, -3],
+    ),
+    (
+        [([-3, 5], Sense::In, [6, 6]), ([1, 1], Sense::Le, [3, 3])],
+        [[-2, 2], [0, 2]],
+        [-7, -1],
+    ),
+    (
+        [([0, 2], Sense::In, [1, 3]), ([4, -1], Sense::Ge, [-9, -9])],
+        [[-2, 1], [-2, 3]],
+        [-3, 5],
+    ),
+    (
+        [([1, 2], Sense::Eq, [3, 3]), ([1, 2], Sense::Eq, [4, 4])],
+        [[-2, 3], [-2, 3]],
+        [1, 1],
+    ),
+    (
+        [([2, 2], Sense::Le, [3, 3]), ([1, 0], Sense::Ge, [4, 4])],
+        [[-2, 3], [-2, 3]],
+        [1, 1],
+    ),
 ];
 
 /// The line of these numbers.
@@ -207,101 +255,85 @@ fn line_of(numbers: Numbers) -> Line {
 fn case_of(shown: &Shown) -> Case {
     let [[a_lo, a_hi], [b_lo, b_hi]] = shown.1;
     Case {
-        lines: [line_of(shown.0)],
+        lines: [line_of(shown.0[0]), line_of(shown.0[1])],
         zone: [Span { lo: a_lo, hi: a_hi }, Span { lo: b_lo, hi: b_hi }],
         costs: shown.2,
     }
 }
 
-/// Compares a pricer's answer for a case with all points tried.
-fn compared(rt: &impl Abort, alloc: Global, case: &Case) -> Result<(), Fail> {
-    let root = [Span { lo: -2, hi: 3 }, Span { lo: -2, hi: 3 }];
-    let block = block_of(rt, alloc, &root, &case.lines)?;
-    let (answer, a, b) = priced(rt, alloc, &block, &case.zone, &case.costs, Cap::Never)?;
-    match tried(case) {
-        Some(least) => {
-            assert_eq!(rt; answer, Priced::Least(least));
-            assert!(rt; is_point(case, a, b));
-            assert_eq!(rt; cost_of(case, a, b), least);
-        }
-        None => assert_eq!(rt; answer, Priced::Nothing),
-    }
-    Ok(())
-}
-
 #[test]
 fn all_points_tried_give_the_same(rt: HostRuntime) -> Result<(), Fail> {
     let alloc = rt.alloc();
+    let root = [Span { lo: -2, hi: 3 }, Span { lo: -2, hi: 3 }];
     let cases = CASES;
     for shown in &cases {
-        compared(&rt, alloc, &case_of(shown))?;
-    }
-    Ok(())
-}
-
-#[test]
-fn a_table_takes_one_row(rt: HostRuntime) -> Result<(), Fail> {
-    let alloc = rt.alloc();
-    let two = block_of(
-        &rt,
-        alloc,
-        &WHOLE,
-        &[line_with(Sense::Le, 6, 6), line_with(Sense::Le, 5, 5)],
-    )?;
-    assert!(rt; is_form(two.rows(), two.spans()));
-    assert!(rt; !KnapPricer::takes(&two));
-    let none = block_of(&rt, alloc, &WHOLE, &[])?;
-    assert!(rt; is_form(none.rows(), none.spans()));
-    assert!(rt; !KnapPricer::takes(&none));
-    Ok(())
-}
-
-#[test]
-fn the_parts_of_small_numbers(rt: HostRuntime) {
-    let mut six = parts(6);
-    assert_eq!(rt; six.next(), Some(1));
-    assert_eq!(rt; six.next(), Some(2));
-    assert_eq!(rt; six.next(), Some(3));
-    assert_eq!(rt; six.next(), None);
-    let mut seven = parts(7);
-    assert_eq!(rt; seven.next(), Some(1));
-    assert_eq!(rt; seven.next(), Some(2));
-    assert_eq!(rt; seven.next(), Some(4));
-    assert_eq!(rt; seven.next(), None);
-    assert_eq!(rt; parts(0).next(), None);
-}
-
-/// Costs of both signs, none, and close to the greatest that a pricer takes.
-const COSTS: [[i128; 2]; 5] = [[-5, 3], [4, -7], [-1, -1], [0, 2], [1 << 113, -(1 << 113)]];
-
-/// Zones within the root, narrow and whole.
-const ZONES: [[[i64; 2]; 2]; 3] = [[[-2, 3], [-2, 3]], [[-1, 3], [0, 1]], [[2, 2], [-2, 2]]];
-
-#[test]
-fn small_rows_of_each_sense(rt: HostRuntime) -> Result<(), Fail> {
-    let alloc = rt.alloc();
-    let senses = [Sense::Le, Sense::Ge, Sense::Eq, Sense::In];
-    let all_costs = COSTS;
-    let zones = ZONES;
-    let firsts = [-3, -1, 0, 2];
-    let seconds = [-2, 0, 1, 3];
-    for first in &firsts {
-        for second in &seconds {
-            for sense in &senses {
-                for low in -4..5 {
-                    for costs in &all_costs {
-                        for zone in &zones {
-                            let case = case_of(&(
-                                ([*first, *second], *sense, [low, low + 1]),
-                                *zone,
-                                *costs,
-                            ));
-                            compared(&rt, alloc, &case)?;
-                        }
-                    }
-                }
+        let case = case_of(shown);
+        let block = block_of(&rt, alloc, &root, &case.lines)?;
+        let (answer, a, b) = priced(&rt, alloc, &block, &case.zone, &case.costs, Cap::Never)?;
+        match tried(&case) {
+            Some(least) => {
+                assert_eq!(rt; answer, Priced::Least(least));
+                assert!(rt; is_point(&case, a, b));
+                assert_eq!(rt; cost_of(&case, a, b), least);
             }
+            None => assert_eq!(rt; answer, Priced::Nothing),
         }
     }
+    Ok(())
+}
+
+#[test]
+fn an_equation_that_is_just_met(rt: HostRuntime) -> Result<(), Fail> {
+    let alloc = rt.alloc();
+    let ten = block_of(&rt, alloc, &WHOLE, &[line_with(Sense::Eq, 10, 10)])?;
+    let answer = priced(&rt, alloc, &ten, &WHOLE, &[5, 4], Cap::Never)?;
+    assert_eq!(rt; answer, (Priced::Least(18), 2, 2));
+    Ok(())
+}
+
+#[test]
+fn prefixes_and_a_cap(rt: HostRuntime) -> Result<(), Fail> {
+    let alloc = rt.alloc();
+    let ten = block_of(&rt, alloc, &WHOLE, &[line_with(Sense::Eq, 10, 10)])?;
+    assert_eq!(rt; ten.spans().len(), WHOLE.len());
+    assert_eq!(rt; prefixes(&ten, &WHOLE), 13);
+    let answer = priced(&rt, alloc, &ten, &WHOLE, &[5, 4], Cap::At(1))?;
+    assert_eq!(rt; answer.0, Priced::Cut);
+    Ok(())
+}
+
+/// The numbers 0 to a thousand millions.
+const WIDE: [Span; 2] = [
+    Span {
+        lo: 0,
+        hi: 1_000_000_000,
+    },
+    Span {
+        lo: 0,
+        hi: 1_000_000_000,
+    },
+];
+
+#[test]
+fn wide_spans_are_left_where_numbers_are_too_dear(rt: HostRuntime) -> Result<(), Fail> {
+    let alloc = rt.alloc();
+    let seven = block_of(&rt, alloc, &WIDE, &[line_with(Sense::Ge, 7, 7)])?;
+    let answer = priced(&rt, alloc, &seven, &WIDE, &[5, 4], Cap::At(100))?;
+    assert_eq!(rt; answer, (Priced::Least(13), 1, 2));
+    Ok(())
+}
+
+#[test]
+fn numbers_that_lead_nowhere_are_counted(rt: HostRuntime) -> Result<(), Fail> {
+    let alloc = rt.alloc();
+    let even = Line {
+        coefs: (2, 4),
+        sense: Sense::Eq,
+        low: 7,
+        rhs: 7,
+    };
+    let never = block_of(&rt, alloc, &WIDE, &[even])?;
+    let answer = priced(&rt, alloc, &never, &WIDE, &[5, 4], Cap::At(1000))?;
+    assert_eq!(rt; answer.0, Priced::Cut);
     Ok(())
 }

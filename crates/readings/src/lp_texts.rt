@@ -1,9 +1,9 @@
 // Texts, and what each means or is refused for.
 mod texts;
 
-use crate::{LpFault, read_lp};
 use bp_model::Model;
 use bp_theory::{Row, Sense, Term};
+use lp_read::{LpFault, read_lp};
 use lp_token::LpKind;
 use std::alloc::{AllocError, Global};
 use std::test::Fail;
@@ -188,7 +188,7 @@ fn wrong_sizes(alloc: Global, table: &str) -> Result<(String, usize), AllocError
 fn each_text_means_its_model_or_has_its_first_fault(rt: HostRuntime) -> Result<(), Fail> {
     let (wrong, count) = wrong(rt.alloc(), TEXTS)?;
     assert_eq!(rt; wrong.as_str(), "");
-    assert_eq!(rt; count, 312);
+    assert_eq!(rt; count, 317);
     Ok(())
 }
 

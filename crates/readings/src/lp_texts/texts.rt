@@ -126,6 +126,11 @@ min 7 x; x 0..1 @ min|0e99999999999 x + 007 x|st|bin|x|end|
 2 TooLarge @ min|1e99999999999 x|st|end|
 2 NotWhole @ min|1e-99999999999 x|st|end|
 min 27 x; x 0..1 @ min|0.0e-99999999999 x + 1.50E+01 x + 120e-1 x|st|bin|x|end|
+min 12500 x 1 y; x 0..1; y 0..1 @ min|12.5e3 x + 10000000000000000000000e-22 y|st|bin|x y|end|
+2 NotWhole @ min|1e-99999999999999999999999 x|st|end|
+2 NotWhole @ min|.10e0 x|st|end|
+2 TooLarge @ min|4611686018427387904 x|st|end|
+2 TooLarge @ min|0.00001e25 x|st|end|
 2 NotWhole @ min|2e-1 x|st|end|
 2 NotWhole @ min|.5|st|end|
 2 NotWhole @ min|1.5e0|st|end|

@@ -1,7 +1,7 @@
-use crate::StatePricer;
 use block_form::Block;
 use bp_theory::{Items, Row, Sense, Span, Term};
 use pricing::{Cap, Priced, Pricer, is_form, is_priceable};
+use state_price::StatePricer;
 use std::alloc::Global;
 use std::process::Abort;
 use std::test::Fail;
