@@ -1,4 +1,5 @@
 pub mod Walks
 pub mod Keys
 pub mod Standing
+pub mod Adopting
 pub mod PlainBound

@@ -4,6 +4,7 @@ ghost use Rattle.bp_theory.specs.Trees.{HasSoundSplits};
 ghost use Rattle.search_laws.specs.Grove.{LiveLeaf, live_at, zone_at, certificate_tree};
 ghost use Rattle.branch_tree.specs.Trees.{tree_of};
 
+use crate::adopt::{depth_in, fill, steps_in};
 use crate::bound::plain_bound;
 use crate::copies::{path_copy, path_to, plain_proof, proof_copy};
 use crate::queue::{LeafQueue, bound_of, key_at};
@@ -45,15 +46,16 @@ impl std::marker::Model for Grove {
 }
 
 impl Grove {
-    ghost use Rattle.std.specs.Prelude.{◌≡◌, ◌+◌, ◌-◌, ◌<◌, ◌^◌, IfOk, OnOk, OnErr, IfSome, MatchOption};
+    ghost use Rattle.std.specs.Prelude.{◌≡◌, ◌+◌, ◌-◌, ◌<◌, ◌≤◌, ◌^◌, IfOk, OnOk, OnErr, IfSome, MatchOption};
     ghost use Rattle.bp_theory.specs.Trees.{IsSoundSplit, steps, depth};
     ghost use Rattle.search_laws.specs.Grove.{shut_at, fork_at, live_count, live_bounds, certificate_tree};
-    ghost use Rattle.search_laws.specs.GroveFacts.{IsSoundProof, KeepsBound, IsLeastOf};
+    ghost use Rattle.search_laws.specs.GroveFacts.{IsGrove, IsSoundProof, KeepsBound, IsLeastOf};
     ghost use Rattle.block_form.specs.Blocked.{BlockedProgram};
     ghost use Rattle.branch_tree.specs.Turns.{IsTurn};
     ghost use Rattle.branch_tree.specs.Trees.{tree_of};
     ghost use Rattle.branch_tree.specs.Queues.{queue_of};
     ghost use Rattle.branch_tree.specs.Groves.{IsStanding, IsGroveOf, IsPlanted, IsLiveTurn, IsNextTurn, IsShutQueue, IsForkedQueue, made};
+    ghost use Rattle.branch_tree.specs.Adopted.{IsAdopted};
 
     /// One live leaf with the program's whole zone, with the proof of scale 1 that names no row and picks no block, and
     /// with its bound: the costs at the better ends of the variables' spans, and the constant.
@@ -73,6 +75,32 @@ impl Grove {
             live: 1,
             count: 0,
             depth: 0,
+        })
+    }
+
+    /// The grove of a tree that keeps its facts for the program's spans, with a depth of at most 8,256 and fewer than
+    /// `2^62` nodes. Its live leaves count as made in preorder.
+    pub fn adopt(alloc: Global, b: &Blocked, tree: Tree) -> Result<Grove, AllocError>
+        requires kept { IsGrove b.now.blocking b.now.named.program.spans (tree_of tree) }
+        requires deep { depth (certificate_tree (tree_of tree)) ≤ 8256 }
+        requires few { made (tree_of tree) < 2 ^ 62 }
+        ensures adopted { IfOk result (IsAdopted b.now (tree_of tree)) }
+        ensures kept { IfOk result (IsGroveOf b.now) }
+        ensures standing { IfOk result IsStanding }
+    {
+        let root = Zone::root(alloc, b)?;
+        let mut queue = LeafQueue::new(alloc);
+        let mut path = Vec::new(alloc);
+        let live = fill(alloc, &mut queue, &tree, &mut path, 0)?;
+        let count = steps_in(&tree);
+        let depth = depth_in(&tree);
+        Ok(Grove {
+            tree,
+            root,
+            queue,
+            live,
+            count,
+            depth,
         })
     }
 

@@ -10,3 +10,4 @@ mod price;
 mod tree;
 
 pub use judge::{Judged, check};
+pub use price::bound_in;

@@ -1,5 +1,5 @@
 -- A certificate that is read for a program goes with it.
-use Rattle.std.proofs.Common.{◌≡◌, ◌≢◌, refl, sym, ap, subst, ◌∙◌, ℕ, zero, suc, ◌+◌, ◌-◌, ◌<◌, ◌≤◌, ◌^◌, Bool, true, false, not, ◌&&◌, ◌||◌, List, [], ◌∷◌, ◌++◌, map, length, get_or, codes, Option, Some, None, Result, Ok, Err, arith, append_assoc, length-append}
+use Rattle.std.proofs.Common.{◌≡◌, ◌≢◌, refl, sym, ap, subst, ◌∙◌, ℕ, zero, suc, ◌+◌, ◌-◌, ◌*◌, ◌<◌, ◌≤◌, ◌^◌, Bool, true, false, not, ◌&&◌, ◌||◌, List, [], ◌∷◌, ◌++◌, map, length, get_or, codes, Option, Some, None, Result, Ok, Err, arith, append_assoc, length-append}
 use Rattle.std.proofs.Math.IntN.{ℤ, pos}
 use Rattle.std.specs.Prelude.{All, IsSome, IfOk, is_none, nat_lt, nat_le, unsigned_abs, unwrap_or}
 use Rattle.std.specs.List.{AllByRecursion}
@@ -217,7 +217,7 @@ tree_shallow frame above (split v at low high) clean =
 seven : (a b c d e f g : List ℕ) → length (a ++ b ++ c ++ d ++ e ++ f ++ g) ≡ length a + length b + length c + length d + length e + length f + length g
 seven a b c d e f g = simp length-append
 
-tree_count : (t : theory.Tree) (zone : List Span) → length (judgement.tree_lines t zone) ≤ length (tree_text t)
+tree_count : (t : theory.Tree) (zone : List Span) → 4 * length (judgement.tree_lines t zone) ≤ length (tree_text t)
 tree_count (shut_leaf p) zone = let size : length (codes "leaf ") ≡ 5 = refl in omega (arith, length-append (codes "leaf ") (proof_text p))
 tree_count (open_leaf p) zone = let size : length (codes "open ") ≡ 5 = refl in omega (arith, length-append (codes "open ") (proof_text p))
 tree_count (split v at low high) zone =
@@ -237,7 +237,7 @@ four : (a b c d : List ℕ) → length (a ++ b ++ c ++ d) ≡ length a + length 
 four a b c d = simp length-append
 
 lines_counted : (b : BlockedProgram) (claim : Claim) (zs : List ℤ) (t : theory.Tree)
-    → 3 + length (judged_lines b.named.program b.dec (certificate claim zs t)) < length (plain_text claim zs t)
+    → 9 + 4 * length (judged_lines b.named.program b.dec (certificate claim zs t)) ≤ length (plain_text claim zs t)
 lines_counted b claim zs t =
     let points : List Line = point_lines (named_value claim) (option_map (λ _. zs) (named_value claim)) in
     let nodes : List Line = judgement.tree_lines t b.named.program.spans in

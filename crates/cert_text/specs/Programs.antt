@@ -54,7 +54,7 @@ pub record GoesWith (b : BlockedProgram) (cert : Certificate) : Type 0 where
   pub claim : IsSmallClaim cert.claim
   pub fits : All (λ leaf. Fits b.blocking leaf.proof) (leaves cert.tree b.named.program.spans)
   pub shallow : depth cert.tree ≤ 8256
-  pub lines : 3 + length (judged_lines b.named.program b.dec cert) < 2 ^ 64
+  pub lines : 3 + length (judged_lines b.named.program b.dec cert) ≤ 2 ^ 62
 
 -- so many numbers of texts
 pub record IsSmallPoint (count : ℕ) (zs : List ℤ) : Type 0 where

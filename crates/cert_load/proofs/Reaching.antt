@@ -1,0 +1,279 @@
+-- What is loaded of a whole certificate.
+use Rattle.std.proofs.Common.{◌≡◌, ℕ, zero, suc, ◌+◌, ◌-◌, ◌<◌, ◌≤◌, ◌^◌, Bool, true, false, List, [], ◌∷◌, ◌++◌, length, get_or, Option, Some, None, ◌⊎◌, inl, inr, ⊎_elim, sym, subst, ap, ◌∙◌, refl, arith, lit<, add-zero, zero-add}
+use Rattle.std.proofs.Math.IntN.{ℤ, pos}
+use Rattle.std.specs.Prelude.{IfSome, unsigned_abs, All, option_map}
+use Rattle.std.specs.List.{AllByRecursion}
+use Rattle.std.proofs.lemmas.Int.{ints}
+use Rattle.std.proofs.lemmas.Bool.{cases_lt}
+use Rattle.std.proofs.lemmas.List.{get_or_append_left, get_or-append-add, length-append}
+use Rattle.std.proofs.lemmas.List.Elements.{All-from_recursion, recursion_from_All}
+use Rattle.bp_theory.specs.Program.{Program, IsFeasible, cost, in_sense}
+use Rattle.bp_theory.specs.Blocking.{Blocking}
+use Rattle.bp_theory.specs.Decomposition.{blocking_of}
+use Rattle.bp_theory.specs.Bound.{Fits}
+use Rattle.bp_theory.specs.Trees.{Tree, shut_leaf, open_leaf, split, Leaf, leaves, low_part, high_part, depth, steps, HasSoundSplits, IsSoundSplit, IsZone}
+use Rattle.bp_theory.specs.Claims.{Holds, Certificate, Shows, PointFits, IsValid, IsCertified}
+use Rattle.bp_theory.specs.Judgement.{judged_lines, tree_lines, point_lines, named_value}
+use Rattle.bp_theory.specs.declared.Span.{Span}
+use Rattle.bp_theory.specs.declared.Proof.{Proof}
+use Rattle.bp_theory.specs.declared.Claim.{Claim}
+use Rattle.bp_theory.specs.declared.Claim.TheVariants.{Optimal, Infeasible, Bound}
+use Rattle.block_form.specs.Blocked.{BlockedProgram, IsFormed}
+use Rattle.search_laws.specs.declared.Side.{Side}
+use Rattle.search_laws.specs.declared.Side.TheVariants.{Low, High}
+use Rattle.search_laws.specs.Grove.{GrowingTree, live, shut, fork, leaves_below, growing_leaves, certificate_tree}
+use Rattle.search_laws.specs.GroveFacts.{Settles, IsShallow, IsSearch, IsGrove, best_cost}
+use Rattle.search_laws.specs.Loading.{Loads, IsReadable, HasSmallBound}
+use Rattle.search_laws.proofs.Places.{recursion_parts, recursion-append}
+use Rattle.search_laws.proofs.LoadProof.{load_keeps_lem}
+use Rattle.search_laws.proofs.DepthProof.{stays_shallow_lem}
+use Rattle.branch_tree.specs.Groves.{GroveState, IsStanding, IsGroveOf, made}
+use Rattle.branch_tree.specs.Adopted.{IsAdopted, point_in, IsSearchState}
+use Rattle.branch_tree.specs.declared.loaded.Loaded.{Loaded}
+use Rattle.cert_text.specs.Programs.{GoesWith, IsSmallClaim}
+use Rattle.cert_text.specs.Written.{certificate}
+use Rattle.cert_load.specs.Rooms.{rooms, IsFirstDeep, FindsDeep, FindsBehind, root_line, node_count, CanLoadLeaf, CanLoad}
+use Rattle.cert_load.specs.Loadings.{IsLoadedTree, IsLoadedOf, IsTooDeep, MayLoad, IsLoadedNode}
+use Rattle.cert_load.specs.declared.walk.Walk.{Walk}
+use Rattle.cert_load.proofs.Finding.{past, both_low}
+use Rattle.cert_load.proofs.Descent.{made_of}
+
+-- ---- rooms and depths
+
+one_low : (room : ℕ) → room ≤ 8256 → (k : ℕ) → get_or (room ∷ []) k 0 ≤ 8256
+one_low room low zero = low
+one_low room low (suc k) = omega arith
+
+longer : (path : List Side) (side : Side) → length (path ++ side ∷ []) ≡ length path + 1
+longer path side = length-append path (side ∷ [])
+
+-- where no leaf is too deep, no room is
+rooms_low : (t : GrowingTree) (path : List Side) (zone : List Span) → AllByRecursion IsShallow (leaves_below t path zone)
+    → (k : ℕ) → get_or (rooms t (length path) zone) k 0 ≤ 8256
+rooms_low (live proof bound) path zone shallow = one_low (length path + _) shallow.0
+rooms_low (shut proof) path zone shallow = one_low 0 (omega arith)
+rooms_low (fork v at low high) path zone shallow =
+    let parts = recursion_parts IsShallow (leaves_below low (path ++ Low ∷ []) (low_part zone v at)) (leaves_below high (path ++ High ∷ []) (high_part zone v at)) shallow in
+    both_low (0 ∷ []) (rooms low (length path + 1) (low_part zone v at) ++ rooms high (length path + 1) (high_part zone v at)) (one_low 0 (omega arith))
+    (both_low (rooms low (length path + 1) (low_part zone v at)) (rooms high (length path + 1) (high_part zone v at))
+    (subst (λ d. (k : ℕ) → get_or (rooms low d (low_part zone v at)) k 0 ≤ 8256) (longer path Low) (rooms_low low (path ++ Low ∷ []) (low_part zone v at) parts.0))
+    (subst (λ d. (k : ℕ) → get_or (rooms high d (high_part zone v at)) k 0 ≤ 8256) (longer path High) (rooms_low high (path ++ High ∷ []) (high_part zone v at) parts.1)))
+
+left_low : (xs ys : List ℕ) → ((k : ℕ) → get_or (xs ++ ys) k 0 ≤ 8256) → (k : ℕ) → get_or xs k 0 ≤ 8256
+left_low xs ys all k = ⊎_elim
+    (λ l. let same : get_or (xs ++ ys) k 0 ≡ get_or xs k 0 = get_or_append_left xs ys 0 k l in let low : get_or (xs ++ ys) k 0 ≤ 8256 = all k in omega (arith, same, low))
+    (λ m. let none : get_or xs k 0 ≡ 0 = past xs k m in omega (arith, none))
+    (cases_lt k (length xs))
+
+right_low : (xs ys : List ℕ) → ((k : ℕ) → get_or (xs ++ ys) k 0 ≤ 8256) → (k : ℕ) → get_or ys k 0 ≤ 8256
+right_low xs ys all k =
+    let same : get_or (xs ++ ys) (length xs + k) 0 ≡ get_or ys k 0 = get_or-append-add xs ys k 0 in
+    let low : get_or (xs ++ ys) (length xs + k) 0 ≤ 8256 = all (length xs + k) in
+    omega (arith, same, low)
+
+-- where no room is too large and the tree not too deep, no leaf is too deep
+shallow_by : (t : GrowingTree) (path : List Side) (zone : List Span) → ((k : ℕ) → get_or (rooms t (length path) zone) k 0 ≤ 8256)
+    → length path + depth (certificate_tree t) ≤ 8256 → AllByRecursion IsShallow (leaves_below t path zone)
+shallow_by (live proof bound) path zone low deep = (low 0, tt)
+shallow_by (shut proof) path zone low deep = (omega (arith, deep), tt)
+shallow_by (fork v at first second) path zone low deep =
+    let xs : List ℕ = rooms first (length path + 1) (low_part zone v at) in
+    let ys : List ℕ = rooms second (length path + 1) (high_part zone v at) in
+    let both : (k : ℕ) → get_or (xs ++ ys) k 0 ≤ 8256 = right_low (0 ∷ []) (xs ++ ys) low in
+    recursion-append IsShallow (leaves_below first (path ++ Low ∷ []) (low_part zone v at)) (leaves_below second (path ++ High ∷ []) (high_part zone v at))
+    (shallow_by first (path ++ Low ∷ []) (low_part zone v at)
+    (subst (λ d. (k : ℕ) → get_or (rooms first d (low_part zone v at)) k 0 ≤ 8256) (sym (longer path Low)) (left_low xs ys both))
+    (omega (arith, deep, longer path Low)))
+    (shallow_by second (path ++ High ∷ []) (high_part zone v at)
+    (subst (λ d. (k : ℕ) → get_or (rooms second d (high_part zone v at)) k 0 ≤ 8256) (sym (longer path High)) (right_low xs ys both))
+    (omega (arith, deep, longer path High)))
+
+-- a loaded tree is as deep as the certificate's
+leaf_depth : (b : Blocking) (best : Option ℤ) (zone : List Span) (tree : Tree) (t : GrowingTree) → Loads b best zone tree t
+    → depth (certificate_tree t) ≡ depth tree
+leaf_depth b best zone (shut_leaf p) (live own bound) h = refl
+leaf_depth b best zone (shut_leaf p) (shut own) h = refl
+leaf_depth b best zone (shut_leaf p) (fork v at low high) h = absurd h
+leaf_depth b best zone (open_leaf p) (live own bound) h = refl
+leaf_depth b best zone (open_leaf p) (shut own) h = refl
+leaf_depth b best zone (open_leaf p) (fork v at low high) h = absurd h
+leaf_depth b best zone (split v at low high) (live own bound) h = absurd h
+leaf_depth b best zone (split v at low high) (shut own) h = absurd h
+leaf_depth b best zone (split v at low high) (fork w a first second) h =
+    omega (arith, leaf_depth b best (low_part zone v at) low first h.2, leaf_depth b best (high_part zone v at) high second h.3)
+
+-- no tree that is loaded is also too deep
+pub loaded_is_low : (b : BlockedProgram) (cert : Certificate) (from : Loaded) (line : ℕ) → IsLoadedOf b cert from → IsTooDeep b cert line → ⊥
+loaded_is_low b cert from line loaded deep =
+    let same : deep.tree ≡ from.grove.tree =
+    load_keeps_lem.one b.named.program b.blocking cert.tree (best_cost b.named.program cert.point) deep.tree loaded.tree deep.loads loaded.loads ∙ sym loaded.adopted.tree in
+    let first : IsFirstDeep (rooms from.grove.tree 0 b.named.program.spans) (root_line cert.point) line =
+    subst (λ (t : GrowingTree). IsFirstDeep (rooms t 0 b.named.program.spans) (root_line cert.point) line) same deep.first in
+    let low : get_or (rooms from.grove.tree 0 b.named.program.spans) first.place 0 ≤ 8256 =
+    rooms_low from.grove.tree [] b.named.program.spans (recursion_from_All IsShallow (growing_leaves from.grove.tree b.named.program.spans) loaded.loaded.search.shallow) first.place in
+    let high : 8256 < get_or (rooms from.grove.tree 0 b.named.program.spans) first.place 0 = first.deep in
+    absurd (omega (arith, low, high))
+
+-- ---- a certificate that was read and is valid
+
+-- it is valid for the program's blocks, since it has no cuts
+valid_here : (b : BlockedProgram) (claim : Claim) (zs : List ℤ) (tree : Tree) → IsFormed b → IsCertified b.named.program b.dec (certificate claim zs tree)
+    → IsValid b.named.program b.blocking (certificate claim zs tree)
+valid_here b claim zs tree formed valid = subst (λ (k : Blocking). IsValid b.named.program k (certificate claim zs tree)) (sym formed.blocking) valid.valid
+
+small_bound : (claim : Claim) → IsSmallClaim claim → HasSmallBound claim
+small_bound (Optimal v) h = tt
+small_bound Infeasible h = tt
+small_bound (Bound bound None) h = h
+small_bound (Bound bound (Some v)) h = h.0
+
+readable : (b : BlockedProgram) (cert : Certificate) → GoesWith b cert → IsReadable b.named.program b.blocking cert
+readable b cert goes = record { fits = goes.fits; bound = small_bound cert.claim goes.claim }
+
+-- a small number that a leaf shows, where its zone isn't settled
+small_sense : (m : Bool) (z : ℤ) → unsigned_abs z < 2 ^ 62 → unsigned_abs (in_sense m z) < 2 ^ 62
+small_sense true z small = omega (arith, ints, small)
+small_sense false z small = small
+
+can_by : (p : Program) (b : Blocking) (claim : Claim) (point : Option (List ℤ)) (leaf : Leaf) → IsSmallClaim claim → PointFits p claim point → Fits b leaf.proof → Shows p b claim leaf
+    → CanLoadLeaf b (best_cost p point) leaf.zone leaf.proof
+can_by p b (Optimal v) point leaf small fits fit shows = record { fits = fit; number = in_sense p.maximises v; small = small_sense p.maximises v small; shown = inr shows }
+can_by p b Infeasible None leaf small fits fit shows = record { fits = fit; number = pos 0; small = lit< tt; shown = inl shows }
+can_by p b Infeasible (Some x) leaf small fits fit shows = absurd fits
+can_by p b (Bound bound None) point leaf small fits fit shows = record { fits = fit; number = in_sense p.maximises bound; small = small_sense p.maximises bound small; shown = inr shows }
+can_by p b (Bound bound (Some v)) point leaf small fits fit shows = record { fits = fit; number = in_sense p.maximises bound; small = small_sense p.maximises bound small.0; shown = inr shows }
+
+can_below : (b : Blocking) (best : Option ℤ) (zone : List Span) (tree : Tree) → HasSoundSplits tree zone
+    → AllByRecursion (λ (leaf : Leaf). CanLoadLeaf b best leaf.zone leaf.proof) (leaves tree zone) → CanLoad b best zone tree
+can_below b best zone (shut_leaf p) sound can = can.0
+can_below b best zone (open_leaf p) sound can = can.0
+can_below b best zone (split v at low high) sound can =
+    let parts = recursion_parts (λ (leaf : Leaf). CanLoadLeaf b best leaf.zone leaf.proof) (leaves low (low_part zone v at)) (leaves high (high_part zone v at)) can in
+    (sound.0, can_below b best (low_part zone v at) low sound.1 parts.0, can_below b best (high_part zone v at) high sound.2 parts.1)
+
+-- how many lines a tree has
+lines_of : (tree : Tree) (zone : List Span) → length (tree_lines tree zone) ≡ node_count tree
+lines_of (shut_leaf p) zone = refl
+lines_of (open_leaf p) zone = refl
+lines_of (split v at low high) zone =
+    omega (arith, length-append (tree_lines low (low_part zone v at)) (tree_lines high (high_part zone v at)), lines_of low (low_part zone v at), lines_of high (high_part zone v at))
+
+few_nodes : (b : BlockedProgram) (claim : Claim) (zs : List ℤ) (tree : Tree) → GoesWith b (certificate claim zs tree) → 3 + node_count tree ≤ 2 ^ 62
+few_nodes b claim zs tree goes =
+    let points = point_lines (named_value claim) (option_map (λ _. zs) (named_value claim)) in
+    let nodes = tree_lines tree b.named.program.spans in
+    let first : length (points ++ []) ≡ length points + 0 = length-append points [] in
+    let all : length ((points ++ []) ++ nodes) ≡ length (points ++ []) + length nodes = length-append (points ++ []) nodes in
+    let most : 3 + length ((points ++ []) ++ nodes) ≤ 2 ^ 62 = goes.lines in
+    omega (arith, first, all, most, lines_of tree b.named.program.spans)
+
+root_small : (point : Option (List ℤ)) → root_line point ≤ 4
+root_small None = omega arith
+root_small (Some x) = omega arith
+
+-- its root may be loaded
+pub may_root : (b : BlockedProgram) (claim : Claim) (zs : List ℤ) (tree : Tree) (best : Option ℤ) (at : Walk) → IsFormed b → GoesWith b (certificate claim zs tree)
+    → IsCertified b.named.program b.dec (certificate claim zs tree) → best ≡ best_cost b.named.program (certificate claim zs tree).point
+    → at.zone ≡ b.named.program.spans → IsZone b.named.program.spans at.zone → at.depth ≡ 0 → at.line ≡ root_line (certificate claim zs tree).point
+    → MayLoad b best at tree
+may_root b claim zs tree best at formed goes valid best_is zone_is zone depth_is line_is =
+    let p : Program = b.named.program in
+    let cert : Certificate = certificate claim zs tree in
+    let here : IsValid p b.blocking cert = valid_here b claim zs tree formed valid in
+    let all : All (λ (leaf : Leaf). CanLoadLeaf b.blocking (best_cost p cert.point) leaf.zone leaf.proof) (leaves tree p.spans) =
+    λ k d l. can_by p b.blocking claim cert.point _ goes.claim here.point (goes.fits k d l) (here.shown k d l) in
+    let can : CanLoad b.blocking (best_cost p cert.point) p.spans tree =
+    can_below b.blocking (best_cost p cert.point) p.spans tree here.splits
+    (recursion_from_All (λ (leaf : Leaf). CanLoadLeaf b.blocking (best_cost p cert.point) leaf.zone leaf.proof) (leaves tree p.spans) all) in
+    record {
+      zone = zone;
+      can = subst (λ (o : Option ℤ). CanLoad b.blocking o at.zone tree) (sym best_is) (subst (λ (z : List Span). CanLoad b.blocking (best_cost p cert.point) z tree) (sym zone_is) can);
+      shallow = omega (arith, depth_is, goes.shallow);
+      few = omega (arith, line_is, root_small cert.point, few_nodes b claim zs tree goes);
+    }
+
+-- its point is feasible
+pub feasible_point : (b : BlockedProgram) (claim : Claim) (zs : List ℤ) (tree : Tree) → IsFormed b → IsCertified b.named.program b.dec (certificate claim zs tree)
+    → IfSome (certificate claim zs tree).point (IsFeasible b.named.program)
+feasible_point b claim zs tree formed valid = by claim (certificate claim zs tree).point (valid_here b claim zs tree formed valid).point
+  where
+    by : (claim : Claim) (point : Option (List ℤ)) → PointFits b.named.program claim point → IfSome point (IsFeasible b.named.program)
+    by claim None fits = tt
+    by (Optimal v) (Some x) fits = fits.feasible
+    by Infeasible (Some x) fits = absurd fits
+    by (Bound bound None) (Some x) fits = absurd fits
+    by (Bound bound (Some v)) (Some x) fits = fits.feasible
+
+-- the kept cost is the best cost
+pub same_cost : (b : BlockedProgram) (best : Option (List ℤ × ℤ)) (point : Option (List ℤ)) → point_in best ≡ point
+    → IfSome best (λ k. k.1 ≡ cost b.named.program k.0) → option_map (λ k. k.1) best ≡ best_cost b.named.program point
+same_cost b None point is costs = ap (best_cost b.named.program) is
+same_cost b (Some k) point is costs = ap (λ (z : ℤ). Some z) costs ∙ ap (best_cost b.named.program) is
+
+-- the facts of a search of what is loaded, where no leaf is too deep
+pub searched_of : (b : BlockedProgram) (claim : Claim) (zs : List ℤ) (tree : Tree) (t : GrowingTree) → IsFormed b → GoesWith b (certificate claim zs tree)
+    → IsCertified b.named.program b.dec (certificate claim zs tree) → IsLoadedTree b (certificate claim zs tree) t
+    → FindsDeep (rooms t 0 b.named.program.spans) (root_line (certificate claim zs tree).point) None
+    → IsSearch b.named.program b.blocking t (certificate claim zs tree).point
+searched_of b claim zs tree t formed goes valid loads low =
+    let cert : Certificate = certificate claim zs tree in
+    let depth_is = leaf_depth b.blocking (best_cost b.named.program cert.point) b.named.program.spans tree t loads in
+    load_keeps_lem.search b.named.program b.blocking cert t (valid_here b claim zs tree formed valid) (readable b cert goes) loads
+    (All-from_recursion IsShallow (growing_leaves t b.named.program.spans) (shallow_by t [] b.named.program.spans low (omega (arith, depth_is, goes.shallow))))
+
+pub few_made : (b : BlockedProgram) (claim : Claim) (zs : List ℤ) (tree : Tree) (t : GrowingTree) → GoesWith b (certificate claim zs tree)
+    → IsLoadedTree b (certificate claim zs tree) t → made t < 2 ^ 62
+few_made b claim zs tree t goes loads =
+    omega (
+      arith,
+      made_of b.blocking (best_cost b.named.program (certificate claim zs tree).point) b.named.program.spans tree t loads,
+      few_nodes b claim zs tree goes,
+    )
+
+pub depth_low : (b : BlockedProgram) (claim : Claim) (zs : List ℤ) (tree : Tree) (t : GrowingTree) → GoesWith b (certificate claim zs tree)
+    → IsLoadedTree b (certificate claim zs tree) t → depth (certificate_tree t) ≤ 8256
+depth_low b claim zs tree t goes loads =
+    omega (arith, leaf_depth b.blocking (best_cost b.named.program (certificate claim zs tree).point) b.named.program.spans tree t loads, goes.shallow)
+
+-- what is loaded
+pub loaded_of : (b : BlockedProgram) (claim : Claim) (zs : List ℤ) (tree : Tree) (t : GrowingTree) (from : Loaded)
+    → IsLoadedTree b (certificate claim zs tree) t → IsSearch b.named.program b.blocking t (certificate claim zs tree).point
+    → IsAdopted b t from.grove → IsStanding from.grove → point_in from.best ≡ (certificate claim zs tree).point
+    → IfSome from.best (λ k. k.1 ≡ cost b.named.program k.0) → IsLoadedOf b (certificate claim zs tree) from
+loaded_of b claim zs tree t from loads search adopted standing point costs = record {
+  tree = t;
+  loads = loads;
+  adopted = adopted;
+  point = point;
+  loaded = record {
+    standing = standing;
+    root = adopted.root;
+    search = subst (λ (u : GrowingTree). IsSearch b.named.program b.blocking u (point_in from.best)) (sym adopted.tree)
+        (subst (IsSearch b.named.program b.blocking t) (sym point) search);
+    costs = costs;
+  };
+}
+
+-- its steps are few
+pub few_steps : (b : BlockedProgram) (t : GrowingTree) (g : GroveState) → made t < 2 ^ 62 → IsAdopted b t g → steps (certificate_tree g.tree) < 2 ^ 62
+few_steps b t g few adopted = subst (λ (u : GrowingTree). steps (certificate_tree u) < 2 ^ 62) (sym adopted.tree) (omega (arith, few))
+
+-- what a walk from the root finds
+pub record IsLoadedRoot (b : BlockedProgram) (cert : Certificate) (t : GrowingTree) (deep : Option ℕ) : Type 0 where
+  pub loads : IsLoadedTree b cert t
+  pub found : FindsDeep (rooms t 0 b.named.program.spans) (root_line cert.point) deep
+
+pub root_loaded : (b : BlockedProgram) (cert : Certificate) (best : Option ℤ) (at end : Walk) (tree : Tree) (t : GrowingTree)
+    → best ≡ best_cost b.named.program cert.point → at.zone ≡ b.named.program.spans → at.depth ≡ 0 → at.line ≡ root_line cert.point → at.deep ≡ None
+    → tree ≡ cert.tree → IsLoadedNode b.blocking best at tree t end → IsLoadedRoot b cert t end.deep
+root_loaded b cert best at end tree t best_is zone_is depth_is line_is deep_is tree_is node = record {
+  loads =
+      subst (λ (u : Tree). Loads b.blocking (best_cost b.named.program cert.point) b.named.program.spans u t) tree_is
+      (subst (λ (z : List Span). Loads b.blocking (best_cost b.named.program cert.point) z tree t) zone_is
+      (subst (λ (o : Option ℤ). Loads b.blocking o at.zone tree t) best_is node.loads));
+  found =
+      subst (λ n. FindsDeep (rooms t 0 b.named.program.spans) n end.deep) line_is
+      (subst (λ (z : List Span). FindsDeep (rooms t 0 z) at.line end.deep) zone_is
+      (subst (λ d. FindsDeep (rooms t d at.zone) at.line end.deep) depth_is
+      (subst (λ (o : Option ℕ). FindsBehind o (rooms t at.depth at.zone) at.line end.deep) deep_is node.deep)));
+}

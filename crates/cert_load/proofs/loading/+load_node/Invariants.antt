@@ -1,0 +1,7 @@
+use Rattle.cert_text.specs.Sketch.{tree_of}
+use Rattle.cert_check.proofs.Lines.{nodes}
+use Rattle.cert_load.proofs.loading.+load_node.Given as goal
+
+-- the nodes of the tree
+abbrev pub decreases-load_node : goal.decreases-load_node
+decreases-load_node l = nodes (tree_of l.sketch.now)

@@ -1,0 +1,56 @@
+-- What is loaded of a certificate, and on the way down its tree.
+use Rattle.std.specs.Prelude.{◌≡◌, ℕ, ◌+◌, ◌<◌, ◌≤◌, ◌^◌, Option, Some, None, Result, Ok, Err, ℤ}
+use Rattle.bp_theory.specs.Blocking.{Blocking}
+use Rattle.bp_theory.specs.Trees.{Tree, depth, IsZone}
+use Rattle.bp_theory.specs.Claims.{Certificate}
+use Rattle.block_form.specs.Blocked.{BlockedProgram}
+use Rattle.search_laws.specs.Grove.{GrowingTree}
+use Rattle.search_laws.specs.GroveFacts.{best_cost}
+use Rattle.search_laws.specs.Loading.{Loads}
+use Rattle.branch_tree.specs.Adopted.{IsAdopted, point_in}
+use Rattle.branch_tree.specs.Loads.{IsLoaded}
+use Rattle.branch_tree.specs.declared.loaded.Loaded.{Loaded}
+use Rattle.cert_load.specs.Rooms.{rooms, IsFirstDeep, FindsBehind, root_line, node_count, CanLoad}
+use Rattle.cert_load.specs.declared.fault.LoadFault.{LoadFault}
+use Rattle.cert_load.specs.declared.fault.LoadFault.TheVariants.{Deep, NoMemory}
+use Rattle.cert_load.specs.declared.walk.Walk.{Walk}
+
+-- a tree is the one that a certificate's is loaded as
+abbrev pub IsLoadedTree : BlockedProgram → Certificate → GrowingTree → Type 0
+IsLoadedTree b cert t = Loads b.blocking (best_cost b.named.program cert.point) b.named.program.spans cert.tree t
+
+-- what is loaded of a certificate: each leaf is shut that the certificate's point or, without one, its emptiness settles, and
+-- each other is live with its bound rounded; the point is the certificate's, and a search may go on from it
+pub record IsLoadedOf (b : BlockedProgram) (cert : Certificate) (from : Loaded) : Type 0 where
+  pub tree : GrowingTree
+  pub loads : IsLoadedTree b cert tree
+  pub adopted : IsAdopted b tree from.grove
+  pub point : point_in from.best ≡ cert.point
+  pub loaded : IsLoaded b from
+
+-- a live leaf is too deep, on a certificate's first such line
+pub record IsTooDeep (b : BlockedProgram) (cert : Certificate) (line : ℕ) : Type 0 where
+  pub tree : GrowingTree
+  pub loads : IsLoadedTree b cert tree
+  pub first : IsFirstDeep (rooms tree 0 b.named.program.spans) (root_line cert.point) line
+
+-- what loading a certificate answers
+abbrev pub LoadsCert : BlockedProgram → Certificate → Result Loaded LoadFault → Type 0
+LoadsCert b cert (Ok from) = IsLoadedOf b cert from
+LoadsCert b cert (Err (Deep line)) = IsTooDeep b cert line
+LoadsCert b cert (Err NoMemory) = Unit {0}
+
+-- a walk may load a node
+pub record MayLoad (b : BlockedProgram) (best : Option ℤ) (at : Walk) (tree : Tree) : Type 0 where
+  pub zone : IsZone b.named.program.spans at.zone
+  pub can : CanLoad b.blocking best at.zone tree
+  pub shallow : at.depth + depth tree ≤ 8256
+  pub few : at.line + node_count tree < 2 ^ 64
+
+-- a walk came back from a node that is loaded: it stands behind the node's lines
+pub record IsLoadedNode (b : Blocking) (best : Option ℤ) (before : Walk) (tree : Tree) (now : GrowingTree) (after : Walk) : Type 0 where
+  pub loads : Loads b best before.zone tree now
+  pub zone : after.zone ≡ before.zone
+  pub depth : after.depth ≡ before.depth
+  pub line : after.line ≡ before.line + node_count tree
+  pub deep : FindsBehind before.deep (rooms now before.depth before.zone) before.line after.deep

@@ -1,0 +1,187 @@
+// A certificate as a tree from which a search goes on.
+ghost use Rattle.std.specs.Prelude.{◌≡◌, ◌+◌, ◌<◌, ◌^◌, Some, IfOk, IfSome};
+ghost use Rattle.std.specs.Option.{option_map};
+ghost use Rattle.bp_theory.specs.Program.{IsFeasible, cost};
+ghost use Rattle.bp_theory.specs.Claims.{IsCertified};
+ghost use Rattle.bp_theory.specs.Trees as trees;
+ghost use Rattle.lagr_bound.specs.Forms.{forms_in};
+ghost use Rattle.lagr_bound.specs.Works.{forms_of};
+ghost use Rattle.search_laws.specs.Grove.{fork};
+ghost use Rattle.search_laws.specs.GroveFacts.{best_cost};
+ghost use Rattle.cert_text.specs.Kept.{certificate_of};
+ghost use Rattle.cert_text.specs.Programs.{GoesWith};
+ghost use Rattle.cert_text.specs.Sketch as sketches;
+ghost use Rattle.branch_tree.specs.Trees.{tree_of};
+ghost use Rattle.branch_tree.specs.Adopted.{point_in};
+ghost use Rattle.cert_load.specs.Rooms.{rooms, FindsDeep, root_line, CanLoadLeaf};
+ghost use Rattle.cert_load.specs.Loadings.{IsLoadedTree, LoadsCert, MayLoad, IsLoadedNode};
+
+use crate::fault::LoadFault;
+use crate::leaf::load_leaf;
+use crate::walk::{Walk, back, pass, to_high, to_low};
+use block_form::{Blocked, Zone};
+use bp_theory::{Items, Proof};
+use branch_tree::{Grove, Loaded, Tree};
+use cert_text::{Cert, Sketch};
+use lagr_bound::Work;
+use std::alloc::{AllocError, Global};
+
+/// The tree and the best point of a valid certificate, from which a search goes on. A leaf, open or not, is shut exactly
+/// where its proof shows that its zone has no point cheaper than the certificate's or, where the certificate has none, no
+/// point at all; every other leaf is live, with the bound of its proof rounded up. `Deep` comes exactly where a live leaf's
+/// depth and the bits of its zone are together above 8,256, with the first such line.
+pub fn load(alloc: Global, b: &Blocked, cert: &Cert) -> Result<Loaded, LoadFault>
+    requires goes_with { GoesWith b.now (certificate_of cert.now) }
+    requires valid { IsCertified b.now.named.program b.now.dec (certificate_of cert.now) }
+    ensures { LoadsCert b.now (certificate_of cert.now) result }
+{
+    let _ = b.blocks();
+    let best = best_of(alloc, b, cert)?;
+    let (tree, deep) = load_nodes(alloc, b, cert, &cost_in(&best))?;
+    match deep {
+        Some(line) => Err(LoadFault::Deep(line)),
+        None => {
+            let grove = Grove::adopt(alloc, b, tree)?;
+            Ok(Loaded { grove, best })
+        }
+    }
+}
+
+// A certificate's point and its cost, where there is one.
+fn best_of(alloc: Global, b: &Blocked, cert: &Cert) -> Result<Option<(Items<i64>, i64)>, AllocError>
+    requires { IfSome (certificate_of cert.now).point (IsFeasible b.now.named.program) }
+    ensures point { IfOk result (λ best. point_in best ≡ (certificate_of cert.now).point) }
+    ensures costs { IfOk result (λ best. IfSome best (λ k. k.1 ≡ cost b.now.named.program k.0)) }
+{
+    match cert.point() {
+        None => Ok(None),
+        Some(point) => {
+            let cost = b.model().cost(point);
+            let copy = point.to_vec(alloc)?;
+            Ok(Some((Items::from_vec(copy), cost)))
+        }
+    }
+}
+
+// The cost of a point, where there is one.
+fn cost_in(best: &Option<(Items<i64>, i64)>) -> Option<i64>
+    ensures { result ≡ option_map (λ k. k.1) best.now }
+{
+    match best {
+        None => None,
+        Some(best) => Some(best.1),
+    }
+}
+
+// The line of the root of a certificate's tree.
+fn root_line(cert: &Cert) -> u64
+    ensures { result ≡ root_line (certificate_of cert.now).point }
+{
+    match cert.point() {
+        None => 3,
+        Some(_) => 4,
+    }
+}
+
+// The tree that a certificate's is loaded as, and the line of the first live leaf that is too deep, where there is one.
+fn load_nodes(
+    alloc: Global,
+    b: &Blocked,
+    cert: &Cert,
+    best: &Option<i64>,
+) -> Result<(Tree, Option<u64>), AllocError>
+    requires goes_with { GoesWith b.now (certificate_of cert.now) }
+    requires valid { IsCertified b.now.named.program b.now.dec (certificate_of cert.now) }
+    requires best { best.now ≡ best_cost b.now.named.program (certificate_of cert.now).point }
+    ensures loads { IfOk result (λ r. IsLoadedTree b.now (certificate_of cert.now) (tree_of r.0)) }
+    ensures deep { IfOk result (λ r. FindsDeep (rooms (tree_of r.0) 0 b.now.named.program.spans) (root_line (certificate_of cert.now).point) r.1) }
+{
+    let _ = b.blocks();
+    let zone = Zone::root(alloc, b)?;
+    let line = root_line(cert);
+    let at = Walk {
+        zone,
+        depth: 0,
+        line,
+        deep: None,
+    };
+    let mut work = None;
+    let (tree, end) = load_node(alloc, b, best, &mut work, at, cert.tree())?;
+    Ok((Box::into_inner(tree), end.deep))
+}
+
+// The node that a certificate's is loaded as, with all below it. The walk's zone is changed along the path and changed
+// back. Nodes go by boxes, which keeps little on the stack at each depth.
+fn load_node(
+    alloc: Global,
+    b: &Blocked,
+    best: &Option<i64>,
+    work: &mut Option<Work>,
+    at: Walk,
+    sketch: &Sketch,
+) -> Result<(Box<Tree>, Walk), AllocError>
+    requires made_for { IfSome work.old (λ made. forms_of made ≡ forms_in b.now) }
+    requires may { MayLoad b.now best.now at (sketches.tree_of sketch.now) }
+    ensures loaded { IfOk result (λ r. IsLoadedNode b.now.blocking best.now at (sketches.tree_of sketch.now) (tree_of r.0.value) r.1) }
+    ensures made_for { IfSome work.new (λ made. forms_of made ≡ forms_in b.now) }
+{
+    match sketch {
+        Sketch::Leaf(proof) => load_end(alloc, b, best, work, at, proof),
+        Sketch::Open(proof) => load_end(alloc, b, best, work, at, proof),
+        Sketch::Fork {
+            var,
+            at: split,
+            low,
+            high,
+        } => {
+            let span = at.zone.span(*var);
+            let below = to_low(at, *var, split);
+            let (first, passed) = load_node(alloc, b, best, work, below, low)?;
+            let above = to_high(passed, *var, &span, split);
+            let (second, end) = load_node(alloc, b, best, work, above, high)?;
+            let node = forked(alloc, *var, split, first, second)?;
+            Ok((node, back(end, *var, &span)))
+        }
+    }
+}
+
+// The leaf that a certificate's is loaded as, and the walk behind its line.
+fn load_end(
+    alloc: Global,
+    b: &Blocked,
+    best: &Option<i64>,
+    work: &mut Option<Work>,
+    at: Walk,
+    proof: &Proof,
+) -> Result<(Box<Tree>, Walk), AllocError>
+    requires made_for { IfSome work.old (λ made. forms_of made ≡ forms_in b.now) }
+    requires may { MayLoad b.now best.now at (trees.open_leaf proof.now) }
+    ensures loaded { IfOk result (λ r. IsLoadedNode b.now.blocking best.now at (trees.open_leaf proof.now) (tree_of r.0.value) r.1) }
+    ensures made_for { IfSome work.new (λ made. forms_of made ≡ forms_in b.now) }
+{
+    let leaf = load_leaf(alloc, b, best, work, &at.zone, proof)?;
+    let end = pass(at, &leaf);
+    Ok((Box::new(alloc, leaf)?, end))
+}
+
+// A fork of two nodes.
+fn forked(
+    alloc: Global,
+    var: u32,
+    at: &i64,
+    low: Box<Tree>,
+    high: Box<Tree>,
+) -> Result<Box<Tree>, AllocError>
+    ensures { IfOk result (λ node. tree_of node.value ≡ fork var at.now (tree_of low.value) (tree_of high.value)) }
+{
+    let node = Box::new(
+        alloc,
+        Tree::Fork {
+            var,
+            at: *at,
+            low,
+            high,
+        },
+    )?;
+    Ok(node)
+}
