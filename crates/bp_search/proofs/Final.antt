@@ -1,12 +1,12 @@
 -- What the outcomes claim.
-use Rattle.std.proofs.Common.{◌≡◌, ◌∙◌, refl, sym, ap, subst, ℕ, ◌+◌, ◌<◌, ◌≤◌, ◌^◌, List, [], ◌∷◌, ◌++◌, map, Option, Some, None, ℤ, length, get_or, arith, Bool, true, false}
-use Rattle.std.specs.Prelude.{All, Contains, option_to_list, ◌≤ℤ◌, int_lt, if◌then◌else◌}
+use Rattle.std.proofs.Common.{◌≡◌, refl, sym, subst, ℕ, ◌<◌, ◌≤◌, List, [], ◌∷◌, ◌++◌, map, Option, Some, None, ℤ, length, get_or, arith, Bool, true, false}
+use Rattle.std.specs.Prelude.{option_to_list, ◌≤ℤ◌, int_lt, if◌then◌else◌}
 use Rattle.std.specs.Option.{unwrap_or}
 use Rattle.std.specs.Int.{int_min}
 use Rattle.std.proofs.lemmas.Int.{ints}
 use Rattle.std.proofs.lemmas.List.Elements.{All-nil, All-append, Contains-push, Contains-append_left}
-use Rattle.bp_theory.specs.Program.{Program, IsFeasible, MeetsRow, KeepsActivity, cost}
-use Rattle.bp_theory.specs.Blocking.{Blocking, IsFaithful}
+use Rattle.bp_theory.specs.Program.{Program, MeetsRow, KeepsActivity}
+use Rattle.bp_theory.specs.Blocking.{IsFaithful}
 use Rattle.bp_theory.specs.Decomposition.{Decomposition, HasVariablesBelow, blocking_of, proof_rows, full_row}
 use Rattle.bp_theory.specs.Trees.{steps}
 use Rattle.bp_theory.specs.declared.Row.{Row}
@@ -20,10 +20,9 @@ use Rattle.search_laws.proofs.GroveProof.{All-one}
 use Rattle.search_laws.proofs.OutcomeProof.{search_is_right_lem, read_off_is_certified_lem}
 use Rattle.branch_tree.specs.Groves.{GroveState}
 use Rattle.branch_tree.specs.declared.outcome.Outcome.{Outcome}
-use Rattle.branch_tree.specs.declared.outcome.Outcome.TheVariants.{Budget}
 use Rattle.bp_search.specs.declared.kept.Kept.{Kept}
-use Rattle.bp_search.specs.Searches.{kept_point, kept_cost, IsRunning}
-use Rattle.bp_search.specs.Ends.{most_steps, IsSearched, IsOutcome, IsOutOfSteps, ended, as_pair, IsStopped}
+use Rattle.bp_search.specs.Searches.{kept_point, kept_cost, as_pair, IsRunning}
+use Rattle.bp_search.specs.Ends.{most_steps, IsSearched, EndsWithin, IsOutOfSteps, ended, IsStopped}
 use Rattle.bp_search.proofs.Running.{given_is}
 
 -- the blocking stands for the program
@@ -54,15 +53,15 @@ searched_end b most g best formed run none few = record {
 }
 
 -- where no leaf is live
-pub ends : (b : BlockedProgram) (given : Option ℕ) (g : GroveState) (best : Option Kept) → IsFormed b → IsRunning b g best → live_count g.tree ≡ 0
-    → steps (certificate_tree g.tree) ≤ most_steps given → IsOutcome b given (ended g best)
-ends b given g None formed run none few = record {
-  searched = searched_end b (most_steps given) g None formed run none few;
+pub ends : (b : BlockedProgram) (most : ℕ) (g : GroveState) (best : Option Kept) → IsFormed b → IsRunning b g best → live_count g.tree ≡ 0
+    → steps (certificate_tree g.tree) ≤ most → EndsWithin b most (ended g best)
+ends b most g None formed run none few = record {
+  searched = searched_end b most g None formed run none few;
   none_live = none;
   none_feasible = search_is_right_lem.none b.named.program b.blocking g.tree (faithful b formed) run.search none;
 }
-ends b given g (Some k) formed run none few = record {
-  searched = searched_end b (most_steps given) g (Some k) formed run none few;
+ends b most g (Some k) formed run none few = record {
+  searched = searched_end b most g (Some k) formed run none few;
   none_live = none;
   best = search_is_right_lem.best b.named.program b.blocking g.tree k.point (faithful b formed) run.search none;
   is_cost = run.costs;
@@ -110,10 +109,10 @@ out_of_steps b most g (Some k) v formed run some spent least =
       none_below = search_is_right_lem.bound b.named.program b.blocking g.tree (Some k.point) v (faithful b formed) run.search rest;
     }
 
-pub stops : (b : BlockedProgram) (given : Option ℕ) (g : GroveState) (best : Option Kept) (outcome : Outcome) → IsFormed b → IsRunning b g best
-    → 0 < live_count g.tree → steps (certificate_tree g.tree) ≡ most_steps given → IsStopped g best outcome → IsOutcome b given outcome
-stops b given g best outcome formed run some spent stop =
-    subst (IsOutcome b given) (sym stop.is_outcome) (out_of_steps b (most_steps given) g best stop.bound formed run some spent stop.least)
+pub stops : (b : BlockedProgram) (most : ℕ) (g : GroveState) (best : Option Kept) (outcome : Outcome) → IsFormed b → IsRunning b g best
+    → 0 < live_count g.tree → steps (certificate_tree g.tree) ≡ most → IsStopped g best outcome → EndsWithin b most outcome
+stops b most g best outcome formed run some spent stop =
+    subst (EndsWithin b most) (sym stop.is_outcome) (out_of_steps b most g best stop.bound formed run some spent stop.least)
 
 -- the less of a least number and another is the least of all
 pub less_is_least : (zs : List ℤ) (a c : ℤ) → IsLeastOf zs a → IsLeastOf (zs ++ c ∷ []) (int_min a c)

@@ -1,14 +1,13 @@
 -- What stands after a step.
 use Rattle.std.proofs.Common.{◌≡◌, ◌∙◌, refl, sym, ap, subst, ℕ, ◌+◌, ◌<◌, ◌≤◌, ◌^◌, List, Option, Some, None, ℤ, length, arith}
-use Rattle.std.specs.Prelude.{IfSome, unsigned_abs, ◌≤ℤ◌}
+use Rattle.std.specs.Prelude.{IfSome, unsigned_abs}
 use Rattle.std.proofs.lemmas.Int.{ints}
-use Rattle.bp_theory.specs.Program.{Program, IsFeasible, cost}
-use Rattle.bp_theory.specs.Blocking.{Blocking}
-use Rattle.bp_theory.specs.Trees.{steps, depth}
+use Rattle.bp_theory.specs.Program.{Program, cost}
+use Rattle.bp_theory.specs.Trees.{steps}
 use Rattle.bp_theory.specs.declared.Span.{Span}
 use Rattle.bp_model.proofs.PointLemmas.{cost_small}
 use Rattle.block_form.specs.Blocked.{BlockedProgram, IsFormed}
-use Rattle.search_laws.specs.Grove.{GrowingTree, LiveLeaf, zone_at, fork_at, certificate_tree}
+use Rattle.search_laws.specs.Grove.{GrowingTree, zone_at, fork_at, certificate_tree}
 use Rattle.search_laws.specs.GroveFacts.{IsGrove, IsSized, IsSearch, IsNoDearer, best_cost}
 use Rattle.search_laws.specs.Verdicts.{IsVerdict, IsNext, better, grown, cheaper_cost}
 use Rattle.search_laws.specs.declared.Next.{Next}
@@ -21,7 +20,11 @@ use Rattle.branch_tree.specs.Turns.{IsTurn}
 use Rattle.branch_tree.specs.declared.turn.Turn.{Turn}
 use Rattle.branch_tree.proofs.Standing.{kept_turn, depth_fork, leaf_of_turn}
 use Rattle.bp_search.specs.declared.kept.Kept.{Kept}
-use Rattle.bp_search.specs.Searches.{kept_point, kept_cost, HasItsCost, IsRunning, CanGrow}
+use Rattle.branch_tree.specs.Adopted.{IsSearchState, point_in}
+use Rattle.branch_tree.specs.Loads.{IsFresh}
+use Rattle.branch_tree.specs.declared.loaded.Loaded.{Loaded}
+use Rattle.bp_search.specs.Searches.{kept_point, kept_cost, as_pair, HasItsCost, IsRunning, CanGrow}
+use Rattle.bp_search.specs.Ends.{most_steps, last_step}
 
 -- the kept cost is that of the kept point
 pub given_is : (p : Program) (best : Option Kept) → HasItsCost p best → kept_cost best ≡ best_cost p (kept_point best)
@@ -105,3 +108,29 @@ pub one_step : (g after : GroveState) (turn : Turn) (next : Next) → IsLiveTurn
     → steps (certificate_tree after.tree) ≡ steps (certificate_tree g.tree) + 1
 one_step g after turn next alive becomes =
     ap (λ (t : GrowingTree). steps (certificate_tree t)) becomes ∙ verdicts_keep_lem.steps g.tree turn.path (leaf_of_turn turn) next alive.live
+
+-- a search runs on from a loaded tree
+pub running_of : (b : BlockedProgram) (g : GroveState) (best : Option Kept) (pair : Option (List ℤ × ℤ)) → IsSearchState b g pair → as_pair best ≡ pair → IsRunning b g best
+running_of b g None pair h is = record {
+  standing = h.standing;
+  root = h.root;
+  search = subst (λ (o : Option (List ℤ × ℤ)). IsSearch b.named.program b.blocking g.tree (point_in o)) (sym is) h.search;
+  costs = tt;
+}
+running_of b g (Some k) pair h is = record {
+  standing = h.standing;
+  root = h.root;
+  search = subst (λ (o : Option (List ℤ × ℤ)). IsSearch b.named.program b.blocking g.tree (point_in o)) (sym is) h.search;
+  costs = subst (λ (o : Option (List ℤ × ℤ)). IfSome o (λ p. p.1 ≡ cost b.named.program p.0)) (sym is) h.costs;
+}
+
+-- the given steps are few
+pub given_few : (given : Option ℕ) → IfSome given (λ n. n ≤ 2 ^ 60) → most_steps given ≤ 2 ^ 60
+given_few None few = omega arith
+given_few (Some n) few = few
+
+-- the start of a search has taken no step
+pub fresh_last : (b : BlockedProgram) (from : Loaded) (given : Option ℕ) → IsFresh b from → last_step from.grove given ≡ most_steps given
+fresh_last b from given fresh =
+    let none : steps (certificate_tree from.grove.tree) ≡ 0 = ap (λ (t : GrowingTree). steps (certificate_tree t)) fresh.planted.tree in
+    omega (arith, none)

@@ -1,6 +1,6 @@
 -- How a search may end.
-use Rattle.std.specs.Prelude.{◌≡◌, ℕ, ◌<◌, ◌≤◌, ◌^◌, List, [], ◌++◌, Option, Some, None, option_map, option_to_list, IfSome, ℤ, ◌≤ℤ◌}
-use Rattle.bp_theory.specs.Program.{Program, IsFeasible, IsBest, cost}
+use Rattle.std.specs.Prelude.{◌≡◌, ℕ, ◌+◌, ◌<◌, ◌≤◌, ◌^◌, List, [], ◌++◌, Option, Some, None, option_map, option_to_list, IfSome, ℤ, ◌≤ℤ◌}
+use Rattle.bp_theory.specs.Program.{IsFeasible, IsBest, cost}
 use Rattle.bp_theory.specs.Trees.{steps}
 use Rattle.bp_theory.specs.Claims.{IsCertified}
 use Rattle.bp_theory.specs.declared.Claim.{Claim}
@@ -12,7 +12,7 @@ use Rattle.branch_tree.specs.Groves.{GroveState, IsStanding}
 use Rattle.branch_tree.specs.declared.outcome.Outcome.{Outcome}
 use Rattle.branch_tree.specs.declared.outcome.Outcome.TheVariants.{Optimal, Infeasible, Budget}
 use Rattle.bp_search.specs.declared.kept.Kept.{Kept}
-use Rattle.bp_search.specs.Searches.{kept_cost}
+use Rattle.bp_search.specs.Searches.{kept_cost, as_pair}
 
 -- the number of steps: 2 to the 60 where none is given
 abbrev pub most_steps : Option ℕ → ℕ
@@ -55,20 +55,24 @@ pub record IsOutOfSteps (b : BlockedProgram) (most : ℕ) (g : GroveState) (best
   pub remaining : IsRemainingBound b.named.program g.tree (best_point best) bound
   pub none_below : (x : List ℤ) → IsFeasible b.named.program x → bound ≤ℤ cost b.named.program x
 
+-- an outcome of a program in blocks whose tree has at most so many steps
+abbrev pub EndsWithin : BlockedProgram → (most : ℕ) → Outcome → Type 0
+EndsWithin b most (Optimal g point value) = IsOptimal b most g point value
+EndsWithin b most (Infeasible g) = IsInfeasible b most g
+EndsWithin b most (Budget g best bound) = IsOutOfSteps b most g best bound
+
 -- an outcome of a program in blocks and the given steps
 abbrev pub IsOutcome : BlockedProgram → Option ℕ → Outcome → Type 0
-IsOutcome b given (Optimal g point value) = IsOptimal b (most_steps given) g point value
-IsOutcome b given (Infeasible g) = IsInfeasible b (most_steps given) g
-IsOutcome b given (Budget g best bound) = IsOutOfSteps b (most_steps given) g best bound
+IsOutcome b given outcome = EndsWithin b (most_steps given) outcome
+
+-- the steps at which a search stops that goes on from a tree: those of the tree, and the given ones
+abbrev pub last_step : GroveState → Option ℕ → ℕ
+last_step g given = steps (certificate_tree g.tree) + most_steps given
 
 -- the outcome where no leaf is live
 abbrev pub ended : GroveState → Option Kept → Outcome
 ended g None = Infeasible g
 ended g (Some k) = Optimal g k.point k.cost
-
--- a kept point with its cost
-abbrev pub as_pair : Option Kept → Option (List ℤ × ℤ)
-as_pair best = option_map (λ k. (k.point, k.cost)) best
 
 -- the outcome where a leaf is live
 pub record IsStopped (g : GroveState) (best : Option Kept) (outcome : Outcome) : Type 0 where

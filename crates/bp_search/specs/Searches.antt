@@ -18,6 +18,10 @@ kept_point best = option_map (λ k. k.point) best
 abbrev pub kept_cost : Option Kept → Option ℤ
 kept_cost best = option_map (λ k. k.cost) best
 
+-- a kept point with its cost
+abbrev pub as_pair : Option Kept → Option (List ℤ × ℤ)
+as_pair best = option_map (λ k. (k.point, k.cost)) best
+
 -- a kept point has its cost beside it
 abbrev pub HasItsCost : Program → Option Kept → Type 0
 HasItsCost p best = IfSome best (λ k. k.cost ≡ cost p k.point)

@@ -3,8 +3,8 @@ ghost use Rattle.std.specs.Prelude.{◌≡◌, ◌<◌, ◌++◌, option_to_list
 ghost use Rattle.std.specs.Int.{int_min};
 ghost use Rattle.search_laws.specs.Grove.{live_count, live_bounds};
 ghost use Rattle.search_laws.specs.GroveFacts.{IsLeastOf};
-ghost use Rattle.bp_search.specs.Ends.{ended, as_pair, IsStopped};
-ghost use Rattle.bp_search.specs.Searches.{kept_cost};
+ghost use Rattle.bp_search.specs.Ends.{ended, IsStopped};
+ghost use Rattle.bp_search.specs.Searches.{kept_cost, as_pair};
 ghost use Rattle.branch_tree.specs.declared.outcome.Outcome.TheVariants.{Budget};
 
 use crate::kept::Kept;

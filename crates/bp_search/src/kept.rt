@@ -2,7 +2,7 @@
 ghost use Rattle.std.specs.Prelude.{◌≡◌, ◌<ℤ◌, IfSome};
 ghost use Rattle.bp_theory.specs.Program.{IsFeasible, cost};
 ghost use Rattle.search_laws.specs.Verdicts.{better};
-ghost use Rattle.bp_search.specs.Searches.{kept_point, kept_cost, HasItsCost};
+ghost use Rattle.bp_search.specs.Searches.{kept_point, kept_cost, as_pair, HasItsCost};
 
 use block_form::Blocked;
 use bp_theory::Items;
@@ -12,6 +12,16 @@ use bp_theory::Items;
 pub struct Kept {
     pub point: Items<i64>,
     pub cost: i64,
+}
+
+/// A best point with its cost, as it is kept.
+pub fn kept_from(best: Option<(Items<i64>, i64)>) -> Option<Kept>
+    ensures { as_pair result ≡ best }
+{
+    match best {
+        None => None,
+        Some((point, cost)) => Some(Kept { point, cost }),
+    }
 }
 
 /// The cost of the kept point, where there is one.

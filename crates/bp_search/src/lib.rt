@@ -7,12 +7,15 @@ mod kept;
 mod steps;
 
 ghost use Rattle.std.specs.Prelude.{◌≤◌, ◌^◌, IfOk, IfSome};
-ghost use Rattle.bp_search.specs.Ends.{IsOutcome};
+ghost use Rattle.branch_tree.specs.Loads.{IsLoaded};
+ghost use Rattle.bp_search.specs.Ends.{EndsWithin, IsOutcome, last_step};
 
 use crate::ends::{ended, stopped};
+use crate::kept::kept_from;
 use crate::steps::take_steps;
 use block_form::Blocked;
-use branch_tree::{Grove, Outcome};
+use branch_tree::{Loaded, Outcome};
+pub use cert_load::{LoadFault, load};
 use std::alloc::{AllocError, Global};
 
 /// The greatest number of steps, and that where none is given.
@@ -27,10 +30,26 @@ pub fn search(alloc: Global, b: &Blocked, steps: Option<u64>) -> Result<Outcome,
     requires { IfSome steps (λ n. n ≤ 2 ^ 60) }
     ensures { IfOk result (IsOutcome b.now steps) }
 {
-    let most = steps.unwrap_or(MAX_STEPS);
+    let start = Loaded::fresh(alloc, b)?;
+    resume(alloc, b, start, steps)
+}
+
+/// Goes on with a search from a tree and its best point. The given steps are taken beside those of the tree; else it is as
+/// `search`. What a search learns beside its tree, as columns and pricers, is made anew.
+pub fn resume(
+    alloc: Global,
+    b: &Blocked,
+    from: Loaded,
+    steps: Option<u64>,
+) -> Result<Outcome, AllocError>
+    requires loaded { IsLoaded b.now from }
+    requires few { IfSome steps (λ n. n ≤ 2 ^ 60) }
+    ensures { IfOk result (EndsWithin b.now (last_step from.grove steps)) }
+{
+    let Loaded { mut grove, best } = from;
+    let mut best = kept_from(best);
     let _ = b.blocks();
-    let mut grove = Grove::plant(alloc, b)?;
-    let mut best = None;
+    let most = grove.count() + steps.unwrap_or(MAX_STEPS);
     take_steps(alloc, b, &mut grove, &mut best, most)?;
     if grove.live() == 0 {
         Ok(ended(grove, best))

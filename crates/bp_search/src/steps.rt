@@ -1,10 +1,10 @@
 // One step of a search: a leaf is shut or forked by its verdict.
-ghost use Rattle.std.specs.Prelude.{◌≡◌, ◌+◌, ◌<◌, ◌≤◌, ◌^◌, OnOk};
+ghost use Rattle.std.specs.Prelude.{◌≡◌, ◌+◌, ◌-◌, ◌<◌, ◌≤◌, ◌^◌, OnOk};
 ghost use Rattle.bp_theory.specs.Trees.{steps};
 ghost use Rattle.search_laws.specs.Grove.{live_count, certificate_tree};
 ghost use Rattle.search_laws.specs.Verdicts.{grown};
 ghost use Rattle.branch_tree.specs.Groves.{IsStanding, IsGroveOf, IsLiveTurn};
-ghost use Rattle.node_hint.specs.Pools.{AreMadeFor};
+ghost use Rattle.column_hint.specs.Pools.{AreMadeFor};
 ghost use Rattle.bp_search.specs.Searches.{IsRunning, CanGrow};
 
 use crate::kept::{Kept, cost_of, keep};
@@ -24,7 +24,7 @@ pub fn take_steps(
 ) -> Result<(), AllocError>
     requires running { IsRunning b.now grove.old best.old }
     requires few { steps (certificate_tree grove.old.tree) ≤ most }
-    requires limit { most ≤ 2 ^ 60 }
+    requires limit { most < 2 ^ 63 - 1 }
     ensures running { OnOk result (IsRunning b.now grove.new best.new) }
     ensures few { OnOk result (steps (certificate_tree grove.new.tree) ≤ most) }
     ensures spent { OnOk result (0 < live_count grove.new.tree → steps (certificate_tree grove.new.tree) ≡ most) }
@@ -51,7 +51,7 @@ fn step(
     requires made_for { AreMadeFor b.now pools.old }
     requires running { IsRunning b.now grove.old best.old }
     requires turn { IsLiveTurn grove.old turn.now }
-    requires few { steps (certificate_tree grove.old.tree) < 2 ^ 60 }
+    requires few { steps (certificate_tree grove.old.tree) < 2 ^ 63 - 1 }
     ensures running { OnOk result (IsRunning b.now grove.new best.new) }
     ensures made_for { AreMadeFor b.now pools.new }
     ensures one { OnOk result (steps (certificate_tree grove.new.tree) ≡ steps (certificate_tree grove.old.tree) + 1) }
@@ -74,7 +74,7 @@ fn grow(
     requires kept { IsGroveOf b.now grove.old }
     requires turn { IsLiveTurn grove.old turn.now }
     requires next { CanGrow b.now.blocking turn.now next }
-    requires few { steps (certificate_tree grove.old.tree) < 2 ^ 60 }
+    requires few { steps (certificate_tree grove.old.tree) < 2 ^ 63 - 1 }
     ensures tree { OnOk result (grove.new.tree ≡ grown grove.old.tree turn.now.path next) }
     ensures root { grove.new.root ≡ grove.old.root }
     ensures standing { IsStanding grove.new }

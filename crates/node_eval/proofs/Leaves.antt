@@ -149,7 +149,7 @@ pub no_bound : (p : Program) (x : List ℤ) (v : ℕ) → IsInside p.spans x →
 no_bound p x v inside wrong =
     wrong.1.outside (AllZip_at IsWithin p.spans x inside v (record { lo = pos 0; hi = pos 0 }) (pos 0) wrong.1.there)
 
-plain_sound : (b : Blocking) → IsSoundProof b plain_proof
+pub plain_sound : (b : Blocking) → IsSoundProof b plain_proof
 plain_sound b = record {
   fits = record {
     scale = omega arith;

@@ -2,19 +2,21 @@
 ghost use Rattle.std.specs.Prelude.{◌≡◌, ◌<◌, ◌^◌, ◌<ℤ◌, unsigned_abs, IfOk, IfSome};
 ghost use Rattle.block_class.specs.Classes.{AreSameClasses};
 ghost use Rattle.branch_tree.specs.Turns.{IsTurn};
-ghost use Rattle.node_hint.specs.Pools.{AreMadeFor};
+ghost use Rattle.column_hint.specs.Pools.{AreMadeFor};
 ghost use Rattle.search_laws.specs.GroveFacts.{best_cost};
 ghost use Rattle.search_laws.specs.Verdicts.{IsVerdict, IsNext, IsThorough, cheaper_cost};
 ghost use Rattle.node_eval.specs.Shown.{IsShown, IsBetter, IsOpen, ShutsOff};
 ghost use Rattle.node_eval.specs.Openings.{IsStrong};
 
 use crate::fork::{first_open, open_or, place};
+use crate::lone::lone_points;
 use crate::point::{if_better, one_point};
 use crate::shown::{Opening, Shown, at_both_scales, emptied, emptied_by, opened, strongest};
 use block_class::Classes;
 use block_form::Blocked;
 use bp_theory::{Items, Proof};
 use branch_tree::{Next, Turn, Verdict};
+use lone_leaf::serves;
 use node_hint::{Hint, Pools, hinted, unreached};
 use std::alloc::{AllocError, Global};
 
@@ -63,6 +65,9 @@ fn many_points(
             point: None,
             next: Next::Shut(proof),
         });
+    }
+    if serves(b) {
+        return lone_points(alloc, b, turn, best, pools, var);
     }
     let classes = Classes::of(alloc, b, &turn.zone)?;
     let is_even = pools.begin(alloc, b)?;
@@ -154,8 +159,8 @@ fn left_empty(
     Ok(emptied_by(b, classes, &mut pools.bench.work, &turn.zone, proofs))
 }
 
-// A point, where one was found, if it is feasible and cheaper than a given cost.
-fn better_point(b: &Blocked, found: Option<Vec<i64>>, best: Option<i64>) -> Option<Items<i64>>
+/// A point, where one was found, if it is feasible and cheaper than a given cost.
+pub fn better_point(b: &Blocked, found: Option<Vec<i64>>, best: Option<i64>) -> Option<Items<i64>>
     ensures { IfSome result (IsBetter b.now.named.program best) }
 {
     match found {
@@ -174,8 +179,8 @@ fn judged(b: &Blocked, point: Items<i64>, best: Option<i64>) -> Option<Items<i64
     }
 }
 
-// The cheaper of a point's cost and a given cost.
-fn cheaper(b: &Blocked, point: &Option<Items<i64>>, best: Option<i64>) -> Option<i64>
+/// The cheaper of a point's cost and a given cost.
+pub fn cheaper(b: &Blocked, point: &Option<Items<i64>>, best: Option<i64>) -> Option<i64>
     requires { IfSome point.now (IsBetter b.now.named.program best) }
     ensures { result ≡ cheaper_cost (best_cost b.now.named.program point.now) best }
 {
@@ -185,8 +190,15 @@ fn cheaper(b: &Blocked, point: &Option<Items<i64>>, best: Option<i64>) -> Option
     }
 }
 
-// What is done with a leaf of a zone with an open variable: it is shut where the bound reaches the known cost, and else forked.
-fn settled(b: &Blocked, turn: &Turn, shown: Shown, known: Option<i64>, var: u32, at: i64) -> Next
+/// What is done with a leaf of a zone with an open variable: it is shut where the bound reaches the known cost, and else forked.
+pub fn settled(
+    b: &Blocked,
+    turn: &Turn,
+    shown: Shown,
+    known: Option<i64>,
+    var: u32,
+    at: i64,
+) -> Next
     requires turn { IsTurn b.now turn.now }
     requires open { IsOpen turn.now.zone var }
     requires shown { IsShown b.now.blocking turn.now.zone turn.now.bound shown.proof shown.bound }

@@ -5,6 +5,7 @@
 
 mod fork;
 mod leaf;
+mod lone;
 mod point;
 mod proofs;
 mod shown;

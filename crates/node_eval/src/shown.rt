@@ -17,7 +17,7 @@ use block_form::{Blocked, MAX_SCALE, Zone, fits, signs_fit};
 use bp_theory::Proof;
 use branch_tree::Turn;
 use lagr_bound::{Bounded, Work, bound, box_bound, round};
-use node_hint::{Bench, MOST_VISITS};
+use node_hint::{MOST_VISITS, PricingBudget as Bench};
 use pricing::Cap;
 use std::alloc::{AllocError, Global};
 
@@ -111,8 +111,8 @@ pub fn strongest(
     raised(b, classes, work, zone, first, scaled.full)
 }
 
-// The bound that a leaf's own proof shows.
-fn inherited(alloc: Global, b: &Blocked, turn: &Turn) -> Result<Shown, AllocError>
+/// The bound that a leaf's own proof shows.
+pub fn inherited(alloc: Global, b: &Blocked, turn: &Turn) -> Result<Shown, AllocError>
     requires { IsTurn b.now turn.now }
     ensures { IfOk result (λ shown. IsShown b.now.blocking turn.now.zone turn.now.bound shown.proof shown.bound) }
 {
@@ -153,8 +153,8 @@ fn raised(
     }
 }
 
-// A bound, or a greater one that a sound proof of this whole bound shows.
-fn raised_to(b: &Blocked, zone: &Zone, shown: Shown, proof: Proof, whole: i128) -> Shown
+/// A bound, or a greater one that a sound proof of this whole bound shows.
+pub fn raised_to(b: &Blocked, zone: &Zone, shown: Shown, proof: Proof, whole: i128) -> Shown
     requires sound { IsSoundProof b.now.blocking proof }
     requires positive { 0 < proof.scale }
     requires whole { IsBound b.now.blocking zone.now proof whole }

@@ -2,34 +2,23 @@
 ghost use Rattle.std.specs.Prelude.{◌≡◌, ◌<◌, IfOk, All, length};
 ghost use Rattle.bp_theory.specs.Trees.{IsZone};
 ghost use Rattle.block_class.specs.Classes.{AreSameClasses};
-ghost use Rattle.node_hint.specs.Pools.{AreMadeFor};
+ghost use Rattle.column_hint.specs.Pools.{AreMadeFor};
 ghost use Rattle.search_laws.specs.declared.UsedColumn.{UsedColumn as AUsed};
 
-use crate::climb::{are_alike, climbed, leaf_mults};
-use crate::dive::{Style, drawn, point_by_columns};
-use crate::guide::{guide_of, plain_guide};
-use crate::known::{Incumbent, is_reached};
-use crate::pools::Pools;
-use crate::propagation::point_in;
-use crate::reach::{product, quotient, reach_of, whole};
-use crate::restricted::{Weighted, serves};
-use crate::rounds::{Centre, Effort, Plan, generated};
-use crate::slopes::UNIT;
+use crate::points::{find_points, point_by_mean};
 use block_class::Classes;
-use block_form::{Block, Blocked};
+use block_form::Blocked;
 use bp_theory::{Items, Span};
 use branch_tree::Turn;
+use column_hint::{
+    Centre, Effort, Pools, Weighted, generate_columns, leaf_mults, serves, take_steps,
+};
 use disagg::most_mixed;
+use point_hint::{
+    Incumbent, UNIT, guide_of, is_reached, plain_guide, quotient, reach_of, search_point, whole,
+};
 use search_laws::UsedColumn;
 use std::alloc::{AllocError, Global};
-
-/// How many rounds of column generation are made.
-const ROUNDS: u32 = 138;
-
-/// How many further dives are made at the root, and below it.
-const ROOT_REPEATS: u32 = 10;
-
-const REPEATS: u32 = 1;
 
 /// A variable, and the number that its span is split behind.
 #[derive(Clone, Copy)]
@@ -63,25 +52,22 @@ pub fn hinted(
     requires zone { IsZone b.now.named.program.spans turn.now.zone }
     ensures made_for { AreMadeFor b.now pools.new }
 {
-    let with_columns = serves(b, classes);
+    let with_columns = serves(b);
     let mut incumbent = first_incumbent(alloc, b, turn, best)?;
     let limit = limit_of(b, turn, incumbent.known);
-    let climb = climbed(alloc, b, classes, pools, turn, limit, with_columns)?;
-    incumbent.take(alloc, b, climb.found)?;
+    let steps = take_steps(alloc, b, classes, pools, turn, limit, with_columns)?;
+    incumbent.take(alloc, b, steps.found)?;
     let mut centre = Centre {
-        mults: climb.best,
-        value: climb.value,
+        mults: steps.best,
+        value: steps.value,
     };
-    let mean = climb.mean.as_slice();
-    let probed = probed_point(alloc, b, turn, &centre, mean, incumbent.known)?;
-    incumbent.take(alloc, b, probed)?;
+    let mean = steps.mean.as_slice();
+    if !with_columns || turn.depth == 0 || incumbent.known.is_none() {
+        let probed = probed_point(alloc, b, turn, &centre, mean, incumbent.known)?;
+        incumbent.take(alloc, b, probed)?;
+    }
     let split = split_of_mean(mean, turn.zone.spans());
-    let manner = Manner {
-        with_columns,
-        width: first_width(b, classes, climb.gain),
-        is_even,
-    };
-    let found = by_columns(
+    let found = search_columns(
         alloc,
         b,
         classes,
@@ -89,7 +75,7 @@ pub fn hinted(
         turn,
         &mut centre,
         &mut incumbent,
-        manner,
+        is_even,
     )?;
     Ok(Hint {
         mults: centre.mults,
@@ -98,8 +84,8 @@ pub fn hinted(
     })
 }
 
-// What is known before multipliers are searched for. At the root, and where no point is known, a search by plain costs is made.
-fn first_incumbent(
+/// What is known before multipliers are searched for. At the root, and where no point is known, a search by plain costs is made.
+pub fn first_incumbent(
     alloc: Global,
     b: &Blocked,
     turn: &Turn,
@@ -112,7 +98,7 @@ fn first_incumbent(
     if turn.depth == 0 || best.is_none() {
         let mults = leaf_mults(alloc, b, turn)?;
         let guide = plain_guide(alloc, b, mults.as_slice())?;
-        let point = point_in(alloc, b, turn, &guide, best)?;
+        let point = search_point(alloc, b, turn, &guide, best)?;
         incumbent.take(alloc, b, point)?;
     }
     Ok(incumbent)
@@ -143,21 +129,12 @@ fn probed_point(
         return Ok(None);
     }
     let guide = guide_of(alloc, b, centre.mults.as_slice(), mean)?;
-    point_in(alloc, b, turn, &guide, known)
+    search_point(alloc, b, turn, &guide, known)
 }
 
-// How columns are used: whether they are, how far multipliers may go from the best ones at first, and whether dives keep columns without
-// numbers for last.
-#[derive(Clone, Copy)]
-struct Manner {
-    with_columns: bool,
-    width: i64,
-    is_even: bool,
-}
-
-// Column generation from a centre, and points from its columns, where it has a bound that doesn't reach what is known; the split
-// that they want.
-fn by_columns(
+// Column generation from a centre, and points from its columns, where columns serve and the centre has a bound that doesn't reach what
+// is known; the split that they want.
+fn search_columns(
     alloc: Global,
     b: &Blocked,
     classes: &Classes,
@@ -165,180 +142,70 @@ fn by_columns(
     turn: &Turn,
     centre: &mut Centre,
     incumbent: &mut Incumbent,
-    manner: Manner,
+    is_even: bool,
 ) -> Result<Option<Split>, AllocError>
     requires made_for { AreMadeFor b.now pools.old }
     requires classes { AreSameClasses turn.now.zone b.now.blocking classes.now }
     requires zone { IsZone b.now.named.program.spans turn.now.zone }
     ensures made_for { AreMadeFor b.now pools.new }
 {
+    if !serves(b) {
+        return Ok(None);
+    }
     let limit = limit_of(b, turn, incumbent.known);
-    let is_done = centre.value == i128::MIN || is_reached(centre.value, limit);
-    if is_done || !manner.with_columns {
+    if centre.value == i128::MIN || is_reached(centre.value, limit) {
         return Ok(None);
     }
     let effort = Effort {
-        rounds: ROUNDS,
-        width: Some(manner.width),
         known: limit,
+        with_partitions: turn.depth == 0,
     };
-    let Some(plan) = generated(alloc, b, classes, &turn.zone, pools, centre, effort)? else {
+    let Some(mut master) = generate_columns(alloc, b, classes, &turn.zone, pools, centre, effort)?
+    else {
         return Ok(None);
     };
     if is_reached(centre.value, limit) {
         return Ok(None);
     }
-    let point = point_by_mean(
+    let used = master.used(alloc)?;
+    if turn.depth == 0 || incumbent.known.is_none() {
+        let point = point_by_mean(
+            alloc,
+            b,
+            classes,
+            pools,
+            turn,
+            centre,
+            &used,
+            incumbent.known,
+        )?;
+        incumbent.take(alloc, b, point)?;
+    }
+    find_points(
         alloc,
         b,
         classes,
         pools,
         turn,
         centre,
-        &plan,
-        incumbent.known,
-    )?;
-    incumbent.take(alloc, b, point)?;
-    take_dives(
-        alloc,
-        b,
-        pools,
-        turn,
-        centre,
-        &plan,
+        &mut master,
         incumbent,
-        manner.is_even,
+        is_even,
     )?;
-    split_of_plan(alloc, b, classes, pools, &plan)
+    split_of_used(alloc, b, classes, pools, used.as_slice())
 }
 
-// A point that is cheaper than what is known, where blocks differ and a search that the mean of a plan's columns guides finds one.
-fn point_by_mean(
+// The split of the variable that is farthest from whole where weighted columns are dealt out to blocks.
+fn split_of_used(
     alloc: Global,
     b: &Blocked,
     classes: &Classes,
     pools: &Pools,
-    turn: &Turn,
-    centre: &Centre,
-    plan: &Plan,
-    known: Option<i64>,
-) -> Result<Option<Vec<i64>>, AllocError> {
-    if are_alike(b, classes) {
-        return Ok(None);
-    }
-    let mean = mean_of_plan(alloc, b, classes, pools, plan)?;
-    let guide = guide_of(alloc, b, centre.mults.as_slice(), mean.as_slice())?;
-    point_in(alloc, b, turn, &guide, known)
-}
-
-// The mean of a plan's columns in units, with the columns of a class dealt out evenly to its blocks.
-fn mean_of_plan(
-    alloc: Global,
-    b: &Blocked,
-    classes: &Classes,
-    pools: &Pools,
-    plan: &Plan,
-) -> Result<Vec<i128>, AllocError> {
-    let mut mean = Vec::from_elem(alloc, 0i128, b.model().vars() as usize)?;
-    for column in plan.used.as_slice() {
-        deal_out(b, classes, pools, column, mean.as_mut_slice());
-    }
-    Ok(mean)
-}
-
-// Adds a column to a mean, by its weight, in equal parts to the blocks of its class.
-fn deal_out(b: &Blocked, classes: &Classes, pools: &Pools, column: &Weighted, mean: &mut [i128]) {
-    let class = column.class;
-    if class >= classes.len() {
-        return;
-    }
-    let Some(found) = pools.column(column.place) else {
-        return;
-    };
-    let part = column.weight / i64::from(classes.size(class)).max(1);
-    for block in classes.members(class) {
-        if *block < b.blocks() {
-            deal(b.block(*block), found.point.as_slice(), part, mean);
-        }
-    }
-}
-
-// Adds a part of a block's point to a mean.
-fn deal(block: &Block, point: &[i64], part: i64, mean: &mut [i128]) {
-    for (var, number) in block.vars().iter().zip(point) {
-        let place = *var as usize;
-        if place < mean.len() {
-            mean[place] = mean[place].saturating_add(product(&part, number));
-        }
-    }
-}
-
-// How far multipliers may go from the best ones at first: a fourth of the gain that steps still aimed at, and where blocks are alike an
-// eighth of the greatest cost.
-fn first_width(b: &Blocked, classes: &Classes, gain: i128) -> i64 {
-    let mut most: u64 = 1;
-    for term in b.model().costs() {
-        most = most.max(term.coef.unsigned_abs());
-    }
-    let widest = quotient(i128::from(most).saturating_mul(UNIT), 8);
-    whole(if are_alike(b, classes) {
-        widest
-    } else {
-        quotient(gain, 4).max(1).min(widest)
-    })
-}
-
-// Dives from a plan: with its weights, and then with others while the bound doesn't reach what is known.
-fn take_dives(
-    alloc: Global,
-    b: &Blocked,
-    pools: &mut Pools,
-    turn: &Turn,
-    centre: &Centre,
-    plan: &Plan,
-    incumbent: &mut Incumbent,
-    is_even: bool,
-) -> Result<(), AllocError>
-    requires made_for { AreMadeFor b.now pools.old }
-    requires zone { IsZone b.now.named.program.spans turn.now.zone }
-    ensures made_for { AreMadeFor b.now pools.new }
-{
-    let used = plan.used.as_slice();
-    let mults = centre.mults.as_slice();
-    let mut style = Style {
-        is_loose: is_even,
-        seed: None,
-    };
-    let dives = if turn.depth == 0 {
-        ROOT_REPEATS
-    } else {
-        REPEATS
-    };
-    for dive in 0..=dives {
-        if pools.bench.is_spent() || is_reached(centre.value, incumbent.known) {
-            break;
-        }
-        let known = incumbent.known;
-        style.is_loose = known.is_none() || style.is_loose;
-        let point = point_by_columns(alloc, b, &turn.zone, pools, used, mults, known, style)?;
-        incumbent.take(alloc, b, point)?;
-        style.is_loose = dive % 2 == 1;
-        style.seed = Some(drawn(u64::from(dive)));
-    }
-    Ok(())
-}
-
-// The split of the variable that is farthest from whole where a plan's columns are dealt out to blocks.
-fn split_of_plan(
-    alloc: Global,
-    b: &Blocked,
-    classes: &Classes,
-    pools: &Pools,
-    plan: &Plan,
+    weighted: &[Weighted],
 ) -> Result<Option<Split>, AllocError>
     requires each { length classes.now.classes ≡ length b.now.blocking.blocks }
 {
-    let used = used_columns(alloc, classes, pools, plan.used.as_slice())?;
+    let used = used_columns(alloc, classes, pools, weighted)?;
     match most_mixed(alloc, b, classes, used.as_slice())? {
         None => Ok(None),
         Some((var, at)) => Ok(Some(Split { var, at })),

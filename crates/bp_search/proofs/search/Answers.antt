@@ -1,21 +1,8 @@
-use Rattle.std.proofs.Common.{◌≡◌, ◌∙◌, ◌<◌, ◌≤◌, subst, sym, arith}
-use Rattle.bp_theory.specs.Trees.{steps}
-use Rattle.search_laws.specs.Grove.{live_count, certificate_tree}
-use Rattle.bp_search.specs.Ends.{IsOutcome, most_steps}
-use Rattle.bp_search.proofs.Final.{ends, stops, most_is}
+use Rattle.std.proofs.Common.{IfOk, subst}
+use Rattle.bp_search.specs.Ends.{EndsWithin}
+use Rattle.bp_search.proofs.Running.{fresh_last}
 use Rattle.bp_search.proofs.search.Goals as goal
 
-pub returns-then-live-eq0 : goal.returns-then-live-eq0
-returns-then-live-eq0 c =
-    let none : live_count c.take_steps.new.grove.tree ≡ 0 = sym c.live.ensures.live ∙ c.if-live-eq0.true in
-    let few : steps (certificate_tree c.take_steps.new.grove.tree) ≤ most_steps c.args.steps =
-    omega (arith, c.in_ok-take_steps.ensures.few, c.unwrap_or-most.ensures, most_is c.args.steps) in
-    subst (IsOutcome c.args.b.now c.args.steps) (sym c.ended.ensures)
-    (ends c.args.b.now c.args.steps c.take_steps.new.grove c.take_steps.new.best c.blocks-2.ensures.formed c.in_ok-take_steps.ensures.running none few)
-
-pub returns-else-live-eq0 : goal.returns-else-live-eq0
-returns-else-live-eq0 c =
-    let some : 0 < live_count c.take_steps.new.grove.tree = omega (arith, c.live.ensures.live, c.if-live-eq0.false) in
-    let spent : steps (certificate_tree c.take_steps.new.grove.tree) ≡ most_steps c.args.steps =
-    omega (arith, c.in_ok-take_steps.ensures.spent some, c.unwrap_or-most.ensures, most_is c.args.steps) in
-    stops c.args.b.now c.args.steps c.take_steps.new.grove c.take_steps.new.best c.stopped.result c.blocks-2.ensures.formed c.in_ok-take_steps.ensures.running some spent c.stopped.ensures
+pub returns : goal.returns
+returns c =
+    subst (λ n. IfOk c.resume.result (EndsWithin c.args.b.now n)) (fresh_last c.args.b.now c.in_ok-start.start c.args.steps c.in_ok-start.ensures.fresh) c.resume.ensures

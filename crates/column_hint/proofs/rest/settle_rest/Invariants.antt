@@ -1,0 +1,5 @@
+use Rattle.column_hint.specs.Pools.{AreMadeFor}
+use Rattle.column_hint.proofs.rest.settle_rest.Given as goal
+
+abbrev pub invariant-loop : goal.invariant-loop
+invariant-loop l = AreMadeFor l.b l.pools

@@ -1,0 +1,5 @@
+use Rattle.column_hint.specs.Pools.{AreMadeFor}
+use Rattle.column_hint.proofs.subgradient.take_steps.Given as goal
+
+abbrev pub invariant-loop-number : goal.invariant-loop-number
+invariant-loop-number l = AreMadeFor l.b l.pools

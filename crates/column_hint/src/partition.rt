@@ -1,0 +1,286 @@
+// Columns that go together, for classes of identical blocks: each block of a class is priced in what those before it leave of the rows'
+// sides. One class gives one column a round otherwise. No bound comes from these.
+ghost use Rattle.std.specs.Prelude.{◌<◌, length};
+ghost use Rattle.knap_price.specs.Kept as by_table;
+ghost use Rattle.pricing.specs.Form.{AreOf};
+ghost use Rattle.search_price.specs.Kept as by_search;
+ghost use Rattle.column_hint.specs.Pools.{AreMadeFor};
+
+use crate::master::{RestrictedMaster, block_spans};
+use crate::pools::Pools;
+use block_class::Classes;
+use block_form::{Block, Blocked, Zone};
+use bp_theory::{Sense, Span};
+use knap_price::KnapPricer;
+use point_hint::{UNIT, at, product, sum_at};
+use pricing::{Cap, Priced, Pricer, is_form, is_priceable};
+use search_price::SearchPricer;
+use std::alloc::{AllocError, Global};
+
+/// How many blocks of a class are priced at most.
+const MOST_BLOCKS: u32 = 9;
+
+/// How many beginnings of points the pricing of a block may visit.
+const VISITS: u64 = 5_000;
+
+// What is left of a row's side, and the row's sense.
+#[derive(Clone, Copy)]
+struct Side {
+    left: i128,
+    sense: Sense,
+}
+
+// What one class is priced with: its block's spans, its reduced costs, and how many blocks are priced.
+#[derive(Drop)]
+struct Member {
+    spans: Vec<Span>,
+    costs: Vec<i128>,
+    many: u32,
+}
+
+/// Adds columns of partitions at multipliers by row, the classes in turn from one that depends on the round.
+pub fn add_partition(
+    alloc: Global,
+    b: &Blocked,
+    classes: &Classes,
+    zone: &Zone,
+    pools: &mut Pools,
+    master: &mut RestrictedMaster,
+    mults: &[i64],
+    round: u32,
+) -> Result<(), AllocError>
+    requires made_for { AreMadeFor b.now pools.old }
+    ensures made_for { AreMadeFor b.now pools.new }
+{
+    let mut sides = sides_of(alloc, b, master)?;
+    let many = classes.len();
+    for offset in 0..many {
+        let class = place_after(round, offset, many);
+        let size = master.size(class);
+        if class < many && size > 1 {
+            let first = classes.first(class);
+            let found = priced_blocks(alloc, b, zone, mults, first, size, &mut sides)?;
+            add_points(alloc, b, pools, master, class, first, found)?;
+        }
+    }
+    Ok(())
+}
+
+// The place so far behind a start, round from the end to the beginning.
+fn place_after(start: u32, offset: u32, many: u32) -> u32 {
+    if many == 0 {
+        0
+    } else {
+        let sum = u64::from(start) + u64::from(offset);
+        (sum % u64::from(many)) as u32
+    }
+}
+
+// What the blocks of one point leave of the rows' sides.
+fn sides_of(
+    alloc: Global,
+    b: &Blocked,
+    master: &RestrictedMaster,
+) -> Result<Vec<Side>, AllocError> {
+    let mut sides = Vec::new(alloc);
+    for row in 0..b.model().rows() {
+        let (side, sense) = match b.master_row(row) {
+            None => (0, Sense::In),
+            Some(named) => match named.sense {
+                Sense::Ge => (named.low, Sense::Ge),
+                sense => (named.rhs, sense),
+            },
+        };
+        let left = i128::from(side).saturating_sub(sum_at(master.settled_sums(), row as usize));
+        sides.push(Side { left, sense })?;
+    }
+    Ok(sides)
+}
+
+// The points of blocks of a class, each priced in what those before it leave.
+fn priced_blocks(
+    alloc: Global,
+    b: &Blocked,
+    zone: &Zone,
+    mults: &[i64],
+    first: u32,
+    size: u32,
+    sides: &mut Vec<Side>,
+) -> Result<Vec<Vec<i64>>, AllocError> {
+    if first >= b.blocks() {
+        return Ok(Vec::new(alloc));
+    }
+    let block = b.block(first);
+    if !is_form(block.rows(), block.spans()) {
+        return Ok(Vec::new(alloc));
+    }
+    let mut member = Member {
+        spans: block_spans(alloc, block, zone.spans())?,
+        costs: reduced_costs(alloc, block, mults)?,
+        many: size.min(MOST_BLOCKS),
+    };
+    if KnapPricer::takes(block) {
+        let mut pricer = KnapPricer::make(alloc, block)?;
+        price_by_table(alloc, &mut pricer, block, &mut member, sides)
+    } else {
+        let mut pricer = SearchPricer::make(alloc, block)?;
+        price_by_search(alloc, &mut pricer, block, &mut member, sides)
+    }
+}
+
+// The reduced costs of a block's variables at multipliers by row, at the greatest scale.
+fn reduced_costs(alloc: Global, block: &Block, mults: &[i64]) -> Result<Vec<i128>, AllocError> {
+    let mut costs = Vec::new(alloc);
+    for place in 0..block.var_count() {
+        let mut cost = i128::from(block.costs()[place as usize]).saturating_mul(UNIT);
+        for entry in block.master(place) {
+            cost = cost.saturating_sub(product(&entry.1, &at(mults, entry.0 as usize)));
+        }
+        costs.push(cost)?;
+    }
+    Ok(costs)
+}
+
+// Prices blocks by a table, one after the other, each in what those before it leave, until nothing is left to take.
+fn price_by_table(
+    alloc: Global,
+    pricer: &mut KnapPricer,
+    block: &Block,
+    member: &mut Member,
+    sides: &mut Vec<Side>,
+) -> Result<Vec<Vec<i64>>, AllocError>
+    requires same_block { AreOf block.now (by_table.rows_of pricer.old) (by_table.spans_of pricer.old) }
+{
+    let mut points = Vec::new(alloc);
+    for _ in 0..member.many {
+        narrow_to(block, sides.as_slice(), &mut member.spans);
+        let spans = member.spans.as_slice();
+        let costs = member.costs.as_slice();
+        if !is_priceable(block.spans(), spans, costs) {
+            break;
+        }
+        let found = pricer.price(block, spans, costs, Cap::At(VISITS));
+        if !keeps_point(alloc, found, block, pricer.point(), sides, &mut points)? {
+            break;
+        }
+    }
+    Ok(points)
+}
+
+// Prices blocks by a search, one after the other, each in what those before it leave, until nothing is left to take.
+fn price_by_search(
+    alloc: Global,
+    pricer: &mut SearchPricer,
+    block: &Block,
+    member: &mut Member,
+    sides: &mut Vec<Side>,
+) -> Result<Vec<Vec<i64>>, AllocError>
+    requires same_block { AreOf block.now (by_search.rows_of pricer.old) (by_search.spans_of pricer.old) }
+{
+    let mut points = Vec::new(alloc);
+    for _ in 0..member.many {
+        narrow_to(block, sides.as_slice(), &mut member.spans);
+        let spans = member.spans.as_slice();
+        let costs = member.costs.as_slice();
+        if !is_priceable(block.spans(), spans, costs) {
+            break;
+        }
+        let found = pricer.price(block, spans, costs, Cap::At(VISITS));
+        if !keeps_point(alloc, found, block, pricer.point(), sides, &mut points)? {
+            break;
+        }
+    }
+    Ok(points)
+}
+
+// Keeps a priced point and takes it out of the sides; whether it was found and takes anything.
+fn keeps_point(
+    alloc: Global,
+    found: Priced,
+    block: &Block,
+    point: &[i64],
+    sides: &mut Vec<Side>,
+    points: &mut Vec<Vec<i64>>,
+) -> Result<bool, AllocError> {
+    let Priced::Least(_) = found else {
+        return Ok(false);
+    };
+    if !take(block, point, sides) {
+        return Ok(false);
+    }
+    points.push(point.to_vec(alloc)?)?;
+    Ok(true)
+}
+
+// Narrows the upper ends of a block's spans to what rows leave.
+fn narrow_to(block: &Block, sides: &[Side], spans: &mut Vec<Span>) {
+    for place in 0..block.var_count() {
+        let index = place as usize;
+        if index < spans.len() {
+            for entry in block.master(place) {
+                if let Some(side) = sides.get(entry.0 as usize) {
+                    let span = spans[index];
+                    let most = room_of(side, entry.1).max(span.lo);
+                    spans[index] = Span {
+                        lo: span.lo,
+                        hi: span.hi.min(most),
+                    };
+                }
+            }
+        }
+    }
+}
+
+// How many of a variable fit into what is left of a side.
+fn room_of(side: &Side, coef: i64) -> i64 {
+    if coef <= 0 {
+        return i64::MAX;
+    }
+    let coef = i128::from(coef);
+    let left = side.left.max(0);
+    let many = match side.sense {
+        Sense::Ge => left.saturating_add(coef - 1) / coef,
+        _ => left / coef,
+    };
+    point_hint::whole(many)
+}
+
+// Takes a point out of the sides; whether it takes anything.
+fn take(block: &Block, point: &[i64], sides: &mut Vec<Side>) -> bool {
+    let mut takes = false;
+    for place in 0..block.var_count() {
+        let number = at(point, place as usize);
+        if number != 0 {
+            for entry in block.master(place) {
+                if let Some(side) = sides.get_mut(entry.0 as usize) {
+                    side.left = side.left.saturating_sub(product(&entry.1, &number));
+                    takes = true;
+                }
+            }
+        }
+    }
+    takes
+}
+
+// Adds points of a block to its pool and to the master.
+fn add_points(
+    alloc: Global,
+    b: &Blocked,
+    pools: &mut Pools,
+    master: &mut RestrictedMaster,
+    class: u32,
+    block: u32,
+    points: Vec<Vec<i64>>,
+) -> Result<(), AllocError>
+    requires made_for { AreMadeFor b.now pools.old }
+    ensures made_for { AreMadeFor b.now pools.new }
+{
+    for point in points.as_slice() {
+        if let Some(place) = pools.add_point(alloc, b, block, point.as_slice())? {
+            if let Some(column) = pools.column(place) {
+                let _ = master.add(alloc, column, class, place)?;
+            }
+        }
+    }
+    Ok(())
+}

@@ -1,0 +1,42 @@
+// Blocks whose points have more beginnings than pricing may visit.
+ghost use Rattle.std.specs.Prelude.{◌≡◌, ◌<◌, IfOk, IsTrue, All, length, vec_len};
+ghost use Rattle.bp_theory.specs.Bound.{spans_of};
+ghost use Rattle.bp_theory.specs.Classes.{prefixes};
+ghost use Rattle.bp_theory.specs.Trees.{IsZone};
+ghost use Rattle.column_hint.specs.Wide.{IsWide};
+
+use crate::budget::MOST_VISITS;
+use block_form::{Block, Blocked, Zone};
+use bp_theory::Span;
+use search_price::prefixes;
+use std::alloc::{AllocError, Global};
+
+/// Whether a block has more beginnings of points than pricing may visit.
+pub fn has_many_beginnings(
+    alloc: Global,
+    b: &Blocked,
+    number: u32,
+    zone: &Zone,
+) -> Result<bool, AllocError>
+    requires zone { IsZone b.now.named.program.spans zone.now }
+    requires there { number < length b.now.blocking.blocks }
+    ensures { IfOk result (λ many. IsTrue many → IsWide b.now.blocking zone.now number) }
+{
+    let _ = b.blocks();
+    let block = b.block(number);
+    let mut spans = Vec::from_elem(alloc, Span { lo: 0, hi: 0 }, block.vars().len())?;
+    fill_spans(&mut spans, block, zone);
+    Ok(prefixes(block, spans.as_slice()) > u128::from(MOST_VISITS))
+}
+
+// Writes a block's spans in a zone.
+fn fill_spans(spans: &mut Vec<Span>, block: &Block, zone: &Zone)
+    requires room { vec_len spans.old ≡ length block.now.block.copies }
+    requires there { All (λ c. c.var < length zone.now) block.now.block.copies }
+    ensures { spans.new.items ≡ spans_of zone.now block.now.block }
+{
+    let vars = block.vars();
+    for place in 0..vars.len() {
+        spans[place] = zone.span(vars[place]);
+    }
+}

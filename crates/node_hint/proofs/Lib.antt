@@ -1,2 +1,0 @@
-pub mod EveryBlock
-pub mod Zones

@@ -1,0 +1,5 @@
+use Rattle.column_hint.specs.Pools.{AreMadeFor}
+use Rattle.node_hint.proofs.points.dive_single.Given as goal
+
+abbrev pub invariant-loop-dive : goal.invariant-loop-dive
+invariant-loop-dive l = AreMadeFor l.b l.pools

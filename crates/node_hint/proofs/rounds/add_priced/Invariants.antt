@@ -1,5 +1,0 @@
-use Rattle.node_hint.specs.Pools.{AreMadeFor}
-use Rattle.node_hint.proofs.rounds.add_priced.Given as goal
-
-abbrev pub invariant-loop-class : goal.invariant-loop-class
-invariant-loop-class l = AreMadeFor l.b l.pools
