@@ -17,10 +17,12 @@ ghost use Rattle.dec_read.specs.declared.fault.DecKind.{DecKind};
 ghost use Rattle.dec_read.specs.Reading.{Reads, HasFault, IsFault};
 
 use bp_model::{Dec, Model};
-use cut::{Cursor, end_line, next_word};
+use cut::end_line;
+pub use cut::{Cursor, Word, next_word};
 pub use fault::{DecFault, DecKind};
 use state::Reader;
 use std::alloc::Global;
+pub use words::holds_bad_byte;
 
 /// The greatest length of a text in bytes.
 const MOST_BYTES: usize = 16_777_216;

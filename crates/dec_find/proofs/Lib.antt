@@ -1,0 +1,10 @@
+pub mod ChainLemmas
+pub mod TreeLemmas
+pub mod NumberLemmas
+pub mod FoundLemmas
+pub mod RowsLemmas
+pub mod SplitLemmas
+pub mod WordLemmas
+pub mod WalkLemmas
+pub mod TextLemmas
+pub mod LengthLemmas

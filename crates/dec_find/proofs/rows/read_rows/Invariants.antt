@@ -1,0 +1,14 @@
+use Rattle.std.proofs.Common.{◌≡◌, ◌-◌, length}
+use Rattle.dec_read.specs.Scan.{StandsIn, tokens_at}
+use Rattle.dec_find.specs.Listing.{StandsBefore}
+use Rattle.dec_find.proofs.rows.read_rows.Given as goal
+
+abbrev pub invariant-loop-word : goal.invariant-loop-word
+invariant-loop-word l = record {
+  stands : StandsIn l.bytes l.cursor;
+  before : StandsBefore l.bytes l.m l.listing (tokens_at l.bytes l.cursor);
+  room : length l.listing.seen.items ≡ length l.m.row_names;
+}
+
+abbrev pub decreases-loop-word : goal.decreases-loop-word
+decreases-loop-word l = length l.bytes - l.cursor.at

@@ -1,0 +1,5 @@
+pub mod Rows
+pub mod Listing
+pub mod Joined
+pub mod Forest
+pub mod Text
