@@ -7,7 +7,7 @@ use Rattle.clap.specs.Words.{Row, Text, first_of}
 use Rattle.bp_words.specs.CommandLine.{most_steps, most_seed, most_size}
 use Rattle.bp_words.specs.Orders.{HasNumber, MayHaveNumber, HasValues, IsOrderOf}
 use Rattle.bp_words.specs.declared.order.Order.{Order}
-use Rattle.bp_words.specs.declared.order.Order.TheVariants.{Solve, Check, Show, Gen, Demo}
+use Rattle.bp_words.specs.declared.order.Order.TheVariants.{Solve, Check, Show, Gen, Demo, Detect}
 
 -- a value that is there is one
 one_value : (given : Option Text) (t u : Text) → given ≡ Some t → given ≡ Some u → t ≡ u
@@ -36,8 +36,8 @@ apart name s t a b same other =
     let both : true ≡ false = sym same ∙ ap (λ (u : Text). bytes_eq s u) (sym a ∙ b) ∙ other in
     absurd (cc)
 
-solves : (a b : Text) (c d : Option Text) (m n : Option ℕ) (e f : Option Text) → a ≡ b → c ≡ d → m ≡ n → e ≡ f → Solve a c m e ≡ Solve b d n f
-solves a b c d m n e f p q r s = rw (p, q, r, s) refl
+solves : (a b : Text) (c d : Option Text) (m n : Option ℕ) (e f g h : Option Text) → a ≡ b → c ≡ d → m ≡ n → e ≡ f → g ≡ h → Solve a c m e g ≡ Solve b d n f h
+solves a b c d m n e f g h p q r s t = rw (p, q, r, s, t) refl
 
 checks : (a b c d : Text) (e f : Option Text) → a ≡ b → c ≡ d → e ≡ f → Check a c e ≡ Check b d f
 checks a b c d e f p q r = rw (p, q, r) refl
@@ -51,41 +51,58 @@ makes i j k l a b c d p q r s = rw (p, q, r, s) refl
 demonstrates : (i j k l : ℕ) → i ≡ j → k ≡ l → Demo i k ≡ Demo j l
 demonstrates i j k l p q = rw (p, q) refl
 
+detects : (a b c d e f : Text) → a ≡ b → c ≡ d → e ≡ f → Detect a c e ≡ Detect b d f
+detects a b c d e f p q r = rw (p, q, r) refl
+
 -- a subcommand with its rows states one order
 pub one_stated : (name : Text) (rows : List Row) (o p : Order) → HasValues name rows o → HasValues name rows p → o ≡ p
-one_stated name rows (Solve a b c d) (Solve e f g h) x y =
-    solves a e b f c g d h (one_value (first_of (codes "lp") rows) a e x.1 y.1) (one_given (first_of (codes "dec") rows) b f x.2 y.2)
+one_stated name rows (Solve a b c d i) (Solve e f g h j) x y =
+    solves a e b f c g d h i j (one_value (first_of (codes "lp") rows) a e x.1 y.1) (one_given (first_of (codes "dec") rows) b f x.2 y.2)
     (may_be_one (first_of (codes "steps") rows) 0 most_steps c g x.3 y.3) (one_given (first_of (codes "cert") rows) d h x.4 y.4)
-one_stated name rows (Solve a b c d) (Check e f g) x y = apart name (codes "solve") (codes "check") x.0 y.0 refl refl
-one_stated name rows (Solve a b c d) (Show e f) x y = apart name (codes "solve") (codes "show") x.0 y.0 refl refl
-one_stated name rows (Solve a b c d) (Gen e f g h) x y = apart name (codes "solve") (codes "gen") x.0 y.0 refl refl
-one_stated name rows (Solve a b c d) (Demo e f) x y = apart name (codes "solve") (codes "demo") x.0 y.0 refl refl
-one_stated name rows (Check a b c) (Solve e f g h) x y = apart name (codes "check") (codes "solve") x.0 y.0 refl refl
+    (one_given (first_of (codes "from") rows) i j x.5 y.5)
+one_stated name rows (Solve a b c d i) (Check e f g) x y = apart name (codes "solve") (codes "check") x.0 y.0 refl refl
+one_stated name rows (Solve a b c d i) (Show e f) x y = apart name (codes "solve") (codes "show") x.0 y.0 refl refl
+one_stated name rows (Solve a b c d i) (Gen e f g h) x y = apart name (codes "solve") (codes "gen") x.0 y.0 refl refl
+one_stated name rows (Solve a b c d i) (Demo e f) x y = apart name (codes "solve") (codes "demo") x.0 y.0 refl refl
+one_stated name rows (Solve a b c d i) (Detect e f g) x y = apart name (codes "solve") (codes "detect") x.0 y.0 refl refl
+one_stated name rows (Check a b c) (Solve e f g h j) x y = apart name (codes "check") (codes "solve") x.0 y.0 refl refl
 one_stated name rows (Check a b c) (Check e f g) x y =
     checks a e b f c g (one_value (first_of (codes "lp") rows) a e x.1 y.1) (one_value (first_of (codes "cert") rows) b f x.2 y.2)
     (one_given (first_of (codes "dec") rows) c g x.3 y.3)
 one_stated name rows (Check a b c) (Show e f) x y = apart name (codes "check") (codes "show") x.0 y.0 refl refl
 one_stated name rows (Check a b c) (Gen e f g h) x y = apart name (codes "check") (codes "gen") x.0 y.0 refl refl
 one_stated name rows (Check a b c) (Demo e f) x y = apart name (codes "check") (codes "demo") x.0 y.0 refl refl
-one_stated name rows (Show a b) (Solve e f g h) x y = apart name (codes "show") (codes "solve") x.0 y.0 refl refl
+one_stated name rows (Check a b c) (Detect e f g) x y = apart name (codes "check") (codes "detect") x.0 y.0 refl refl
+one_stated name rows (Show a b) (Solve e f g h j) x y = apart name (codes "show") (codes "solve") x.0 y.0 refl refl
 one_stated name rows (Show a b) (Check e f g) x y = apart name (codes "show") (codes "check") x.0 y.0 refl refl
 one_stated name rows (Show a b) (Show e f) x y =
     shows a e b f (one_value (first_of (codes "lp") rows) a e x.1 y.1) (one_given (first_of (codes "dec") rows) b f x.2 y.2)
 one_stated name rows (Show a b) (Gen e f g h) x y = apart name (codes "show") (codes "gen") x.0 y.0 refl refl
 one_stated name rows (Show a b) (Demo e f) x y = apart name (codes "show") (codes "demo") x.0 y.0 refl refl
-one_stated name rows (Gen a b c d) (Solve e f g h) x y = apart name (codes "gen") (codes "solve") x.0 y.0 refl refl
+one_stated name rows (Show a b) (Detect e f g) x y = apart name (codes "show") (codes "detect") x.0 y.0 refl refl
+one_stated name rows (Gen a b c d) (Solve e f g h j) x y = apart name (codes "gen") (codes "solve") x.0 y.0 refl refl
 one_stated name rows (Gen a b c d) (Check e f g) x y = apart name (codes "gen") (codes "check") x.0 y.0 refl refl
 one_stated name rows (Gen a b c d) (Show e f) x y = apart name (codes "gen") (codes "show") x.0 y.0 refl refl
 one_stated name rows (Gen a b c d) (Gen e f g h) x y =
     makes a e b f c g d h (one_number (first_of (codes "seed") rows) 0 most_seed a e x.1 y.1) (one_number (first_of (codes "size") rows) 1 most_size b f x.2 y.2)
     (one_value (first_of (codes "lp") rows) c g x.3 y.3) (one_value (first_of (codes "dec") rows) d h x.4 y.4)
 one_stated name rows (Gen a b c d) (Demo e f) x y = apart name (codes "gen") (codes "demo") x.0 y.0 refl refl
-one_stated name rows (Demo a b) (Solve e f g h) x y = apart name (codes "demo") (codes "solve") x.0 y.0 refl refl
+one_stated name rows (Gen a b c d) (Detect e f g) x y = apart name (codes "gen") (codes "detect") x.0 y.0 refl refl
+one_stated name rows (Demo a b) (Solve e f g h j) x y = apart name (codes "demo") (codes "solve") x.0 y.0 refl refl
 one_stated name rows (Demo a b) (Check e f g) x y = apart name (codes "demo") (codes "check") x.0 y.0 refl refl
 one_stated name rows (Demo a b) (Show e f) x y = apart name (codes "demo") (codes "show") x.0 y.0 refl refl
 one_stated name rows (Demo a b) (Gen e f g h) x y = apart name (codes "demo") (codes "gen") x.0 y.0 refl refl
 one_stated name rows (Demo a b) (Demo e f) x y =
     demonstrates a e b f (one_number (first_of (codes "seed") rows) 0 most_seed a e x.1 y.1) (one_number (first_of (codes "size") rows) 1 most_size b f x.2 y.2)
+one_stated name rows (Demo a b) (Detect e f g) x y = apart name (codes "demo") (codes "detect") x.0 y.0 refl refl
+one_stated name rows (Detect a b c) (Solve e f g h j) x y = apart name (codes "detect") (codes "solve") x.0 y.0 refl refl
+one_stated name rows (Detect a b c) (Check e f g) x y = apart name (codes "detect") (codes "check") x.0 y.0 refl refl
+one_stated name rows (Detect a b c) (Show e f) x y = apart name (codes "detect") (codes "show") x.0 y.0 refl refl
+one_stated name rows (Detect a b c) (Gen e f g h) x y = apart name (codes "detect") (codes "gen") x.0 y.0 refl refl
+one_stated name rows (Detect a b c) (Demo e f) x y = apart name (codes "detect") (codes "demo") x.0 y.0 refl refl
+one_stated name rows (Detect a b c) (Detect e f g) x y =
+    detects a e b f c g (one_value (first_of (codes "lp") rows) a e x.1 y.1) (one_value (first_of (codes "rows") rows) b f x.2 y.2)
+    (one_value (first_of (codes "dec") rows) c g x.3 y.3)
 
 -- what is met is met with one name and rows
 one_met : (met : Option (Text × List Row)) (p q : Text × List Row) → met ≡ Some p → met ≡ Some q → p ≡ q
@@ -99,8 +116,9 @@ one_order words o p x y =
     one_stated y.stated.name y.stated.rows o p (subst (λ (s : Text × List Row). HasValues s.0 s.1 o) same x.stated.values) y.stated.values
 
 -- an order with its parts as other values that are the same
-pub as_solve : (order : Order) (a b : Text) (c d : Option Text) (m : Option ℕ) (e f : Option Text) → order ≡ Solve b d m f → a ≡ b → c ≡ d → e ≡ f → Solve a c m e ≡ order
-as_solve order a b c d m e f is p q r = solves a b c d m m e f p q refl r ∙ sym is
+pub as_solve : (order : Order) (a b : Text) (c d : Option Text) (m : Option ℕ) (e f g h : Option Text) → order ≡ Solve b d m f h → a ≡ b → c ≡ d → e ≡ f → g ≡ h
+    → Solve a c m e g ≡ order
+as_solve order a b c d m e f g h is p q r s = solves a b c d m m e f g h p q refl r s ∙ sym is
 
 pub as_check : (order : Order) (a b c d : Text) (e f : Option Text) → order ≡ Check b d f → a ≡ b → c ≡ d → e ≡ f → Check a c e ≡ order
 as_check order a b c d e f is p q r = checks a b c d e f p q r ∙ sym is
@@ -110,3 +128,6 @@ as_show order a b c d is p q = shows a b c d p q ∙ sym is
 
 pub as_gen : (order : Order) (i k : ℕ) (a b c d : Text) → order ≡ Gen i k b d → a ≡ b → c ≡ d → Gen i k a c ≡ order
 as_gen order i k a b c d is p q = makes i i k k a b c d refl refl p q ∙ sym is
+
+pub as_detect : (order : Order) (a b c d e f : Text) → order ≡ Detect b d f → a ≡ b → c ≡ d → e ≡ f → Detect a c e ≡ order
+as_detect order a b c d e f is p q r = detects a b c d e f p q r ∙ sym is

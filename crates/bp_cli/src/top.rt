@@ -15,6 +15,7 @@ use bp_shelf::{Shelf, Sink};
 use bp_words::{Order, Text, WordFault, read_words};
 use cmd_check::check;
 use cmd_demo::demonstrate;
+use cmd_detect::detect;
 use cmd_gen::generate;
 use cmd_show::show;
 use cmd_solve::solve;
@@ -25,7 +26,7 @@ use std::alloc::Global;
 /// For all LP and DEC texts that are accepted, `solve` answers `optimal` with a point that meets every row and bound of the
 /// LP text and that no such point betters, `infeasible` where none exists, or `budget` after exactly the given steps with
 /// a bound that no such point betters; the certificate that it writes is valid, and whatever `check` accepts is true,
-/// whoever wrote it.
+/// whoever wrote it. From a valid certificate it goes on, whoever wrote that, with the given steps beside those of its tree.
 pub fn run<F: Shelf, O: Sink>(alloc: Global, words: &[String], shelf: &mut F, out: &mut O) -> Ended
     // Without a fault and with its memory a run answers the words by the files, and adds its report whole.
     ensures answered { IsTrue (F.tells shelf.old) → IsTrue (O.tells out.old) →
@@ -82,6 +83,7 @@ fn obey<F: Shelf, O: Sink>(alloc: Global, order: &Order, shelf: &mut F, out: &mu
             dec,
             steps,
             cert,
+            from,
         } => solve(
             alloc,
             shelf,
@@ -90,6 +92,7 @@ fn obey<F: Shelf, O: Sink>(alloc: Global, order: &Order, shelf: &mut F, out: &mu
             named(dec),
             *steps,
             named(cert),
+            named(from),
         ),
         Order::Check { lp, cert, dec } => {
             check(alloc, shelf, out, lp.as_str(), cert.as_str(), named(dec))
@@ -102,6 +105,9 @@ fn obey<F: Shelf, O: Sink>(alloc: Global, order: &Order, shelf: &mut F, out: &mu
             dec,
         } => generate(alloc, shelf, out, *seed, *size, lp.as_str(), dec.as_str()),
         Order::Demo { seed, size } => demonstrate(alloc, out, *seed, *size),
+        Order::Detect { lp, rows, dec } => {
+            detect(alloc, shelf, out, lp.as_str(), rows.as_str(), dec.as_str())
+        }
     }
 }
 

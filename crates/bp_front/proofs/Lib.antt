@@ -3,3 +3,4 @@ pub mod Comes
 pub mod Unique
 pub mod OneFront
 pub mod Lifts
+pub mod RowNames

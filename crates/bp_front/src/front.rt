@@ -1,8 +1,10 @@
 // The program in blocks that the files of a model and of its decomposition come to.
-ghost use Rattle.std.specs.Prelude.{◌≡◌, ◌≢◌, IfOk, IfErr, IsTrue, Some, None};
+ghost use Rattle.std.specs.Prelude.{All, ◌≡◌, ◌≢◌, IfOk, IfErr, IsTrue, Some, None};
 ghost use Rattle.std.specs.Option.{option_map};
 ghost use Rattle.bp_theory.specs.Decomposition.{HasPlaces};
 ghost use Rattle.bp_model.specs.Dec.{HasListed};
+ghost use Rattle.bp_model.specs.Named.{IsKept};
+ghost use Rattle.dec_find.specs.Text.{IsRowName};
 ghost use Rattle.bp_front.specs.Front.{FilesCome, BlocksCome, TextsCome, HasModel, HasDec, blocked, ends};
 ghost use Rattle.lp_read.specs.Model.{Means};
 ghost use Rattle.dec_read.specs.Reading.{Reads};
@@ -78,9 +80,11 @@ pub fn blocks_of(alloc: Global, lp: &[u8], dec: &[u8]) -> Result<Blocked, Halt>
     in_blocks(alloc, model, parts)
 }
 
-// The program that a model's file means.
-fn load_model<F: Shelf>(alloc: Global, shelf: &mut F, lp: &str) -> Result<Model, Halt>
+/// The program that a model's file means, or what a run ends with.
+pub fn load_model<F: Shelf>(alloc: Global, shelf: &mut F, lp: &str) -> Result<Model, Halt>
     ensures model { IsTrue (F.tells shelf.old) → IfOk result (HasModel (F.file shelf.old lp.now)) }
+    ensures kept { IfOk result IsKept }
+    ensures names { IfOk result (λ m. All IsRowName m.row_names) }
     ensures halted { IsTrue (F.tells shelf.old) → IfErr result (LpHalts (F.file shelf.old lp.now)) }
     ensures told { F.tells shelf.new ≡ F.tells shelf.old }
     ensures files { F.file shelf.new ≡ F.file shelf.old }
@@ -121,10 +125,15 @@ fn load_dec<F: Shelf>(
 // The program that a text means, or its refusal.
 fn model_of(alloc: Global, text: &[u8]) -> Result<Model, Halt>
     ensures model { IfOk result (Means text.now) }
+    ensures kept { IfOk result IsKept }
+    ensures names { IfOk result (λ m. All IsRowName m.row_names) }
     ensures halted { IfErr result (IsLpHalt text.now) }
 {
     match read_lp(alloc, text) {
-        Ok(model) => Ok(model),
+        Ok(model) => {
+            let _rows = model.rows();
+            Ok(model)
+        }
         Err(LpFault::At { line, kind }) => Err(Halt::Refused(lp_text(alloc, line, kind)?)),
         Err(LpFault::NoMemory) => Err(Halt::Stopped(ShelfFault::NoMemory)),
     }

@@ -7,5 +7,5 @@ mod front;
 mod read;
 
 pub use ending::{Ended, Reply, print, stopped, stopped_by};
-pub use front::{Halt, blocks_of, load};
+pub use front::{Halt, blocks_of, load, load_model};
 pub use read::read_front;

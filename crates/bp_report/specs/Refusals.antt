@@ -12,9 +12,12 @@ use Rattle.cert_text.specs.declared.fault.CertKind.TheVariants as cert
 use Rattle.cert_text.specs.declared.fault.CertFault.TheVariants as cert_fault
 use Rattle.block_form.specs.declared.fault.BlockFault.{BlockFault}
 use Rattle.block_form.specs.declared.fault.BlockFault.TheVariants as block
+use Rattle.dec_find.specs.declared.fault.RowsKind.{RowsKind}
+use Rattle.dec_find.specs.declared.fault.RowsKind.TheVariants as rows
+use Rattle.dec_find.specs.declared.fault.RowsFault.TheVariants as rows_fault
 use Rattle.bp_report.specs.Report.{fault_line}
 use Rattle.bp_report.specs.declared.refused.Refusal.{Refusal}
-use Rattle.bp_report.specs.declared.refused.Refusal.TheVariants.{Words, Lp, Dec, Cert, Blocks}
+use Rattle.bp_report.specs.declared.refused.Refusal.TheVariants.{Words, Lp, Dec, Cert, Blocks, Rows}
 
 -- the report on words that are no command line
 abbrev pub words_refusal : List ℕ
@@ -59,6 +62,14 @@ cert_kind_name cert.Length = codes "length"
 cert_kind_name cert.Depth = codes "depth"
 cert_kind_name cert.Limit = codes "limit"
 
+-- a kind of fault of a list of master rows
+abbrev pub rows_kind_name : RowsKind → List ℕ
+rows_kind_name rows.BadByte = codes "bad-byte"
+rows_kind_name rows.UnknownRow = codes "unknown-row"
+rows_kind_name rows.RowTwice = codes "row-twice"
+rows_kind_name rows.Blocks = codes "blocks"
+rows_kind_name rows.Limit = codes "limit"
+
 -- the report on an LP text, on the text of a decomposition and on that of a certificate with a fault
 abbrev pub lp_refusal : (line : ℕ) → LpKind → List ℕ
 lp_refusal line kind = fault_line (codes "refused lp ") line (lp_kind_name kind)
@@ -68,6 +79,14 @@ dec_refusal line kind = fault_line (codes "refused dec ") line (dec_kind_name ki
 
 abbrev pub cert_refusal : (line : ℕ) → CertKind → List ℕ
 cert_refusal line kind = fault_line (codes "refused cert ") line (cert_kind_name kind)
+
+-- the report on a certificate to go on from whose leaf of this line is too deep
+abbrev pub from_refusal : (line : ℕ) → List ℕ
+from_refusal line = fault_line (codes "refused from ") line (codes "depth")
+
+-- the report on a list of master rows with a fault, or that leaves too many blocks
+abbrev pub rows_refusal : (line : ℕ) → RowsKind → List ℕ
+rows_refusal line kind = fault_line (codes "refused rows ") line (rows_kind_name kind)
 
 -- the line on a linking variable with two rows of different blocks, and on a misplaced variable
 abbrev pub linking_line : (var row1 row2 : List ℕ) → List ℕ
@@ -99,6 +118,7 @@ CanName m Words = Unit {0}
 CanName m (Lp fault) = Unit {0}
 CanName m (Dec fault) = Unit {0}
 CanName m (Cert fault) = Unit {0}
+CanName m (Rows fault) = Unit {0}
 
 -- the report on what is refused; want of memory has none
 abbrev pub refusal_report : Option NamedProgram → Refusal → List ℕ
@@ -109,5 +129,7 @@ refusal_report m (Dec (dec_fault.At line kind)) = dec_refusal line kind
 refusal_report m (Dec dec_fault.NoMemory) = []
 refusal_report m (Cert (cert_fault.At line kind)) = cert_refusal line kind
 refusal_report m (Cert cert_fault.NoMemory) = []
+refusal_report m (Rows (rows_fault.At line kind)) = rows_refusal line kind
+refusal_report m (Rows rows_fault.NoMemory) = []
 refusal_report (Some m) (Blocks fault) = blocks_refusal m fault
 refusal_report None (Blocks fault) = []

@@ -162,6 +162,10 @@ show_report b g = size_lines b (length g.firsts) ++ class_lines b g
 abbrev pub made_report : (variables rows : ℕ) → List ℕ
 made_report variables rows = codes "made variables " ++ decimal variables ++ codes " rows " ++ decimal rows ++ codes "\n"
 
+-- the report on a decomposition that was found beside master rows
+abbrev pub detected_report : (blocks : ℕ) → List ℕ
+detected_report blocks = codes "detected blocks " ++ decimal blocks ++ codes "\n"
+
 -- the first line on a made program that is solved and checked
 abbrev pub demo_line : (seed size : ℕ) → List ℕ
 demo_line seed size = codes "demo " ++ decimal seed ++ codes " " ++ decimal size ++ codes "\n"

@@ -14,5 +14,8 @@ mod sizes;
 pub use checked::check_text;
 pub use demo::{DEMO_STEPS, demo_text};
 pub use ended::{budget_text, ended_text, solve_text};
-pub use refused::{Refusal, blocks_text, cert_text, dec_text, lp_text, refusal_text, words_text};
-pub use sizes::{made_text, show_text};
+pub use refused::{
+    Refusal, blocks_text, cert_text, dec_text, from_text, lp_text, refusal_text, rows_text,
+    words_text,
+};
+pub use sizes::{detected_text, made_text, show_text};

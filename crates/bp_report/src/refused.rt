@@ -1,12 +1,13 @@
 // The reports on words and texts that are refused.
 ghost use Rattle.std.specs.Prelude.{◌≡◌, ◌++◌, IfOk, OnOk};
 ghost use Rattle.std.specs.Option.{option_map};
-ghost use Rattle.bp_report.specs.Refusals.{words_refusal, lp_kind_name, lp_refusal, dec_kind_name, dec_refusal, cert_kind_name, cert_refusal, linking_line, var_place_line, blocks_refusal, HasNamed, CanName, refusal_report};
+ghost use Rattle.bp_report.specs.Refusals.{words_refusal, lp_kind_name, lp_refusal, dec_kind_name, dec_refusal, cert_kind_name, cert_refusal, from_refusal, rows_kind_name, rows_refusal, linking_line, var_place_line, blocks_refusal, HasNamed, CanName, refusal_report};
 
 use crate::lines::fault_text;
 use block_form::BlockFault;
 use bp_model::Model;
 use cert_text::{CertFault, CertKind};
+use dec_find::{RowsFault, RowsKind};
 use dec_read::{DecFault, DecKind};
 use lp_token::{LpFault, LpKind};
 use std::alloc::{AllocError, Global};
@@ -24,6 +25,8 @@ pub enum Refusal {
     Cert(CertFault),
     /// The blocks that the decomposition makes.
     Blocks(BlockFault),
+    /// The list of master rows, or the number of blocks beside them.
+    Rows(RowsFault),
 }
 
 /// The report on what is refused. Refused blocks are told by the model's names, so it is there with them. Want of memory
@@ -37,13 +40,15 @@ pub fn refusal_text(alloc: Global, m: Option<&Model>, what: &Refusal) -> Result<
         Refusal::Lp(LpFault::At { line, kind }) => lp_text(alloc, *line, *kind),
         Refusal::Dec(DecFault::At { line, kind }) => dec_text(alloc, *line, *kind),
         Refusal::Cert(CertFault::At { line, kind }) => cert_text(alloc, *line, *kind),
+        Refusal::Rows(RowsFault::At { line, kind }) => rows_text(alloc, *line, *kind),
         Refusal::Blocks(fault) => match m {
             Some(m) => blocks_text(alloc, m, fault),
             None => Ok(Vec::new(alloc)),
         },
         Refusal::Lp(LpFault::NoMemory)
         | Refusal::Dec(DecFault::NoMemory)
-        | Refusal::Cert(CertFault::NoMemory) => Ok(Vec::new(alloc)),
+        | Refusal::Cert(CertFault::NoMemory)
+        | Refusal::Rows(RowsFault::NoMemory) => Ok(Vec::new(alloc)),
     }
 }
 
@@ -73,6 +78,20 @@ pub fn cert_text(alloc: Global, line: u64, kind: CertKind) -> Result<Vec<u8>, Al
     ensures { IfOk result (λ text. text.items ≡ cert_refusal line kind) }
 {
     fault_text(alloc, b"refused cert ", line, cert_kind_name(kind))
+}
+
+/// The report on a certificate to go on from, whose leaf of this line would be live and is too deep.
+pub fn from_text(alloc: Global, line: u64) -> Result<Vec<u8>, AllocError>
+    ensures { IfOk result (λ text. text.items ≡ from_refusal line) }
+{
+    fault_text(alloc, b"refused from ", line, b"depth")
+}
+
+/// The report on a list of master rows whose first fault is of this kind and on this line, or that leaves too many blocks.
+pub fn rows_text(alloc: Global, line: u32, kind: RowsKind) -> Result<Vec<u8>, AllocError>
+    ensures { IfOk result (λ text. text.items ≡ rows_refusal line kind) }
+{
+    fault_text(alloc, b"refused rows ", line as u64, rows_kind_name(kind))
 }
 
 /// The report on a decomposition of this model whose blocks are refused. Want of memory has no report: its text is
@@ -151,6 +170,19 @@ fn dec_kind_name(kind: DecKind) -> &'static [u8]
         DecKind::UnknownVar => b"unknown-var",
         DecKind::LinkingList => b"linking-list",
         DecKind::Limit => b"limit",
+    }
+}
+
+// A kind of fault of a list of master rows.
+fn rows_kind_name(kind: RowsKind) -> &'static [u8]
+    ensures { result.now ≡ rows_kind_name kind }
+{
+    match kind {
+        RowsKind::BadByte => b"bad-byte",
+        RowsKind::UnknownRow => b"unknown-row",
+        RowsKind::RowTwice => b"row-twice",
+        RowsKind::Blocks => b"blocks",
+        RowsKind::Limit => b"limit",
     }
 }
 

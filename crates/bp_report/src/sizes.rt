@@ -1,7 +1,7 @@
 // The reports on sizes.
 ghost use Rattle.std.specs.Prelude.{◌≡◌, ◌++◌, ◌<◌, length, count_by, is_none, IfOk, OnOk, decimal};
 ghost use Rattle.block_class.specs.Classes.{AreSameClasses};
-ghost use Rattle.bp_report.specs.Report.{size_lines, class_line, line_of_class, class_lines, show_report, made_report};
+ghost use Rattle.bp_report.specs.Report.{size_lines, class_line, line_of_class, class_lines, show_report, made_report, detected_report};
 
 use crate::lines::{push_count, push_count_line};
 use block_class::Classes;
@@ -16,6 +16,15 @@ pub fn made_text(alloc: Global, vars: u32, rows: u32) -> Result<Vec<u8>, AllocEr
     push_named(&mut text, b" variables ", vars as u64)?;
     push_named(&mut text, b" rows ", rows as u64)?;
     text.extend_from_slice(b"\n")?;
+    Ok(text)
+}
+
+/// The report on a decomposition of so many blocks that was found beside master rows.
+pub fn detected_text(alloc: Global, blocks: u32) -> Result<Vec<u8>, AllocError>
+    ensures { IfOk result (λ text. text.items ≡ detected_report blocks) }
+{
+    let mut text = Vec::new(alloc);
+    push_count_line(&mut text, b"detected blocks ", blocks as u64)?;
     Ok(text)
 }
 

@@ -14,8 +14,8 @@ use Rattle.clap.specs.Faults.{check_fault, entered_fault, fault_of, level_fault,
 use Rattle.clap.specs.declared.builder.value_parser.ValueParser.TheVariants.{Unsigned}
 use Rattle.clap.proofs.ValueTestLemmas.{accepts-Accepts}
 use Rattle.bp_words.specs.declared.order.Order.{Order}
-use Rattle.bp_words.specs.declared.order.Order.TheVariants.{Solve, Check, Show, Gen, Demo}
-use Rattle.bp_words.specs.CommandLine.{command_line, solve_words, check_words, show_words, gen_words, demo_words, most_steps, most_seed, most_size}
+use Rattle.bp_words.specs.declared.order.Order.TheVariants.{Solve, Check, Show, Gen, Demo, Detect}
+use Rattle.bp_words.specs.CommandLine.{command_line, solve_words, check_words, show_words, gen_words, demo_words, detect_words, most_steps, most_seed, most_size}
 use Rattle.bp_words.specs.Orders.{IsNumber, MayHaveNumber, IsStated}
 use Rattle.bp_words.proofs.Presence.{Checks, both_parts, full_level, given_has, first_good}
 
@@ -41,6 +41,9 @@ gen_level = level_of gen_words
 abbrev demo_level : Shape
 demo_level = level_of demo_words
 
+abbrev detect_level : Shape
+detect_level = level_of detect_words
+
 -- which values an argument may have, by its id
 abbrev good : Text → Text → Bool
 good id text = if bytes_eq id (codes "seed") then is_unsigned_in 0 most_seed text
@@ -54,7 +57,10 @@ solve_checks = (
     record { wants = refl; plain = refl; passes = λ v e. refl },
     (
       record { wants = refl; plain = refl; passes = λ v e. e },
-      (record { wants = refl; plain = refl; passes = λ v e. refl }, tt),
+      (
+        record { wants = refl; plain = refl; passes = λ v e. refl },
+        (record { wants = refl; plain = refl; passes = λ v e. refl }, tt),
+      ),
     ),
   ),
 )
@@ -92,12 +98,21 @@ demo_checks = (
   (record { wants = refl; plain = refl; passes = λ v e. e }, tt),
 )
 
+detect_checks : AllByRecursion (Checks good) detect_level.rules
+detect_checks = (
+  record { wants = refl; plain = refl; passes = λ v e. refl },
+  (
+    record { wants = refl; plain = refl; passes = λ v e. refl },
+    (record { wants = refl; plain = refl; passes = λ v e. refl }, tt),
+  ),
+)
+
 -- a subcommand is there
 has_subcommand : (has : Bool) → check_kinds (not has && false) (not has && true) false ≡ [] → has ≡ true
 has_subcommand true e = refl
 has_subcommand false e = absurd (cc)
 
--- one, two or four arguments are there
+-- one, two, three or four arguments are there
 one_there : (a : Bool) → check_kinds false false (not a || false) ≡ [] → a ≡ true
 one_there true e = refl
 one_there false e = absurd (cc)
@@ -106,6 +121,12 @@ two_there : (a b : Bool) → check_kinds false false (not a || (not b || false))
 two_there true true e = (refl, refl)
 two_there true false e = absurd (cc)
 two_there false b e = absurd (cc)
+
+three_there : (a b c : Bool) → check_kinds false false (not a || (not b || (not c || false))) ≡ [] → (a ≡ true) × (b ≡ true) × (c ≡ true)
+three_there true true true e = (refl, refl, refl)
+three_there true true false e = absurd (cc)
+three_there true false c e = absurd (cc)
+three_there false b c e = absurd (cc)
 
 four_there : (a b c d : Bool) → check_kinds false false (not a || (not b || (not c || (not d || false)))) ≡ []
     → (a ≡ true) × (b ≡ true) × (c ≡ true) × (d ≡ true)
@@ -137,12 +158,12 @@ solve_states words e =
     let level = full_level good solve_level words solve_checks e in
     let lp = given_has good (codes "lp") rows (one_there (is_given (codes "lp") rows) level.1) level.0 in
     let steps = steps_stated (first_of (codes "steps") rows) (λ text is. first_good good (codes "steps") rows text level.0 is) in (
-      Solve lp.0 (first_of (codes "dec") rows) steps.0 (first_of (codes "cert") rows),
+      Solve lp.0 (first_of (codes "dec") rows) steps.0 (first_of (codes "cert") rows) (first_of (codes "from") rows),
       record {
         name = codes "solve";
         rows = rows;
         subcommand = refl;
-        values = (refl, lp.1, refl, steps.1, refl);
+        values = (refl, lp.1, refl, steps.1, refl, refl);
       },
     )
 
@@ -224,10 +245,28 @@ demo_states words e =
       },
     )
 
+detect_states : (words : List Text) → level_fault detect_level [] nothing_held words false [] ≡ []
+    → (order : Order) × IsStated (Some (rows_at detect_level words)) order
+detect_states words e =
+    let rows : List Row = rows_after detect_level.rules [] words in
+    let level = full_level good detect_level words detect_checks e in
+    let all = three_there (is_given (codes "lp") rows) (is_given (codes "rows") rows) (is_given (codes "dec") rows) level.1 in
+    let lp = given_has good (codes "lp") rows all.0 level.0 in
+    let list = given_has good (codes "rows") rows all.1 level.0 in
+    let dec = given_has good (codes "dec") rows all.2 level.0 in (
+      Detect lp.0 list.0 dec.0,
+      record {
+        name = codes "detect";
+        rows = rows;
+        subcommand = refl;
+        values = (refl, lp.1, list.1, dec.1);
+      },
+    )
+
 -- the level that is met, by which subcommand's name answers
-abbrev met_level : (t u v w x : Bool) → Option Shape
-met_level t u v w x = if t then Some solve_level
-    else (if u then Some check_level else (if v then Some show_level else (if w then Some gen_level else (if x then Some demo_level else None))))
+abbrev met_level : (t u v w x y : Bool) → Option Shape
+met_level t u v w x y = if t then Some solve_level
+    else (if u then Some check_level else (if v then Some show_level else (if w then Some gen_level else (if x then Some demo_level else (if y then Some detect_level else None)))))
 
 -- the subcommand that was met states an order
 met_states : (stop : Option (Text × List Text)) → entered_fault line stop ≡ [] → is_some (entered line stop) ≡ true
@@ -235,18 +274,19 @@ met_states : (stop : Option (Text × List Text)) → entered_fault line stop ≡
 met_states None e has = absurd (cc)
 met_states (Some p) e has =
     pick (answers_to p.0 (label_of solve_level)) (answers_to p.0 (label_of check_level)) (answers_to p.0 (label_of show_level))
-    (answers_to p.0 (label_of gen_level)) (answers_to p.0 (label_of demo_level)) e has
+    (answers_to p.0 (label_of gen_level)) (answers_to p.0 (label_of demo_level)) (answers_to p.0 (label_of detect_level)) e has
   where
-    pick : (t u v w x : Bool)
-        → option_map_or (λ (s : Shape). level_fault s [] nothing_held p.1 false []) (met_level t u v w x) [] ≡ []
-        → is_some (option_map (λ (s : Shape). rows_at s p.1) (met_level t u v w x)) ≡ true
-        → (order : Order) × IsStated (option_map (λ (s : Shape). rows_at s p.1) (met_level t u v w x)) order
-    pick true u v w x e has = solve_states p.1 e
-    pick false true v w x e has = check_states p.1 e
-    pick false false true w x e has = show_states p.1 e
-    pick false false false true x e has = gen_states p.1 e
-    pick false false false false true e has = demo_states p.1 e
-    pick false false false false false e has = absurd (cc)
+    pick : (t u v w x y : Bool)
+        → option_map_or (λ (s : Shape). level_fault s [] nothing_held p.1 false []) (met_level t u v w x y) [] ≡ []
+        → is_some (option_map (λ (s : Shape). rows_at s p.1) (met_level t u v w x y)) ≡ true
+        → (order : Order) × IsStated (option_map (λ (s : Shape). rows_at s p.1) (met_level t u v w x y)) order
+    pick true u v w x y e has = solve_states p.1 e
+    pick false true v w x y e has = check_states p.1 e
+    pick false false true w x y e has = show_states p.1 e
+    pick false false false true x y e has = gen_states p.1 e
+    pick false false false false true y e has = demo_states p.1 e
+    pick false false false false false true e has = detect_states p.1 e
+    pick false false false false false false e has = absurd (cc)
 
 -- words without fault give an order
 pub taken_gives : (words : List Text) → fault_of command_line words ≡ [] → (order : Order) × IsStated (subcommand_of command_line words) order

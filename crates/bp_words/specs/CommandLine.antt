@@ -18,6 +18,10 @@ dec_option = record (new_rule (codes "dec")) { long = Some (codes "dec") }
 abbrev pub cert_option : Rule
 cert_option = record (new_rule (codes "cert")) { long = Some (codes "cert") }
 
+-- the file of the certificate to go on from, behind `--from`
+abbrev pub from_option : Rule
+from_option = record (new_rule (codes "from")) { long = Some (codes "from") }
+
 -- the greatest number of steps, of a seed and of a size
 abbrev pub most_steps : ℕ
 most_steps = 2 ^ 60
@@ -47,9 +51,17 @@ dec_word = record (new_rule (codes "dec")) { required = true }
 abbrev pub cert_word : Rule
 cert_word = record (new_rule (codes "cert")) { required = true }
 
--- `solve LP [--dec FILE] [--steps N] [--cert FILE]`
+-- the file of master rows, by its place
+abbrev pub rows_word : Rule
+rows_word = record (new_rule (codes "rows")) { required = true }
+
+-- `solve LP [--dec FILE] [--steps N]`
+abbrev pub search_words : Shape
+search_words = record (new_shape (codes "solve")) { rules = lp_word ∷ dec_option ∷ steps_option ∷ [] }
+
+-- `solve LP [--dec FILE] [--steps N] [--cert FILE] [--from CERT]`
 abbrev pub solve_words : Shape
-solve_words = record (new_shape (codes "solve")) { rules = lp_word ∷ dec_option ∷ steps_option ∷ cert_option ∷ [] }
+solve_words = record (new_shape (codes "solve")) { rules = lp_word ∷ dec_option ∷ steps_option ∷ cert_option ∷ from_option ∷ [] }
 
 -- `check LP CERT [--dec FILE]`
 abbrev pub check_words : Shape
@@ -67,6 +79,10 @@ gen_words = record (new_shape (codes "gen")) { rules = seed_word ∷ size_word �
 abbrev pub demo_words : Shape
 demo_words = record (new_shape (codes "demo")) { rules = seed_word ∷ size_word ∷ [] }
 
+-- `detect LP ROWS DEC`
+abbrev pub detect_words : Shape
+detect_words = record (new_shape (codes "detect")) { rules = lp_word ∷ rows_word ∷ dec_word ∷ [] }
+
 -- the program itself
 abbrev pub program_words : Shape
 program_words = record (new_shape (codes "bprice")) {
@@ -80,9 +96,16 @@ program_words = record (new_shape (codes "bprice")) {
 abbrev pub reading_line : App
 reading_line = record { top = record program_words { is_leaf = false }; subs = solve_words ∷ check_words ∷ show_words ∷ [] }
 
+-- the program with the subcommands that read texts and those that make them
+abbrev pub making_line : App
+making_line = record { top = record program_words { is_leaf = false }; subs = solve_words ∷ check_words ∷ show_words ∷ gen_words ∷ demo_words ∷ [] }
+
 -- the whole command: the program with its subcommands
 abbrev pub command_line : App
-command_line = record { top = record program_words { is_leaf = false }; subs = solve_words ∷ check_words ∷ show_words ∷ gen_words ∷ demo_words ∷ [] }
+command_line = record {
+  top = record program_words { is_leaf = false };
+  subs = solve_words ∷ check_words ∷ show_words ∷ gen_words ∷ demo_words ∷ detect_words ∷ [];
+}
 
 -- a command reads words by a shape, and has no argument that its subcommands take over
 pub record IsShaped (command : Command) (shape : Shape) : Type 0 where

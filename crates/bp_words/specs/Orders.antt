@@ -4,7 +4,7 @@ use Rattle.std.specs.Str.Parse.{IsNumeral, digits_value, without_leading_plus}
 use Rattle.clap.specs.Words.{Row, Text, first_of, subcommand_of, fault_of}
 use Rattle.bp_words.specs.CommandLine.{command_line, most_steps, most_seed, most_size}
 use Rattle.bp_words.specs.declared.order.Order.{Order}
-use Rattle.bp_words.specs.declared.order.Order.TheVariants.{Solve, Check, Show, Gen, Demo}
+use Rattle.bp_words.specs.declared.order.Order.TheVariants.{Solve, Check, Show, Gen, Demo, Detect}
 
 -- a text means a number from `low` to `high`: it is decimal digits, before which a plus may stand
 pub record IsNumber (text : Text) (low high n : ℕ) : Type 0 where
@@ -24,9 +24,10 @@ MayHaveNumber given low high (Some n) = HasNumber given low high n
 
 -- an order has the values that stand in the rows of the subcommand
 abbrev pub HasValues : Text → List Row → Order → Type 0
-HasValues name rows (Solve lp dec steps cert) =
+HasValues name rows (Solve lp dec steps cert from) =
     (name ≡ codes "solve") × (first_of (codes "lp") rows ≡ Some lp) × (first_of (codes "dec") rows ≡ dec)
     × MayHaveNumber (first_of (codes "steps") rows) 0 most_steps steps × (first_of (codes "cert") rows ≡ cert)
+    × (first_of (codes "from") rows ≡ from)
 HasValues name rows (Check lp cert dec) =
     (name ≡ codes "check") × (first_of (codes "lp") rows ≡ Some lp) × (first_of (codes "cert") rows ≡ Some cert)
     × (first_of (codes "dec") rows ≡ dec)
@@ -39,15 +40,19 @@ HasValues name rows (Gen seed size lp dec) =
 HasValues name rows (Demo seed size) =
     (name ≡ codes "demo") × HasNumber (first_of (codes "seed") rows) 0 most_seed seed
     × HasNumber (first_of (codes "size") rows) 1 most_size size
+HasValues name rows (Detect lp list dec) =
+    (name ≡ codes "detect") × (first_of (codes "lp") rows ≡ Some lp) × (first_of (codes "rows") rows ≡ Some list)
+    × (first_of (codes "dec") rows ≡ Some dec)
 
 -- the numbers of an order are in their ranges
 abbrev pub IsInRange : Order → Type 0
-IsInRange (Solve lp dec None cert) = Unit {0}
-IsInRange (Solve lp dec (Some n) cert) = n ≤ most_steps
+IsInRange (Solve lp dec None cert from) = Unit {0}
+IsInRange (Solve lp dec (Some n) cert from) = n ≤ most_steps
 IsInRange (Check lp cert dec) = Unit {0}
 IsInRange (Show lp dec) = Unit {0}
 IsInRange (Gen seed size lp dec) = (1 ≤ size) × (size ≤ most_size)
 IsInRange (Demo seed size) = (1 ≤ size) × (size ≤ most_size)
+IsInRange (Detect lp list dec) = Unit {0}
 
 -- the subcommand that was met, with its rows, states an order
 pub record IsStated (met : Option (Text × List Row)) (order : Order) : Type 0 where

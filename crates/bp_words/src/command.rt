@@ -1,7 +1,7 @@
 // The command of the program, for the crate that reads words.
 ghost use Rattle.std.specs.Prelude.{◌≡◌, Some, true, false, codes, IfOk};
 ghost use Rattle.clap.specs.Words.{app_of, new_rule, rule_of};
-ghost use Rattle.bp_words.specs.CommandLine.{solve_words, check_words, show_words, gen_words, demo_words, program_words, reading_line, command_line, IsShaped};
+ghost use Rattle.bp_words.specs.CommandLine.{search_words, solve_words, check_words, show_words, gen_words, demo_words, detect_words, program_words, reading_line, making_line, command_line, IsShaped};
 
 use clap::builder::ValueParser;
 use clap::{Arg, Command};
@@ -16,6 +16,14 @@ pub const MOST_SIZE: u64 = 1024;
 /// The command: its subcommands, one of which is required, without help or version words.
 pub fn make_command<'a>(alloc: Global) -> Result<Command<'a>, AllocError>
     ensures { IfOk result (λ command. app_of command ≡ command_line) }
+{
+    let detect = detect_command(alloc)?;
+    making_command(alloc)?.subcommand(detect)
+}
+
+// The program with the subcommands that read texts and those that make them.
+fn making_command<'a>(alloc: Global) -> Result<Command<'a>, AllocError>
+    ensures { IfOk result (λ command. app_of command ≡ making_line) }
 {
     let make = gen_command(alloc)?;
     let demo = demo_command(alloc)?;
@@ -46,19 +54,23 @@ fn program<'a>(alloc: Global) -> Command<'a>
         .subcommand_required(true)
 }
 
-// `solve LP [--dec FILE] [--steps N] [--cert FILE]`
+// `solve LP [--dec FILE] [--steps N] [--cert FILE] [--from CERT]`
 fn solve_command<'a>(alloc: Global) -> Result<Command<'a>, AllocError>
     ensures { IfOk result (λ command. IsShaped command solve_words) }
+{
+    let cert = file_option(alloc, "cert");
+    let from = file_option(alloc, "from");
+    search_command(alloc)?.arg(cert)?.arg(from)
+}
+
+// `solve LP [--dec FILE] [--steps N]`
+fn search_command<'a>(alloc: Global) -> Result<Command<'a>, AllocError>
+    ensures { IfOk result (λ command. IsShaped command search_words) }
 {
     let lp = file_word(alloc, "lp");
     let dec = file_option(alloc, "dec");
     let steps = number_option(alloc, "steps", MOST_STEPS);
-    let cert = file_option(alloc, "cert");
-    Command::new(alloc, "solve")
-        .arg(lp)?
-        .arg(dec)?
-        .arg(steps)?
-        .arg(cert)
+    Command::new(alloc, "solve").arg(lp)?.arg(dec)?.arg(steps)
 }
 
 // `check LP CERT [--dec FILE]`
@@ -102,6 +114,16 @@ fn demo_command<'a>(alloc: Global) -> Result<Command<'a>, AllocError>
     let seed = number_word(alloc, "seed", 0, u64::MAX);
     let size = number_word(alloc, "size", 1, MOST_SIZE);
     Command::new(alloc, "demo").arg(seed)?.arg(size)
+}
+
+// `detect LP ROWS DEC`
+fn detect_command<'a>(alloc: Global) -> Result<Command<'a>, AllocError>
+    ensures { IfOk result (λ command. IsShaped command detect_words) }
+{
+    let lp = file_word(alloc, "lp");
+    let rows = file_word(alloc, "rows");
+    let dec = file_word(alloc, "dec");
+    Command::new(alloc, "detect").arg(lp)?.arg(rows)?.arg(dec)
 }
 
 // A number that must be given, by its place.

@@ -9,7 +9,8 @@ use thiserror::Error;
 /// What a command line orders.
 #[derive(Drop)]
 pub enum Order {
-    /// Solve the LP file by a decomposition, and write a certificate where a file is named for it.
+    /// Solve the LP file by a decomposition, from the start or from where a certificate stopped, and write a certificate
+    /// where a file is named for it.
     Solve {
         /// The LP file.
         lp: Text,
@@ -19,6 +20,8 @@ pub enum Order {
         steps: Option<u64>,
         /// The file for the certificate.
         cert: Option<Text>,
+        /// The file of the certificate to go on from, where there is one.
+        from: Option<Text>,
     },
     /// Check a certificate of the LP file.
     Check {
@@ -53,6 +56,15 @@ pub enum Order {
         seed: u64,
         /// How many jobs there are, 1 to 1,024.
         size: u32,
+    },
+    /// Write the decomposition of the LP file beside the master rows that a file lists.
+    Detect {
+        /// The LP file.
+        lp: Text,
+        /// The file of the master rows.
+        rows: Text,
+        /// The decomposition's file.
+        dec: Text,
     },
 }
 

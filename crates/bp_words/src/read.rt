@@ -48,6 +48,9 @@ fn stated_order(alloc: Global, matches: &ArgMatches) -> Result<Order, WordFault>
     if let Some(demo) = matches.subcommand_matches("demo") {
         return demo_order(demo);
     }
+    if let Some(detect) = matches.subcommand_matches("detect") {
+        return detect_order(alloc, detect);
+    }
     Err(WordFault::Refused)
 }
 
@@ -72,11 +75,13 @@ fn solve_order(alloc: Global, solve: &ArgMatches) -> Result<Order, WordFault>
     let dec = optional(alloc, solve, "dec")?;
     let steps = optional_number(solve, "steps", 0, MOST_STEPS)?;
     let cert = optional(alloc, solve, "cert")?;
+    let from = optional(alloc, solve, "from")?;
     Ok(Order::Solve {
         lp,
         dec,
         steps,
         cert,
+        from,
     })
 }
 
@@ -133,6 +138,18 @@ fn demo_order(demo: &ArgMatches) -> Result<Order, WordFault>
         seed,
         size: size as u32,
     })
+}
+
+// The order to find the blocks beside master rows.
+fn detect_order(alloc: Global, detect: &ArgMatches) -> Result<Order, WordFault>
+    ensures order { IfOk result (HasValues (codes "detect") (rows_of (found_of detect.now))) }
+    ensures refused { result ≡ Err WordFault.Refused →
+        (order : Order) → HasValues (codes "detect") (rows_of (found_of detect.now)) order → ⊥ }
+{
+    let lp = given(alloc, detect, "lp")?;
+    let rows = given(alloc, detect, "rows")?;
+    let dec = given(alloc, detect, "dec")?;
+    Ok(Order::Detect { lp, rows, dec })
 }
 
 // The number of an argument.

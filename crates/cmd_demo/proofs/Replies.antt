@@ -24,7 +24,7 @@ pub demos : (seed size : ℕ) (b : BlockedProgram) (o : Outcome) (cert : Certifi
     → cert ≡ outcome_certificate b.named.program o → IsJudged b cert judged → status ≡ outcome_status o → report ≡ demo_report seed size b.named o judged
     → DemosBlocked seed size (Some o) b status report
 demos seed size b o cert judged status report is same judges ended told =
-    let valid : IsCertified b.named.program b.dec (outcome_certificate b.named.program o) = outcome_certified b (Some 2000) o is in record {
+    let valid : IsCertified b.named.program b.dec (outcome_certificate b.named.program o) = outcome_certified b 2000 o is in record {
       outcome = o;
       is_kept = refl;
       is_outcome = is;

@@ -23,7 +23,7 @@ use Rattle.search_laws.proofs.Places.{recursion_parts, recursion-append}
 use Rattle.branch_tree.specs.Groves.{GroveState, IsGroveOf}
 use Rattle.branch_tree.specs.declared.outcome.Outcome.{Outcome}
 use Rattle.branch_tree.specs.declared.outcome.Outcome.TheVariants.{Optimal, Infeasible, Budget}
-use Rattle.bp_search.specs.Ends.{IsOutcome}
+use Rattle.bp_search.specs.Ends.{EndsWithin}
 use Rattle.cert_text.specs.Programs.{IsSmall, IsSmallPoint}
 use Rattle.cert_text.specs.Outcomes.{IsWritable}
 use Rattle.search_laws.specs.Outcomes.{read_off}
@@ -91,23 +91,23 @@ grove_of_program b g best root search = record {
 }
 
 -- an outcome of a search may be written
-pub writable : (b : BlockedProgram) → IsFormed b → (steps : Option ℕ) (o : Outcome) → IsOutcome b steps o → IsWritable b o
-writable b formed steps (Optimal g point value) is = record {
+pub writable : (b : BlockedProgram) → IsFormed b → (most : ℕ) (o : Outcome) → EndsWithin b most o → IsWritable b o
+writable b formed most (Optimal g point value) is = record {
   grove = grove_of_program b g (Some point) is.searched.root is.searched.search;
   numbers = subst IsSmall (sym is.is_cost) (small_cost b point formed is.searched.search.feasible);
   point = small_point b point formed is.searched.search.feasible;
 }
-writable b formed steps (Infeasible g) is = record {
+writable b formed most (Infeasible g) is = record {
   grove = grove_of_program b g None is.searched.root is.searched.search;
   numbers = tt;
   point = tt;
 }
-writable b formed steps (Budget g None bound) is = record {
+writable b formed most (Budget g None bound) is = record {
   grove = grove_of_program b g None is.searched.root is.searched.search;
   numbers = (small_remaining b g.tree None bound formed is.searched.search is.remaining, tt);
   point = tt;
 }
-writable b formed steps (Budget g (Some kept) bound) is = record {
+writable b formed most (Budget g (Some kept) bound) is = record {
   grove = grove_of_program b g (Some kept.0) is.searched.root is.searched.search;
   numbers = (
     small_remaining b g.tree (Some kept.0) bound formed is.searched.search is.remaining,
@@ -117,27 +117,27 @@ writable b formed steps (Budget g (Some kept) bound) is = record {
 }
 
 -- an outcome of a search can be told
-pub tellable : (b : BlockedProgram) (steps : Option ℕ) (o : Outcome) → IsOutcome b steps o → CanTell b.named o
-tellable b steps (Optimal g point value) is = is.searched.search.feasible.inside
-tellable b steps (Infeasible g) is = tt
-tellable b steps (Budget g None bound) is = λ x there. absurd (cc)
-tellable b steps (Budget g (Some kept) bound) is = λ x there.
+pub tellable : (b : BlockedProgram) (most : ℕ) (o : Outcome) → EndsWithin b most o → CanTell b.named o
+tellable b most (Optimal g point value) is = is.searched.search.feasible.inside
+tellable b most (Infeasible g) is = tt
+tellable b most (Budget g None bound) is = λ x there. absurd (cc)
+tellable b most (Budget g (Some kept) bound) is = λ x there.
     let same : kept ≡ x = cc in
     subst (λ (k : List ℤ × ℤ). IsInside b.named.program.spans k.0) same is.kept.0.inside
 
 -- the certificate of an outcome of a search is valid
-pub outcome_certified : (b : BlockedProgram) (steps : Option ℕ) (o : Outcome) → IsOutcome b steps o → IsCertified b.named.program b.dec (outcome_certificate b.named.program o)
-outcome_certified b steps (Optimal g point value) is =
+pub outcome_certified : (b : BlockedProgram) (most : ℕ) (o : Outcome) → EndsWithin b most o → IsCertified b.named.program b.dec (outcome_certificate b.named.program o)
+outcome_certified b most (Optimal g point value) is =
     let p : Program = b.named.program in
     subst (λ (z : ℤ). IsCertified p b.dec (read_off (claim.Optimal (in_sense p.maximises z)) (Some point) [] g.tree)) (sym is.is_cost) is.searched.certified
-outcome_certified b steps (Infeasible g) is = is.searched.certified
-outcome_certified b steps (Budget g None bound) is = is.searched.certified
-outcome_certified b steps (Budget g (Some kept) bound) is =
+outcome_certified b most (Infeasible g) is = is.searched.certified
+outcome_certified b most (Budget g None bound) is = is.searched.certified
+outcome_certified b most (Budget g (Some kept) bound) is =
     let p : Program = b.named.program in
     subst (λ (z : ℤ). IsCertified p b.dec (read_off (claim.Bound (in_sense p.maximises bound) (Some (in_sense p.maximises z))) (Some kept.0) [] g.tree)) (sym is.kept.1)
     is.searched.certified
 
 -- the reply to an outcome of a search is what a program in blocks is answered
-pub solves : (b : BlockedProgram) (steps : Option ℕ) (o : Outcome) (reply : Reply) → IsOutcome b steps o → IsSolved b steps o reply
-    → SolvesBlocked steps (Some o) b reply.status reply.report.items
-solves b steps o reply is solved = record { outcome = o; is_kept = refl; is_outcome = is; has_status = solved.ended; has_report = solved.told }
+pub solves : (b : BlockedProgram) (most : ℕ) (steps : Option ℕ) (o : Outcome) (reply : Reply) → EndsWithin b most o → IsSolved b steps o reply
+    → SolvesBlocked most steps (Some o) b reply.status reply.report.items
+solves b most steps o reply is solved = record { outcome = o; is_kept = refl; is_outcome = is; has_status = solved.ended; has_report = solved.told }

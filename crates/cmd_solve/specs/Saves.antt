@@ -3,10 +3,12 @@ use Rattle.std.specs.Prelude.{◌≡◌, ℕ, List, Option, Some, None}
 use Rattle.bp_shelf.specs.Shelf.{Files}
 use Rattle.block_form.specs.Blocked.{BlockedProgram}
 use Rattle.branch_tree.specs.declared.outcome.Outcome.{Outcome}
-use Rattle.bp_search.specs.Ends.{IsOutcome, most_steps}
+use Rattle.branch_tree.specs.declared.loaded.Loaded.{Loaded}
+use Rattle.bp_search.specs.Ends.{EndsWithin, most_steps, last_step}
 use Rattle.bp_report.specs.Report.{solve_report}
 use Rattle.bp_front.specs.Front.{FilesCome, blocked}
 use Rattle.bp_front.specs.declared.ending.Reply.{Reply}
+use Rattle.cmd_solve.specs.Starts.{IsStart, RefusesStart}
 use Rattle.cmd_solve.specs.Solves.{IsSpelledOut, outcome_status}
 
 -- the report on an outcome of a search of so many steps, with its status
@@ -29,10 +31,22 @@ abbrev pub HasCertificate : Files → List ℕ → Option (List ℕ) → Option 
 HasCertificate before lp dec cert now None = Unit {0}
 HasCertificate before lp dec cert now (Some outcome) = (b : BlockedProgram) × FilesCome before lp dec (blocked b) × IsSaved b outcome cert now
 
--- an outcome of a search of so many steps has its certificate in the file that is named for it
-abbrev pub LeavesBlocked : (steps : Option ℕ) → Option (List ℕ) → Files → BlockedProgram → Type 0
-LeavesBlocked steps cert files b = (outcome : Outcome) × IsOutcome b steps outcome × IsSaved b outcome cert files
+-- an outcome of a search whose tree has at most so many steps has its certificate in the file that is named for it
+abbrev pub LeavesBlocked : (most : ℕ) → Option (List ℕ) → Files → BlockedProgram → Type 0
+LeavesBlocked most cert files b = (outcome : Outcome) × EndsWithin b most outcome × IsSaved b outcome cert files
+
+-- the same of a search that goes on from a named file; where the file is no start nothing is written
+pub data LeavesFrom (before : Files) (name : List ℕ) (steps : Option ℕ) (cert : Option (List ℕ)) (now : Files) (b : BlockedProgram) : Type 0 where
+  refused : (text : List ℕ) (status : ℕ) (report : List ℕ) → before name ≡ Some text → RefusesStart b text status report → now ≡ before
+      → LeavesFrom before name steps cert now b
+  went_on : (text : List ℕ) (from : Loaded) → before name ≡ Some text → IsStart b text from → LeavesBlocked (last_step from.grove steps) cert now b
+      → LeavesFrom before name steps cert now b
+
+-- the same of a search from a named file or from the start
+abbrev pub LeavesBy : (before : Files) → (from : Option (List ℕ)) → (steps : Option ℕ) → (cert : Option (List ℕ)) → (now : Files) → BlockedProgram → Type 0
+LeavesBy before None steps cert now b = LeavesBlocked (most_steps steps) cert now b
+LeavesBy before (Some name) steps cert now b = LeavesFrom before name steps cert now b
 
 -- the same of a program in blocks, where the files come to one
-abbrev pub LeavesCertificate : Files → (lp : List ℕ) → (dec : Option (List ℕ)) → (steps : Option ℕ) → Option (List ℕ) → Files → Type 0
-LeavesCertificate before lp dec steps cert now = (b : BlockedProgram) → FilesCome before lp dec (blocked b) → LeavesBlocked steps cert now b
+abbrev pub LeavesCertificate : Files → (lp : List ℕ) → (dec : Option (List ℕ)) → (steps : Option ℕ) → (cert from : Option (List ℕ)) → Files → Type 0
+LeavesCertificate before lp dec steps cert from now = (b : BlockedProgram) → FilesCome before lp dec (blocked b) → LeavesBy before from steps cert now b

@@ -1,27 +1,34 @@
-//! The command `solve`: the best point of a program in blocks, or that it has none, or a bound where the steps ran out, with
-//! a certificate where a file is named for it.
+//! The command `solve`: the best point of a program in blocks, or that it has none, or a bound where the steps ran out, from
+//! the start or from where a certificate stopped, with a certificate where a file is named for it.
 #![tactic(auto)]
 
-ghost use Rattle.std.specs.Prelude.{◌<◌, ◌≡◌, ◌≢◌, ◌⊎◌, ◌≤◌, ◌^◌, IfOk, IfSome, IsOk, IsTrue, None, Some, IsErrOf, IfErr};
+mod start;
+
+ghost use Rattle.std.specs.Prelude.{◌<◌, ◌≡◌, ◌≢◌, ◌⊎◌, ◌≤◌, ◌^◌, IfOk, IfSome, IsOk, IsTrue, None, Some, IsErrOf, IfErr, ℕ};
 ghost use Rattle.std.specs.Option.{option_map};
-ghost use Rattle.bp_search.specs.Ends.{IsOutcome, most_steps};
+ghost use Rattle.branch_tree.specs.Loads.{IsLoaded};
+ghost use Rattle.bp_search.specs.Ends.{EndsWithin, most_steps};
 ghost use Rattle.bp_shelf.specs.Shelf.{CountsFailed, OthersAsBefore, Writes};
 ghost use Rattle.bp_shelf.specs.declared.shelf.ShelfFault.TheVariants.{Missing, NoMemory};
 ghost use Rattle.bp_front.specs.Answers.{AnswersBy, IsOnly, CutsOff, HasCauses, FilesStand, IsUntouched};
-ghost use Rattle.cmd_solve.specs.Solves.{AnswersSolve, SolvesBlocked, outcome_status};
-ghost use Rattle.cmd_solve.specs.Saves.{IsSolved, IsSaved, SavesBlocked, HasCertificate, LeavesBlocked, LeavesCertificate};
+ghost use Rattle.cmd_solve.specs.Starts.{stop_of};
+ghost use Rattle.cmd_solve.specs.Solves.{AnswersSolve, SolvesBy, SolvesBlocked, outcome_status};
+ghost use Rattle.cmd_solve.specs.Saves.{IsSolved, IsSaved, SavesBlocked, HasCertificate, LeavesBlocked, LeavesBy, LeavesCertificate};
 
+use crate::start::{Start, begin};
 use block_form::Blocked;
 use bp_front::{Ended, Halt, Reply, load, print, stopped, stopped_by};
 use bp_report::solve_text;
-use bp_search::{MAX_STEPS, search};
+use bp_search::{MAX_STEPS, resume, search};
 use bp_shelf::{Shelf, ShelfFault, Sink};
-use branch_tree::Outcome;
+use branch_tree::{Loaded, Outcome};
 use cert_text::write_cert;
 use std::alloc::{AllocError, Global};
 
-/// Solves the model of a file, writes the certificate where a file is named for it, and prints the report. The certificate
-/// is written first: where only the report could not be put, it stands whole.
+/// Solves the model of a file, from the start or from where the certificate of a named file stopped, writes the certificate
+/// where a file is named for it, and prints the report. The certificate to go on from is read and judged before the search,
+/// so one file may be named for both. What is written is written before the report: where only the report could not be put,
+/// it stands whole.
 pub fn solve<F: Shelf, O: Sink>(
     alloc: Global,
     shelf: &mut F,
@@ -30,16 +37,17 @@ pub fn solve<F: Shelf, O: Sink>(
     dec: Option<&str>,
     steps: Option<u64>,
     cert: Option<&str>,
+    from: Option<&str>,
 ) -> Ended
     requires { IfSome steps (λ n. n ≤ 2 ^ 60) }
     ensures answered { IsTrue (F.tells shelf.old) → IsTrue (O.tells out.old) →
-        AnswersBy (AnswersSolve (F.file shelf.old) lp.now (option_map (λ name. name.now) dec.entry) steps result.kept) result.status (O.taken out.old) (O.taken out.new) }
+        AnswersBy (AnswersSolve (F.file shelf.old) lp.now (option_map (λ name. name.now) dec.entry) steps (option_map (λ name. name.now) from.entry) result.kept) result.status (O.taken out.old) (O.taken out.new) }
     ensures exact { IsTrue (F.tells shelf.old) →
-        IsOnly (AnswersSolve (F.file shelf.old) lp.now (option_map (λ name. name.now) dec.entry) steps result.kept) result.status }
+        IsOnly (AnswersSolve (F.file shelf.old) lp.now (option_map (λ name. name.now) dec.entry) steps (option_map (λ name. name.now) from.entry) result.kept) result.status }
     ensures saved { IsTrue (F.tells shelf.old) →
         HasCertificate (F.file shelf.old) lp.now (option_map (λ name. name.now) dec.entry) (option_map (λ name. name.now) cert.entry) (F.file shelf.new) result.kept }
     ensures put_last { IsTrue (F.tells shelf.old) → O.faults out.old < O.faults out.new →
-        LeavesCertificate (F.file shelf.old) lp.now (option_map (λ name. name.now) dec.entry) steps (option_map (λ name. name.now) cert.entry) (F.file shelf.new) }
+        LeavesCertificate (F.file shelf.old) lp.now (option_map (λ name. name.now) dec.entry) steps (option_map (λ name. name.now) cert.entry) (option_map (λ name. name.now) from.entry) (F.file shelf.new) }
     ensures causes { HasCauses result.status (F.read_faults shelf.old) (F.read_faults shelf.new)
         (F.write_faults shelf.old) (F.write_faults shelf.new) (O.faults out.old) (O.faults out.new) }
     ensures kept { (result.kept ≡ None) ⊎ ((result.status ≡ 0) ⊎ (result.status ≡ 4) ⊎ (result.status ≡ 5)) }
@@ -49,31 +57,71 @@ pub fn solve<F: Shelf, O: Sink>(
     ensures silent { (result.status ≡ 7) ⊎ (result.status ≡ 9) ⊎ (result.status ≡ 11) → O.taken out.new ≡ O.taken out.old }
     ensures unwritten { F.write_faults shelf.old < F.write_faults shelf.new → O.taken out.new ≡ O.taken out.old }
     ensures cut_off { IsTrue (F.tells shelf.old) → IsTrue (O.tells out.old) →
-        CutsOff (AnswersSolve (F.file shelf.old) lp.now (option_map (λ name. name.now) dec.entry) steps) result.status (O.taken out.old) (O.taken out.new) }
+        CutsOff (AnswersSolve (F.file shelf.old) lp.now (option_map (λ name. name.now) dec.entry) steps (option_map (λ name. name.now) from.entry)) result.status (O.taken out.old) (O.taken out.new) }
 {
     match load(alloc, shelf, lp, dec) {
-        Ok(b) => answer(alloc, shelf, out, &b, steps, cert),
+        Ok(b) => solve_blocks(alloc, shelf, out, &b, steps, cert, from),
         Err(Halt::Refused(report)) => print(out, &Reply { status: 3, report }, None),
         Err(Halt::Stopped(fault)) => stopped_by(fault),
     }
 }
 
-// Searches a program in blocks, writes the certificate where a file is named for it, and prints the report.
-fn answer<F: Shelf, O: Sink>(
+// Solves a program in blocks, from the start or from where the certificate of a named file stopped.
+fn solve_blocks<F: Shelf, O: Sink>(
     alloc: Global,
     shelf: &mut F,
     out: &mut O,
     b: &Blocked,
     steps: Option<u64>,
     cert: Option<&str>,
+    from: Option<&str>,
 ) -> Ended
     requires { IfSome steps (λ n. n ≤ 2 ^ 60) }
-    ensures answered { IsTrue (O.tells out.old) →
-        AnswersBy (SolvesBlocked steps result.kept b.now) result.status (O.taken out.old) (O.taken out.new) }
-    ensures exact { IsOnly (SolvesBlocked steps result.kept b.now) result.status }
+    ensures answered { IsTrue (F.tells shelf.old) → IsTrue (O.tells out.old) →
+        AnswersBy (SolvesBy (F.file shelf.old) (option_map (λ name. name.now) from.entry) steps result.kept b.now) result.status (O.taken out.old) (O.taken out.new) }
+    ensures exact { IsTrue (F.tells shelf.old) → IsOnly (SolvesBy (F.file shelf.old) (option_map (λ name. name.now) from.entry) steps result.kept b.now) result.status }
     ensures saved { IsTrue (F.tells shelf.old) → SavesBlocked b.now (option_map (λ name. name.now) cert.entry) (F.file shelf.new) result.kept }
     ensures put_last { IsTrue (F.tells shelf.old) → O.faults out.old < O.faults out.new →
-        LeavesBlocked steps (option_map (λ name. name.now) cert.entry) (F.file shelf.new) b.now }
+        LeavesBy (F.file shelf.old) (option_map (λ name. name.now) from.entry) steps (option_map (λ name. name.now) cert.entry) (F.file shelf.new) b.now }
+    ensures causes { HasCauses result.status (F.read_faults shelf.old) (F.read_faults shelf.new)
+        (F.write_faults shelf.old) (F.write_faults shelf.new) (O.faults out.old) (O.faults out.new) }
+    ensures kept { (result.kept ≡ None) ⊎ ((result.status ≡ 0) ⊎ (result.status ≡ 4) ⊎ (result.status ≡ 5)) }
+    ensures words { result.status ≢ 2 }
+    ensures files { IsTrue (F.tells shelf.old) → FilesStand (option_map (λ name. name.now) cert.entry) (F.file shelf.old) (F.file shelf.new) }
+    ensures untouched { IsTrue (F.tells shelf.old) → IsUntouched result.status → F.file shelf.new ≡ F.file shelf.old }
+    ensures silent { (result.status ≡ 7) ⊎ (result.status ≡ 9) ⊎ (result.status ≡ 11) → O.taken out.new ≡ O.taken out.old }
+    ensures unwritten { F.write_faults shelf.old < F.write_faults shelf.new → O.taken out.new ≡ O.taken out.old }
+    ensures cut_off { IsTrue (F.tells shelf.old) → IsTrue (O.tells out.old) →
+        CutsOff (λ kept. SolvesBy (F.file shelf.old) (option_map (λ name. name.now) from.entry) steps kept b.now) result.status (O.taken out.old) (O.taken out.new) }
+{
+    let _ = b.blocks();
+    match begin(alloc, shelf, b, from) {
+        Ok(Start::Fresh) => answer(alloc, shelf, out, b, None, steps, cert),
+        Ok(Start::Ready(from)) => answer(alloc, shelf, out, b, Some(from), steps, cert),
+        Ok(Start::Refused(reply)) => print(out, &reply, None),
+        Err(fault) => stopped_by(fault),
+    }
+}
+
+// Searches a program in blocks from a tree, or from the start, writes the certificate where a file is named for it, and
+// prints the report.
+fn answer<F: Shelf, O: Sink>(
+    alloc: Global,
+    shelf: &mut F,
+    out: &mut O,
+    b: &Blocked,
+    from: Option<Loaded>,
+    steps: Option<u64>,
+    cert: Option<&str>,
+) -> Ended
+    requires loaded { IfSome from (IsLoaded b.now) }
+    requires few { IfSome steps (λ n. n ≤ 2 ^ 60) }
+    ensures answered { IsTrue (O.tells out.old) →
+        AnswersBy (SolvesBlocked (stop_of from steps) steps result.kept b.now) result.status (O.taken out.old) (O.taken out.new) }
+    ensures exact { IsOnly (SolvesBlocked (stop_of from steps) steps result.kept b.now) result.status }
+    ensures saved { IsTrue (F.tells shelf.old) → SavesBlocked b.now (option_map (λ name. name.now) cert.entry) (F.file shelf.new) result.kept }
+    ensures put_last { IsTrue (F.tells shelf.old) → O.faults out.old < O.faults out.new →
+        LeavesBlocked (stop_of from steps) (option_map (λ name. name.now) cert.entry) (F.file shelf.new) b.now }
     ensures causes { HasCauses result.status (F.read_faults shelf.old) (F.read_faults shelf.new)
         (F.write_faults shelf.old) (F.write_faults shelf.new) (O.faults out.old) (O.faults out.new) }
     ensures kept { (result.kept ≡ None) ⊎ ((result.status ≡ 0) ⊎ (result.status ≡ 4) ⊎ (result.status ≡ 5)) }
@@ -82,15 +130,15 @@ fn answer<F: Shelf, O: Sink>(
     ensures untouched { IsTrue (F.tells shelf.old) → result.status ≡ 9 → F.file shelf.new ≡ F.file shelf.old }
     ensures silent { result.status ≡ 9 → O.taken out.new ≡ O.taken out.old }
     ensures unwritten { F.write_faults shelf.old < F.write_faults shelf.new → O.taken out.new ≡ O.taken out.old }
-    ensures cut_off { IsTrue (O.tells out.old) → CutsOff (λ kept. SolvesBlocked steps kept b.now) result.status (O.taken out.old) (O.taken out.new) }
+    ensures cut_off { IsTrue (O.tells out.old) → CutsOff (λ kept. SolvesBlocked (stop_of from steps) steps kept b.now) result.status (O.taken out.old) (O.taken out.new) }
 {
-    let Ok(outcome) = search(alloc, b, steps) else {
+    let Ok(outcome) = search_from(alloc, b, from, steps) else {
         return stopped(9);
     };
     let Ok(reply) = reply_to(alloc, b, &outcome, steps) else {
         return stopped(9);
     };
-    match save(alloc, shelf, b, &outcome, steps, cert) {
+    match save(alloc, shelf, b, &outcome, cert) {
         Ok(()) => print(out, &reply, Some(outcome)),
         Err(ShelfFault::Failed) => stopped(8),
         Err(ShelfFault::NoMemory) => stopped(9),
@@ -98,14 +146,31 @@ fn answer<F: Shelf, O: Sink>(
     }
 }
 
-// The report on an outcome of a search of so many steps, with its status.
+// The outcome of a search from a tree, or from the start.
+fn search_from(
+    alloc: Global,
+    b: &Blocked,
+    from: Option<Loaded>,
+    steps: Option<u64>,
+) -> Result<Outcome, AllocError>
+    requires loaded { IfSome from (IsLoaded b.now) }
+    requires few { IfSome steps (λ n. n ≤ 2 ^ 60) }
+    ensures { IfOk result (EndsWithin b.now (stop_of from steps)) }
+{
+    match from {
+        None => search(alloc, b, steps),
+        Some(from) => resume(alloc, b, from, steps),
+    }
+}
+
+// The report on an outcome of a search that was given so many steps, with its status.
 fn reply_to(
     alloc: Global,
     b: &Blocked,
     outcome: &Outcome,
     steps: Option<u64>,
 ) -> Result<Reply, AllocError>
-    requires { IsOutcome b.now steps outcome.now }
+    requires { (most : ℕ) × EndsWithin b.now most outcome.now }
     ensures { IfOk result (IsSolved b.now steps outcome.now) }
 {
     let report = solve_text(alloc, b, outcome, steps.unwrap_or(MAX_STEPS))?;
@@ -130,10 +195,9 @@ fn save<F: Shelf>(
     shelf: &mut F,
     b: &Blocked,
     outcome: &Outcome,
-    steps: Option<u64>,
     cert: Option<&str>,
 ) -> Result<(), ShelfFault>
-    requires { IsOutcome b.now steps outcome.now }
+    requires { (most : ℕ) × EndsWithin b.now most outcome.now }
     ensures saved { IsTrue (F.tells shelf.old) → IsOk result → IsSaved b.now outcome.now (option_map (λ name. name.now) cert.entry) (F.file shelf.new) }
     ensures files { IsTrue (F.tells shelf.old) → FilesStand (option_map (λ name. name.now) cert.entry) (F.file shelf.old) (F.file shelf.new) }
     ensures untouched { IsTrue (F.tells shelf.old) → IsErrOf result ShelfFault.NoMemory → F.file shelf.new ≡ F.file shelf.old }

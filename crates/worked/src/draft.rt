@@ -28,11 +28,16 @@ impl Draft {
     /// Adds what a line of the script stands for:
     ///
     /// - `@repeat A B TEXT`: for each number from A to B a line of this text, in which the number stands for each `#`;
+    /// - `@pairs A B ONE | TWO`: the same with two lines, of the one text and of the other;
     /// - `@spaces N`: a line of so many spaces;
     /// - every other line: itself.
     pub fn add(&mut self, line: &str) -> Result<(), AllocError> {
-        if let Some((first, last, text)) = repeated(line) {
-            return self.add_numbered(first, last, text);
+        if let Some((first, last, text)) = repeated(line, "@repeat ") {
+            return self.add_numbered(first, last, &[text]);
+        }
+        if let Some((first, last, text)) = repeated(line, "@pairs ") {
+            let (one, two) = text.split_once(" | ").unwrap_or((text, ""));
+            return self.add_numbered(first, last, &[one, two]);
         }
         if let Some(count) = spaces(line) {
             return self.add_spaces(count);
@@ -53,11 +58,13 @@ impl Draft {
         Ok(())
     }
 
-    fn add_numbered(&mut self, first: u32, last: u32, text: &str) -> Result<(), AllocError> {
+    fn add_numbered(&mut self, first: u32, last: u32, texts: &[&str]) -> Result<(), AllocError> {
         for number in first..=last {
             let digits = format!(in self.alloc; "{number}")?;
-            let line = text.replace(self.alloc, '#', digits.as_str())?;
-            self.add_line(line.as_str())?;
+            for text in texts {
+                let line = text.replace(self.alloc, '#', digits.as_str())?;
+                self.add_line(line.as_str())?;
+            }
         }
         Ok(())
     }
@@ -74,9 +81,9 @@ impl Draft {
     }
 }
 
-// The two numbers and the text of a line that is to be repeated.
-fn repeated(line: &str) -> Option<(u32, u32, &str)> {
-    let rest = line.strip_prefix("@repeat ")?;
+// The two numbers and the text of a line that is to be repeated, behind this word.
+fn repeated<'a>(line: &'a str, word: &str) -> Option<(u32, u32, &'a str)> {
+    let rest = line.strip_prefix(word)?;
     let (first, rest) = rest.split_once(' ')?;
     let (last, text) = rest.split_once(' ')?;
     Some((first.parse().ok()?, last.parse().ok()?, text))

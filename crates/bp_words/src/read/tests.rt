@@ -20,10 +20,10 @@ fn owned_words(alloc: Global, words: &[&str]) -> Result<Vec<String>, AllocError>
 fn files_are_those_of_the_words(rt: HostRuntime) -> Result<(), Fail> {
     let alloc = rt.alloc();
     let plain = read(alloc, &["bprice", "solve", "a.lp"])?;
-    assert!(rt; is_solve(&plain, "a.lp", None, None, None), "plain");
+    assert!(rt; is_solve(&plain, "a.lp", None, None, (None, None)), "plain");
     let joined = read(alloc, &["bprice", "solve", "--cert=c", "a.lp"])?;
     assert!(rt;
-        is_solve(&joined, "a.lp", None, None, Some("c")),
+        is_solve(&joined, "a.lp", None, None, (Some("c"), None)),
         "joined by ="
     );
     let apart = read(
@@ -31,11 +31,33 @@ fn files_are_those_of_the_words(rt: HostRuntime) -> Result<(), Fail> {
         &["bprice", "solve", "a.lp", "--cert", "c", "--dec", "d"],
     )?;
     assert!(rt;
-        is_solve(&apart, "a.lp", Some("d"), None, Some("c")),
+        is_solve(&apart, "a.lp", Some("d"), None, (Some("c"), None)),
         "two words"
     );
     let dashed = read(alloc, &["bprice", "solve", "--", "--cert"])?;
-    assert!(rt; is_solve(&dashed, "--cert", None, None, None), "behind --");
+    assert!(rt;
+        is_solve(&dashed, "--cert", None, None, (None, None)),
+        "behind --"
+    );
+    Ok(())
+}
+
+#[test]
+fn a_start_is_the_file_of_the_words(rt: HostRuntime) -> Result<(), Fail> {
+    let alloc = rt.alloc();
+    let resumed = read(
+        alloc,
+        &["bprice", "solve", "a.lp", "--from=c", "--cert", "c"],
+    )?;
+    assert!(rt;
+        is_solve(&resumed, "a.lp", None, None, (Some("c"), Some("c"))),
+        "one file for both"
+    );
+    let begun = read(alloc, &["bprice", "solve", "--from", "c", "a.lp"])?;
+    assert!(rt;
+        is_solve(&begun, "a.lp", None, None, (None, Some("c"))),
+        "nothing to write"
+    );
     Ok(())
 }
 
@@ -57,11 +79,28 @@ fn files_to_check_and_to_show_are_those_of_the_words(rt: HostRuntime) -> Result<
 }
 
 #[test]
+fn files_to_detect_are_those_of_the_words(rt: HostRuntime) -> Result<(), Fail> {
+    let alloc = rt.alloc();
+    let detect = read(alloc, &["bprice", "detect", "a.lp", "r", "d"])?;
+    assert!(rt; is_detect(&detect, "a.lp", "r", "d"), "detect");
+    assert!(rt;
+        read(alloc, &["bprice", "detect", "a.lp", "r"]).err() == Some(WordFault::Refused),
+        "no decomposition"
+    );
+    assert!(rt;
+        read(alloc, &["bprice", "detect", "a.lp", "--dec", "d", "r"]).err()
+            == Some(WordFault::Refused),
+        "an option"
+    );
+    Ok(())
+}
+
+#[test]
 fn numbers_are_what_the_words_mean(rt: HostRuntime) -> Result<(), Fail> {
     let alloc = rt.alloc();
     let zeros = read(alloc, &["bprice", "solve", "a.lp", "--steps", "007"])?;
     assert!(rt;
-        is_solve(&zeros, "a.lp", None, Some(7), None),
+        is_solve(&zeros, "a.lp", None, Some(7), (None, None)),
         "zeros in front"
     );
     let most = read(
@@ -69,7 +108,7 @@ fn numbers_are_what_the_words_mean(rt: HostRuntime) -> Result<(), Fail> {
         &["bprice", "solve", "--steps=1152921504606846976", "a.lp"],
     )?;
     assert!(rt;
-        is_solve(&most, "a.lp", None, Some(1 << 60), None),
+        is_solve(&most, "a.lp", None, Some(1 << 60), (None, None)),
         "most steps"
     );
     let made = read(alloc, &["bprice", "gen", "+0", "1024", "a.lp", "a.dec"])?;
@@ -144,13 +183,14 @@ fn other_words_are_refused(rt: HostRuntime) -> Result<(), Fail> {
     Ok(())
 }
 
-// Whether an order is to solve this file, with this decomposition, these steps and this certificate.
+// Whether an order is to solve this file, with this decomposition, these steps and these certificates, the one to write
+// and the one to go on from.
 fn is_solve(
     order: &Order,
     lp_file: &str,
     dec_file: Option<&str>,
     most: Option<u64>,
-    cert_file: Option<&str>,
+    certs: (Option<&str>, Option<&str>),
 ) -> bool {
     match order {
         Order::Solve {
@@ -158,11 +198,13 @@ fn is_solve(
             dec,
             steps,
             cert,
+            from,
         } => {
             lp.as_str() == lp_file
                 && is_named(dec, dec_file)
                 && *steps == most
-                && is_named(cert, cert_file)
+                && is_named(cert, certs.0)
+                && is_named(from, certs.1)
         }
         _ => false,
     }
@@ -210,6 +252,18 @@ fn is_gen(order: &Order, from: u64, jobs: u32, lp_file: &str, dec_file: &str) ->
 fn is_demo(order: &Order, from: u64, jobs: u32) -> bool {
     match order {
         Order::Demo { seed, size } => *seed == from && *size == jobs,
+        _ => false,
+    }
+}
+
+// Whether an order is to detect with these files.
+fn is_detect(order: &Order, lp: &str, rows: &str, dec: &str) -> bool {
+    match order {
+        Order::Detect {
+            lp: l,
+            rows: r,
+            dec: d,
+        } => l.as_str() == lp && r.as_str() == rows && d.as_str() == dec,
         _ => false,
     }
 }

@@ -6,11 +6,11 @@ use Rattle.cmd_demo.proofs.Certified.{read_back}
 use Rattle.cmd_demo.proofs.certificate.Goals as goal
 
 pub write_cert-requires : goal.write_cert-requires
-write_cert-requires c = writable c.args.b.now c.blocks-2.ensures.formed (Some 2000) c.args.outcome.now c.requires
+write_cert-requires c = writable c.args.b.now c.blocks-2.ensures.formed 2000 c.args.outcome.now c.requires
 
 pub returns-in-Ok-clause-same : goal.returns-in-Ok-clause-same
 returns-in-Ok-clause-same c =
     let b = c.args.b.now in
     read_back b (outcome_certificate b.named.program c.args.outcome.now) c.in_ok-text.text.items c.in-Ok.cert c.in_ok-text.ensures
-    (outcome_certified b (Some 2000) c.args.outcome.now c.requires)
+    (outcome_certified b 2000 c.args.outcome.now c.requires)
     (subst (λ (t : List ℕ). ReadsFor b t (Ok c.in-Ok.cert)) c.deref.ensures.value c.in-Ok.ensures.read)

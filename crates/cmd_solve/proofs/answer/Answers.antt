@@ -1,4 +1,5 @@
 use Rattle.std.proofs.Common.{sym, Some, append-nil}
+use Rattle.cmd_solve.specs.Starts.{stop_of}
 use Rattle.cmd_solve.proofs.Writable.{solves}
 use Rattle.cmd_solve.proofs.answer.Goals as goal
 
@@ -9,7 +10,7 @@ returns-in-Ok-save-clause-cut_off g c = λ heard is_fault.
       c.in-Ok-reply_to.reply.status,
       c.in-Ok-reply_to.reply.report.items,
       printed.0,
-      solves c.args.b.now c.args.steps c.in-Ok.outcome c.in-Ok-reply_to.reply c.in-Ok.ensures c.in-Ok-reply_to.ensures,
+      solves c.args.b.now (stop_of c.args.from c.args.steps) c.args.steps c.in-Ok.outcome c.in-Ok-reply_to.reply c.in-Ok.ensures c.in-Ok-reply_to.ensures,
       printed.1,
     )
 
@@ -19,6 +20,6 @@ returns-in-Err-Failed-clause-cut_off g c = λ heard is_fault. (
   c.in-Ok-reply_to.reply.status,
   c.in-Ok-reply_to.reply.report.items,
   0,
-  solves c.args.b.now c.args.steps c.in-Ok.outcome c.in-Ok-reply_to.reply c.in-Ok.ensures c.in-Ok-reply_to.ensures,
+  solves c.args.b.now (stop_of c.args.from c.args.steps) c.args.steps c.in-Ok.outcome c.in-Ok-reply_to.reply c.in-Ok.ensures c.in-Ok-reply_to.ensures,
   sym (append-nil (g.O.Sink.taken c.args.out.now)),
 )

@@ -1,35 +1,52 @@
-use Rattle.std.proofs.Common.{◌≡◌, ◌∙◌, refl, subst, None}
+use Rattle.std.proofs.Common.{◌≡◌, ◌∙◌, refl, sym, subst, None, Option, List, ℕ, Bool, IsTrue}
 use Rattle.std.specs.Option.{option_map}
-use Rattle.bp_front.specs.Answers.{stopped}
+use Rattle.bp_shelf.specs.Shelf.{Files}
+use Rattle.branch_tree.specs.declared.outcome.Outcome.{Outcome}
+use Rattle.bp_front.specs.Answers.{stopped, AnswersBy, IsOnly, CutsOff}
 use Rattle.bp_front.specs.Front.{blocked, ends}
 use Rattle.bp_front.proofs.OneFront.{one_front}
 use Rattle.bp_front.proofs.Lifts.{lift_answers, lift_only, lift_cut, stop_only, fault_only, printed_status}
-use Rattle.cmd_solve.specs.Saves.{LeavesBlocked}
-use Rattle.cmd_solve.specs.Solves.{SolvesBlocked}
+use Rattle.cmd_solve.specs.Saves.{LeavesBy}
+use Rattle.cmd_solve.specs.Solves.{SolvesBy}
 use Rattle.cmd_solve.proofs.solve.Goals as goal
 
 pub returns-in-Ok-clause-answered : goal.returns-in-Ok-clause-answered
 returns-in-Ok-clause-answered g c = λ told heard.
-    lift_answers (g.F.Shelf.file c.args.shelf.now) c.args.lp.now (option_map (λ name. name.now) c.args.dec) (c.answer.result.kept ≡ None)
-    (SolvesBlocked c.args.steps c.answer.result.kept) c.in-Ok.b c.answer.result.status (g.O.Sink.taken c.args.out.now) (g.O.Sink.taken c.answer.new.out)
-    (c.in-Ok.ensures.blocked told) (c.answer.ensures.answered heard)
+    let files = g.F.Shelf.file c.args.shelf.now in
+    let from : Option (List ℕ) = option_map (λ name. name.now) c.args.from in
+    let still : IsTrue (g.F.Shelf.tells c.load.new.shelf) = subst (λ (t : Bool). IsTrue t) (sym c.in-Ok.ensures.told) told in
+    lift_answers files c.args.lp.now (option_map (λ name. name.now) c.args.dec) (c.solve_blocks.result.kept ≡ None)
+    (SolvesBy files from c.args.steps c.solve_blocks.result.kept) c.in-Ok.b c.solve_blocks.result.status (g.O.Sink.taken c.args.out.now) (g.O.Sink.taken c.solve_blocks.new.out)
+    (c.in-Ok.ensures.blocked told)
+    (subst (λ (fs : Files). AnswersBy (SolvesBy fs from c.args.steps c.solve_blocks.result.kept c.in-Ok.b) c.solve_blocks.result.status (g.O.Sink.taken c.args.out.now) (g.O.Sink.taken c.solve_blocks.new.out))
+    c.in-Ok.ensures.files (c.solve_blocks.ensures.answered still heard))
 
 pub returns-in-Ok-clause-exact : goal.returns-in-Ok-clause-exact
 returns-in-Ok-clause-exact g c = λ told.
-    lift_only (g.F.Shelf.file c.args.shelf.now) c.args.lp.now (option_map (λ name. name.now) c.args.dec) (c.answer.result.kept ≡ None)
-    (SolvesBlocked c.args.steps c.answer.result.kept) c.in-Ok.b c.answer.result.status (c.in-Ok.ensures.blocked told) c.answer.ensures.exact
+    let files = g.F.Shelf.file c.args.shelf.now in
+    let from : Option (List ℕ) = option_map (λ name. name.now) c.args.from in
+    let still : IsTrue (g.F.Shelf.tells c.load.new.shelf) = subst (λ (t : Bool). IsTrue t) (sym c.in-Ok.ensures.told) told in
+    lift_only files c.args.lp.now (option_map (λ name. name.now) c.args.dec) (c.solve_blocks.result.kept ≡ None)
+    (SolvesBy files from c.args.steps c.solve_blocks.result.kept) c.in-Ok.b c.solve_blocks.result.status (c.in-Ok.ensures.blocked told)
+    (subst (λ (fs : Files). IsOnly (SolvesBy fs from c.args.steps c.solve_blocks.result.kept c.in-Ok.b) c.solve_blocks.result.status) c.in-Ok.ensures.files (c.solve_blocks.ensures.exact still))
 
 pub returns-in-Ok-clause-cut_off : goal.returns-in-Ok-clause-cut_off
 returns-in-Ok-clause-cut_off g c = λ told heard.
-    lift_cut (g.F.Shelf.file c.args.shelf.now) c.args.lp.now (option_map (λ name. name.now) c.args.dec) (λ kept. kept ≡ None)
-    (λ kept. SolvesBlocked c.args.steps kept) c.in-Ok.b c.answer.result.status (g.O.Sink.taken c.args.out.now) (g.O.Sink.taken c.answer.new.out)
-    (c.in-Ok.ensures.blocked told) (c.answer.ensures.cut_off heard)
+    let files = g.F.Shelf.file c.args.shelf.now in
+    let from : Option (List ℕ) = option_map (λ name. name.now) c.args.from in
+    let still : IsTrue (g.F.Shelf.tells c.load.new.shelf) = subst (λ (t : Bool). IsTrue t) (sym c.in-Ok.ensures.told) told in
+    lift_cut files c.args.lp.now (option_map (λ name. name.now) c.args.dec) (λ kept. kept ≡ None)
+    (λ kept. SolvesBy files from c.args.steps kept) c.in-Ok.b c.solve_blocks.result.status (g.O.Sink.taken c.args.out.now) (g.O.Sink.taken c.solve_blocks.new.out)
+    (c.in-Ok.ensures.blocked told)
+    (subst (λ (fs : Files). CutsOff (λ (kept : Option Outcome). SolvesBy fs from c.args.steps kept c.in-Ok.b) c.solve_blocks.result.status (g.O.Sink.taken c.args.out.now) (g.O.Sink.taken c.solve_blocks.new.out))
+    c.in-Ok.ensures.files (c.solve_blocks.ensures.cut_off still heard))
 
 pub returns-in-Err-Refused-clause-exact : goal.returns-in-Err-Refused-clause-exact
 returns-in-Err-Refused-clause-exact g c = λ told.
+    let files = g.F.Shelf.file c.args.shelf.now in
     let halts = c.in-Err-Refused.ensures.halted told in
-    stop_only (g.F.Shelf.file c.args.shelf.now) c.args.lp.now (option_map (λ name. name.now) c.args.dec) (c.print.result.kept ≡ None)
-    (SolvesBlocked c.args.steps c.print.result.kept) c.print.result.status 3 c.in-Err-Refused.report.items
+    stop_only files c.args.lp.now (option_map (λ name. name.now) c.args.dec) (c.print.result.kept ≡ None)
+    (SolvesBy files (option_map (λ name. name.now) c.args.from) c.args.steps c.print.result.kept) c.print.result.status 3 c.in-Err-Refused.report.items
     (rw c.in-Err-Refused.field-0-is at halts) (printed_status c.print.result.status 3 c.print.ensures.status)
 
 pub returns-in-Err-Refused-clause-cut_off : goal.returns-in-Err-Refused-clause-cut_off
@@ -40,17 +57,21 @@ returns-in-Err-Refused-clause-cut_off g c = λ told heard is_fault.
 
 pub returns-in-Err-Stopped-clause-exact : goal.returns-in-Err-Stopped-clause-exact
 returns-in-Err-Stopped-clause-exact g c = λ told.
+    let files = g.F.Shelf.file c.args.shelf.now in
     let halts = c.in-Err-Stopped.ensures.halted told in
-    fault_only (g.F.Shelf.file c.args.shelf.now) c.args.lp.now (option_map (λ name. name.now) c.args.dec) (c.stopped_by.result.kept ≡ None)
-    (SolvesBlocked c.args.steps c.stopped_by.result.kept) c.stopped_by.result.status c.in-Err-Stopped.fault
+    fault_only files c.args.lp.now (option_map (λ name. name.now) c.args.dec) (c.stopped_by.result.kept ≡ None)
+    (SolvesBy files (option_map (λ name. name.now) c.args.from) c.args.steps c.stopped_by.result.kept) c.stopped_by.result.status c.in-Err-Stopped.fault
     (rw c.in-Err-Stopped.field-0-is at halts) (rw c.in-Err-Stopped.field-0-is at c.stopped_by.ensures.status)
 
 pub returns-in-Ok-clause-put_last : goal.returns-in-Ok-clause-put_last
 returns-in-Ok-clause-put_last g c = λ told rose other come.
-    subst (LeavesBlocked c.args.steps (option_map (λ name. name.now) c.args.cert) (g.F.Shelf.file c.answer.new.shelf))
+    let from : Option (List ℕ) = option_map (λ name. name.now) c.args.from in
+    let cert : Option (List ℕ) = option_map (λ name. name.now) c.args.cert in
+    subst (LeavesBy (g.F.Shelf.file c.args.shelf.now) from c.args.steps cert (g.F.Shelf.file c.solve_blocks.new.shelf))
     (one_front (g.F.Shelf.file c.args.shelf.now) c.args.lp.now (option_map (λ name. name.now) c.args.dec) (blocked c.in-Ok.b) (blocked other)
     (c.in-Ok.ensures.blocked told) come)
-    (c.answer.ensures.put_last (c.load.ensures.told ∙ told) rose)
+    (subst (λ (fs : Files). LeavesBy fs from c.args.steps cert (g.F.Shelf.file c.solve_blocks.new.shelf) c.in-Ok.b) c.in-Ok.ensures.files
+    (c.solve_blocks.ensures.put_last (c.load.ensures.told ∙ told) rose))
 
 pub returns-in-Err-Refused-clause-put_last : goal.returns-in-Err-Refused-clause-put_last
 returns-in-Err-Refused-clause-put_last g c = λ told rose other come.

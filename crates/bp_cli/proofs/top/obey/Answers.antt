@@ -4,8 +4,9 @@ use Rattle.bp_words.specs.declared.order.Order.{Order}
 use Rattle.bp_front.specs.Answers.{AnswersBy, IsOnly, CutsOff}
 use Rattle.cmd_check.specs.Checks.{AnswersCheck}
 use Rattle.cmd_show.specs.Shows.{AnswersShow}
+use Rattle.cmd_detect.specs.Detects.{AnswersDetect}
 use Rattle.bp_cli.specs.Running.{AnswersOrder}
-use Rattle.bp_cli.proofs.OneOrder.{as_solve, as_check, as_show, as_gen}
+use Rattle.bp_cli.proofs.OneOrder.{as_solve, as_check, as_show, as_gen, as_detect}
 use Rattle.bp_cli.proofs.Words.{kept_answers, kept_only, kept_cut}
 use Rattle.bp_cli.proofs.top.obey.Goals as goal
 
@@ -13,19 +14,19 @@ pub returns-in-Solve-clause-answered : goal.returns-in-Solve-clause-answered
 returns-in-Solve-clause-answered g c = λ told heard.
     subst (λ (o : Order). AnswersBy (AnswersOrder o (g.F.Shelf.file c.args.shelf.now) c.solve.result.kept) c.solve.result.status (g.O.Sink.taken c.args.out.now)
     (g.O.Sink.taken c.solve.new.out)) (as_solve c.args.order.now c.as_str.result.now c.in-Solve.lp (option_map (λ name. name.now) c.named.result) c.in-Solve.dec c.in-Solve.steps (option_map (λ name. name.now) c.named-in-Solve.result)
-    c.in-Solve.cert c.in-Solve.is c.as_str.ensures c.named.ensures c.named-in-Solve.ensures)
+    c.in-Solve.cert (option_map (λ name. name.now) c.named-in-Solve-2.result) c.in-Solve.from c.in-Solve.is c.as_str.ensures c.named.ensures c.named-in-Solve.ensures c.named-in-Solve-2.ensures)
     (c.solve.ensures.answered told heard)
 
 pub returns-in-Solve-clause-exact : goal.returns-in-Solve-clause-exact
 returns-in-Solve-clause-exact g c = λ told.
     subst (λ (o : Order). IsOnly (AnswersOrder o (g.F.Shelf.file c.args.shelf.now) c.solve.result.kept) c.solve.result.status) (as_solve c.args.order.now c.as_str.result.now c.in-Solve.lp (option_map (λ name. name.now) c.named.result) c.in-Solve.dec c.in-Solve.steps (option_map (λ name. name.now) c.named-in-Solve.result)
-    c.in-Solve.cert c.in-Solve.is c.as_str.ensures c.named.ensures c.named-in-Solve.ensures)
+    c.in-Solve.cert (option_map (λ name. name.now) c.named-in-Solve-2.result) c.in-Solve.from c.in-Solve.is c.as_str.ensures c.named.ensures c.named-in-Solve.ensures c.named-in-Solve-2.ensures)
     (c.solve.ensures.exact told)
 
 pub returns-in-Solve-clause-cut_off : goal.returns-in-Solve-clause-cut_off
 returns-in-Solve-clause-cut_off g c = λ told heard.
     subst (λ (o : Order). CutsOff (AnswersOrder o (g.F.Shelf.file c.args.shelf.now)) c.solve.result.status (g.O.Sink.taken c.args.out.now) (g.O.Sink.taken c.solve.new.out)) (as_solve c.args.order.now c.as_str.result.now c.in-Solve.lp (option_map (λ name. name.now) c.named.result) c.in-Solve.dec c.in-Solve.steps (option_map (λ name. name.now) c.named-in-Solve.result)
-    c.in-Solve.cert c.in-Solve.is c.as_str.ensures c.named.ensures c.named-in-Solve.ensures)
+    c.in-Solve.cert (option_map (λ name. name.now) c.named-in-Solve-2.result) c.in-Solve.from c.in-Solve.is c.as_str.ensures c.named.ensures c.named-in-Solve.ensures c.named-in-Solve-2.ensures)
     (c.solve.ensures.cut_off told heard)
 
 pub returns-in-Check-clause-answered : goal.returns-in-Check-clause-answered
@@ -91,3 +92,23 @@ returns-in-Demo-clause-causes g c = c.demonstrate.ensures.causes (g.F.Shelf.read
 pub returns-in-Demo-clause-cut_off : goal.returns-in-Demo-clause-cut_off
 returns-in-Demo-clause-cut_off g c = λ told heard.
     subst (λ (o : Order). CutsOff (AnswersOrder o (g.F.Shelf.file c.args.shelf.now)) c.demonstrate.result.status (g.O.Sink.taken c.args.out.now) (g.O.Sink.taken c.demonstrate.new.out)) (sym c.in-Demo.is) (c.demonstrate.ensures.cut_off heard)
+
+pub returns-in-Detect-clause-answered : goal.returns-in-Detect-clause-answered
+returns-in-Detect-clause-answered g c = λ told heard.
+    subst (λ (o : Order). AnswersBy (AnswersOrder o (g.F.Shelf.file c.args.shelf.now) c.detect.result.kept) c.detect.result.status (g.O.Sink.taken c.args.out.now)
+    (g.O.Sink.taken c.detect.new.out)) (as_detect c.args.order.now c.as_str-in-Detect.result.now c.in-Detect.lp c.as_str-in-Detect-2.result.now c.in-Detect.rows c.as_str-in-Detect-3.result.now
+    c.in-Detect.dec c.in-Detect.is c.as_str-in-Detect.ensures c.as_str-in-Detect-2.ensures c.as_str-in-Detect-3.ensures)
+    (kept_answers c.detect.result.kept (AnswersDetect (g.F.Shelf.file c.args.shelf.now) c.as_str-in-Detect.result.now c.as_str-in-Detect-2.result.now)
+    c.detect.result.status _ _ c.detect.ensures.kept (c.detect.ensures.answered told heard))
+
+pub returns-in-Detect-clause-exact : goal.returns-in-Detect-clause-exact
+returns-in-Detect-clause-exact g c = λ told.
+    subst (λ (o : Order). IsOnly (AnswersOrder o (g.F.Shelf.file c.args.shelf.now) c.detect.result.kept) c.detect.result.status) (as_detect c.args.order.now c.as_str-in-Detect.result.now c.in-Detect.lp c.as_str-in-Detect-2.result.now c.in-Detect.rows c.as_str-in-Detect-3.result.now
+    c.in-Detect.dec c.in-Detect.is c.as_str-in-Detect.ensures c.as_str-in-Detect-2.ensures c.as_str-in-Detect-3.ensures)
+    (kept_only c.detect.result.kept _ c.detect.result.status (c.detect.ensures.exact told))
+
+pub returns-in-Detect-clause-cut_off : goal.returns-in-Detect-clause-cut_off
+returns-in-Detect-clause-cut_off g c = λ told heard.
+    subst (λ (o : Order). CutsOff (AnswersOrder o (g.F.Shelf.file c.args.shelf.now)) c.detect.result.status (g.O.Sink.taken c.args.out.now) (g.O.Sink.taken c.detect.new.out)) (as_detect c.args.order.now c.as_str-in-Detect.result.now c.in-Detect.lp c.as_str-in-Detect-2.result.now c.in-Detect.rows c.as_str-in-Detect-3.result.now
+    c.in-Detect.dec c.in-Detect.is c.as_str-in-Detect.ensures c.as_str-in-Detect-2.ensures c.as_str-in-Detect-3.ensures)
+    (kept_cut _ c.detect.result.status _ _ (c.detect.ensures.cut_off told heard))

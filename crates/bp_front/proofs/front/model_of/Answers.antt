@@ -1,5 +1,9 @@
 use Rattle.lp_read.specs.Model.{IsFaultOf}
+use Rattle.bp_front.proofs.RowNames.{rows_named}
 use Rattle.bp_front.proofs.front.model_of.Goals as goal
+
+pub returns-in-Ok-clause-names : goal.returns-in-Ok-clause-names
+returns-in-Ok-clause-names c = rows_named c.args.text.now c.in-Ok.model c.rows-rows.ensures.kept c.in-Ok.ensures.read
 
 pub returns-in_ok-lp_text-in-Err-At-clause-halted : goal.returns-in_ok-lp_text-in-Err-At-clause-halted
 returns-in_ok-lp_text-in-Err-At-clause-halted c =

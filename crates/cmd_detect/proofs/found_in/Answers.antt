@@ -1,0 +1,18 @@
+use Rattle.std.proofs.Common.{subst, ℕ, List, Some, IfOk, IfErr}
+use Rattle.cmd_detect.specs.Detects.{BlocksCome, RowsCome, answer_of, IsTextHalt}
+use Rattle.cmd_detect.proofs.Lifted.{text_halts, blocks_found, blocks_halted}
+use Rattle.cmd_detect.proofs.found_in.Goals as goal
+
+pub returns-in_err-master-clause-halted : goal.returns-in_err-master-clause-halted
+returns-in_err-master-clause-halted c =
+    text_halts (RowsCome c.args.model.now (Some c.args.list.now)) c.in_err-master.field-0.0 c.from_residual.result c.from_residual.ensures.1 c.in_err-master.ensures.halted
+
+pub returns-clause-found : goal.returns-clause-found
+returns-clause-found c =
+    blocks_found c.args.model.now c.args.list.now c.in_ok-master.master.items c.blocks_of.result c.in_ok-master.ensures.rows
+    (subst (λ (rows : List ℕ). IfOk c.blocks_of.result (λ f. BlocksCome c.args.model.now rows (answer_of f))) c.deref.ensures.value c.blocks_of.ensures.found)
+
+pub returns-clause-halted : goal.returns-clause-halted
+returns-clause-halted c =
+    blocks_halted c.args.model.now c.args.list.now c.in_ok-master.master.items c.blocks_of.result c.in_ok-master.ensures.rows
+    (subst (λ (rows : List ℕ). IfErr c.blocks_of.result (IsTextHalt (BlocksCome c.args.model.now rows))) c.deref.ensures.value c.blocks_of.ensures.halted)

@@ -1,0 +1,2 @@
+pub mod Detects
+pub mod Files

@@ -1,0 +1,131 @@
+use Rattle.std.proofs.Common.{◌∙◌, refl, sym, ap, subst, Option, List, ℕ, Err}
+use Rattle.std.specs.Option.{option_map}
+use Rattle.bp_shelf.specs.declared.shelf.ShelfFault.{ShelfFault}
+use Rattle.branch_tree.specs.declared.outcome.Outcome.{Outcome}
+use Rattle.bp_front.specs.Answers.{AnswersBy, IsOnly, CutsOff}
+use Rattle.cmd_solve.specs.Solves.{SolvesBy}
+use Rattle.cmd_solve.specs.Saves.{LeavesBy}
+use Rattle.cmd_solve.proofs.Starting.{fresh_from, ready_from, refused_from, ready_answers, ready_only, ready_cut, ready_leaves, refused_answers, refusal_only, refused_cut, refused_leaves, fault_answers, fault_only}
+use Rattle.cmd_solve.proofs.solve_blocks.Goals as goal
+
+-- ---- from the start
+
+pub returns-in-Ok-Fresh-clause-answered : goal.returns-in-Ok-Fresh-clause-answered
+returns-in-Ok-Fresh-clause-answered g c = λ told heard.
+    let files = g.F.Shelf.file c.args.shelf.now in
+    let from : Option (List ℕ) = option_map (λ name. name.now) c.args.from in
+    let start = c.in-Ok-Fresh.ensures.start told in
+    subst (λ (f : Option (List ℕ)). AnswersBy (SolvesBy files f c.args.steps c.answer.result.kept c.args.b.now) c.answer.result.status (g.O.Sink.taken c.args.out.now) (g.O.Sink.taken c.answer.new.out))
+    (sym (fresh_from files from c.args.b.now (rw c.in-Ok-Fresh.field-0-is at start))) (c.answer.ensures.answered heard)
+
+pub returns-in-Ok-Fresh-clause-exact : goal.returns-in-Ok-Fresh-clause-exact
+returns-in-Ok-Fresh-clause-exact g c = λ told.
+    let files = g.F.Shelf.file c.args.shelf.now in
+    let from : Option (List ℕ) = option_map (λ name. name.now) c.args.from in
+    let start = c.in-Ok-Fresh.ensures.start told in
+    subst (λ (f : Option (List ℕ)). IsOnly (SolvesBy files f c.args.steps c.answer.result.kept c.args.b.now) c.answer.result.status)
+    (sym (fresh_from files from c.args.b.now (rw c.in-Ok-Fresh.field-0-is at start))) c.answer.ensures.exact
+
+pub returns-in-Ok-Fresh-clause-put_last : goal.returns-in-Ok-Fresh-clause-put_last
+returns-in-Ok-Fresh-clause-put_last g c = λ told rose.
+    let files = g.F.Shelf.file c.args.shelf.now in
+    let from : Option (List ℕ) = option_map (λ name. name.now) c.args.from in
+    let start = c.in-Ok-Fresh.ensures.start told in
+    subst (λ (f : Option (List ℕ)). LeavesBy files f c.args.steps (option_map (λ name. name.now) c.args.cert) (g.F.Shelf.file c.answer.new.shelf) c.args.b.now)
+    (sym (fresh_from files from c.args.b.now (rw c.in-Ok-Fresh.field-0-is at start))) (c.answer.ensures.put_last (c.in-Ok-Fresh.ensures.told ∙ told) rose)
+
+pub returns-in-Ok-Fresh-clause-cut_off : goal.returns-in-Ok-Fresh-clause-cut_off
+returns-in-Ok-Fresh-clause-cut_off g c = λ told heard.
+    let files = g.F.Shelf.file c.args.shelf.now in
+    let from : Option (List ℕ) = option_map (λ name. name.now) c.args.from in
+    let start = c.in-Ok-Fresh.ensures.start told in
+    subst (λ (f : Option (List ℕ)). CutsOff (λ (kept : Option Outcome). SolvesBy files f c.args.steps kept c.args.b.now) c.answer.result.status (g.O.Sink.taken c.args.out.now) (g.O.Sink.taken c.answer.new.out))
+    (sym (fresh_from files from c.args.b.now (rw c.in-Ok-Fresh.field-0-is at start))) (c.answer.ensures.cut_off heard)
+
+-- ---- from a loaded tree
+
+pub answer-requires-in-Ok-Ready-clause-loaded : goal.answer-requires-in-Ok-Ready-clause-loaded
+answer-requires-in-Ok-Ready-clause-loaded g c = let usable = c.in-Ok-Ready.ensures.usable in rw c.in-Ok-Ready.field-0-is at usable
+
+pub returns-in-Ok-Ready-clause-answered : goal.returns-in-Ok-Ready-clause-answered
+returns-in-Ok-Ready-clause-answered g c = λ told heard.
+    let files = g.F.Shelf.file c.args.shelf.now in
+    let from : Option (List ℕ) = option_map (λ name. name.now) c.args.from in
+    let start = c.in-Ok-Ready.ensures.start told in
+    ready_answers files from c.args.steps c.answer-in-Ok-Ready.result.kept c.args.b.now c.in-Ok-Ready.from c.answer-in-Ok-Ready.result.status (g.O.Sink.taken c.args.out.now)
+    (g.O.Sink.taken c.answer-in-Ok-Ready.new.out) (ready_from files from c.args.b.now c.in-Ok-Ready.from (rw c.in-Ok-Ready.field-0-is at start)) (c.answer-in-Ok-Ready.ensures.answered heard)
+
+pub returns-in-Ok-Ready-clause-exact : goal.returns-in-Ok-Ready-clause-exact
+returns-in-Ok-Ready-clause-exact g c = λ told.
+    let files = g.F.Shelf.file c.args.shelf.now in
+    let from : Option (List ℕ) = option_map (λ name. name.now) c.args.from in
+    let start = c.in-Ok-Ready.ensures.start told in
+    ready_only files from c.args.steps c.answer-in-Ok-Ready.result.kept c.args.b.now c.in-Ok-Ready.from c.answer-in-Ok-Ready.result.status c.blocks-2.ensures.formed
+    (ready_from files from c.args.b.now c.in-Ok-Ready.from (rw c.in-Ok-Ready.field-0-is at start)) c.answer-in-Ok-Ready.ensures.exact
+
+pub returns-in-Ok-Ready-clause-put_last : goal.returns-in-Ok-Ready-clause-put_last
+returns-in-Ok-Ready-clause-put_last g c = λ told rose.
+    let files = g.F.Shelf.file c.args.shelf.now in
+    let from : Option (List ℕ) = option_map (λ name. name.now) c.args.from in
+    let start = c.in-Ok-Ready.ensures.start told in
+    ready_leaves files from c.args.steps (option_map (λ name. name.now) c.args.cert) (g.F.Shelf.file c.answer-in-Ok-Ready.new.shelf) c.args.b.now c.in-Ok-Ready.from
+    (ready_from files from c.args.b.now c.in-Ok-Ready.from (rw c.in-Ok-Ready.field-0-is at start)) (c.answer-in-Ok-Ready.ensures.put_last (c.in-Ok-Ready.ensures.told ∙ told) rose)
+
+pub returns-in-Ok-Ready-clause-cut_off : goal.returns-in-Ok-Ready-clause-cut_off
+returns-in-Ok-Ready-clause-cut_off g c = λ told heard.
+    let files = g.F.Shelf.file c.args.shelf.now in
+    let from : Option (List ℕ) = option_map (λ name. name.now) c.args.from in
+    let start = c.in-Ok-Ready.ensures.start told in
+    ready_cut files from c.args.steps c.args.b.now c.in-Ok-Ready.from c.answer-in-Ok-Ready.result.status (g.O.Sink.taken c.args.out.now)
+    (g.O.Sink.taken c.answer-in-Ok-Ready.new.out) (ready_from files from c.args.b.now c.in-Ok-Ready.from (rw c.in-Ok-Ready.field-0-is at start)) (c.answer-in-Ok-Ready.ensures.cut_off heard)
+
+-- ---- refused as a start
+
+pub returns-in-Ok-Refused-clause-answered : goal.returns-in-Ok-Refused-clause-answered
+returns-in-Ok-Refused-clause-answered g c = λ told heard.
+    let files = g.F.Shelf.file c.args.shelf.now in
+    let from : Option (List ℕ) = option_map (λ name. name.now) c.args.from in
+    let start = c.in-Ok-Refused.ensures.start told in
+    refused_answers files from c.args.steps c.print.result.kept c.args.b.now c.in-Ok-Refused.reply c.print.result.status (g.O.Sink.taken c.args.out.now)
+    (g.O.Sink.taken c.print.new.out) (refused_from files from c.args.b.now c.in-Ok-Refused.reply (rw c.in-Ok-Refused.field-0-is at start)) c.print.ensures.status c.print.ensures.kept
+    (c.print.ensures.printed heard)
+
+pub returns-in-Ok-Refused-clause-exact : goal.returns-in-Ok-Refused-clause-exact
+returns-in-Ok-Refused-clause-exact g c = λ told.
+    let files = g.F.Shelf.file c.args.shelf.now in
+    let from : Option (List ℕ) = option_map (λ name. name.now) c.args.from in
+    let start = c.in-Ok-Refused.ensures.start told in
+    refusal_only files from c.args.steps c.print.result.kept c.args.b.now c.in-Ok-Refused.reply c.print.result.status c.blocks-2.ensures.formed
+    (refused_from files from c.args.b.now c.in-Ok-Refused.reply (rw c.in-Ok-Refused.field-0-is at start)) c.print.ensures.status
+
+pub returns-in-Ok-Refused-clause-put_last : goal.returns-in-Ok-Refused-clause-put_last
+returns-in-Ok-Refused-clause-put_last g c = λ told rose.
+    let files = g.F.Shelf.file c.args.shelf.now in
+    let from : Option (List ℕ) = option_map (λ name. name.now) c.args.from in
+    let start = c.in-Ok-Refused.ensures.start told in
+    refused_leaves files from c.args.steps (option_map (λ name. name.now) c.args.cert) (g.F.Shelf.file c.begin.new.shelf) c.args.b.now c.in-Ok-Refused.reply
+    (refused_from files from c.args.b.now c.in-Ok-Refused.reply (rw c.in-Ok-Refused.field-0-is at start)) c.in-Ok-Refused.ensures.files
+
+pub returns-in-Ok-Refused-clause-cut_off : goal.returns-in-Ok-Refused-clause-cut_off
+returns-in-Ok-Refused-clause-cut_off g c = λ told heard.
+    let files = g.F.Shelf.file c.args.shelf.now in
+    let from : Option (List ℕ) = option_map (λ name. name.now) c.args.from in
+    let start = c.in-Ok-Refused.ensures.start told in
+    refused_cut files from c.args.steps c.args.b.now c.in-Ok-Refused.reply c.print.result.status (g.O.Sink.taken c.args.out.now) (g.O.Sink.taken c.print.new.out)
+    (refused_from files from c.args.b.now c.in-Ok-Refused.reply (rw c.in-Ok-Refused.field-0-is at start)) (c.print.ensures.partly heard)
+
+-- ---- a file that isn't there or can't be read
+
+pub returns-in-Err-clause-answered : goal.returns-in-Err-clause-answered
+returns-in-Err-clause-answered g c = λ told heard.
+    let files = g.F.Shelf.file c.args.shelf.now in
+    let from : Option (List ℕ) = option_map (λ name. name.now) c.args.from in
+    fault_answers files from c.args.steps c.stopped_by.result.kept c.args.b.now c.in-Err.fault c.stopped_by.result.status (g.O.Sink.taken c.args.out.now) (g.O.Sink.taken c.args.out.now)
+    (λ e. c.in-Err.ensures.missing told (ap (λ (f : ShelfFault). Err f) e)) c.stopped_by.ensures.status c.stopped_by.ensures.kept refl
+
+pub returns-in-Err-clause-exact : goal.returns-in-Err-clause-exact
+returns-in-Err-clause-exact g c = λ told.
+    let files = g.F.Shelf.file c.args.shelf.now in
+    let from : Option (List ℕ) = option_map (λ name. name.now) c.args.from in
+    fault_only files from c.args.steps c.stopped_by.result.kept c.args.b.now c.in-Err.fault c.stopped_by.result.status
+    (λ e. c.in-Err.ensures.missing told (ap (λ (f : ShelfFault). Err f) e)) c.stopped_by.ensures.status

@@ -1,0 +1,121 @@
+// From where a search goes on: the tree of a certificate's file, or the start.
+ghost use Rattle.std.specs.Prelude.{◌≡◌, ◌⊎◌, IfOk, IsErrOf, IsTrue, Some};
+ghost use Rattle.std.specs.Option.{option_map};
+ghost use Rattle.bp_theory.specs.Claims.{IsCertified};
+ghost use Rattle.bp_shelf.specs.Shelf.{CountsFailed};
+ghost use Rattle.bp_shelf.specs.declared.shelf.ShelfFault.TheVariants.{Missing};
+ghost use Rattle.cert_text.specs.Kept.{certificate_of};
+ghost use Rattle.cert_text.specs.Programs.{GoesWith};
+ghost use Rattle.cmd_solve.specs.Starts.{StartsBy, StartsOf, HasStart, LacksStart, CanBegin};
+
+use block_form::Blocked;
+use bp_front::{Reply, read_front};
+use bp_report::{cert_text, check_text, from_text};
+use bp_search::{LoadFault, load};
+use bp_shelf::{Shelf, ShelfFault};
+use branch_tree::Loaded;
+use cert_check::{Judged, check as judge};
+use cert_text::{Cert, CertFault, read_cert};
+use std::alloc::{AllocError, Global};
+
+// A file is shorter than 2^62 bytes.
+const MAX_FILE: usize = (1 << 62) - 1;
+
+/// From where a search begins.
+#[derive(Drop)]
+pub enum Start {
+    /// From the planted tree.
+    Fresh,
+    /// From a tree that was loaded.
+    Ready(Loaded),
+    /// From nowhere: a file is no start, and this is printed for it.
+    Refused(Reply),
+}
+
+/// The start that a named file gives, or the planted tree where none is named.
+pub fn begin<F: Shelf>(
+    alloc: Global,
+    shelf: &mut F,
+    b: &Blocked,
+    from: Option<&str>,
+) -> Result<Start, ShelfFault>
+    ensures start { IsTrue (F.tells shelf.old) → IfOk result (HasStart (F.file shelf.old) (option_map (λ name. name.now) from.entry) b.now) }
+    ensures usable { IfOk result (CanBegin b.now) }
+    ensures missing { IsTrue (F.tells shelf.old) → IsErrOf result ShelfFault.Missing → LacksStart (F.file shelf.old) (option_map (λ name. name.now) from.entry) }
+    ensures told { F.tells shelf.new ≡ F.tells shelf.old }
+    ensures files { F.file shelf.new ≡ F.file shelf.old }
+    ensures cause { CountsFailed (F.read_faults shelf.old) (F.read_faults shelf.new) result }
+    ensures writes { F.write_faults shelf.new ≡ F.write_faults shelf.old }
+{
+    match from {
+        None => Ok(Start::Fresh),
+        Some(name) => begin_from(alloc, shelf, b, name),
+    }
+}
+
+// The start that a file gives.
+fn begin_from<F: Shelf>(
+    alloc: Global,
+    shelf: &mut F,
+    b: &Blocked,
+    name: &str,
+) -> Result<Start, ShelfFault>
+    ensures start { IsTrue (F.tells shelf.old) → IfOk result (HasStart (F.file shelf.old) (Some name.now) b.now) }
+    ensures usable { IfOk result (CanBegin b.now) }
+    ensures missing { IsTrue (F.tells shelf.old) → IsErrOf result ShelfFault.Missing → LacksStart (F.file shelf.old) (Some name.now) }
+    ensures told { F.tells shelf.new ≡ F.tells shelf.old }
+    ensures files { F.file shelf.new ≡ F.file shelf.old }
+    ensures cause { CountsFailed (F.read_faults shelf.old) (F.read_faults shelf.new) result }
+    ensures writes { F.write_faults shelf.new ≡ F.write_faults shelf.old }
+{
+    let text = read_front(alloc, shelf, name, MAX_FILE)?;
+    Ok(start_of(alloc, b, &text)?)
+}
+
+// The start that a text gives.
+fn start_of(alloc: Global, b: &Blocked, text: &[u8]) -> Result<Start, AllocError>
+    ensures start { IfOk result (StartsBy b.now text.now) }
+    ensures usable { IfOk result (CanBegin b.now) }
+{
+    match read_cert(alloc, text, b) {
+        Ok(cert) => judged_start(alloc, b, &cert),
+        Err(CertFault::At { line, kind }) => Ok(Start::Refused(Reply {
+            status: 3,
+            report: cert_text(alloc, line, kind)?,
+        })),
+        Err(CertFault::NoMemory) => Err(AllocError),
+    }
+}
+
+// The start that a certificate gives that was read.
+fn judged_start(alloc: Global, b: &Blocked, cert: &Cert) -> Result<Start, AllocError>
+    requires { GoesWith b.now (certificate_of cert.now) }
+    ensures start { IfOk result (StartsOf b.now cert.now) }
+    ensures usable { IfOk result (CanBegin b.now) }
+{
+    let judged = judge(alloc, b, cert)?;
+    match judged {
+        Judged::Accepted(_) => loaded_start(alloc, b, cert),
+        Judged::Rejected { .. } => Ok(Start::Refused(Reply {
+            status: 6,
+            report: check_text(alloc, &judged)?,
+        })),
+    }
+}
+
+// The start that a valid certificate gives.
+fn loaded_start(alloc: Global, b: &Blocked, cert: &Cert) -> Result<Start, AllocError>
+    requires goes_with { GoesWith b.now (certificate_of cert.now) }
+    requires valid { IsCertified b.now.named.program b.now.dec (certificate_of cert.now) }
+    ensures start { IfOk result (StartsOf b.now cert.now) }
+    ensures usable { IfOk result (CanBegin b.now) }
+{
+    match load(alloc, b, cert) {
+        Ok(from) => Ok(Start::Ready(from)),
+        Err(LoadFault::Deep(line)) => Ok(Start::Refused(Reply {
+            status: 3,
+            report: from_text(alloc, line)?,
+        })),
+        Err(LoadFault::NoMemory) => Err(AllocError),
+    }
+}
