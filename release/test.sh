@@ -17,7 +17,7 @@ failed=0
 
 # Nothing but these can be found by what is tried: bash, and of coreutils what the scripts use.
 mkdir "$room/bin" "$room/user" "$room/kit"
-for it in bash cat chmod cp cut dirname du head install mkdir mktemp mv readlink rm sha256sum sort touch uname; do
+for it in bash cat chmod cmp cp cut dirname du head install mkdir mktemp mv readlink rm sha256sum sort touch uname; do
     ln -s "$(command -v "$it")" "$room/bin/$it"
 done
 
@@ -132,6 +132,20 @@ bare "$clone/bprice" solve missing.lp
 expect 'a file that is not there' 11 '' 0
 bare "$clone/bprice" solve "own lp.lp" --steps
 expect 'words that are no command line' 2 'refused words' 0
+
+# Files that would be written over what is read.
+cp "$room/user/own.lp" "$room/user/kept.lp"
+ln -s own.lp "$room/user/linked.lp"
+for it in 'solve own.lp --cert own.lp' 'solve --cert=./own.lp own.lp' 'solve linked.lp --cert own.lp' 'solve own.lp --dec linked.lp --cert own.lp' \
+    'detect own.lp linked.lp own.lp' 'gen 1 2 linked.lp own.lp' 'gen 1 2 new.lp new.lp'; do
+    bare "$clone/bprice" $it
+    expect "a file that is read and written: $it" 125 '' 1 'would be written'
+done
+holds 'a file that is read and written stands' cmp -s "$room/user/own.lp" "$room/user/kept.lp"
+bare "$clone/bprice" solve own.lp --from own.cert --cert own.cert
+expect 'one certificate to go on from and to write' 0 "$report" 0
+bare "$clone/bprice" solve -- own.lp --cert own.lp
+expect 'words behind two dashes' 2 'refused words' 0
 
 # Two runs at once.
 fresh 'two at once'

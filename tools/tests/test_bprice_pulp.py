@@ -195,6 +195,19 @@ def test_blocks():
         assert told in refused(model, dec="auto")
 
 
+def test_time_and_warm_start(capsys):
+    """A start from the variables' values; the time's end gives the best point so far, or none."""
+    model, x = assignment(30)
+    for (i, j), v in x.items():
+        v.setInitialValue(int(i == j % 3))
+    started = bprice_pulp.Model(model, print).start()
+    assert started is None or started.startswith("bpcert 1\nclaim bound ")
+    status = model.solve(bprice_pulp.BPRICE_CMD(msg=False, timeLimit=2, gapRel=0.0, warmStart=True))
+    assert status in (pulp.LpStatusOptimal, pulp.LpStatusNotSolved)
+    if status == pulp.LpStatusOptimal:
+        assert all(row.valid() for row in model.constraints.values())
+
+
 def test_start_is_a_certificate():
     """What a warm start hands over is accepted by the checker for the text that is solved."""
     for sense in (pulp.LpMaximize, pulp.LpMinimize):

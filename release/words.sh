@@ -1,0 +1,43 @@
+# What ./bprice sees in its words before it starts the program: whether a file that would be written is one that is read, or is
+# written twice. Words that the program refuses are left to it.
+
+# Sets `places` to the words that are no options, and `given` to the values of options, by name.
+part_words() {
+    local word name
+    places=()
+    given=()
+    while [ $# -gt 0 ]; do
+        word=$1
+        shift
+        case $word in
+        --) places+=("$@") && return ;;
+        --?*=*) name=${word%%=*} && given[${name#--}]=${word#*=} ;;
+        --?*)
+            given[${word#--}]=${1-}
+            [ $# -gt 0 ] && shift
+            ;;
+        *) places+=("$word") ;;
+        esac
+    done
+}
+
+# Tells on standard error of a file that would be written and is also another of the named files, links followed.
+stop_on_shared_files() { # WORDS..
+    local -a places read=() written=()
+    local -A given
+    local at it
+    part_words "$@"
+    case ${places[0]-} in
+    solve) read=("${places[1]-}" "${given[dec]-}") written=("${given[cert]-}") ;;
+    gen) written=("${places[3]-}" "${places[4]-}") ;;
+    detect) read=("${places[1]-}" "${places[2]-}") written=("${places[3]-}") ;;
+    esac
+    for at in "${!written[@]}"; do
+        for it in "${read[@]}" "${written[@]:at + 1}"; do
+            if [ -n "$it" ] && { [ "$it" = "${written[at]}" ] || [ "$it" -ef "${written[at]}" ]; }; then
+                complain "${written[at]} would be written, and is the same file as $it: nothing was started"
+                return 1
+            fi
+        done
+    done
+}

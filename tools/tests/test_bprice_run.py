@@ -1,0 +1,173 @@
+"""bprice-run: the answer of `solve`, time and signals, going on, and what it says where the program refuses."""
+import os
+import re
+import signal
+import subprocess
+import sys
+import time
+
+import pytest
+
+from conftest import PROGRAM, TOP, knows, load_tool, run
+
+TOOL = TOP / "tools" / "bprice-run"
+checker = load_tool(TOP / "tools" / "check_certificate.py")
+
+
+def start(*words, **options):
+    return subprocess.Popen([sys.executable, TOOL, *map(str, words)], stdout=subprocess.PIPE, stderr=subprocess.PIPE, text=True, **options)
+
+
+def told(*words, **options):
+    with start(*words, **options) as ran:
+        out, err = ran.communicate(timeout=60)
+    return out, err, ran.returncode
+
+
+@pytest.fixture(name="large")
+def large_fixture(tmp_path):
+    """A model that takes many steps without its decomposition."""
+    run("gen", 5, 300, "lp", "dec", cwd=tmp_path)
+    return tmp_path
+
+
+@pytest.fixture(name="small")
+def small_fixture(tmp_path):
+    """A model that its decomposition closes at once."""
+    run("gen", 5, 60, "lp", "dec", cwd=tmp_path)
+    return tmp_path
+
+
+def accepted(room, lp, cert, dec=None):
+    """What the checker for strangers and `check` say of a certificate that was left."""
+    names = [lp, cert, *(["--dec", dec] if dec else [])]
+    report, _ = run("check", *names, cwd=room)
+    texts = [(room / name).read_bytes() for name in (lp, cert, dec) if name]
+    assert report == checker.check(*texts) + "\n"
+    assert report.startswith("accepted ") and not list(room.glob("*.part"))
+    return report.split(" ", 1)[1]
+
+
+def test_answers(tmp_path):
+    folder = TOP / "examples" / "assignment"
+    out, err, status = told("model.lp", "--cert", tmp_path / "cert", "--dec", "model.dec", cwd=folder)
+    assert (out.split("\n")[0], status) == ("optimal 92", 0)
+    assert re.search(r"^steps \d+  bound 92  value 92  gap 0.00%  open 0  \d+\.\d s$", err, re.MULTILINE)
+    assert run("check", "model.lp", tmp_path / "cert", "--dec", "model.dec", cwd=folder) == ("accepted optimal 92\n", 0)
+
+
+def test_infeasible(tmp_path):
+    (tmp_path / "lp").write_text("Minimize\n x\nSubject To\n 2 x + 2 y = 5\nBounds\n x <= 9\n y <= 9\nGenerals\n x y\nEnd\n")
+    out, err, status = told("lp", "--cert", "cert", cwd=tmp_path)
+    assert (out, status) == ("infeasible\n", 4)
+    assert err.strip().split("\n")[-1].split("  ")[1] == "infeasible"
+    assert accepted(tmp_path, "lp", "cert") == "infeasible\n"
+
+
+def test_names_like_words(tmp_path):
+    """Variables that are named as the report's words are."""
+    (tmp_path / "lp").write_text("Maximize\n 3 value + 2 bound\nSubject To\n c1: value + bound <= 4\nBounds\n value <= 3\n 0 <= bound <= 3\n"
+                                 "Generals\n value bound\nEnd\n")
+    out, err, status = told("lp", "--cert", "cert", cwd=tmp_path)
+    assert (out, status) == ("optimal 11\nvalue 3\nbound 1\n", 0)
+    assert "  bound 11  value 11  gap 0.00%  open 0  " in err
+
+
+def test_goes_on(large):
+    """Stopped after a few steps and started again by the same words, the search goes on; more steps are asked from call to call."""
+    steps = []
+    for _ in range(3):
+        out, _, status = told("lp", "--cert", "cert", "--steps", 7, cwd=large)
+        assert status == 5
+        steps.append(int(re.match(r"budget (\d+)\n", out)[1]))
+        claim = accepted(large, "lp", "cert")
+        assert claim.split()[:2] == out.split("\n")[1].split()
+    assert steps == sorted(set(steps)) and steps[0] == 7
+
+
+def test_time(large):
+    begin = time.monotonic()
+    out, err, status = told("lp", "--cert", "cert", "--time", 2, cwd=large)
+    assert status == 5 and time.monotonic() - begin < 4.5
+    assert out.startswith("budget ")
+    seconds = [float(found) for found in re.findall(r"(\d+\.\d) s$", err, re.MULTILINE)]
+    # The first and the last line come always, those between at most once a second.
+    assert len(seconds) >= 2 and seconds[-1] <= 2.9
+    assert all(later - earlier > 0.9 for earlier, later in zip(seconds, seconds[1:-1]))
+    accepted(large, "lp", "cert")
+
+
+@pytest.mark.parametrize("number", [signal.SIGINT, signal.SIGTERM])
+def test_signals(large, number):
+    with start("lp", "--cert", "cert", cwd=large) as ran:
+        lines = [ran.stderr.readline(), ran.stderr.readline()]
+        ran.send_signal(number)
+        out, err = ran.communicate(timeout=20)
+    assert all(line.startswith("steps ") for line in lines)
+    assert ran.returncode == 5 and out.startswith("budget ") and "Traceback" not in err
+    before = int(re.match(r"budget (\d+)\n", out)[1])
+    accepted(large, "lp", "cert")
+    out, _, _ = told("lp", "--cert", "cert", "--steps", 2, cwd=large)
+    assert int(re.match(r"budget (\d+)\n", out)[1]) >= before + 1
+
+
+def test_gap(large):
+    """With the decomposition the value is near the bound long before both meet."""
+    out, err, status = told("lp", "--dec", "dec", "--cert", "cert", "--gap", "5%", "--time", 40, cwd=large)
+    assert status in (0, 5)
+    found = dict(re.findall(r"^(optimal|bound|value) (-?\d+)$", out, re.MULTILINE))
+    if status == 5:
+        assert abs(int(found["value"]) - int(found["bound"])) <= 0.05 * abs(int(found["value"]))
+    assert "gap" in err.strip().split("\n")[-1]
+    accepted(large, "lp", "cert", "dec")
+
+
+def test_certificate_of_another_model(large):
+    folder = TOP / "examples" / "rostering"
+    (large / "cert").write_bytes((folder / "model.cert").read_bytes())
+    out, err, status = told("lp", "--cert", "cert", "--steps", 1, cwd=large)
+    assert status in (3, 6) and out.startswith(("refused cert ", "rejected "))
+    assert "cert is there, and is no certificate to go on from" in err
+    assert "Traceback" not in err
+
+
+def test_refusals(large):
+    out, err, status = told("none.lp", "--cert", "cert", cwd=large)
+    assert (out, status) == ("", 11) and "Traceback" not in err
+    (large / "bad").write_text("Maximize\n 3 x ^ 2\n")
+    out, err, status = told("bad", "--cert", "cert", cwd=large)
+    assert (out, status) == ("refused lp 2 feature\n", 3)
+    assert not (large / "cert").exists()
+
+
+def test_auto_decomposition(small):
+    out, err, status = told("lp", "--cert", "cert", "--dec", "auto", "--time", 40, cwd=small)
+    if knows("propose", "none.lp", "none.dec"):
+        assert out.startswith("optimal ") and status == 0 and "proposed blocks" in err
+        accepted(small, "lp", "cert", "cert.dec")
+    else:
+        assert (out, status) == ("refused words\n", 2) and "no command `propose`" in err
+
+
+def test_proposed_decomposition(small, monkeypatch):
+    """What `propose` writes is used, and used again by the same command. A script stands for `propose`, with the model's own blocks."""
+    script = small / "proposing"
+    script.write_text(f'#!/bin/sh\nif [ "$1" = propose ]; then cp {small}/dec "$3" && echo proposed blocks 4 classes 4 master 40; exit; fi\n'
+                      f'exec {os.environ["BPRICE"]} "$@"\n')
+    script.chmod(0o755)
+    monkeypatch.setenv("BPRICE", str(script))
+    out, err, status = told("lp", "--cert", "cert", "--dec", "auto", "--steps", 1, cwd=small)
+    assert "proposed blocks 4 classes 4 master 40 in cert.dec" in err and (small / "cert.dec").read_bytes() == (small / "dec").read_bytes()
+    out, err, status = told("lp", "--cert", "cert", "--dec", "auto", "--time", 40, cwd=small)
+    assert "proposed" not in err and status == 0 and out.startswith("optimal ")
+    accepted(small, "lp", "cert", "cert.dec")
+
+
+def test_program_without_going_on(large, monkeypatch):
+    """A program that refuses `--from`: it says so. The one under test may know it, so that a script stands for it."""
+    script = large / "old"
+    script.write_text(f'#!/bin/sh\nfor word; do [ "$word" = --from ] && echo refused words && exit 2; done\nexec {PROGRAM} "$@"\n')
+    script.chmod(0o755)
+    monkeypatch.setenv("BPRICE", str(script))
+    out, err, status = told("lp", "--cert", "cert", cwd=large, env=os.environ)
+    assert (out, status) == ("refused words\n", 2) and "no `solve --from`" in err
