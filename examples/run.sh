@@ -41,6 +41,14 @@ checks() {
     expect "$folder $*" "accepted $claim" "$("$bprice" check "$@")"
 }
 
+# detects FOLDER LIST: the decomposition beside the listed rows has the blocks of model.dec.
+detects() {
+    cd "$here/$1" || exit 1
+    expect "$1, blocks beside $2" "detected blocks $(awk '$1 == "NBLOCKS" { print $2 }' model.dec)" "$("$bprice" detect model.lp "$2" "$room/dec")"
+    expect "$1, their sizes" "$("$bprice" show model.lp --dec model.dec | paste -sd' ')" "$("$bprice" show model.lp --dec "$room/dec" | paste -sd' ')"
+}
+
+detects cutting-stock orders.txt
 solves cutting-stock
 solves cutting-stock --dec model.dec
 checks cutting-stock 'optimal 2' model.lp model.cert --dec model.dec
