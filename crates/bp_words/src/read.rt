@@ -216,6 +216,3 @@ fn value_of<'a>(matches: &ArgMatches<'a>, id: &str) -> Option<&'a str>
 {
     matches.get_str(id)
 }
-
-#[cfg(test)]
-mod tests;

@@ -1,0 +1,166 @@
+// Command lines, and the order that each gives.
+use bp_words::{Order, Text, WordFault, read_words};
+use std::alloc::{AllocError, Global};
+use std::test::Fail;
+
+/// Lines of an order and of the words that give it, with ` @ ` between them. A dash stands for what isn't given, and `''` for a word
+/// without letters. Other lines are headings.
+const LINES: &str = "\
+# Files, joined to their options and apart.
+solve a.lp - - - - @ solve a.lp
+solve a.lp - - c - @ solve --cert=c a.lp
+solve a.lp d - c - @ solve a.lp --cert c --dec d
+solve a.lp - - c c @ solve a.lp --from=c --cert c
+solve --cert - - - - @ solve -- --cert
+check a.lp c - @ check a.lp c
+check a.lp c d @ check --dec=d a.lp c
+show a.lp - @ show a.lp
+show a.lp d @ show a.lp --dec d
+detect a.lp r d @ detect a.lp r d
+# Numbers.
+solve a.lp - 7 - - @ solve a.lp --steps 007
+solve a.lp - 1152921504606846976 - - @ solve --steps=1152921504606846976 a.lp
+gen 0 1024 a.lp a.dec @ gen +0 1024 a.lp a.dec
+demo 18446744073709551615 1 @ demo 18446744073709551615 1
+refused @ solve a.lp --steps
+refused @ solve a.lp --steps=-1
+refused @ solve a.lp --steps=1152921504606846977
+refused @ solve a.lp --steps=1.5
+refused @ solve a.lp --steps=1 --steps=1
+refused @ gen 1 0 a.lp a.dec
+refused @ gen 1 1025 a.lp a.dec
+refused @ gen 18446744073709551616 1 a.lp a.dec
+refused @ gen 1 1 a.lp
+refused @ demo 1 ''
+refused @ demo -1 1
+# Words that are no command line.
+refused @ prove a.lp
+refused @ solve
+refused @ solve a.lp b.lp
+refused @ solve a.lp --cert
+refused @ solve a.lp --cert=c --cert=c
+refused @ solve a.lp --dec
+refused @ solve a.lp --dec=d --dec=e
+refused @ solve a.lp --from
+refused @ solve a.lp --from c --from c
+refused @ solve a.lp --block=d
+refused @ solve a.lp --help
+refused @ --help
+refused @ help
+refused @ --version
+refused @ check a.lp
+refused @ check a.lp c --from c
+refused @ show
+refused @ show a.lp --cert=c
+refused @ detect a.lp r
+refused @ detect a.lp --dec d r
+";
+
+/// The words of a line, behind the program's name.
+fn words_of(alloc: Global, line: &str) -> Result<Vec<String>, AllocError> {
+    let mut words = Vec::new(alloc);
+    words.push(String::from_str(alloc, "bprice")?)?;
+    for word in line.split(' ') {
+        let word = if word == "''" { "" } else { word };
+        words.push(String::from_str(alloc, word)?)?;
+    }
+    Ok(words)
+}
+
+/// A name that may be given.
+fn name_of(text: &Option<Text>) -> &str {
+    match text {
+        Some(text) => text.as_str(),
+        None => "-",
+    }
+}
+
+/// A number that may be given.
+fn number_of(alloc: Global, number: &Option<u64>) -> Result<String, AllocError> {
+    match number {
+        Some(number) => format!(in alloc; "{number}"),
+        None => String::from_str(alloc, "-"),
+    }
+}
+
+/// An order to solve in short.
+fn solve_line(
+    alloc: Global,
+    files: (&str, &str, &str, &str),
+    steps: &Option<u64>,
+) -> Result<String, AllocError> {
+    let steps = number_of(alloc, steps)?;
+    let (lp, dec, cert, from) = files;
+    format!(in alloc; "solve {lp} {dec} {steps} {cert} {from}")
+}
+
+/// An order in short.
+fn order_line(alloc: Global, order: &Order) -> Result<String, AllocError> {
+    match order {
+        Order::Solve {
+            lp,
+            dec,
+            steps,
+            cert,
+            from,
+        } => {
+            let files = (lp.as_str(), name_of(dec), name_of(cert), name_of(from));
+            solve_line(alloc, files, steps)
+        }
+        Order::Check { lp, cert, dec } => {
+            format!(in alloc; "check {} {} {}", lp.as_str(), cert.as_str(), name_of(dec))
+        }
+        Order::Show { lp, dec } => format!(in alloc; "show {} {}", lp.as_str(), name_of(dec)),
+        Order::Gen {
+            seed,
+            size,
+            lp,
+            dec,
+        } => format!(in alloc; "gen {seed} {size} {} {}", lp.as_str(), dec.as_str()),
+        Order::Demo { seed, size } => format!(in alloc; "demo {seed} {size}"),
+        Order::Detect { lp, rows, dec } => {
+            format!(in alloc; "detect {} {} {}", lp.as_str(), rows.as_str(), dec.as_str())
+        }
+    }
+}
+
+/// What words are read as, in short.
+fn answer(alloc: Global, words: &[String]) -> Result<String, AllocError> {
+    match read_words(alloc, words) {
+        Ok(order) => order_line(alloc, &order),
+        Err(WordFault::Refused) => String::from_str(alloc, "refused"),
+        Err(WordFault::NoMemory) => Err(AllocError),
+    }
+}
+
+/// The lines with another answer than theirs, with that answer; how many lines there are.
+fn wrong(alloc: Global) -> Result<(String, usize), AllocError> {
+    let mut all = String::new(alloc);
+    let mut count = 0usize;
+    for line in LINES.lines() {
+        if let Some((want, words)) = line.split_once(" @ ") {
+            count = count.saturating_add(1);
+            let words = words_of(alloc, words)?;
+            let found = answer(alloc, words.as_slice())?;
+            if found.as_str() != want {
+                all.push_str(format!(in alloc; "{found} at {line}\n")?.as_str())?;
+            }
+        }
+    }
+    Ok((all, count))
+}
+
+#[test]
+fn each_line_gives_its_order_or_is_refused(rt: HostRuntime) -> Result<(), Fail> {
+    let (wrong, count) = wrong(rt.alloc())?;
+    assert_eq!(rt; wrong.as_str(), "");
+    assert_eq!(rt; count, 45);
+    Ok(())
+}
+
+#[test]
+fn no_words_are_refused(rt: HostRuntime) -> Result<(), Fail> {
+    let none = answer(rt.alloc(), &[])?;
+    assert_eq!(rt; none.as_str(), "refused");
+    Ok(())
+}
