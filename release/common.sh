@@ -29,7 +29,10 @@ read_crates() {
         line=${said[${crates[at]}]-}
         lines+=("$line")
         for it in ${line#*:}; do
-            [ -n "${said[$it]-}" ] && [ -z "${seen[$it]-}" ] && seen[$it]=1 && crates+=("$it")
+            if [ -n "${said[$it]-}" ] && [ -z "${seen[$it]-}" ]; then
+                seen[$it]=1
+                crates+=("$it")
+            fi
         done
     done
 }
