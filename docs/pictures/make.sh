@@ -1,6 +1,6 @@
 #!/usr/bin/env bash
 # Makes the pictures of the documents anew, by Debian's Python with matplotlib and by graphviz. BPRICE names the program, where it is
-# not to be the launcher's; the last picture needs `solve --from`.
+# not to be the launcher's.
 set -eu
 
 here=$(cd "$(dirname "$(readlink -f "${BASH_SOURCE[0]}")")" && pwd)
@@ -19,7 +19,9 @@ cd "$top/examples"
 draw matrix cutting-stock/model.lp --dec cutting-stock/model.dec "$here/cutting-matrix.svg"
 draw tree routing/model.lp routing/model.cert "$here/routing-tree.svg"
 
-# Sixteen jobs without their decomposition: a search of many steps, of which the first twenty seconds are drawn.
-"$bprice" gen 1 16 "$room/lp" "$room/dec"
-"$python" "$top/tools/bprice-run" "$room/lp" --cert "$room/cert" --time 20 2>"$room/log" >"$room/report" || [ $? -eq 5 ]
+# A hundred jobs for five machines, of the recipe whose instances are the hardest: the first twenty seconds of a search of many
+# steps are drawn.
+python3 "$top/bench/models.py" "$room" assignment-D-5-100
+"$python" "$top/tools/bprice-run" "$room/assignment-D-5-100.lp" --dec "$room/assignment-D-5-100.dec" --cert "$room/cert" --time 20 \
+    2>"$room/log" >"$room/report" || [ $? -eq 5 ]
 draw progress "$room/log" "$here/assignment-progress.svg"
