@@ -61,6 +61,8 @@ def solved(lp, cert, dec):
     if told is None:
         return ["open", "", seconds(told, took), "", ""]
     answer = told.split("\n", 1)[0]
+    if not os.path.exists(cert):
+        return [answer, "", seconds(told, took), "", ""]
     with open(cert, encoding="ascii") as text:
         steps = sum(row.startswith(("split", "leaf")) for row in text)
     judged, judging = run([BPRICE, "check", lp, cert, *with_dec])
