@@ -147,6 +147,14 @@ expect 'one certificate to go on from and to write' 0 "$report" 0
 bare "$clone/bprice" solve -- own.lp --cert own.lp
 expect 'words behind two dashes' 2 'refused words' 0
 
+# Words that ask for help, on standard error; the program refuses them as others.
+for it in '' -h --help help; do
+    bare "$clone/bprice" $it
+    expect "help: '$it'" 2 'refused words' 10 'usage: bprice COMMAND'
+done
+bare "$clone/bprice" --version
+expect 'the version' 2 'refused words' 3 'kit of the test'
+
 # Two runs at once.
 fresh 'two at once'
 (cd "$room/user" && env -i PATH="$room/bin" "$clone/bprice" solve own.lp >"$room/put2" 2>&1) &
