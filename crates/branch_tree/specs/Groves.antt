@@ -1,5 +1,5 @@
 -- What a grove is, what it keeps, and what is done with it.
-use Rattle.std.specs.Prelude.{◌≡◌, ℕ, ◌+◌, ◌<◌, ◌≤◌, ◌^◌, List, [], ◌∷◌, ◌++◌, length, Option, Some, None, ℤ, unsigned_abs, refl}
+use Rattle.std.specs.Prelude.{◌≡◌, ℕ, ◌+◌, ◌<◌, ◌≤◌, ◌^◌, List, [], ◌∷◌, ◌++◌, length, Some, None, ℤ, unsigned_abs, refl}
 use Rattle.std.specs.Coded.{Coded, code_by, coded×, coded_list, coded_ℕ}
 use base.Stored.{coded_ℤ}
 use Rattle.bp_theory.specs.Bound.{IsBound, plain_proof}
@@ -8,13 +8,12 @@ use Rattle.bp_theory.specs.declared.Span.{Span}
 use Rattle.bp_theory.specs.contracts.Span as span_type
 use Rattle.block_form.specs.Blocked.{BlockedProgram}
 use Rattle.search_laws.specs.contracts.Side as side_type
-use Rattle.search_laws.specs.declared.Side.{Side}
 use Rattle.search_laws.specs.declared.Side.TheVariants.{Low, High}
-use Rattle.search_laws.specs.Grove.{GrowingTree, LiveLeaf, live_at, zone_at, live_count, live_bounds, certificate_tree, planted}
+use Rattle.search_laws.specs.Grove.{GrowingTree, live_at, zone_at, live_count, live_bounds, certificate_tree, planted}
 use Rattle.search_laws.specs.GroveFacts.{IsGrove, IsLeastOf}
 use Rattle.search_laws.specs.Queue.{Queue, IsQueue, IsFirstEntry, IsWith, IsWithout, SameKey}
 use Rattle.search_laws.specs.TreeCodes.{coded_growing}
-use Rattle.branch_tree.specs.Queues.{Entries, queue_of}
+use Rattle.branch_tree.specs.Queues.{Entries, queue_of, IsEntryAt}
 use Rattle.branch_tree.specs.declared.turn.Turn.{Turn}
 
 -- a grove: its tree, the zone of the root, and the queue of its live leaves
@@ -75,6 +74,13 @@ pub record IsNextTurn (g : GroveState) (turn : Turn) : Type 0 where
   pub number : ℕ
   pub first : IsFirstEntry (queue_of g.queue) turn.bound number turn.path
   pub least : IsLeastOf (live_bounds g.tree) turn.bound
+
+-- the live leaf at a place in the queue's order, from 0: exactly so many entries come before its own, by bound and of equal
+-- bounds by number of making
+pub record IsTurnAt (g : GroveState) (place : ℕ) (turn : Turn) : Type 0 where
+  pub live : IsLiveTurn g turn
+  pub number : ℕ
+  pub entry : IsEntryAt g.queue place turn.bound number turn.path
 
 -- a queue without a turn's entry
 pub record IsShutQueue (before : Queue) (turn : Turn) (after : Queue) : Type 0 where

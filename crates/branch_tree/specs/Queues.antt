@@ -1,6 +1,7 @@
 -- The queue of live leaves as a list of entries.
-use Rattle.std.specs.Prelude.{◌≡◌, ℕ, ◌+◌, List, Some, None, ℤ}
-use Rattle.std.specs.Ordering.{is_eq, int_cmp, nat_cmp, ordering_then}
+use Rattle.std.specs.Prelude.{◌≡◌, ℕ, ◌+◌, List, length, Some, None, ℤ}
+use Rattle.std.specs.List.{filter}
+use Rattle.std.specs.Ordering.{is_eq, is_lt, int_cmp, nat_cmp, ordering_then}
 use Rattle.std.specs.Map.{lookup}
 use Rattle.std.specs.declared.cmp.Ordering.{Ordering}
 use Rattle.search_laws.specs.Queue.{Queue, SameKey}
@@ -17,6 +18,15 @@ key_cmp x y = ordering_then (int_cmp x.0 y.0) (nat_cmp x.1 y.1)
 -- entries as a look-up
 abbrev pub queue_of : Entries → Queue
 queue_of entries z n = lookup (λ k. is_eq (key_cmp (z, n) k)) entries
+
+-- how many entries come before a key: those of a lower bound, and of its own bound those with a lower number
+abbrev pub count_before : Entries → ℤ → ℕ → ℕ
+count_before entries z n = length (filter (λ e. is_lt (key_cmp e.0 (z, n))) entries)
+
+-- the entry at a place, from 0: exactly so many come before it
+pub record IsEntryAt (entries : Entries) (place : ℕ) (z : ℤ) (n : ℕ) (path : List Side) : Type 0 where
+  pub there : queue_of entries z n ≡ Some path
+  pub before : count_before entries z n ≡ place
 
 -- a queue with two entries in place of one: under a key, and under that of the next number
 pub record IsDivided (before : Queue) (z : ℤ) (n : ℕ) (next : ℤ) (number : ℕ) (first second : List Side) (after : Queue) : Type 0 where

@@ -54,7 +54,7 @@ impl Grove {
     ghost use Rattle.branch_tree.specs.Turns.{IsTurn};
     ghost use Rattle.branch_tree.specs.Trees.{tree_of};
     ghost use Rattle.branch_tree.specs.Queues.{queue_of};
-    ghost use Rattle.branch_tree.specs.Groves.{IsStanding, IsGroveOf, IsPlanted, IsLiveTurn, IsNextTurn, IsShutQueue, IsForkedQueue, made};
+    ghost use Rattle.branch_tree.specs.Groves.{IsStanding, IsGroveOf, IsPlanted, IsLiveTurn, IsNextTurn, IsTurnAt, IsShutQueue, IsForkedQueue, made};
     ghost use Rattle.branch_tree.specs.Adopted.{IsAdopted};
 
     /// One live leaf with the program's whole zone, with the proof of scale 1 that names no row and picks no block, and
@@ -117,6 +117,26 @@ impl Grove {
         let root = self.root.copy(alloc)?;
         let turn = turn_at(alloc, &self.tree, path, root)?;
         Ok(Some(turn))
+    }
+
+    /// The live leaf at a place, from 0: that which exactly `place` others come before, by bound and of equal bounds by the
+    /// order in which they were made. None exactly where no more than `place` leaves are live. The leaf stays live. The walk
+    /// through the queue is `place` entries long.
+    pub fn take_at(&self, alloc: Global, place: u64) -> Result<Option<Turn>, AllocError>
+        ensures next { IfOk result (λ turn. MatchOption turn (live_count self.now.tree ≤ place) (IsTurnAt self.now place)) }
+        ensures within { IfOk result (λ turn. IfSome turn (λ _. place < live_count self.now.tree)) }
+        ensures kept { (b : BlockedProgram) → IsGroveOf b self.now → IfOk result (λ turn. IfSome turn (IsTurn b)) }
+        ensures standing { IsStanding self.now }
+    {
+        if place >= self.live {
+            return Ok(None);
+        }
+        let Some((_, path)) = self.queue.at_place(place) else {
+            return Ok(None);
+        };
+        let root = self.root.copy(alloc)?;
+        let leaf = turn_at(alloc, &self.tree, path, root)?;
+        Ok(Some(leaf))
     }
 
     /// Shuts a live leaf with a proof. It takes no memory.

@@ -21,12 +21,12 @@ impl std::marker::Model for LeafQueue {
 }
 
 impl LeafQueue {
-    ghost use Rattle.std.specs.Prelude.{◌≡◌, ◌+◌, ◌<◌, ◌^◌, IsSome, OnOk, OnErr, IfSome, IfNone, None, Some, ℕ};
+    ghost use Rattle.std.specs.Prelude.{◌≡◌, ◌+◌, ◌<◌, ◌≤◌, ◌^◌, length, IsSome, OnOk, OnErr, IfSome, IfNone, None, Some, ℕ};
     ghost use Rattle.search_laws.specs.Queue.{IsEmptyQueue, IsWith, IsWithout, IsFirstEntry};
     ghost use Rattle.std.specs.Ordering.{is_eq};
     ghost use Rattle.std.specs.Map.{remove_entry};
     ghost use Rattle.std.specs.BTreeMap.{insert_entry};
-    ghost use Rattle.branch_tree.specs.Queues.{key_cmp, queue_of, IsDivided};
+    ghost use Rattle.branch_tree.specs.Queues.{key_cmp, queue_of, IsDivided, IsEntryAt};
 
     /// No entries.
     pub fn new(alloc: Global) -> LeafQueue
@@ -62,6 +62,18 @@ impl LeafQueue {
         ensures none { IfNone result (IsEmptyQueue (queue_of self.now)) }
     {
         match self.entries.first_key_value() {
+            None => None,
+            Some((key, path)) => Some((key, path.as_slice())),
+        }
+    }
+
+    /// The entry that exactly `place` others come before, or None where there are no more entries than that. The walk from
+    /// the front is `place` entries long.
+    pub fn at_place(&self, place: u64) -> Option<(&(i64, u64), &[Side])>
+        ensures some { IfSome result (λ e. IsEntryAt self.now place e.0.now.0 e.0.now.1 e.1.now) }
+        ensures none { IfNone result (length self.now ≤ place) }
+    {
+        match self.entries.iter().nth(place as usize) {
             None => None,
             Some((key, path)) => Some((key, path.as_slice())),
         }
