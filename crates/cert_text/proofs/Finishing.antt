@@ -1,11 +1,11 @@
 -- A reader that has read nothing, and a reader at the text's end.
-use Rattle.std.proofs.Common.{◌≡◌, ◌≢◌, ◌⊎◌, ℕ, zero, suc, ◌+◌, ◌-◌, ◌^◌, ◌<◌, ◌≤◌, Bool, true, false, not, List, [], ◌∷◌, ◌++◌, length, take, map, codes, Option, Some, None, Result, Ok, Err, ℤ, pos, negsuc, refl, sym, ap, ◌∙◌, subst, inl, inr, ⊎_elim, arith, append_assoc, append-nil, nat_lt, if◌then◌else◌}
-use Rattle.std.proofs.lemmas.Bool.{lt-ltb, true≢false}
+use Rattle.std.proofs.Common.{◌≡◌, ◌≢◌, ℕ, ◌+◌, ◌^◌, ◌<◌, ◌≤◌, Bool, true, false, List, [], ◌∷◌, ◌++◌, length, take, codes, None, ℤ, pos, negsuc, refl, sym, ap, ◌∙◌, subst, inl, arith, append_assoc, append-nil, if◌then◌else◌}
+use Rattle.std.proofs.lemmas.Bool.{lt-ltb}
 use Rattle.std.specs.Cmp.{signed_Decides}
 use Rattle.std.specs.Ordering.{int_eq}
 use Rattle.cert_text.specs.Cert.{Proof, Tree, Shut, Open, Split, Cut, Cert, multiplier, with_pair, put, changed}
 use Rattle.cert_text.specs.Cert as texts
-use Rattle.cert_text.specs.Text.{Kind, Token, Words, LineEnd, One, cut_lines, text_of, may_name, leaf_line, tree_lines, kept_behind, claim_lines, tokens_of, HasForm, meant, meant_proof, meant_tree}
+use Rattle.cert_text.specs.Text.{Token, Words, LineEnd, One, cut_lines, text_of, may_name, leaf_line, tree_lines, kept_behind, claim_lines, tokens_of, meant, meant_proof, meant_tree}
 use Rattle.cert_text.specs.Fault.{AreClean, IsText, IsFirstFault, line_behind}
 use Rattle.std.specs.Prelude.{unwrap_or}
 use Rattle.std.specs.Option.{option_map}
@@ -14,19 +14,17 @@ use Rattle.bp_theory.specs.declared.Claim.{Claim}
 use Rattle.cert_text.specs.declared.sketch.Sketch.{Sketch}
 use Rattle.cert_text.specs.Words.{word_text}
 use Rattle.cert_text.specs.Frames.{frame_of}
-use Rattle.cert_text.specs.Written.{written_claim, written_tree, cert_of, certificate}
+use Rattle.cert_text.specs.Written.{written_claim, written_tree}
 use Rattle.cert_text.specs.Sketch.{tree_of}
 use Rattle.cert_text.specs.Readers.{place_of, stage_of, root_of}
-use Rattle.cert_text.specs.Stages.{plain_of, Stage, at_bpcert, words, sort, IsOfSort, IsOf, Follows, AtNode, over}
-use Rattle.cert_text.specs.Standing.{MayStand, Reached, Comes, IsInWord, IsBehindMinus, IsPart, StandsFor, Between, InWordAt}
+use Rattle.cert_text.specs.Stages.{plain_of, at_bpcert, IsOfSort, IsOf, Follows, AtNode, over}
+use Rattle.cert_text.specs.Standing.{MayStand, Reached, IsInWord, IsBehindMinus, IsPart, StandsFor, Between}
 use Rattle.cert_text.specs.Kept.{kept_cert}
 use Rattle.cert_text.specs.declared.cert.Cert.{Cert as Kept}
 use Rattle.cert_text.specs.declared.fault.CertKind.TheVariants.{Syntax}
-use Rattle.cert_text.specs.declared.fault.CertFault.{CertFault}
-use Rattle.cert_text.specs.declared.fault.CertFault.TheVariants.{At, NoMemory}
 use Rattle.cert_text.specs.declared.frame.Frame.{Frame}
 use Rattle.cert_text.specs.declared.reader.Part.{Part}
-use Rattle.cert_text.specs.declared.reader.Part.TheVariants.{Fresh, InWord, Minus, Digits}
+use Rattle.cert_text.specs.declared.reader.Part.TheVariants.{Fresh, InWord, Minus}
 use Rattle.cert_text.specs.declared.reader.Reader.{Reader}
 use Rattle.cert_text.specs.declared.spots.Sort.{Sort}
 use Rattle.cert_text.specs.declared.spots.Spot.{Spot}
@@ -39,7 +37,6 @@ use Rattle.cert_text.proofs.Claims.{last_line, last_to, last_from, tokens_split,
 use Rattle.cert_text.proofs.PlainProof.{same_claim}
 use Rattle.cert_text.proofs.StageProofs.{kept_none}
 use Rattle.cert_text.proofs.StageMoves.{IsOver}
-use Rattle.cert_text.proofs.StageWords.{first_byte}
 use Rattle.cert_text.proofs.Reaching.{leaves_first}
 use Rattle.cert_text.proofs.Leaving.{leaves_fresh, leaves_word, leaves_minus}
 use Rattle.cert_text.proofs.WordSteps.{stands_part}
@@ -179,7 +176,7 @@ cut_between frame r number text line between ended at_line =
     let P : List ℕ → Type 0 = λ t. IsFirstFault (frame_of frame) t (line_behind text) Syntax in
     subst L (sym (at_line ∙ between.counts.line)) (subst P (append-nil text)
     (leaves_first (frame_of frame) (text ++ []) [] (line_behind text)
-    (leaves_fresh (frame_of frame) (stage_of r between.count) number text [] between.reached (nothing number) (λ v here. tt) (λ z of_sort. (tt, λ m is. tt)) (λ d o none. ended (over_spot (frame_of frame) d r between.count r.spot o))))) where
+    (leaves_fresh (frame_of frame) (stage_of r between.count) number text [] [] between.reached (nothing number) (λ e. e) (λ v here. tt) (λ z of_sort. (tt, λ m is. tt)) (λ d o none. ended (over_spot (frame_of frame) d r between.count r.spot o)) (λ first begins. begins)))) where
       nothing : (number : Bool) → MayStand number []
       nothing true = tt
       nothing false = tt
@@ -197,7 +194,7 @@ cut_word frame r text word count line stands is at_line =
     let L : ℕ → Type 0 = λ l. IsFirstFault (frame_of frame) (part.done ++ (take count (word_text word) ++ [])) l Syntax in
     subst P (sym bytes) (subst L (sym (at_line ∙ stands.counts.line ∙ ap line_behind part.bytes))
     (leaves_first (frame_of frame) (part.done ++ (take count (word_text word) ++ [])) [] (line_behind (part.done ++ take count (word_text word)))
-    (leaves_word (frame_of frame) (stage_of r stands.count) part.number part.done [] word count part.reached part.comes some part.within (stands_part part.number (word_text word) [] count some length_some part.stands) tt)))
+    (leaves_word (frame_of frame) (stage_of r stands.count) part.number part.done [] [] word count part.reached part.comes some part.within (stands_part part.number (word_text word) [] count some length_some part.stands) tt (λ e. e))))
 
 -- behind a minus
 pub cut_minus : (frame : Frame) (r : Reader) (text : List ℕ) (line : ℕ) → StandsFor frame r text → r.part ≡ Minus → line ≡ r.line → IsFirstFault (frame_of frame) text line Syntax
@@ -209,7 +206,7 @@ cut_minus frame r text line stands is at_line =
     let L : ℕ → Type 0 = λ l. IsFirstFault (frame_of frame) (part.done ++ 45 ∷ []) l Syntax in
     subst P (sym part.bytes) (subst L (sym (at_line ∙ stands.counts.line ∙ ap line_behind part.bytes))
     (leaves_first (frame_of frame) (part.done ++ 45 ∷ []) [] (line_behind (part.done ++ 45 ∷ []))
-    (leaves_minus (frame_of frame) (stage_of r stands.count) part.done [] part.reached (subst S (sym part.of_sort) tt) tt)))
+    (leaves_minus (frame_of frame) (stage_of r stands.count) part.done [] [] part.reached (subst S (sym part.of_sort) tt) tt (λ e. e))))
 
 -- the certificate that was read
 pub taken_well : (frame : Frame) (r : Reader) (text : List ℕ) (cert : Kept) → StandsFor frame r text → r.part ≡ Fresh → r.spot ≡ s.Over → cert.claim ≡ r.claim → cert.point ≡ r.point → cert.tree ≡ r.root → IsText (frame_of frame) One (kept_cert cert) text

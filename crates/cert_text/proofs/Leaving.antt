@@ -1,25 +1,36 @@
 -- Where a text that is reached leaves the grammar.
-use Rattle.std.proofs.Common.{◌≡◌, ◌≢◌, ◌⊎◌, ℕ, zero, suc, ◌+◌, ◌<◌, ◌≤◌, Bool, true, false, List, [], ◌∷◌, ◌++◌, length, take, drop, Option, Some, None, ℤ, pos, negsuc, refl, sym, ap, ◌∙◌, subst, inl, inr, ⊎_elim, arith, append_assoc, append-nil}
+use Rattle.std.proofs.Common.{◌≡◌, ◌≢◌, ◌⊎◌, ℕ, zero, suc, ◌+◌, ◌<◌, ◌≤◌, Bool, false, List, [], ◌∷◌, ◌++◌, length, take, drop, Option, ℤ, pos, negsuc, refl, sym, ap, ◌∙◌, subst, inl, inr, ⊎_elim, arith, append_assoc, append-nil}
 use Rattle.std.proofs.lemmas.List.{append_cancel_left}
 use Rattle.cert_text.specs.Cert.{Cert, Frame}
-use Rattle.cert_text.specs.Text.{Kind, Token, Words, Figure, LineEnd, numeral, signed_numeral, token_text, text_of}
-use Rattle.cert_text.specs.Fault.{EndsNumber, EndsToken, HasNoFaultyToken, LeavesGrammar, line_behind}
+use Rattle.cert_text.specs.Text.{Kind, Token, Figure, numeral, signed_numeral, token_text, text_of}
+use Rattle.cert_text.specs.Fault.{EndsNumber, EndsToken, BeginsNumber, line_behind}
 use Rattle.cert_text.specs.Words.{word_text, word_token}
 use Rattle.cert_text.specs.Stages.{after_bound, at_block, at_blocks, at_bound, at_bpcert, at_claim, at_coordinate, at_count, at_end, at_first_end, at_kind, at_multiplier, at_node, at_one, at_optimal, at_pairs, at_place, at_point, at_priced, at_row, at_rows, at_scale, at_value, at_values, at_variable, claim_end, infeasible_end, last_end, leaf_end, row_gap, split_end, variable_gap, over}
-use Rattle.cert_text.specs.Stages.{Stage, words, after, line_fault, sort, IsOfSort, number_fault, behind_number, Follows}
+use Rattle.cert_text.specs.Stages.{Stage, words, after, line_fault, sort, IsOfSort, is_deep_stage, number_fault, behind_number, Follows}
 use Rattle.cert_text.specs.Standing.{MayStand, Reached, Comes}
 use Rattle.cert_text.specs.declared.words.Word.{Word}
-use Rattle.cert_text.proofs.Numerals.{BeginsWithDigit, numeral-begins, digit_apart}
+use Rattle.cert_text.proofs.Numerals.{numeral-begins, digit_apart}
 use Rattle.cert_text.proofs.Figures.{GoesOn, zero_barred, other_barred, empty_barred, minus_barred, positive_barred, numeral-small}
 use Rattle.cert_text.proofs.Verdicts.{IsBarred, NotFirst, not_first}
 use Rattle.cert_text.proofs.StageProofs.{ForSomeOf}
 use Rattle.cert_text.proofs.StageMoves.{IsFirst, number_leads, IsOver, goes_on_from}
 use Rattle.cert_text.proofs.StageWords.{comes_leads, word_token-text, first_byte, word_split, same_word, word_number_apart}
-use Rattle.cert_text.proofs.Reaching.{leaves_there}
+use Rattle.cert_text.proofs.Deep.{deep}
+use Rattle.cert_text.proofs.DeepStages.{no_word_deep, no_negative_deep, no_shallow_deep}
+use Rattle.cert_text.proofs.Reaching.{LeavesAt, leaves_there, none_there}
 
--- a text leaves the grammar on a line, in front of the rest
-abbrev pub LeavesAt : Frame → List ℕ → ℕ → List ℕ → Type 0
-LeavesAt frame text line rest = HasNoFaultyToken frame text × ((leaving : LeavesGrammar frame text line) × (leaving.rest ≡ rest))
+-- where no number comes of a node that is too deep, as far as the text and what follows tell
+abbrev pub IsDry : Frame → Stage → List ℕ → Type 0
+IsDry frame stage text = IsFirst frame stage deep → BeginsNumber text → ⊥
+
+-- what leaves the grammar at a place, and no number of a node that is too deep
+leaves_both : (frame : Frame) (stage : Stage) (number : Bool) (done p rest more : List ℕ) → Reached frame stage number done → MayStand number (p ++ rest) → (rest ≡ [] → more ≡ [])
+    → (c : Cert) (us : List Token) (tail : List ℕ) → Follows frame c stage us → text_of us ≡ p ++ tail
+    → ((y : Token) → IsFirst frame stage y → IsBarred y p rest) → ((d : Cert) → IsOver frame d stage → rest ≡ [] → ⊥) → IsDry frame stage (p ++ (rest ++ more))
+    → LeavesAt frame (done ++ (p ++ rest)) (line_behind (done ++ p)) rest more
+leaves_both frame stage number done p rest more r stands fits c us tail follows begins barred ended dry =
+    let there = leaves_there frame stage number done p rest r stands c us tail follows begins barred ended in
+    (there.0, there.1, none_there frame stage number done p rest more r stands fits c us follows barred dry)
 
 -- a first token is a word that comes, or a number
 first_cases : (frame : Frame) (stage : Stage) (y : Token) (P : Type 0) → IsFirst frame stage y → ((v : Word) → Comes v (words stage) → y ≡ word_token (line_fault frame stage) v → P) → ((z : ℤ) → IsOfSort (sort stage) z → y ≡ Figure z (number_fault frame stage z) → P) → P
@@ -49,18 +60,18 @@ number_barred z f y rest is digit minus = λ r s ends goes same. go z rest digit
   go (negsuc m) rest digit minus r s goes same = not_first 45 rest [] rest s (numeral (m + 1) ++ r) (minus m refl) refl goes (sym same)
 
 -- between two tokens, where no token begins so
-pub leaves_fresh : (frame : Frame) (stage : Stage) (number : Bool) (done rest : List ℕ) → Reached frame stage number done → MayStand number rest
+pub leaves_fresh : (frame : Frame) (stage : Stage) (number : Bool) (done rest more : List ℕ) → Reached frame stage number done → MayStand number rest → (rest ≡ [] → more ≡ [])
     → ((v : Word) → Comes v (words stage) → NotFirst (first_byte v) rest)
     → ((z : ℤ) → IsOfSort (sort stage) z → NotDigitFirst rest × ((m : ℕ) → z ≡ negsuc m → NotFirst 45 rest))
-    → ((d : Cert) → IsOver frame d stage → rest ≡ [] → ⊥) → LeavesAt frame (done ++ rest) (line_behind done) rest
-leaves_fresh frame stage number done rest r stands no_word no_number ended =
+    → ((d : Cert) → IsOver frame d stage → rest ≡ [] → ⊥) → IsDry frame stage (rest ++ more) → LeavesAt frame (done ++ rest) (line_behind done) rest more
+leaves_fresh frame stage number done rest more r stands fits no_word no_number ended dry =
     let some = goes_on_from frame stage in
-    let P : List ℕ → Type 0 = λ t. LeavesAt frame (done ++ rest) (line_behind t) rest in
-    subst P (append-nil done) (leaves_there frame stage number done [] rest r stands some.0 some.1 (text_of some.1) some.2 refl
+    let P : List ℕ → Type 0 = λ t. LeavesAt frame (done ++ rest) (line_behind t) rest more in
+    subst P (append-nil done) (leaves_both frame stage number done [] rest more r stands fits some.0 some.1 (text_of some.1) some.2 refl
     (λ y first. first_cases frame stage y (IsBarred y [] rest) first
     (λ v here is. word_barred (line_fault frame stage) v y rest is (no_word v here))
     (λ z of_sort is. let n = no_number z of_sort in number_barred z (number_fault frame stage z) y rest is n.0 n.1))
-    ended)
+    ended dry)
 
 -- a text that goes on so at its place
 abbrev pub OtherAt : List ℕ → ℕ → List ℕ → Type 0
@@ -149,16 +160,16 @@ over_numbers frame d (at_end a t) z of_sort e = e
 over_numbers frame d (last_end a t) z of_sort e = e
 
 -- within a word, where it doesn't go on so
-pub leaves_word : (frame : Frame) (stage : Stage) (number : Bool) (done rest : List ℕ) (word : Word) (count : ℕ) → Reached frame stage number done → Comes word (words stage) → 0 < count → count < length (word_text word)
-    → MayStand number (take count (word_text word) ++ rest) → OtherAt (word_text word) count rest
-    → LeavesAt frame (done ++ (take count (word_text word) ++ rest)) (line_behind (done ++ take count (word_text word))) rest
-leaves_word frame stage number done rest word count r comes some within stands other =
+pub leaves_word : (frame : Frame) (stage : Stage) (number : Bool) (done rest more : List ℕ) (word : Word) (count : ℕ) → Reached frame stage number done → Comes word (words stage) → 0 < count → count < length (word_text word)
+    → MayStand number (take count (word_text word) ++ rest) → OtherAt (word_text word) count rest → (rest ≡ [] → more ≡ [])
+    → LeavesAt frame (done ++ (take count (word_text word) ++ rest)) (line_behind (done ++ take count (word_text word))) rest more
+leaves_word frame stage number done rest more word count r comes some within stands other fits =
     let next = goes_on_from frame (after stage word) in
     let x = word_token (line_fault frame stage) word in
     let cut = split_at (word_text word) count within in
     let front = take_some (word_text word) (first_byte word) count (drop 1 (word_text word)) (word_split word) some in
     let begins : text_of (x ∷ next.1) ≡ take count (word_text word) ++ ((cut.0 ∷ cut.1) ++ text_of next.1) = ap (λ (xs : List ℕ). xs ++ text_of next.1) (word_token-text (line_fault frame stage) word ∙ cut.2) ∙ append_assoc (take count (word_text word)) (cut.0 ∷ cut.1) (text_of next.1) in
-    leaves_there frame stage number done (take count (word_text word)) rest r stands next.0 (x ∷ next.1) ((cut.0 ∷ cut.1) ++ text_of next.1) ((comes_leads frame next.0 stage word comes next.1).1 next.2) begins
+    leaves_both frame stage number done (take count (word_text word)) rest more r stands fits next.0 (x ∷ next.1) ((cut.0 ∷ cut.1) ++ text_of next.1) ((comes_leads frame next.0 stage word comes next.1).1 next.2) begins
     (λ y first. first_cases frame stage y (IsBarred y (take count (word_text word)) rest) first
     (λ v here is q s ends goes same.
     let heads : first_byte v ∷ (drop 1 (word_text v) ++ q) ≡ first_byte word ∷ (front.0 ++ s) = sym (word_front (line_fault frame stage) v y q is) ∙ same ∙ ap (λ (xs : List ℕ). xs ++ s) front.1 in
@@ -170,7 +181,7 @@ leaves_word frame stage number done rest word count r comes some within stands o
     (λ z of_sort is q s ends goes same.
     let apart = word_number_apart stage word z comes of_sort in
     number_off z (first_byte word) (front.0 ++ s) q apart.0 apart.1 (sym (ap (λ (t : Token). token_text t ++ q) is) ∙ same ∙ ap (λ (xs : List ℕ). xs ++ s) front.1)))
-    (λ d o none. no_over d o) where
+    (λ d o none. no_over d o) (λ first _. no_word_deep frame stage word first comes) where
       mismatch : (a : ℕ) (tail : List ℕ) → word_text word ≡ take count (word_text word) ++ a ∷ tail → (rest s q : List ℕ) → OtherAt (word_text word) count rest → GoesOn rest s → a ∷ (tail ++ q) ≡ s → ⊥
       mismatch a tail is [] [] q other goes same = cc
       mismatch a tail is [] (d ∷ s) q other goes same = goes
@@ -198,31 +209,33 @@ NotPositiveFirst [] = Unit {0}
 NotPositiveFirst (b ∷ bs) = (49 ≤ b → b ≤ 57 → ⊥)
 
 -- behind a minus, where no positive number goes on so
-pub leaves_minus : (frame : Frame) (stage : Stage) (done rest : List ℕ) → Reached frame stage false done → IsOfSort (sort stage) (negsuc 0) → NotPositiveFirst rest → LeavesAt frame (done ++ (45 ∷ rest)) (line_behind (done ++ 45 ∷ [])) rest
-leaves_minus frame stage done rest r of_sort digit =
+pub leaves_minus : (frame : Frame) (stage : Stage) (done rest more : List ℕ) → Reached frame stage false done → IsOfSort (sort stage) (negsuc 0) → NotPositiveFirst rest → (rest ≡ [] → more ≡ [])
+    → LeavesAt frame (done ++ (45 ∷ rest)) (line_behind (done ++ 45 ∷ [])) rest more
+leaves_minus frame stage done rest more r of_sort digit fits =
     let next = goes_on_from frame (behind_number stage (negsuc 0)) in
     let x = Figure (negsuc 0) (number_fault frame stage (negsuc 0)) in
-    leaves_there frame stage false done (45 ∷ []) rest r tt next.0 (x ∷ next.1) (numeral (0 + 1) ++ text_of next.1) ((number_leads frame next.0 stage (negsuc 0) of_sort next.1).1 next.2) refl
+    leaves_both frame stage false done (45 ∷ []) rest more r tt fits next.0 (x ∷ next.1) (numeral (0 + 1) ++ text_of next.1) ((number_leads frame next.0 stage (negsuc 0) of_sort next.1).1 next.2) refl
     (λ y first. first_cases frame stage y (IsBarred y (45 ∷ []) rest) first
     (λ v here is q s ends goes same. word_apart stage v (negsuc 0) y (line_fault frame stage) 45 q s here of_sort is (inl refl) same)
     (λ z _ is q s ends goes same. minus_barred z q s [] (inr tt) (λ m e. positive m rest s q digit goes e) (sym (ap (λ (t : Token). token_text t ++ q) is) ∙ same)))
-    (λ d o none. over_numbers frame d stage (negsuc 0) of_sort o) where
+    (λ d o none. over_numbers frame d stage (negsuc 0) of_sort o) (λ first _. no_negative_deep frame stage 0 first of_sort) where
       positive : (m : ℕ) (rest s q : List ℕ) → NotPositiveFirst rest → GoesOn rest s → numeral (m + 1) ++ q ≡ s → ⊥
       positive m [] s q digit goes same = empty_barred (m + 1) q s goes same
       positive m (b ∷ bs) s q digit goes same = positive_barred b m q s bs digit goes same
 
 -- behind a 0, where a digit follows
-pub leaves_zero : (frame : Frame) (stage : Stage) (done : List ℕ) (byte : ℕ) (rest : List ℕ) → Reached frame stage false done → IsOfSort (sort stage) (pos 0) → (48 ≤ byte) × (byte ≤ 57) → LeavesAt frame (done ++ (48 ∷ byte ∷ rest)) (line_behind (done ++ 48 ∷ [])) (byte ∷ rest)
-leaves_zero frame stage done byte rest r of_sort digit =
+pub leaves_zero : (frame : Frame) (stage : Stage) (done : List ℕ) (byte : ℕ) (rest more : List ℕ) → Reached frame stage false done → IsOfSort (sort stage) (pos 0) → is_deep_stage stage ≡ false → (48 ≤ byte) × (byte ≤ 57)
+    → LeavesAt frame (done ++ (48 ∷ byte ∷ rest)) (line_behind (done ++ 48 ∷ [])) (byte ∷ rest) more
+leaves_zero frame stage done byte rest more r of_sort shallow digit =
     let next = goes_on_from frame (behind_number stage (pos 0)) in
     let x = Figure (pos 0) (number_fault frame stage (pos 0)) in
     let small : 0 < 10 = omega arith in
     let begins : text_of (x ∷ next.1) ≡ 48 ∷ text_of next.1 = ap (λ (xs : List ℕ). xs ++ text_of next.1) (numeral-small 0 small) in
-    leaves_there frame stage false done (48 ∷ []) (byte ∷ rest) r tt next.0 (x ∷ next.1) (text_of next.1) ((number_leads frame next.0 stage (pos 0) of_sort next.1).1 next.2) begins
+    leaves_both frame stage false done (48 ∷ []) (byte ∷ rest) more r tt (λ none. cc) next.0 (x ∷ next.1) (text_of next.1) ((number_leads frame next.0 stage (pos 0) of_sort next.1).1 next.2) begins
     (λ y first. first_cases frame stage y (IsBarred y (48 ∷ []) (byte ∷ rest)) first
     (λ v here is q s ends goes same. word_apart stage v (pos 0) y (line_fault frame stage) 48 q s here of_sort is (inr ((omega arith), (omega arith))) same)
     (λ z _ is q s ends goes same. no_zero z q s (let P : Token → Type 0 = λ t. EndsToken t q in subst P is ends) goes (sym (ap (λ (t : Token). token_text t ++ q) is) ∙ same)))
-    (λ d o none. over_numbers frame d stage (pos 0) of_sort o) where
+    (λ d o none. over_numbers frame d stage (pos 0) of_sort o) (λ first _. no_shallow_deep frame stage first shallow) where
       no_zero : (z : ℤ) (q s : List ℕ) → EndsNumber q → GoesOn (byte ∷ rest) s → signed_numeral z ++ q ≡ 48 ∷ s → ⊥
       no_zero (pos n) q s ends goes same = zero_barred byte n q s rest digit ends goes same
       no_zero (negsuc n) q s ends goes same = let first : ◌≡◌ {A = ℕ} 45 48 = cc in omega arith

@@ -1,17 +1,22 @@
 -- A text that is reached goes on with a token, is at fault at one, or leaves the grammar.
-use Rattle.std.proofs.Common.{◌≡◌, ◌≢◌, ◌⊎◌, ℕ, zero, suc, ◌+◌, ◌<◌, ◌≤◌, Bool, true, false, List, [], ◌∷◌, ◌++◌, length, take, drop, Option, Some, None, ℤ, pos, negsuc, refl, sym, ap, ◌∙◌, subst, inl, inr, ⊎_elim, arith, append_assoc, append-nil}
+use Rattle.std.proofs.Common.{◌≡◌, ℕ, Bool, true, false, List, [], ◌∷◌, ◌++◌, Option, Some, None, ℤ, pos, refl, sym, ap, ◌∙◌, subst, inl, inr, append_assoc, append-nil}
 use Rattle.std.proofs.lemmas.Grind.{flat_map-append}
 use Rattle.cert_text.specs.Cert.{Cert, Frame}
 use Rattle.cert_text.specs.Text.{Kind, Token, Words, Figure, LineEnd, One, Two, Three, numeral, signed_numeral, token_text, text_of, fault_of, tokens_of}
-use Rattle.cert_text.specs.Fault.{AreClean, EndsNumber, EndsToken, EndIsSeen, HasFaultyToken, HasNoFaultyToken, LeavesGrammar, IsFollowed, IsFirstFault, IsSeenFault, line_behind}
+use Rattle.cert_text.specs.Fault.{AreClean, EndsNumber, EndsToken, EndIsSeen, HasFaultyToken, HasNoFaultyToken, BeginsNumber, HasDeepNumber, HasNoDeepNumber, LeavesGrammar, IsFollowed, IsFirstFault, IsSeenFault, line_behind}
 use Rattle.cert_text.specs.declared.fault.CertKind.TheVariants.{Syntax}
 use Rattle.cert_text.specs.Words.{word_text, word_token}
-use Rattle.cert_text.specs.Stages.{Stage, words, after, line_fault, sort, IsOfSort, number_fault, behind_number, IsOf, Follows}
+use Rattle.cert_text.specs.Stages.{Stage, words, after, line_fault, sort, IsOfSort, is_deep_stage, number_fault, behind_number, IsOf, Follows}
 use Rattle.cert_text.specs.Standing.{AreReadFrom, MayStand, Reached, Comes}
 use Rattle.cert_text.specs.declared.words.Word.{Word}
 use Rattle.cert_text.proofs.Figures.{GoesOn}
 use Rattle.cert_text.proofs.Verdicts.{IsBarred, Stuck}
 use Rattle.cert_text.proofs.Claims.{Certificates}
+use Rattle.cert_text.specs.declared.spots.Sort.{Sort}
+use Rattle.cert_text.proofs.Coherent.{AreCoherent, tokens_coherent}
+use Rattle.cert_text.proofs.Spaced.{AreSpaced, tokens_spaced}
+use Rattle.cert_text.proofs.Deep.{deep, deep_behind, spaced_first}
+use Rattle.cert_text.proofs.DeepStages.{deep_number}
 use Rattle.cert_text.proofs.Total.{stuck_leaves}
 use Rattle.cert_text.proofs.StageProofs.{Alike}
 use Rattle.cert_text.proofs.StageMoves.{IsFirst, first_token, number_leads, IsOver, only_over, goes_on_from}
@@ -131,6 +136,73 @@ of_version frame ts m = opened m.0 m.1 m.2 m.3 where
   opened Two c form is = absurd form
   opened Three c form is = absurd form
 
+-- the number of a node that is too deep, behind a text that is reached
+pub deep_there : (frame : Frame) (stage : Stage) (done rest : List ℕ) (line : ℕ) → Reached frame stage false done → is_deep_stage stage ≡ true → BeginsNumber rest → line ≡ line_behind done
+    → HasDeepNumber frame (done ++ rest) line
+deep_there frame stage done rest line r is number at_line =
+    let about = deep_number frame stage is in
+    let S : Sort → Type 0 = λ t. IsOfSort t (pos 0) in
+    let more = goes_on_from frame (behind_number stage (pos 0)) in
+    let F : Option Kind → Type 0 = λ f. Follows frame more.0 stage (Figure (pos 0) f ∷ more.1) in
+    let follows : Follows frame more.0 stage (deep ∷ more.1) = subst F about.0 ((number_leads frame more.0 stage (pos 0) (subst S (sym about.2) refl) more.1).1 more.2) in
+    let whole = (r.follow more.0 (deep ∷ more.1)).1 follows in
+    record {
+      version = One;
+      written = more.0;
+      form = whole.0;
+      before = r.before;
+      after = more.1;
+      rest = rest;
+      tokens = sym whole.1;
+      clean = r.clean;
+      bytes = ap (λ (t : List ℕ). t ++ rest) r.bytes;
+      number = number;
+      line_is = at_line ∙ ap line_behind r.bytes;
+    }
+
+-- a text with more behind it may stand where it may stand alone
+may_more : (number : Bool) (p rest more : List ℕ) → (rest ≡ [] → more ≡ []) → MayStand number (p ++ rest) → MayStand number (p ++ (rest ++ more))
+may_more false p rest more fits may = tt
+may_more true (b ∷ p) rest more fits may = may
+may_more true [] (b ∷ rest) more fits may = may
+may_more true [] [] more fits may = let P : List ℕ → Type 0 = EndsNumber in subst P (sym (fits refl)) tt
+
+goes_more : (rest more : List ℕ) → (rest ≡ [] → more ≡ []) → GoesOn rest (rest ++ more)
+goes_more [] more fits = let P : List ℕ → Type 0 = λ xs. GoesOn [] xs in subst P (sym (fits refl)) tt
+goes_more (b ∷ rest) more fits = refl
+
+-- behind a text that is reached no number comes of a node that is too deep, where none begins there, and no token
+pub none_there : (frame : Frame) (stage : Stage) (number : Bool) (done p rest more : List ℕ) → Reached frame stage number done → MayStand number (p ++ rest) → (rest ≡ [] → more ≡ [])
+    → (c : Cert) (us : List Token) → Follows frame c stage us
+    → ((y : Token) → IsFirst frame stage y → IsBarred y p rest) → (IsFirst frame stage deep → BeginsNumber (p ++ (rest ++ more)) → ⊥)
+    → HasNoDeepNumber frame ((done ++ (p ++ rest)) ++ more)
+none_there frame stage number done p rest more r stands fits c us follows barred dry line a =
+    let whole = (r.follow c us).1 follows in
+    let P : List Token → Type 0 = λ ts. AreCoherent (Unit {0}) ts (a.before ++ deep ∷ a.after) in
+    let Q : List Token → Type 0 = λ ts. AreCoherent (Unit {0}) (tokens_of frame One c) ts in
+    let w : List ℕ = p ++ (rest ++ more) in
+    let bytes : (done ++ (p ++ rest)) ++ more ≡ done ++ w = append_assoc done (p ++ rest) more ∙ ap (λ (xs : List ℕ). done ++ xs) (append_assoc p rest more) in
+    let same : text_of r.before ++ w ≡ text_of a.before ++ a.rest = sym (ap (λ (xs : List ℕ). xs ++ w) r.bytes) ∙ sym bytes ∙ a.bytes in
+    let found = deep_behind (Unit {0}) r.before us a.before a.after w a.rest
+    (subst P (sym whole.1) (subst Q a.tokens (tokens_coherent (Unit {0}) frame One a.version c a.written (λ _ _. tt))))
+    (subst (λ (ts : List Token). AreSpaced ts) a.tokens (tokens_spaced frame a.version a.written)) r.clean (r.read w (may_more number p rest more fits stands)) same in
+    by found.0 found.1 found.3 found.4
+  where
+    first : (y : Token) (ys : List Token) → tokens_of frame a.version a.written ≡ r.before ++ y ∷ ys → IsFirst frame stage y
+    first y ys is =
+        let v = of_version frame (r.before ++ y ∷ ys) (a.version, a.written, a.form, sym is) in
+        first_token frame v.0 stage y ys ((r.follow v.0 (y ∷ ys)).0 v.1)
+
+    by : (ts : List Token) → a.before ≡ r.before ++ ts → AreSpaced (ts ++ deep ∷ a.after) → p ++ (rest ++ more) ≡ text_of ts ++ a.rest → ⊥
+    by [] is spaced same =
+        let here : tokens_of frame a.version a.written ≡ r.before ++ deep ∷ a.after = a.tokens ∙ ap (λ (ts : List Token). ts ++ deep ∷ a.after) (is ∙ append-nil r.before) in
+        let N : List ℕ → Type 0 = BeginsNumber in
+        dry (first deep a.after here) (subst N (sym same) a.number)
+    by (y ∷ ts) is spaced same =
+        let here : tokens_of frame a.version a.written ≡ r.before ++ y ∷ (ts ++ deep ∷ a.after) = a.tokens ∙ ap (λ (us : List Token). us ++ deep ∷ a.after) is ∙ append_assoc r.before (y ∷ ts) (deep ∷ a.after) in
+        barred y (first y (ts ++ deep ∷ a.after) here) (text_of ts ++ a.rest) (rest ++ more) (spaced_first y ts a.after a.rest spaced) (goes_more rest more fits)
+        (sym (append_assoc (token_text y) (text_of ts) a.rest) ∙ sym same)
+
 -- a text that is reached and can't go on so leaves the grammar
 pub leaves_there : (frame : Frame) (stage : Stage) (number : Bool) (done p rest : List ℕ) → Reached frame stage number done → MayStand number (p ++ rest)
     → (c : Cert) (us : List Token) (more : List ℕ) → Follows frame c stage us → text_of us ≡ p ++ more
@@ -159,13 +231,20 @@ leaves_there frame stage number done p rest r stands c us more follows begins ba
     let P : List ℕ → Type 0 = λ t. HasNoFaultyToken frame text × ((leaving : LeavesGrammar frame text (line_behind (t ++ p))) × (leaving.rest ≡ rest)) in
     subst P (sym r.bytes) (stuck_leaves frame text stuck)
 
+-- a text leaves the grammar on a line, in front of the rest, and with more behind it has no number of a node that is too deep
+abbrev pub LeavesAt : Frame → List ℕ → ℕ → List ℕ → List ℕ → Type 0
+LeavesAt frame text line rest more = HasNoFaultyToken frame text × ((leaving : LeavesGrammar frame text line) × (leaving.rest ≡ rest)) × HasNoDeepNumber frame (text ++ more)
+
 -- the place where the text leaves the grammar is its first fault
-pub leaves_first : (frame : Frame) (text rest : List ℕ) (line : ℕ) → HasNoFaultyToken frame text × ((leaving : LeavesGrammar frame text line) × (leaving.rest ≡ rest)) → IsFirstFault frame text line Syntax
-leaves_first frame text rest line m = inr (refl, m.0, m.1.0)
+pub leaves_first : (frame : Frame) (text rest : List ℕ) (line : ℕ) → LeavesAt frame text line rest [] → IsFirstFault frame text line Syntax
+leaves_first frame text rest line m = inr (inr (refl, m.0, subst (λ (t : List ℕ). HasNoDeepNumber frame t) (append-nil text) m.2, m.1.0))
 
 -- and a seen one behind a byte
-pub leaves_seen : (frame : Frame) (text rest : List ℕ) (byte line : ℕ) → HasNoFaultyToken frame text × ((leaving : LeavesGrammar frame text line) × (leaving.rest ≡ byte ∷ rest)) → IsSeenFault frame text line Syntax
-leaves_seen frame text rest byte line m = inr (refl, m.0, (m.1.0, followed m.1.0.rest m.1.1)) where
-  followed : (s : List ℕ) → s ≡ byte ∷ rest → IsFollowed s
-  followed [] is = cc
-  followed (b ∷ s) is = tt
+pub leaves_seen : (frame : Frame) (text rest : List ℕ) (byte line : ℕ) → ((more : List ℕ) → LeavesAt frame text line (byte ∷ rest) more) → IsSeenFault frame text line Syntax
+leaves_seen frame text rest byte line at =
+    let m = at [] in
+    inr (inr (refl, m.0, (λ more. (at more).2), (m.1.0, followed m.1.0.rest m.1.1)))
+  where
+    followed : (s : List ℕ) → s ≡ byte ∷ rest → IsFollowed s
+    followed [] is = cc
+    followed (b ∷ s) is = tt

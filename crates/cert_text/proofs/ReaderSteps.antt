@@ -1,37 +1,35 @@
 -- What a reader stands for behind one byte more.
-use Rattle.std.proofs.Common.{◌≡◌, ◌≢◌, ◌⊎◌, ℕ, zero, suc, ◌+◌, ◌-◌, ◌*◌, ◌^◌, ◌<◌, ◌≤◌, Bool, true, false, not, ◌&&◌, IsTrue, min, List, [], ◌∷◌, ◌++◌, length, take, Option, Some, None, Result, Ok, Err, ℤ, pos, negsuc, nat_abs, refl, sym, ap, ◌∙◌, subst, inl, inr, ⊎_elim, arith, nat_eq, nat_lt, nat_le, append_assoc, append-nil, length-append, get_or, if◌then◌else◌}
-use Rattle.std.proofs.lemmas.List.{take_more}
+use Rattle.std.proofs.Common.{◌≡◌, ◌≢◌, ℕ, zero, suc, ◌+◌, ◌-◌, ◌*◌, ◌^◌, ◌<◌, ◌≤◌, Bool, true, false, IsTrue, min, List, [], ◌∷◌, ◌++◌, length, Some, None, Result, Ok, Err, ℤ, pos, negsuc, nat_abs, refl, sym, ap, ◌∙◌, subst, inl, inr, ⊎_elim, arith, append_assoc, append-nil, length-append, if◌then◌else◌}
 use Rattle.std.proofs.lemmas.Bool.{true≢false, cases_lt}
 use Rattle.std.proofs.lemmas.Bool.Decides.{nat_tests}
-use Rattle.cert_text.specs.Text.{Kind, Token, token_text, fault_of, numeral, signed_numeral}
-use Rattle.cert_text.specs.Fault.{EndsNumber, IsSeenFault, IsFirstFault, line_behind}
-use Rattle.cert_text.specs.Words.{word_text, word_token, word_begins, is_line_end}
-use Rattle.cert_text.specs.Spots.{spot_sort, spot_words, picked_word}
+use Rattle.cert_text.specs.Text.{Kind, numeral, signed_numeral}
+use Rattle.cert_text.specs.Fault.{BeginsDigit, HasDeepNumber, IsSeenFault, IsFirstFault, line_behind}
+use Rattle.cert_text.specs.Words.{word_begins}
+use Rattle.cert_text.specs.Spots.{spot_sort}
 use Rattle.cert_text.specs.Frames.{frame_of}
 use Rattle.cert_text.specs.Signed.{signed}
-use Rattle.cert_text.specs.Readers.{Keeps, IsBehind, IsCount, slack, count_behind, place_of, stage_of, TakesNatural, TakesWhole}
+use Rattle.cert_text.specs.Readers.{IsBehind, IsCount, slack, count_behind, place_of, stage_of, TakesNatural, TakesWhole}
 use Rattle.cert_text.specs.Stages.{at_bpcert, at_one, at_first_end, at_claim, at_kind, at_optimal, infeasible_end, at_bound, after_bound, at_value, claim_end, at_point, at_values, at_coordinate, at_node, at_scale, at_rows, at_count, at_pairs, at_row, row_gap, at_multiplier, at_priced, at_blocks, at_block, leaf_end, at_variable, variable_gap, at_place, split_end, at_end, last_end, over}
-use Rattle.cert_text.specs.Stages.{Stage, words, after, line_fault, sort, IsOfSort, number_fault, behind_number}
-use Rattle.cert_text.specs.Standing.{MayStand, Reached, Comes, IsInWord, IsInNumber, IsBehindMinus, IsPart, CountFits, IsShort, KeepsCounts, StandsFor, Between, InWordAt, Steps, EndsNumberAt, EndsTextAt, is_digit}
-use Rattle.cert_text.specs.declared.fault.CertKind.TheVariants.{Syntax, Length}
+use Rattle.cert_text.specs.Stages.{Stage, words, sort, IsOfSort, is_deep_stage, number_fault, behind_number}
+use Rattle.cert_text.specs.Standing.{MayStand, Reached, Comes, IsInNumber, IsBehindMinus, IsBehindDeepMinus, IsPart, CountFits, IsShort, KeepsCounts, StandsFor, Between, EndsNumberAt, EndsTextAt, is_digit}
+use Rattle.cert_text.specs.declared.fault.CertKind.TheVariants.{Syntax, Depth}
 use Rattle.cert_text.specs.declared.fault.CertFault.{CertFault}
 use Rattle.cert_text.specs.declared.fault.CertFault.TheVariants.{At, NoMemory}
 use Rattle.cert_text.specs.declared.frame.Frame.{Frame}
 use Rattle.cert_text.specs.declared.reader.Part.{Part}
-use Rattle.cert_text.specs.declared.reader.Part.TheVariants.{Fresh, InWord, Minus, Digits}
+use Rattle.cert_text.specs.declared.reader.Part.TheVariants.{Fresh, Minus, DeepMinus, Digits}
 use Rattle.cert_text.specs.declared.reader.Reader.{Reader}
 use Rattle.cert_text.specs.declared.spots.Sort.{Sort}
 use Rattle.cert_text.specs.declared.spots.Sort.TheVariants.{Wordy, Natural, Whole}
 use Rattle.cert_text.specs.declared.spots.Spot.{Spot}
 use Rattle.cert_text.specs.declared.spots.Spot.TheVariants as s
 use Rattle.cert_text.specs.declared.words.Word.{Word}
-use Rattle.cert_text.specs.declared.words.Word.TheVariants as w
 use Rattle.cert_text.proofs.Figures.{numeral-digit, numeral-small}
-use Rattle.cert_text.proofs.Verdicts.{NotFirst}
-use Rattle.cert_text.proofs.StageWords.{first_byte, word_split, heads, words_are, picked_comes, picked_none}
-use Rattle.cert_text.proofs.Reaching.{word_reached, number_reached, word_faulty, number_faulty, number_seen_faulty, leaves_first, leaves_seen}
-use Rattle.cert_text.proofs.Leaving.{LeavesAt, NotDigitFirst, NotPositiveFirst, OtherAt, leaves_fresh, leaves_word, leaves_minus, leaves_zero}
-use Rattle.cert_text.proofs.Bytes.{word_line, line_same, line_more, sort_is, slack_small, behind_wordy, IsCounting, counting_is, is_counting, count_cases, IsSmall, kept_alike, abs-signed}
+use Rattle.cert_text.proofs.StageWords.{first_byte}
+use Rattle.cert_text.proofs.Reaching.{number_reached, number_faulty, number_seen_faulty, LeavesAt, leaves_first, leaves_seen, deep_there}
+use Rattle.cert_text.proofs.Leaving.{IsDry, leaves_fresh, leaves_minus, leaves_zero}
+use Rattle.cert_text.proofs.DeepStages.{deep_number, no_shallow_deep}
+use Rattle.cert_text.proofs.Bytes.{line_same, sort_is, behind_wordy, IsCounting, counting_is, is_counting, count_cases, IsSmall, kept_alike, abs-signed}
 
 -- how much of a token has come, and the line, are no part of the place
 pub same_place : (r : Reader) (p : Part) (l n : ℕ) (spot : Spot) → place_of (record r { part = p; line = l }) n spot ≡ place_of r n spot
@@ -109,8 +107,8 @@ place_part : (r : Reader) (p : Part) (n : ℕ) → stage_of (record r { part = p
 place_part r p n = same_place r p r.line n r.spot
 
 -- the first digit of a number
-pub digits_begun : (frame : Frame) (r : Reader) (number : Bool) (text : List ℕ) (byte : ℕ) (between : Between frame r number text) → is_digit byte ≡ true → IsOfSort (sort (stage_of r between.count)) (pos (byte - 48)) → StandsFor frame (record r { part = Digits false (byte - 48) }) (text ++ byte ∷ [])
-digits_begun frame r number text byte between digit of_sort =
+pub digits_begun : (frame : Frame) (r : Reader) (number : Bool) (text : List ℕ) (byte : ℕ) (between : Between frame r number text) → is_digit byte ≡ true → IsOfSort (sort (stage_of r between.count)) (pos (byte - 48)) → is_deep_stage (stage_of r between.count) ≡ false → StandsFor frame (record r { part = Digits false (byte - 48) }) (text ++ byte ∷ [])
+digits_begun frame r number text byte between digit of_sort shallow =
     let range = digit_low byte digit in
     let low : 48 ≤ byte = range.0 in
     let high : byte ≤ 57 = range.1 in
@@ -128,6 +126,7 @@ digits_begun frame r number text byte between digit of_sort =
         reached = unnumbered frame r number text between (pos (byte - 48)) of_sort;
         number = byte - 48;
         of_sort = of_sort;
+        shallow = shallow;
         positive = λ e. absurd (true≢false (sym e));
         kept = small;
         bytes = bytes;
@@ -139,31 +138,31 @@ minus_line : (byte : ℕ) → byte ≡ 45 → byte ≢ 10
 minus_line byte is = λ e. omega arith
 
 -- a minus
-pub minus_begun : (frame : Frame) (r : Reader) (number : Bool) (text : List ℕ) (between : Between frame r number text) → sort (stage_of r between.count) ≡ Whole → StandsFor frame (record r { part = Minus }) (text ++ 45 ∷ [])
-minus_begun frame r number text between is_whole =
+pub minus_begun : (frame : Frame) (r : Reader) (number : Bool) (text : List ℕ) (between : Between frame r number text) → sort (stage_of r between.count) ≡ Whole → is_deep_stage (stage_of r between.count) ≡ false → StandsFor frame (record r { part = Minus }) (text ++ 45 ∷ [])
+minus_begun frame r number text between is_whole shallow =
     let other : 45 ≢ 10 = minus_line 45 refl in
     let Q : Sort → Type 0 = λ t. IsOfSort t (negsuc 0) in
     let P : Stage → Type 0 = λ stage. IsBehindMinus (frame_of frame) stage (text ++ 45 ∷ []) in
     record {
       count = between.count;
       counts = counts_push r Minus between.count text 45 other between.counts;
-      part = subst P (sym (place_part r Minus between.count)) (record { done = text; reached = unnumbered frame r number text between (negsuc 0) (subst Q (sym is_whole) tt); of_sort = is_whole; bytes = refl; lines = line_same text 45 other });
+      part = subst P (sym (place_part r Minus between.count)) (record { done = text; reached = unnumbered frame r number text between (negsuc 0) (subst Q (sym is_whole) tt); of_sort = is_whole; shallow = shallow; bytes = refl; lines = line_same text 45 other });
     }
 
 -- no token begins with the byte
 pub syntax_between : (frame : Frame) (r : Reader) (number : Bool) (text : List ℕ) (byte line : ℕ) (between : Between frame r number text) → MayStand number (byte ∷ [])
     → ((v : Word) → Comes v (words (stage_of r between.count)) → word_begins v byte ≡ false)
-    → ((z : ℤ) → IsOfSort (sort (stage_of r between.count)) z → (48 ≤ byte → byte ≤ 57 → ⊥) × ((m : ℕ) → z ≡ negsuc m → byte ≢ 45)) → line ≡ r.line
+    → ((z : ℤ) → IsOfSort (sort (stage_of r between.count)) z → (48 ≤ byte → byte ≤ 57 → ⊥) × ((m : ℕ) → z ≡ negsuc m → byte ≢ 45)) → ((more : List ℕ) → IsDry (frame_of frame) (stage_of r between.count) (byte ∷ more)) → line ≡ r.line
     → IsSeenFault (frame_of frame) (text ++ byte ∷ []) line Syntax
-syntax_between frame r number text byte line between may no_word no_number at_line =
+syntax_between frame r number text byte line between may no_word no_number dry at_line =
     let stage = stage_of r between.count in
     let P : ℕ → Type 0 = λ l. IsSeenFault (frame_of frame) (text ++ byte ∷ []) l Syntax in
     subst P (sym (at_line ∙ between.counts.line))
     (leaves_seen (frame_of frame) (text ++ byte ∷ []) [] byte (line_behind text)
-    (leaves_fresh (frame_of frame) stage number text (byte ∷ []) between.reached may
+    (λ more. leaves_fresh (frame_of frame) stage number text (byte ∷ []) more between.reached may (λ none. cc)
     (λ v here e. differs v (no_word v here) (sym e))
     (λ z of_sort. let n = no_number z of_sort in (n.0, λ m is. n.1 m is))
-    (λ d o none. cc))) where
+    (λ d o none. cc) (dry more))) where
       differs : (v : Word) → word_begins v byte ≡ false → first_byte v ≡ byte → ⊥
       differs v none same = grind (arith, nat_tests)
 
@@ -178,10 +177,10 @@ number_part : (frame : Frame) (r : Reader) (text : List ℕ) (negative : Bool) (
 number_part frame r text negative value stands is = let P : Part → Type 0 = λ p. IsPart (frame_of frame) (stage_of r stands.count) p text in subst P is stands.part
 
 -- a digit behind a 0, by the sign
-zero_by : (frame : Frame) (stage : Stage) (text done : List ℕ) (negative : Bool) (n byte line : ℕ) → n ≡ 0 → (IsTrue negative → 0 < n) → IsOfSort (sort stage) (signed negative n) → text ≡ done ++ signed_numeral (signed negative n)
+zero_by : (frame : Frame) (stage : Stage) (text done : List ℕ) (negative : Bool) (n byte line : ℕ) → n ≡ 0 → (IsTrue negative → 0 < n) → IsOfSort (sort stage) (signed negative n) → is_deep_stage stage ≡ false → text ≡ done ++ signed_numeral (signed negative n)
     → Reached (frame_of frame) stage false done → (48 ≤ byte) × (byte ≤ 57) → line ≡ line_behind text → IsSeenFault (frame_of frame) (text ++ byte ∷ []) line Syntax
-zero_by frame stage text done true n byte line e positive of_sort bytes reached digit at_line = let some : 0 < n = positive refl in absurd (omega arith)
-zero_by frame stage text done false n byte line e positive of_sort bytes reached digit at_line =
+zero_by frame stage text done true n byte line e positive of_sort shallow bytes reached digit at_line = let some : 0 < n = positive refl in absurd (omega arith)
+zero_by frame stage text done false n byte line e positive of_sort shallow bytes reached digit at_line =
     let small : 0 < 10 = omega arith in
     let zero_text : text ≡ done ++ 48 ∷ [] = bytes ∙ ap (λ (xs : List ℕ). done ++ xs) (ap numeral e ∙ numeral-small 0 small) in
     let whole : text ++ byte ∷ [] ≡ done ++ 48 ∷ byte ∷ [] = ap (λ (xs : List ℕ). xs ++ byte ∷ []) zero_text ∙ append_assoc done (48 ∷ []) (byte ∷ []) in
@@ -189,14 +188,14 @@ zero_by frame stage text done false n byte line e positive of_sort bytes reached
     let Q : ℕ → Type 0 = λ k. IsOfSort (sort stage) (pos k) in
     let P : List ℕ → Type 0 = λ t. IsSeenFault (frame_of frame) t line Syntax in
     let L : ℕ → Type 0 = λ l. IsSeenFault (frame_of frame) (done ++ 48 ∷ byte ∷ []) l Syntax in
-    subst P (sym whole) (subst L (sym at_zero) (leaves_seen (frame_of frame) (done ++ 48 ∷ byte ∷ []) [] byte (line_behind (done ++ 48 ∷ [])) (leaves_zero (frame_of frame) stage done byte [] reached (subst Q e of_sort) digit)))
+    subst P (sym whole) (subst L (sym at_zero) (leaves_seen (frame_of frame) (done ++ 48 ∷ byte ∷ []) [] byte (line_behind (done ++ 48 ∷ [])) (λ more. leaves_zero (frame_of frame) stage done byte [] more reached (subst Q e of_sort) shallow digit)))
 
 -- a digit behind a 0
 pub zero_digit : (frame : Frame) (r : Reader) (text : List ℕ) (negative : Bool) (value byte line : ℕ) → StandsFor frame r text → r.part ≡ Digits negative value → value ≡ 0 → is_digit byte ≡ true → line ≡ r.line → IsSeenFault (frame_of frame) (text ++ byte ∷ []) line Syntax
 zero_digit frame r text negative value byte line stands is none digit at_line =
     let part = number_part frame r text negative value stands is in
     let zero_is : part.number ≡ 0 = zero_kept part.number part.kept in
-    zero_by frame (stage_of r stands.count) text part.done negative part.number byte line zero_is part.positive part.of_sort part.bytes part.reached (digit_low byte digit) (at_line ∙ stands.counts.line) where
+    zero_by frame (stage_of r stands.count) text part.done negative part.number byte line zero_is part.positive part.of_sort part.shallow part.bytes part.reached (digit_low byte digit) (at_line ∙ stands.counts.line) where
       zero_kept : (n : ℕ) → value ≡ min n (2 ^ 64 - 1) → n ≡ 0
       zero_kept n kept = omega arith
 
@@ -250,6 +249,7 @@ digits_more frame r text negative value byte next stands is some digit next_is =
         reached = part.reached;
         number = 10 * n + d;
         of_sort = of_size (sort (stage_of r stands.count)) negative n (10 * n + d) positive part.of_sort;
+        shallow = part.shallow;
         positive = λ _. large;
         kept = saturates n d value next part.kept next_is;
         bytes = bytes;
@@ -285,6 +285,7 @@ digit_behind_minus frame r text byte stands is digit positive_byte =
         reached = part.reached;
         number = d;
         of_sort = subst S (sym part.of_sort) tt;
+        shallow = part.shallow;
         positive = λ _. some;
         kept = small;
         bytes = bytes;
@@ -303,7 +304,102 @@ syntax_minus frame r text byte line stands is other at_line =
     let P : List ℕ → Type 0 = λ t. IsSeenFault (frame_of frame) t line Syntax in
     let L : ℕ → Type 0 = λ l. IsSeenFault (frame_of frame) (part.done ++ 45 ∷ byte ∷ []) l Syntax in
     subst P (sym whole) (subst L (sym at_minus) (leaves_seen (frame_of frame) (part.done ++ 45 ∷ byte ∷ []) [] byte (line_behind (part.done ++ 45 ∷ []))
-    (leaves_minus (frame_of frame) (stage_of r stands.count) part.done (byte ∷ []) part.reached (subst S (sym part.of_sort) tt) other)))
+    (λ more. leaves_minus (frame_of frame) (stage_of r stands.count) part.done (byte ∷ []) more part.reached (subst S (sym part.of_sort) tt) other (λ none. cc))))
+
+-- a place where no number comes of a node that is too deep
+pub shallow_dry : (frame : Frame) (r : Reader) (n byte : ℕ) → is_deep_stage (stage_of r n) ≡ false → (more : List ℕ) → IsDry (frame_of frame) (stage_of r n) (byte ∷ more)
+shallow_dry frame r n byte shallow more first begins = no_shallow_deep (frame_of frame) (stage_of r n) first shallow
+
+-- ---- the number of a node that is too deep
+
+-- where it comes, no word does, and a number without a sign
+deep_words : (frame : Frame) (stage : Stage) (v : Word) → is_deep_stage stage ≡ true → Comes v (words stage) → ⊥
+deep_words frame stage v is comes = let P : List (Word × Stage) → Type 0 = Comes v in subst P (deep_number (frame_of frame) stage is).1 comes
+
+deep_plain : (frame : Frame) (stage : Stage) (z : ℤ) (m : ℕ) → is_deep_stage stage ≡ true → IsOfSort (sort stage) z → z ≡ negsuc m → ⊥
+deep_plain frame stage z m is of_sort minus =
+    let P : Sort → Type 0 = λ t. IsOfSort t z in
+    let plain : z ≡ pos (nat_abs z) = subst P (deep_number (frame_of frame) stage is).2 of_sort in
+    let wrong : negsuc m ≡ pos (nat_abs z) = sym minus ∙ plain in cc
+
+-- where it comes, no number stands before
+deep_unnumbered : (frame : Frame) (r : Reader) (number : Bool) (text : List ℕ) (between : Between frame r number text) → is_deep_stage (stage_of r between.count) ≡ true → Reached (frame_of frame) (stage_of r between.count) false text
+deep_unnumbered frame r number text between is =
+    let P : Sort → Type 0 = λ t. IsOfSort t (pos 0) in
+    unnumbered frame r number text between (pos 0) (subst P (sym (deep_number (frame_of frame) (stage_of r between.count) is).2) refl)
+
+-- its first digit
+pub deep_digit : (frame : Frame) (r : Reader) (number : Bool) (text : List ℕ) (byte line : ℕ) (between : Between frame r number text) → is_deep_stage (stage_of r between.count) ≡ true → is_digit byte ≡ true → line ≡ r.line
+    → IsSeenFault (frame_of frame) (text ++ byte ∷ []) line Depth
+deep_digit frame r number text byte line between is digit at_line =
+    inr (inl (refl, deep_there (frame_of frame) (stage_of r between.count) text (byte ∷ []) line (deep_unnumbered frame r number text between is) is (inl (digit_low byte digit)) (at_line ∙ between.counts.line)))
+
+-- a minus in front of it
+pub deep_minus_begun : (frame : Frame) (r : Reader) (number : Bool) (text : List ℕ) (between : Between frame r number text) → is_deep_stage (stage_of r between.count) ≡ true → StandsFor frame (record r { part = DeepMinus }) (text ++ 45 ∷ [])
+deep_minus_begun frame r number text between is =
+    let other : 45 ≢ 10 = minus_line 45 refl in
+    let P : Stage → Type 0 = λ stage. IsBehindDeepMinus (frame_of frame) stage (text ++ 45 ∷ []) in
+    record {
+      count = between.count;
+      counts = counts_push r DeepMinus between.count text 45 other between.counts;
+      part = subst P (sym (place_part r DeepMinus between.count)) (record { done = text; reached = deep_unnumbered frame r number text between is; deep = is; bytes = refl; lines = line_same text 45 other });
+    }
+
+-- neither a digit nor a minus
+pub deep_other : (frame : Frame) (r : Reader) (number : Bool) (text : List ℕ) (byte line : ℕ) (between : Between frame r number text) → is_deep_stage (stage_of r between.count) ≡ true → MayStand number (byte ∷ [])
+    → (48 ≤ byte → byte ≤ 57 → ⊥) → byte ≢ 45 → line ≡ r.line → IsSeenFault (frame_of frame) (text ++ byte ∷ []) line Syntax
+deep_other frame r number text byte line between is may no_digit no_minus at_line =
+    let stage = stage_of r between.count in
+    syntax_between frame r number text byte line between may
+    (λ v comes. absurd (deep_words frame stage v is comes))
+    (λ z of_sort. (no_digit, λ m minus. absurd (deep_plain frame stage z m is of_sort minus)))
+    (λ more first begins. ⊎_elim (λ digit. no_digit digit.0 digit.1) (λ minus. no_minus minus.0) begins)
+    at_line
+
+deep_minus_part : (frame : Frame) (r : Reader) (text : List ℕ) (stands : StandsFor frame r text) → r.part ≡ DeepMinus → IsBehindDeepMinus (frame_of frame) (stage_of r stands.count) text
+deep_minus_part frame r text stands is = let Q : Part → Type 0 = λ p. IsPart (frame_of frame) (stage_of r stands.count) p text in subst Q is stands.part
+
+-- a digit behind the minus
+pub deep_minus_digit : (frame : Frame) (r : Reader) (text : List ℕ) (byte line : ℕ) → StandsFor frame r text → r.part ≡ DeepMinus → is_digit byte ≡ true → line ≡ r.line → IsSeenFault (frame_of frame) (text ++ byte ∷ []) line Depth
+deep_minus_digit frame r text byte line stands is digit at_line =
+    let part = deep_minus_part frame r text stands is in
+    let whole : text ++ byte ∷ [] ≡ part.done ++ 45 ∷ byte ∷ [] = ap (λ (xs : List ℕ). xs ++ byte ∷ []) part.bytes ∙ append_assoc part.done (45 ∷ []) (byte ∷ []) in
+    let P : List ℕ → Type 0 = λ t. HasDeepNumber (frame_of frame) t line in
+    inr (inl (
+      refl,
+      subst P (sym whole)
+          (deep_there (frame_of frame) (stage_of r stands.count) part.done (45 ∷ byte ∷ []) line part.reached part.deep (inr (refl, digit_low byte digit)) (at_line ∙ stands.counts.line ∙ part.lines)),
+    ))
+
+-- the text goes on with no digit behind the minus, or ends
+pub deep_minus_leaves : (frame : Frame) (r : Reader) (text : List ℕ) (stands : StandsFor frame r text) (part : IsBehindDeepMinus (frame_of frame) (stage_of r stands.count) text) (rest more : List ℕ)
+    → (BeginsDigit (rest ++ more) → ⊥) → LeavesAt (frame_of frame) (part.done ++ 45 ∷ rest) (line_behind part.done) (45 ∷ rest) more
+deep_minus_leaves frame r text stands part rest more none =
+    let stage = stage_of r stands.count in
+    leaves_fresh (frame_of frame) stage false part.done (45 ∷ rest) more part.reached tt (λ e. cc)
+    (λ v comes. absurd (deep_words frame stage v part.deep comes))
+    (λ z of_sort. ((λ low high. omega arith), λ m minus. absurd (deep_plain frame stage z m part.deep of_sort minus)))
+    (λ d o e. cc)
+    (λ first begins. ⊎_elim (λ digit. let low : 48 ≤ 45 = digit.0 in omega arith) (λ minus. none minus.1) begins)
+
+pub deep_minus_other : (frame : Frame) (r : Reader) (text : List ℕ) (byte line : ℕ) → StandsFor frame r text → r.part ≡ DeepMinus → (48 ≤ byte → byte ≤ 57 → ⊥) → line ≡ r.line → IsSeenFault (frame_of frame) (text ++ byte ∷ []) line Syntax
+deep_minus_other frame r text byte line stands is other at_line =
+    let part = deep_minus_part frame r text stands is in
+    let whole : text ++ byte ∷ [] ≡ part.done ++ 45 ∷ byte ∷ [] = ap (λ (xs : List ℕ). xs ++ byte ∷ []) part.bytes ∙ append_assoc part.done (45 ∷ []) (byte ∷ []) in
+    let P : List ℕ → Type 0 = λ t. IsSeenFault (frame_of frame) t line Syntax in
+    let L : ℕ → Type 0 = λ l. IsSeenFault (frame_of frame) (part.done ++ 45 ∷ byte ∷ []) l Syntax in
+    subst P (sym whole) (subst L (sym (at_line ∙ stands.counts.line ∙ part.lines))
+    (leaves_seen (frame_of frame) (part.done ++ 45 ∷ byte ∷ []) (byte ∷ []) 45 (line_behind part.done)
+    (λ more. deep_minus_leaves frame r text stands part (byte ∷ []) more (λ digit. other digit.0 digit.1))))
+
+-- the text ends behind the minus
+pub cut_deep_minus : (frame : Frame) (r : Reader) (text : List ℕ) (line : ℕ) → StandsFor frame r text → r.part ≡ DeepMinus → line ≡ r.line → IsFirstFault (frame_of frame) text line Syntax
+cut_deep_minus frame r text line stands is at_line =
+    let part = deep_minus_part frame r text stands is in
+    let P : List ℕ → Type 0 = λ t. IsFirstFault (frame_of frame) t line Syntax in
+    let L : ℕ → Type 0 = λ l. IsFirstFault (frame_of frame) (part.done ++ 45 ∷ []) l Syntax in
+    subst P (sym part.bytes) (subst L (sym (at_line ∙ stands.counts.line ∙ part.lines))
+    (leaves_first (frame_of frame) (part.done ++ 45 ∷ []) (45 ∷ []) (line_behind part.done) (deep_minus_leaves frame r text stands part [] [] (λ digit. digit))))
 
 -- what is kept of a number is of its sort
 of_kept : (t : Sort) (negative : Bool) (n value : ℕ) → value ≡ min n (2 ^ 64 - 1) → IsOfSort t (signed negative n) → IsOfSort t (signed negative value)

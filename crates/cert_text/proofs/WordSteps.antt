@@ -1,18 +1,18 @@
 -- What a reader stands for behind one byte of a word.
-use Rattle.std.proofs.Common.{◌≡◌, ◌≢◌, ◌⊎◌, ℕ, zero, suc, ◌+◌, ◌-◌, ◌*◌, ◌^◌, ◌<◌, ◌≤◌, Bool, true, false, not, IsTrue, min, List, [], ◌∷◌, ◌++◌, length, take, Option, Some, None, Result, Ok, Err, refl, sym, ap, ◌∙◌, subst, inl, inr, ⊎_elim, arith, nat_eq, nat_lt, append_assoc, append-nil, length-append, get_or, add-one, if◌then◌else◌}
+use Rattle.std.proofs.Common.{◌≡◌, ◌≢◌, ◌⊎◌, ℕ, zero, suc, ◌+◌, ◌-◌, ◌^◌, ◌<◌, ◌≤◌, Bool, true, false, not, min, List, [], ◌∷◌, ◌++◌, length, take, Option, Some, None, Result, Ok, Err, refl, sym, ap, ◌∙◌, subst, inl, inr, ⊎_elim, arith, nat_eq, nat_lt, append_assoc, append-nil, length-append}
 use Rattle.std.specs.Prelude.{slice_index_or}
 use Rattle.std.proofs.lemmas.List.{take_more}
 use Rattle.std.proofs.lemmas.Bool.{true≢false}
 use Rattle.std.proofs.lemmas.Bool.Decides.{nat_tests}
 use Rattle.cert_text.specs.Text.{Kind, fault_of}
-use Rattle.cert_text.specs.Fault.{EndsNumber, IsSeenFault, line_behind}
+use Rattle.cert_text.specs.Fault.{IsSeenFault, line_behind}
 use Rattle.cert_text.specs.Words.{word_text, word_token, word_begins, is_line_end}
 use Rattle.cert_text.specs.Spots.{spot_words, picked_word}
 use Rattle.cert_text.specs.Frames.{frame_of}
 use Rattle.cert_text.specs.Readers.{Keeps, slack, place_of, stage_of}
 use Rattle.cert_text.specs.Stages.{Stage, words, after, line_fault}
-use Rattle.cert_text.specs.Standing.{MayStand, Reached, Comes, IsInWord, IsPart, CountFits, IsShort, KeepsCounts, StandsFor, Between, InWordAt, Steps, is_digit}
-use Rattle.cert_text.specs.declared.fault.CertKind.TheVariants.{Syntax, Length}
+use Rattle.cert_text.specs.Standing.{MayStand, Reached, Comes, IsInWord, IsPart, CountFits, StandsFor, Between, InWordAt, Steps, is_digit}
+use Rattle.cert_text.specs.declared.fault.CertKind.TheVariants.{Syntax}
 use Rattle.cert_text.specs.declared.fault.CertFault.{CertFault}
 use Rattle.cert_text.specs.declared.fault.CertFault.TheVariants.{At}
 use Rattle.cert_text.specs.declared.frame.Frame.{Frame}
@@ -25,8 +25,8 @@ use Rattle.cert_text.specs.declared.words.Word.{Word}
 use Rattle.cert_text.specs.declared.words.Word.TheVariants as w
 use Rattle.cert_text.proofs.StageWords.{first_byte, word_split, heads, words_are, picked_comes, picked_none}
 use Rattle.cert_text.proofs.Reaching.{word_reached, word_faulty, leaves_seen}
-use Rattle.cert_text.proofs.Leaving.{OtherAt, leaves_word}
-use Rattle.cert_text.proofs.Bytes.{word_line, line_same, line_more, slack_small}
+use Rattle.cert_text.proofs.Leaving.{leaves_word}
+use Rattle.cert_text.proofs.Bytes.{word_line, line_more, slack_small}
 use Rattle.cert_text.proofs.ReaderSteps.{same_place, counts_push}
 
 -- a fault that a call gave
@@ -194,9 +194,9 @@ syntax_word frame r word count byte line text at other begun at_line =
     let P : List ℕ → Type 0 = λ t. IsSeenFault (frame_of frame) t line Syntax in
     let L : ℕ → Type 0 = λ l. IsSeenFault (frame_of frame) (part.done ++ (take count (word_text word) ++ byte ∷ [])) l Syntax in
     subst P (sym bytes) (subst L (sym here) (leaves_seen (frame_of frame) (part.done ++ (take count (word_text word) ++ byte ∷ [])) [] byte (line_behind (part.done ++ take count (word_text word)))
-    (leaves_word (frame_of frame) (stage_of r at.count) part.number part.done (byte ∷ []) word count part.reached part.comes some part.within
+    (λ more. leaves_word (frame_of frame) (stage_of r at.count) part.number part.done (byte ∷ []) more word count part.reached part.comes some part.within
     (stands_part part.number (word_text word) (byte ∷ []) count some length_some part.stands)
-    (λ tail a is same. other (nth_at (word_text word) count a tail part.within is ∙ same))))) where
+    (λ tail a is same. other (nth_at (word_text word) count a tail part.within is ∙ same)) (λ none. cc)))) where
       positive : (k : ℕ) → slice_index_or (word_text word) k 0 ≢ byte → (k ≡ 0 → word_begins word byte ≡ true) → 0 < k
       positive zero other begun = let one = begun refl in absurd (other (grind (arith, nat_tests)))
       positive (suc k) other begun = omega arith

@@ -4,7 +4,7 @@ use Rattle.bp_theory.specs.declared.Claim as claims
 use Rattle.bp_theory.specs.declared.Claim.TheVariants as variants
 use Rattle.cert_text.specs.Written.{written_claim}
 use Rattle.cert_text.specs.Cert.{Picked, Every, These, Proof, Tree, Shut, Open, Split, Claim, Optimal, Infeasible, Bound, BoundValue, Cert, Frame}
-use Rattle.cert_text.specs.Text.{Kind, Token, Words, LineEnd, One, value_fault, coordinate_fault, end_fault, row_fault, multiplier_fault, block_fault, scale_fault, variable_fault, may_name, tokens_of, HasForm}
+use Rattle.cert_text.specs.Text.{Kind, Token, Words, LineEnd, One, value_fault, coordinate_fault, end_fault, row_fault, multiplier_fault, block_fault, scale_fault, variable_fault, is_deep, may_name, tokens_of, HasForm}
 use Rattle.cert_text.specs.Grammar.{Prefixed, Numbered, Valued, Points, Pairs, Blocks, Priced, Trees}
 use Rattle.cert_text.specs.Words.{word_token}
 use Rattle.cert_text.specs.declared.spots.Sort.{Sort}
@@ -170,6 +170,12 @@ abbrev pub IsOfSort : Sort → ℤ → Type 0
 IsOfSort Wordy z = ⊥
 IsOfSort Natural z = z ≡ pos (nat_abs z)
 IsOfSort Whole z = Unit {0}
+
+-- the number comes of a node that is too deep
+abbrev pub is_deep_stage : Stage → Bool
+is_deep_stage (at_scale a ws o) = is_deep (length ws)
+is_deep_stage (at_variable a ws) = is_deep (length ws)
+is_deep_stage _ = false
 
 -- the fault of a number
 abbrev pub number_fault : Frame → Stage → ℤ → Option Kind

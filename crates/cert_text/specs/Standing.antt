@@ -7,7 +7,7 @@ use Rattle.cert_text.specs.Fault.{AreClean, EndsNumber, EndsToken, line_behind, 
 use Rattle.cert_text.specs.Words.{word_text}
 use Rattle.cert_text.specs.Signed.{signed}
 use Rattle.cert_text.specs.Frames.{frame_of}
-use Rattle.cert_text.specs.Stages.{Stage, words, sort, IsOfSort, IsOf, Follows}
+use Rattle.cert_text.specs.Stages.{Stage, words, sort, IsOfSort, is_deep_stage, IsOf, Follows}
 use Rattle.cert_text.specs.Kept.{kept_cert}
 use Rattle.cert_text.specs.Readers.{stage_of, slack}
 use Rattle.cert_text.specs.declared.fault.CertFault.{CertFault}
@@ -19,7 +19,7 @@ use Rattle.cert_text.specs.declared.spots.Sort.TheVariants.{Wordy, Whole}
 use Rattle.cert_text.specs.declared.spots.Spot.{Spot}
 use Rattle.cert_text.specs.declared.spots.Spot.TheVariants.{Bpcert, Over}
 use Rattle.cert_text.specs.declared.reader.Part.{Part}
-use Rattle.cert_text.specs.declared.reader.Part.TheVariants.{Fresh, InWord, Minus, Digits}
+use Rattle.cert_text.specs.declared.reader.Part.TheVariants.{Fresh, InWord, Minus, DeepMinus, Digits}
 use Rattle.cert_text.specs.declared.reader.Reader.{Reader}
 
 -- each token ends where the tokens behind it, and then this text, follow
@@ -55,12 +55,13 @@ pub record IsInWord (frame : texts.Frame) (stage : Stage) (word : Word) (count :
   pub bytes : text ≡ done ++ take count (word_text word)
   pub stands : (rest : List ℕ) → MayStand number (word_text word ++ rest)
 
--- digits of a number have come
+-- digits of a number have come, which isn't one of a node that is too deep
 pub record IsInNumber (frame : texts.Frame) (stage : Stage) (negative : Bool) (value : ℕ) (text : List ℕ) : Type 0 where
   pub done : List ℕ
   pub reached : Reached frame stage false done
   pub number : ℕ
   pub of_sort : IsOfSort (sort stage) (signed negative number)
+  pub shallow : is_deep_stage stage ≡ false
   pub positive : IsTrue negative → 0 < number
   pub kept : value ≡ min number (2 ^ 64 - 1)
   pub bytes : text ≡ done ++ signed_numeral (signed negative number)
@@ -71,6 +72,15 @@ pub record IsBehindMinus (frame : texts.Frame) (stage : Stage) (text : List ℕ)
   pub done : List ℕ
   pub reached : Reached frame stage false done
   pub of_sort : sort stage ≡ Whole
+  pub shallow : is_deep_stage stage ≡ false
+  pub bytes : text ≡ done ++ 45 ∷ []
+  pub lines : line_behind text ≡ line_behind done
+
+-- a minus has come, where the number comes of a node that is too deep
+pub record IsBehindDeepMinus (frame : texts.Frame) (stage : Stage) (text : List ℕ) : Type 0 where
+  pub done : List ℕ
+  pub reached : Reached frame stage false done
+  pub deep : is_deep_stage stage ≡ true
   pub bytes : text ≡ done ++ 45 ∷ []
   pub lines : line_behind text ≡ line_behind done
 
@@ -79,6 +89,7 @@ abbrev pub IsPart : texts.Frame → Stage → Part → List ℕ → Type 0
 IsPart frame stage Fresh text = Reached frame stage false text
 IsPart frame stage (InWord word count) text = (0 < count) × IsInWord frame stage word count text
 IsPart frame stage Minus text = IsBehindMinus frame stage text
+IsPart frame stage DeepMinus text = IsBehindDeepMinus frame stage text
 IsPart frame stage (Digits negative value) text = IsInNumber frame stage negative value text
 
 -- the number of pairs or blocks still to come is kept, or it is too great to be kept and to come

@@ -1,5 +1,5 @@
 ghost use Rattle.std.specs.Prelude.{◌≡◌, ◌+◌, ◌<◌, ◌^◌, [], MatchResult, None, Some};
-ghost use Rattle.cert_text.specs.Text.{value_fault, coordinate_fault, row_fault, multiplier_fault, block_fault, scale_fault, variable_fault, may_name};
+ghost use Rattle.cert_text.specs.Text.{value_fault, coordinate_fault, row_fault, multiplier_fault, block_fault, scale_fault, variable_fault, is_deep, may_name};
 ghost use Rattle.cert_text.specs.Frames.{frame_of};
 ghost use Rattle.cert_text.specs.Signed.{signed};
 
@@ -65,11 +65,18 @@ pub fn judge_multiplier(row: u32, negative: bool, value: u64) -> Result<i64, Cer
     Ok(signed_of(negative, value))
 }
 
+// Whether a node at a depth is too deep.
+pub fn is_too_deep(depth: usize) -> bool
+    ensures { result ≡ is_deep depth }
+{
+    depth > DEPTH
+}
+
 // The scale of a leaf at a depth.
 pub fn judge_scale(depth: usize, value: u64) -> Result<u32, CertKind>
     ensures { MatchResult result (λ s. (scale_fault depth value ≡ None) × (s ≡ value)) (λ kind. scale_fault depth value ≡ Some kind) }
 {
-    if depth > DEPTH {
+    if is_too_deep(depth) {
         return Err(CertKind::Depth);
     }
     if value > SCALE {
@@ -110,7 +117,7 @@ pub fn judge_block(frame: &Frame, last: u64, value: u64) -> Result<u32, CertKind
 pub fn judge_variable(frame: &Frame, depth: usize, value: u64) -> Result<u32, CertKind>
     ensures { MatchResult result (λ v. (variable_fault (frame_of frame.now) depth value ≡ None) × (v + 1 ≡ value)) (λ kind. variable_fault (frame_of frame.now) depth value ≡ Some kind) }
 {
-    if depth > DEPTH {
+    if is_too_deep(depth) {
         return Err(CertKind::Depth);
     }
     if 1 <= value && value <= u64::from(frame.variables) {

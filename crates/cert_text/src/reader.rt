@@ -5,13 +5,13 @@ ghost use Rattle.cert_text.specs.declared.words.Word.{Word};
 ghost use Rattle.cert_text.specs.Written.{in_text, written_claim, written_tree, written_proof};
 ghost use Rattle.cert_text.specs.Cert.{Split};
 ghost use Rattle.bp_theory.specs.declared.Picked.TheVariants.{Every, These};
-ghost use Rattle.cert_text.specs.Stages.{leaf_of, at_node, low_of, words, after, behind, line_fault};
+ghost use Rattle.cert_text.specs.Stages.{leaf_of, at_node, low_of, words, after, behind, line_fault, is_deep_stage};
 ghost use Rattle.cert_text.specs.Readers.{Keeps, stage_of, waits_of, TakesNatural, TakesWhole};
 ghost use Rattle.cert_text.specs.Frames.{frame_of};
 ghost use Rattle.cert_text.specs.Words.{word_text, word_begins, word_token};
 ghost use Rattle.cert_text.specs.Text.{fault_of};
 ghost use Rattle.cert_text.specs.Standing.{StandsFor, Between, InWordAt, MayStand, Comes, Steps, Feeds, EndsNumberAt, EndsTextAt, EndsWell, Reads, is_digit};
-ghost use Rattle.cert_text.specs.declared.reader.Part.TheVariants.{Digits, Minus};
+ghost use Rattle.cert_text.specs.declared.reader.Part.TheVariants.{Digits, Minus, DeepMinus};
 ghost use Rattle.cert_text.specs.Spots.{spot_sort};
 ghost use Rattle.cert_text.specs.declared.spots.Spot.TheVariants.{Scale, Values, Pairs};
 ghost use Rattle.cert_text.specs.declared.spots.Sort.TheVariants.{Natural, Whole};
@@ -20,8 +20,8 @@ use crate::cert::Cert;
 use crate::fault::{CertFault, CertKind};
 use crate::frame::Frame;
 use crate::judge::{
-    judge_block, judge_coordinate, judge_multiplier, judge_row, judge_scale, judge_value,
-    judge_variable,
+    is_too_deep, judge_block, judge_coordinate, judge_multiplier, judge_row, judge_scale,
+    judge_value, judge_variable,
 };
 use crate::sketch::Sketch;
 use crate::spots::{Sort, Spot, pick, sort_of, words_at};
@@ -36,6 +36,7 @@ pub enum Part {
     Fresh,
     InWord { word: Word, done: usize },
     Minus,
+    DeepMinus,
     Digits { negative: bool, value: u64 },
 }
 
@@ -505,10 +506,48 @@ impl Reader {
         self.end_word(alloc, frame, word)
     }
 
+    // Whether the number comes of a node that is too deep.
+    fn awaits_deep(&self) -> bool
+        ensures { (n : ℕ) → result ≡ is_deep_stage (stage_of self.now n) }
+    {
+        match self.spot {
+            Spot::Scale | Spot::Variable => is_too_deep(self.depth()),
+            _ => false,
+        }
+    }
+
+    // The number of a node that is too deep begins with a byte, or the text leaves the grammar.
+    fn begin_deep(&mut self, byte: u8) -> Result<(), CertFault>
+        ensures { (frame : Frame) (text : List ℕ) (number : Bool) → length text + 1 < 2 ^ 64 → (between : Between frame self.old number text) → is_deep_stage (stage_of self.old between.count) ≡ true → MayStand number (byte ∷ []) → Steps frame self.new text byte result }
+    {
+        if digit(byte) {
+            return self.fault(CertKind::Depth);
+        }
+        if byte == b'-' {
+            self.part = Part::DeepMinus;
+            return Ok(());
+        }
+        self.fault(CertKind::Syntax)
+    }
+
+    // The byte behind a minus, where the number comes of a node that is too deep.
+    fn behind_deep_minus(&self, byte: u8) -> Result<(), CertFault>
+        requires { self.now.part ≡ DeepMinus }
+        ensures { (frame : Frame) (text : List ℕ) → length text + 1 < 2 ^ 64 → StandsFor frame self.now text → Steps frame self.now text byte result }
+    {
+        if digit(byte) {
+            return self.fault(CertKind::Depth);
+        }
+        self.fault(CertKind::Syntax)
+    }
+
     // A number begins with a byte, or the text leaves the grammar.
     fn begin_number(&mut self, byte: u8) -> Result<(), CertFault>
         ensures { (frame : Frame) (text : List ℕ) (number : Bool) → length text + 1 < 2 ^ 64 → (between : Between frame self.old number text) → MayStand number (byte ∷ []) → ((v : Word) → Comes v (words (stage_of self.old between.count)) → word_begins v byte ≡ false) → Steps frame self.new text byte result }
     {
+        if self.awaits_deep() {
+            return self.begin_deep(byte);
+        }
         match sort_of(self.spot) {
             Sort::Wordy => self.fault(CertKind::Syntax),
             Sort::Natural => {
@@ -593,6 +632,7 @@ impl Reader {
             Part::Fresh => self.begin(alloc, frame, byte),
             Part::InWord { word, done } => self.go_on(alloc, frame, word, done, byte),
             Part::Minus => self.behind_minus(byte),
+            Part::DeepMinus => self.behind_deep_minus(byte),
             Part::Digits { negative, value } => {
                 if digit(byte) {
                     return self.more_digits(negative, value, byte);
@@ -655,6 +695,7 @@ impl Reader {
             },
             Part::InWord { word: _, done: _ } => self.fault(CertKind::Syntax),
             Part::Minus => self.fault(CertKind::Syntax),
+            Part::DeepMinus => self.fault(CertKind::Syntax),
             Part::Digits { negative, value } => {
                 match self.end_number(alloc, frame, negative, value) {
                     Err(fault) => Err(fault),

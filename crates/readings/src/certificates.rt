@@ -163,6 +163,39 @@ fn answers_the_first_fault(rt: HostRuntime) -> Result<(), Fail> {
     Ok(())
 }
 
+// On a line that is too deep the depth stands before every other fault of its numbers.
+#[test]
+fn a_deep_line_is_at_fault_for_its_depth(rt: HostRuntime) -> Result<(), Fail> {
+    let alloc = rt.alloc();
+    let frame = two_rows(alloc)?;
+    let head = "bpcert 1\nclaim infeasible\n";
+    for (line, kind) in [
+        ("leaf 05 rows", CertKind::Depth),
+        ("leaf -1", CertKind::Depth),
+        ("split 01 0", CertKind::Depth),
+        ("open -1", CertKind::Depth),
+        ("leaf 1048577", CertKind::Depth),
+        ("split 3 0", CertKind::Depth),
+        ("leaf -0", CertKind::Depth),
+        ("leaf 5x", CertKind::Depth),
+        ("leaf ", CertKind::Syntax),
+        ("leaf -", CertKind::Syntax),
+        ("leaf - 1", CertKind::Syntax),
+        ("leaf x", CertKind::Syntax),
+        ("leaf\n", CertKind::Syntax),
+        ("split  1 0", CertKind::Syntax),
+        ("leave 1", CertKind::Syntax),
+    ] {
+        let text = repeated(alloc, head, "split 1 0\n", 8257, line)?;
+        assert_eq!(rt;
+            fault_of(read(alloc, &frame, text.as_slice())),
+            Some((8260, kind)),
+            "{line}"
+        );
+    }
+    Ok(())
+}
+
 #[test]
 fn a_text_cut_off_is_at_fault_on_its_last_line(rt: HostRuntime) -> Result<(), Fail> {
     let alloc = rt.alloc();

@@ -1,13 +1,13 @@
-use Rattle.std.proofs.Common.{◌≡◌, ◌≢◌, ℕ, ◌-◌, ◌≤◌, List, [], ◌∷◌, ◌++◌, Bool, true, false, ℤ, pos, nat_abs, negsuc, refl, sym, ap, ◌∙◌, subst, arith}
+use Rattle.std.proofs.Common.{◌≡◌, ℕ, ◌-◌, [], ◌∷◌, ◌++◌, ℤ, pos, nat_abs, negsuc, refl, sym, ◌∙◌, subst}
 use Rattle.cert_text.specs.Stages.{sort, IsOfSort}
 use Rattle.cert_text.specs.Readers.{stage_of}
 use Rattle.cert_text.specs.declared.fault.CertKind.TheVariants.{Syntax}
 use Rattle.cert_text.specs.declared.spots.Sort.{Sort}
-use Rattle.cert_text.specs.declared.spots.Sort.TheVariants.{Wordy, Natural, Whole}
+use Rattle.cert_text.specs.declared.spots.Sort.TheVariants.{Natural}
 use Rattle.cert_text.specs.Standing.{StandsFor}
 use Rattle.cert_text.specs.declared.reader.Part.TheVariants.{Minus}
 use Rattle.cert_text.proofs.Bytes.{sort_is}
-use Rattle.cert_text.proofs.ReaderSteps.{digits_begun, minus_begun, syntax_between, no_digit}
+use Rattle.cert_text.proofs.ReaderSteps.{digits_begun, minus_begun, syntax_between, shallow_dry, no_digit}
 use Rattle.cert_text.proofs.WordSteps.{at_fault, at_done}
 use Rattle.cert_text.proofs.reader.Reader.begin_number.Goals as goal
 
@@ -23,7 +23,8 @@ returns-in-Wordy c =
     let r = c.args.self.now in
     λ frame text number small between may none. at_fault frame r text c.args.byte r.line Syntax c.fault.result c.fault.ensures
     (syntax_between frame r number text c.args.byte r.line between may none
-    (λ z of_sort. let P : Sort → Type 0 = λ t. IsOfSort t z in absurd (subst P (sort_is r between.count r.spot ∙ sym c.in-Wordy.ensures) of_sort)) refl)
+    (λ z of_sort. let P : Sort → Type 0 = λ t. IsOfSort t z in absurd (subst P (sort_is r between.count r.spot ∙ sym c.in-Wordy.ensures) of_sort))
+    (shallow_dry frame r between.count c.args.byte (sym (c.if-awaits_deep.ensures between.count))) refl)
 
 pub returns-then-digit : goal.returns-then-digit
 returns-then-digit c =
@@ -31,14 +32,15 @@ returns-then-digit c =
     λ frame text number small between may none.
     let P : Sort → Type 0 = λ t. IsOfSort t (pos (c.args.byte - 48)) in
     at_done frame c.begin_digits.new.self _ text c.args.byte c.begin_digits.result c.begin_digits.ensures.done c.begin_digits.ensures.digits
-    (digits_begun frame r number text c.args.byte between (sym c.if-digit.ensures) (subst P (c.in-Natural.ensures ∙ sym (sort_is r between.count r.spot)) refl))
+    (digits_begun frame r number text c.args.byte between (sym c.if-digit.ensures) (subst P (c.in-Natural.ensures ∙ sym (sort_is r between.count r.spot)) refl) (sym (c.if-awaits_deep.ensures between.count)))
 
 pub returns-else-digit : goal.returns-else-digit
 returns-else-digit c =
     let r = c.args.self.now in
     λ frame text number small between may none. at_fault frame r text c.args.byte r.line Syntax c.fault-else-digit.result c.fault-else-digit.ensures
     (syntax_between frame r number text c.args.byte r.line between may none
-    (λ z of_sort. (no_digit c.args.byte (sym c.if-digit.ensures), λ m minus. absurd (natural_plain (sort (stage_of r between.count)) z m (sort_is r between.count r.spot ∙ sym c.in-Natural.ensures) of_sort minus))) refl)
+    (λ z of_sort. (no_digit c.args.byte (sym c.if-digit.ensures), λ m minus. absurd (natural_plain (sort (stage_of r between.count)) z m (sort_is r between.count r.spot ∙ sym c.in-Natural.ensures) of_sort minus)))
+    (shallow_dry frame r between.count c.args.byte (sym (c.if-awaits_deep.ensures between.count))) refl)
 
 pub returns-then-digit-2 : goal.returns-then-digit-2
 returns-then-digit-2 c =
@@ -46,18 +48,23 @@ returns-then-digit-2 c =
     λ frame text number small between may none.
     let P : Sort → Type 0 = λ t. IsOfSort t (pos (c.args.byte - 48)) in
     at_done frame c.begin_digits-then-digit-2.new.self _ text c.args.byte c.begin_digits-then-digit-2.result c.begin_digits-then-digit-2.ensures.done c.begin_digits-then-digit-2.ensures.digits
-    (digits_begun frame r number text c.args.byte between (sym c.if-digit-2.ensures) (subst P (c.in-Whole.ensures ∙ sym (sort_is r between.count r.spot)) tt))
+    (digits_begun frame r number text c.args.byte between (sym c.if-digit-2.ensures) (subst P (c.in-Whole.ensures ∙ sym (sort_is r between.count r.spot)) tt) (sym (c.if-awaits_deep.ensures between.count)))
 
 pub returns-then-byte-eq45 : goal.returns-then-byte-eq45
 returns-then-byte-eq45 c =
     let r = c.args.self.now in
     λ frame text number small between may none.
     let P : ℕ → Type 0 = λ b. StandsFor frame (record r { part = Minus }) (text ++ b ∷ []) in
-    subst P (sym c.if-byte-eq45.true) (minus_begun frame r number text between (sort_is r between.count r.spot ∙ sym c.in-Whole.ensures))
+    subst P (sym c.if-byte-eq45.true) (minus_begun frame r number text between (sort_is r between.count r.spot ∙ sym c.in-Whole.ensures) (sym (c.if-awaits_deep.ensures between.count)))
 
 pub returns-else-byte-eq45 : goal.returns-else-byte-eq45
 returns-else-byte-eq45 c =
     let r = c.args.self.now in
     λ frame text number small between may none. at_fault frame r text c.args.byte r.line Syntax c.fault-else-byte-eq45.result c.fault-else-byte-eq45.ensures
     (syntax_between frame r number text c.args.byte r.line between may none
-    (λ z of_sort. (no_digit c.args.byte (sym c.if-digit-2.ensures), λ m minus. c.if-byte-eq45.false)) refl)
+    (λ z of_sort. (no_digit c.args.byte (sym c.if-digit-2.ensures), λ m minus. c.if-byte-eq45.false))
+    (shallow_dry frame r between.count c.args.byte (sym (c.if-awaits_deep.ensures between.count))) refl)
+
+pub returns-then-awaits_deep : goal.returns-then-awaits_deep
+returns-then-awaits_deep c =
+    λ frame text number small between may none. c.begin_deep.ensures frame text number small between (sym (c.if-awaits_deep.ensures between.count)) may

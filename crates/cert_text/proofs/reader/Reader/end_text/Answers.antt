@@ -1,6 +1,6 @@
-use Rattle.std.proofs.Common.{refl, sym, ap, true}
+use Rattle.std.proofs.Common.{refl, true}
 use Rattle.cert_text.specs.declared.fault.CertKind.TheVariants.{Syntax}
-use Rattle.cert_text.proofs.ReaderSteps.{fresh_between}
+use Rattle.cert_text.proofs.ReaderSteps.{fresh_between, cut_deep_minus}
 use Rattle.cert_text.proofs.Finishing.{cut_between, cut_word, cut_minus}
 use Rattle.cert_text.proofs.Feeding.{end_fault}
 use Rattle.cert_text.proofs.reader.Reader.end_text.Goals as goal
@@ -20,6 +20,11 @@ pub returns-in-Minus : goal.returns-in-Minus
 returns-in-Minus c =
     let r = c.args.self.now in
     λ text small stands. end_fault c.args.frame.now r text r.line Syntax c.fault-in-Minus.result c.fault-in-Minus.ensures (cut_minus c.args.frame.now r text r.line stands c.in-Minus.is refl)
+
+pub returns-in-DeepMinus : goal.returns-in-DeepMinus
+returns-in-DeepMinus c =
+    let r = c.args.self.now in
+    λ text small stands. end_fault c.args.frame.now r text r.line Syntax c.fault-in-DeepMinus.result c.fault-in-DeepMinus.ensures (cut_deep_minus c.args.frame.now r text r.line stands c.in-DeepMinus.is refl)
 
 pub returns-in-Ok : goal.returns-in-Ok
 returns-in-Ok c =

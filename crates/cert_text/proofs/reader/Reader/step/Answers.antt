@@ -1,4 +1,4 @@
-use Rattle.std.proofs.Common.{true, false, ◌≡◌, refl, sym, arith}
+use Rattle.std.proofs.Common.{false, sym, arith}
 use Rattle.std.proofs.lemmas.Bool.{true≢false}
 use Rattle.cert_text.proofs.ReaderSteps.{fresh_between}
 use Rattle.cert_text.proofs.WordSteps.{within_word, within_some}
@@ -15,6 +15,9 @@ returns-in-InWord c =
 
 pub returns-in-Minus : goal.returns-in-Minus
 returns-in-Minus c = λ text small stands. c.behind_minus.ensures c.args.frame.now text small stands
+
+pub returns-in-DeepMinus : goal.returns-in-DeepMinus
+returns-in-DeepMinus c = λ text small stands. c.behind_deep_minus.ensures c.args.frame.now text small stands
 
 pub returns-then-digit : goal.returns-then-digit
 returns-then-digit c = λ text small stands. c.more_digits.ensures c.args.frame.now text small stands
