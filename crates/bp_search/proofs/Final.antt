@@ -1,5 +1,5 @@
 -- What the outcomes claim.
-use Rattle.std.proofs.Common.{◌≡◌, refl, sym, subst, ℕ, ◌<◌, ◌≤◌, List, [], ◌∷◌, ◌++◌, map, Option, Some, None, ℤ, length, get_or, arith, Bool, true, false}
+use Rattle.std.proofs.Common.{◌≡◌, refl, sym, subst, ap, ℕ, ◌<◌, ◌≤◌, List, [], ◌∷◌, ◌++◌, map, Option, Some, None, ℤ, length, get_or, arith, Bool, true, false}
 use Rattle.std.specs.Prelude.{option_to_list, ◌≤ℤ◌, int_lt, if◌then◌else◌}
 use Rattle.std.specs.Option.{unwrap_or}
 use Rattle.std.specs.Int.{int_min}
@@ -22,7 +22,7 @@ use Rattle.branch_tree.specs.Groves.{GroveState}
 use Rattle.branch_tree.specs.declared.outcome.Outcome.{Outcome}
 use Rattle.bp_search.specs.declared.kept.Kept.{Kept}
 use Rattle.bp_search.specs.Searches.{kept_point, kept_cost, as_pair, IsRunning}
-use Rattle.bp_search.specs.Ends.{most_steps, IsSearched, EndsWithin, IsOutOfSteps, ended, IsStopped}
+use Rattle.bp_search.specs.Ends.{most_steps, IsSearched, EndsWithin, IsOutOfSteps, ended, IsStopped, grove_in, point_of}
 use Rattle.bp_search.proofs.Running.{given_is}
 
 -- the blocking stands for the program
@@ -113,6 +113,22 @@ pub stops : (b : BlockedProgram) (most : ℕ) (g : GroveState) (best : Option Ke
     → 0 < live_count g.tree → steps (certificate_tree g.tree) ≡ most → IsStopped g best outcome → EndsWithin b most outcome
 stops b most g best outcome formed run some spent stop =
     subst (EndsWithin b most) (sym stop.is_outcome) (out_of_steps b most g best stop.bound formed run some spent stop.least)
+
+-- the grove and the point of an outcome
+pub ended_grove : (g : GroveState) (best : Option Kept) (outcome : Outcome) → outcome ≡ ended g best → grove_in outcome ≡ g
+ended_grove g None outcome is = ap grove_in is
+ended_grove g (Some k) outcome is = ap grove_in is
+
+pub ended_point : (g : GroveState) (best : Option Kept) (outcome : Outcome) → outcome ≡ ended g best → point_of outcome ≡ kept_point best
+ended_point g None outcome is = ap point_of is
+ended_point g (Some k) outcome is = ap point_of is
+
+pub stopped_grove : (g : GroveState) (best : Option Kept) (outcome : Outcome) → IsStopped g best outcome → grove_in outcome ≡ g
+stopped_grove g best outcome stop = ap grove_in stop.is_outcome
+
+pub stopped_point : (g : GroveState) (best : Option Kept) (outcome : Outcome) → IsStopped g best outcome → point_of outcome ≡ kept_point best
+stopped_point g None outcome stop = ap point_of stop.is_outcome
+stopped_point g (Some k) outcome stop = ap point_of stop.is_outcome
 
 -- the less of a least number and another is the least of all
 pub less_is_least : (zs : List ℤ) (a c : ℤ) → IsLeastOf zs a → IsLeastOf (zs ++ c ∷ []) (int_min a c)

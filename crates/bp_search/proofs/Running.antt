@@ -55,7 +55,7 @@ zone_of_turn : (b : BlockedProgram) (g : GroveState) (turn : Turn) → g.root �
     → turn.zone ≡ zone_at g.tree b.named.program.spans turn.path
 zone_of_turn b g turn root alive = alive.in_zone ∙ ap (λ (spans : List Span). zone_at g.tree spans turn.path) root
 
-at_path : (b : BlockedProgram) (g : GroveState) (best : Option Kept) (turn : Turn) (given : Option ℤ) (verdict : Verdict) → IsRunning b g best → IsLiveTurn g turn
+pub at_path : (b : BlockedProgram) (g : GroveState) (best : Option Kept) (turn : Turn) (given : Option ℤ) (verdict : Verdict) → IsRunning b g best → IsLiveTurn g turn
     → IsVerdict b.named.program b.blocking turn.depth turn.zone turn.bound given verdict
     → IsVerdict b.named.program b.blocking (length turn.path) (zone_at g.tree b.named.program.spans turn.path) turn.bound given verdict
 at_path b g best turn given verdict run alive right =

@@ -5,7 +5,7 @@ use Rattle.bp_theory.specs.Trees.{steps}
 use Rattle.bp_theory.specs.Claims.{IsCertified}
 use Rattle.bp_theory.specs.declared.Claim.{Claim}
 use Rattle.block_form.specs.Blocked.{BlockedProgram}
-use Rattle.search_laws.specs.Grove.{live_count, live_bounds, certificate_tree}
+use Rattle.search_laws.specs.Grove.{GrowingTree, live_count, live_bounds, certificate_tree}
 use Rattle.search_laws.specs.GroveFacts.{IsSearch, IsLeastOf, IsRemainingBound}
 use Rattle.search_laws.specs.Outcomes.{final_claim, stopped_claim, read_off}
 use Rattle.branch_tree.specs.Groves.{GroveState, IsStanding}
@@ -68,6 +68,22 @@ IsOutcome b given outcome = EndsWithin b (most_steps given) outcome
 -- the steps at which a search stops that goes on from a tree: those of the tree, and the given ones
 abbrev pub last_step : GroveState → Option ℕ → ℕ
 last_step g given = steps (certificate_tree g.tree) + most_steps given
+
+-- the grove of an outcome, and its best point
+abbrev pub grove_in : Outcome → GroveState
+grove_in (Optimal g point value) = g
+grove_in (Infeasible g) = g
+grove_in (Budget g best bound) = g
+
+abbrev pub point_of : Outcome → Option (List ℤ)
+point_of (Optimal g point value) = Some point
+point_of (Infeasible g) = None
+point_of (Budget g best bound) = best_point best
+
+-- a tree at which a search stops: no more than so many steps are taken, and all of them where a leaf is live
+pub record HasStopped (most : ℕ) (t : GrowingTree) : Type 0 where
+  pub few : steps (certificate_tree t) ≤ most
+  pub spent : 0 < live_count t → steps (certificate_tree t) ≡ most
 
 -- the outcome where no leaf is live
 abbrev pub ended : GroveState → Option Kept → Outcome

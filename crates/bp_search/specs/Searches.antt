@@ -1,5 +1,5 @@
 -- What stands at every moment of a search.
-use Rattle.std.specs.Prelude.{◌≡◌, ◌<◌, List, Option, option_map, IfSome, ℤ}
+use Rattle.std.specs.Prelude.{◌≡◌, ◌<◌, Bool, true, int_lt, List, Option, Some, None, option_map, IfSome, ℤ}
 use Rattle.bp_theory.specs.Program.{Program, cost}
 use Rattle.bp_theory.specs.Blocking.{Blocking}
 use Rattle.bp_theory.specs.Trees.{IsSoundSplit}
@@ -25,6 +25,11 @@ as_pair best = option_map (λ k. (k.point, k.cost)) best
 -- a kept point has its cost beside it
 abbrev pub HasItsCost : Program → Option Kept → Type 0
 HasItsCost p best = IfSome best (λ k. k.cost ≡ cost p k.point)
+
+-- whether a cost is below that of the kept point, or none is kept
+abbrev pub is_cheaper : ℤ → Option Kept → Bool
+is_cheaper z None = true
+is_cheaper z (Some k) = int_lt z k.cost
 
 -- a search of a program in blocks: its grove stands on the program's spans, and with the kept point it has the facts of a search
 pub record IsRunning (b : BlockedProgram) (g : GroveState) (best : Option Kept) : Type 0 where

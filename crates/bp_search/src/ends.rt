@@ -1,17 +1,33 @@
 // The outcomes of a search.
-ghost use Rattle.std.specs.Prelude.{◌≡◌, ◌<◌, ◌++◌, option_to_list};
+ghost use Rattle.std.specs.Prelude.{◌≡◌, ℕ, ◌<◌, ◌++◌, option_to_list};
 ghost use Rattle.std.specs.Int.{int_min};
 ghost use Rattle.search_laws.specs.Grove.{live_count, live_bounds};
 ghost use Rattle.search_laws.specs.GroveFacts.{IsLeastOf};
-ghost use Rattle.bp_search.specs.Ends.{ended, IsStopped};
-ghost use Rattle.bp_search.specs.Searches.{kept_cost, as_pair};
+ghost use Rattle.bp_search.specs.Ends.{ended, IsStopped, HasStopped, EndsWithin, grove_in, point_of};
+ghost use Rattle.bp_search.specs.Searches.{kept_point, kept_cost, as_pair, IsRunning};
 ghost use Rattle.branch_tree.specs.declared.outcome.Outcome.TheVariants.{Budget};
 
 use crate::kept::Kept;
+use block_form::Blocked;
 use branch_tree::{Grove, Outcome};
 
-/// The outcome where no leaf is live.
-pub fn ended(grove: Grove, best: Option<Kept>) -> Outcome
+/// How a search ends whose steps are taken, or that has no live leaf.
+pub fn conclude(b: &Blocked, grove: Grove, best: Option<Kept>) -> Outcome
+    requires { IsRunning b.now grove best }
+    ensures ends { (most : ℕ) → HasStopped most grove.tree → EndsWithin b.now most result }
+    ensures grove { grove_in result ≡ grove }
+    ensures point { point_of result ≡ kept_point best }
+{
+    let _ = b.blocks();
+    if grove.live() == 0 {
+        ended(grove, best)
+    } else {
+        stopped(grove, best)
+    }
+}
+
+// The outcome where no leaf is live.
+fn ended(grove: Grove, best: Option<Kept>) -> Outcome
     ensures { result ≡ ended grove best }
 {
     match best {
@@ -23,8 +39,8 @@ pub fn ended(grove: Grove, best: Option<Kept>) -> Outcome
     }
 }
 
-/// The outcome where a leaf is live: its bound is the least of the live leaves' bounds and the kept point's cost.
-pub fn stopped(grove: Grove, best: Option<Kept>) -> Outcome
+// The outcome where a leaf is live: its bound is the least of the live leaves' bounds and the kept point's cost.
+fn stopped(grove: Grove, best: Option<Kept>) -> Outcome
     requires { 0 < live_count grove.tree }
     ensures { IsStopped grove best result }
 {

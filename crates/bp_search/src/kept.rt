@@ -1,8 +1,8 @@
 // The cheapest point so far.
-ghost use Rattle.std.specs.Prelude.{◌≡◌, ◌<ℤ◌, IfSome};
-ghost use Rattle.bp_theory.specs.Program.{IsFeasible, cost};
+ghost use Rattle.std.specs.Prelude.{◌≡◌, IfSome};
+ghost use Rattle.bp_theory.specs.Program.{IsFeasible};
 ghost use Rattle.search_laws.specs.Verdicts.{better};
-ghost use Rattle.bp_search.specs.Searches.{kept_point, kept_cost, as_pair, HasItsCost};
+ghost use Rattle.bp_search.specs.Searches.{kept_point, kept_cost, as_pair, is_cheaper, HasItsCost};
 
 use block_form::Blocked;
 use bp_theory::Items;
@@ -34,16 +34,27 @@ pub fn cost_of(best: &Option<Kept>) -> Option<i64>
     }
 }
 
-/// Keeps a point that is cheaper than the kept one, where there is one.
+/// Keeps a point where none is kept, or where it is cheaper than the kept one.
 pub fn keep(b: &Blocked, best: &mut Option<Kept>, point: Option<Items<i64>>)
     requires feasible { IfSome point (IsFeasible b.now.named.program) }
-    requires cheaper { IfSome point (λ x. IfSome (kept_cost best.old) (λ z. cost b.now.named.program x <ℤ z)) }
     requires costs { HasItsCost b.now.named.program best.old }
     ensures point { kept_point best.new ≡ better b.now.named.program (kept_point best.old) point }
     ensures costs { HasItsCost b.now.named.program best.new }
 {
     if let Some(point) = point {
         let cost = b.model().cost(point.as_slice());
-        *best = Some(Kept { point, cost });
+        if is_cheaper(&cost, best) {
+            *best = Some(Kept { point, cost });
+        }
+    }
+}
+
+// Whether a cost is below that of the kept point, or none is kept.
+fn is_cheaper(cost: &i64, best: &Option<Kept>) -> bool
+    ensures { result ≡ is_cheaper cost.now best.now }
+{
+    match best {
+        None => true,
+        Some(kept) => *cost < kept.cost,
     }
 }

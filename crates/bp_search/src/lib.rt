@@ -3,6 +3,7 @@
 #![tactic(auto)]
 
 mod ends;
+mod growth;
 mod kept;
 mod steps;
 
@@ -10,12 +11,13 @@ ghost use Rattle.std.specs.Prelude.{◌≤◌, ◌^◌, IfOk, IfSome};
 ghost use Rattle.branch_tree.specs.Loads.{IsLoaded};
 ghost use Rattle.bp_search.specs.Ends.{EndsWithin, IsOutcome, last_step};
 
-use crate::ends::{ended, stopped};
-use crate::kept::kept_from;
 use crate::steps::take_steps;
 use block_form::Blocked;
 use branch_tree::{Loaded, Outcome};
 pub use cert_load::{LoadFault, load};
+pub use ends::conclude;
+pub use growth::grow;
+pub use kept::{Kept, cost_of, keep, kept_from};
 use std::alloc::{AllocError, Global};
 
 /// The greatest number of steps, and that where none is given.
@@ -48,12 +50,7 @@ pub fn resume(
 {
     let Loaded { mut grove, best } = from;
     let mut best = kept_from(best);
-    let _ = b.blocks();
     let most = grove.count() + steps.unwrap_or(MAX_STEPS);
     take_steps(alloc, b, &mut grove, &mut best, most)?;
-    if grove.live() == 0 {
-        Ok(ended(grove, best))
-    } else {
-        Ok(stopped(grove, best))
-    }
+    Ok(conclude(b, grove, best))
 }

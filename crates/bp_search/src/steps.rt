@@ -2,14 +2,14 @@
 ghost use Rattle.std.specs.Prelude.{◌≡◌, ◌+◌, ◌-◌, ◌<◌, ◌≤◌, ◌^◌, OnOk};
 ghost use Rattle.bp_theory.specs.Trees.{steps};
 ghost use Rattle.search_laws.specs.Grove.{live_count, certificate_tree};
-ghost use Rattle.search_laws.specs.Verdicts.{grown};
-ghost use Rattle.branch_tree.specs.Groves.{IsStanding, IsGroveOf, IsLiveTurn};
+ghost use Rattle.branch_tree.specs.Groves.{IsLiveTurn};
 ghost use Rattle.column_hint.specs.Pools.{AreMadeFor};
-ghost use Rattle.bp_search.specs.Searches.{IsRunning, CanGrow};
+ghost use Rattle.bp_search.specs.Searches.{IsRunning};
 
+use crate::growth::grow;
 use crate::kept::{Kept, cost_of, keep};
 use block_form::Blocked;
-use branch_tree::{Grove, Next, Turn, Verdict};
+use branch_tree::{Grove, Turn, Verdict};
 use node_eval::evaluate;
 use node_hint::Pools;
 use std::alloc::{AllocError, Global};
@@ -61,34 +61,4 @@ fn step(
     grow(alloc, b, grove, turn, next)?;
     keep(b, best, point);
     Ok(())
-}
-
-// Shuts or forks a live leaf.
-fn grow(
-    alloc: Global,
-    b: &Blocked,
-    grove: &mut Grove,
-    turn: &Turn,
-    next: Next,
-) -> Result<(), AllocError>
-    requires kept { IsGroveOf b.now grove.old }
-    requires turn { IsLiveTurn grove.old turn.now }
-    requires next { CanGrow b.now.blocking turn.now next }
-    requires few { steps (certificate_tree grove.old.tree) < 2 ^ 63 - 1 }
-    ensures tree { OnOk result (grove.new.tree ≡ grown grove.old.tree turn.now.path next) }
-    ensures root { grove.new.root ≡ grove.old.root }
-    ensures standing { IsStanding grove.new }
-{
-    match next {
-        Next::Shut(proof) => {
-            grove.shut(b, turn, proof);
-            Ok(())
-        }
-        Next::Fork {
-            var,
-            at,
-            proof,
-            bound,
-        } => grove.fork(alloc, b, turn, var, at, proof, bound),
-    }
 }

@@ -1,0 +1,4 @@
+pub mod HandLemmas
+pub mod Events
+pub mod Drawing
+pub mod Finishing

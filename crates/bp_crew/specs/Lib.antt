@@ -1,0 +1,4 @@
+pub mod Hands
+pub mod States
+pub mod Draws
+pub mod Runs
