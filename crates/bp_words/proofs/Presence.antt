@@ -1,5 +1,5 @@
 -- Words that the command takes name one of its subcommands and its values, each of which its argument takes: so they give an order.
-use Rattle.std.proofs.Common.{◌≡◌, ◌∙◌, sym, ap, refl, subst, ℕ, zero, suc, Bool, true, false, List, [], ◌∷◌, ◌++◌, Option, Some, None, length, drop}
+use Rattle.std.proofs.Common.{◌≡◌, ◌⊎◌, inl, inr, ◌∙◌, sym, ap, refl, subst, ℕ, zero, suc, Bool, true, false, List, [], ◌∷◌, ◌++◌, Option, Some, None, length, drop}
 use Rattle.std.specs.Prelude.{◌&&◌, not, nat_lt, if◌then◌else◌, fold, find, is_some, slice_get, option_and_then, encode_utf8}
 use Rattle.std.specs.List.{AllByRecursion}
 use Rattle.std.specs.Option.{option_map_or}
@@ -28,7 +28,7 @@ abbrev pub HasElement : {X : Type 0} → List X → Type 0
 HasElement [] = ⊥
 HasElement (x ∷ xs) = Unit {0}
 
--- a use of an argument has a value
+-- a use of an argument is given a value
 abbrev pub WantsValue : Rule → Type 0
 WantsValue a = nat_lt 0 (unwrap_or_range a.range).start_inclusive ≡ true
 
@@ -89,10 +89,10 @@ module _ (good : Text → Text → Bool) where
   abbrev pub IsFull : List Row → Type 0
   IsFull rows = AllByRecursion IsSound rows
 
-  -- a use of an argument has a value, and only good ones, and there is no value by default
+  -- a use of an argument is given a value or has one of its own, its values by default are good, and it takes only good ones
   pub record Checks (a : Rule) : Type 0 where
-    pub wants : WantsValue a
-    pub plain : a.defaults ≡ []
+    pub wants : WantsValue a ⊎ HasElement a.missing
+    pub plain : AreGood a.id a.defaults
     pub passes : (v : Text) → accepts a.ignore_case (parser_of_value a.parser) v ≡ true → good a.id v ≡ true
 
   full_append : (xs ys : List Row) → IsFull xs → IsFull ys → IsFull (xs ++ ys)
@@ -151,7 +151,16 @@ module _ (good : Text → Text → Bool) where
 
   full_used : (again : Bool) (a : Rule) (values : List Text) (rows : List Row) → Checks a → use_fault again a values rows ≡ [] → IsFull rows
       → IsFull (used a values rows)
-  full_used again a [] rows checks e f = absurd (no_value again a rows checks.wants e)
+  full_used again a [] rows checks e f = by checks.wants where
+    own : (values : List Text) → HasElement values → action_fault (action_of a) again a values rows ≡ []
+        → IsFull (used_as (action_of a) a.id (reading_by a) values rows)
+    own [] h k = absurd h
+    own (v ∷ vs) h k = full_used_as (action_of a) again a v vs rows checks k f
+
+    by : WantsValue a ⊎ HasElement a.missing → IsFull (used_as (action_of a) a.id (reading_by a) a.missing rows)
+    by (inl wants) = absurd (no_value again a rows wants e)
+    by (inr has) = own a.missing has
+        (both_parts (range_kinds (unwrap_or_range a.range).start_inclusive (most_values a) 0) (action_fault (action_of a) again a a.missing rows) e).1
   full_used again a (v ∷ vs) rows checks e f = full_used_as (action_of a) again a v vs rows checks
       (both_parts (range_kinds (unwrap_or_range a.range).start_inclusive (most_values a) (length (v ∷ vs)))
       (action_fault (action_of a) again a (v ∷ vs) rows) e).1 f
@@ -334,9 +343,13 @@ module _ (good : Text → Text → Bool) where
   full_defaults : (rules : List Rule) (rows : List Row) → AllByRecursion Checks rules → IsFull rows → IsFull (fold with_default rows rules)
   full_defaults [] rows wants f = f
   full_defaults (a ∷ rules) rows wants f = full_defaults rules (with_default rows a) wants.1 (by (has_row a.id rows)) where
+    own : (values : List Text) → AreGood a.id values → IsFull (default_rows a.id (reading_by a) values rows)
+    own [] g = f
+    own (v ∷ vs) g = full_with_values a.id a _ (v ∷ vs) rows tt g f
+
     by : (t : Bool) → IsFull (if t then rows else default_rows a.id (reading_by a) a.defaults rows)
     by true = f
-    by false = subst (λ (vs : List Text). IsFull (default_rows a.id (reading_by a) vs rows)) (sym wants.0.plain) f
+    by false = own a.defaults wants.0.plain
 
   -- a level without fault: each of its rows has a value, and what is required is there
   pub full_level : (s : Shape) (words : List Text) → AllByRecursion Checks s.rules → level_fault s [] nothing_held words false [] ≡ []

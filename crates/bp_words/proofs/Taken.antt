@@ -1,5 +1,5 @@
 -- Words that the command takes give an order.
-use Rattle.std.proofs.Common.{◌≡◌, refl, ℕ, Bool, true, false, List, [], Option, Some, None}
+use Rattle.std.proofs.Common.{◌≡◌, inl, inr, refl, ℕ, Bool, true, false, List, [], Option, Some, None}
 use Rattle.std.specs.Prelude.{◌&&◌, ◌||◌, not, if◌then◌else◌, is_some, option_map, codes}
 use Rattle.std.specs.List.{AllByRecursion}
 use Rattle.std.specs.Option.{option_map_or}
@@ -14,9 +14,9 @@ use Rattle.clap.specs.Faults.{check_fault, entered_fault, fault_of, level_fault,
 use Rattle.clap.specs.declared.builder.value_parser.ValueParser.TheVariants.{Unsigned}
 use Rattle.clap.proofs.ValueTestLemmas.{accepts-Accepts}
 use Rattle.bp_words.specs.declared.order.Order.{Order}
-use Rattle.bp_words.specs.declared.order.Order.TheVariants.{Solve, Check, Show, Gen, Demo, Detect}
-use Rattle.bp_words.specs.CommandLine.{command_line, solve_words, check_words, show_words, gen_words, demo_words, detect_words, most_steps, most_seed, most_size}
-use Rattle.bp_words.specs.Orders.{IsNumber, MayHaveNumber, IsStated}
+use Rattle.bp_words.specs.declared.order.Order.TheVariants.{Solve, Check, Show, Gen, Demo, Detect, Propose}
+use Rattle.bp_words.specs.CommandLine.{command_line, solve_words, check_words, show_words, gen_words, demo_words, detect_words, propose_words, most_steps, most_seed, most_size, most_workers}
+use Rattle.bp_words.specs.Orders.{IsNumber, MayHaveNumber, is_set, IsStated}
 use Rattle.bp_words.proofs.Presence.{Checks, both_parts, full_level, given_has, first_good}
 
 -- the command and its subcommands as they are built
@@ -44,22 +44,33 @@ demo_level = level_of demo_words
 abbrev detect_level : Shape
 detect_level = level_of detect_words
 
+abbrev propose_level : Shape
+propose_level = level_of propose_words
+
 -- which values an argument may have, by its id
 abbrev good : Text → Text → Bool
 good id text = if bytes_eq id (codes "seed") then is_unsigned_in 0 most_seed text
     else (if bytes_eq id (codes "size") then is_unsigned_in 1 most_size text
-    else (if bytes_eq id (codes "steps") then is_unsigned_in 0 most_steps text else true))
+    else (if bytes_eq id (codes "steps") then is_unsigned_in 0 most_steps text
+    else (if bytes_eq id (codes "workers") then is_unsigned_in 1 most_workers text
+    else (if bytes_eq id (codes "order") then is_unsigned_in 0 most_seed text else true))))
 
 solve_checks : AllByRecursion (Checks good) solve_level.rules
 solve_checks = (
-  record { wants = refl; plain = refl; passes = λ v e. refl },
+  record { wants = inl refl; plain = tt; passes = λ v e. refl },
   (
-    record { wants = refl; plain = refl; passes = λ v e. refl },
+    record { wants = inl refl; plain = tt; passes = λ v e. refl },
     (
-      record { wants = refl; plain = refl; passes = λ v e. e },
+      record { wants = inl refl; plain = tt; passes = λ v e. e },
       (
-        record { wants = refl; plain = refl; passes = λ v e. refl },
-        (record { wants = refl; plain = refl; passes = λ v e. refl }, tt),
+        record { wants = inl refl; plain = tt; passes = λ v e. refl },
+        (
+          record { wants = inl refl; plain = tt; passes = λ v e. refl },
+          (
+            record { wants = inl refl; plain = tt; passes = λ v e. e },
+            (record { wants = inl refl; plain = tt; passes = λ v e. e }, tt),
+          ),
+        ),
       ),
     ),
   ),
@@ -67,44 +78,53 @@ solve_checks = (
 
 check_checks : AllByRecursion (Checks good) check_level.rules
 check_checks = (
-  record { wants = refl; plain = refl; passes = λ v e. refl },
+  record { wants = inl refl; plain = tt; passes = λ v e. refl },
   (
-    record { wants = refl; plain = refl; passes = λ v e. refl },
-    (record { wants = refl; plain = refl; passes = λ v e. refl }, tt),
+    record { wants = inl refl; plain = tt; passes = λ v e. refl },
+    (record { wants = inl refl; plain = tt; passes = λ v e. refl }, tt),
   ),
 )
 
 show_checks : AllByRecursion (Checks good) show_level.rules
 show_checks = (
-  record { wants = refl; plain = refl; passes = λ v e. refl },
-  (record { wants = refl; plain = refl; passes = λ v e. refl }, tt),
+  record { wants = inl refl; plain = tt; passes = λ v e. refl },
+  (
+    record { wants = inl refl; plain = tt; passes = λ v e. refl },
+    (record { wants = inr tt; plain = (refl, tt); passes = λ v e. refl }, tt),
+  ),
 )
 
 gen_checks : AllByRecursion (Checks good) gen_level.rules
 gen_checks = (
-  record { wants = refl; plain = refl; passes = λ v e. e },
+  record { wants = inl refl; plain = tt; passes = λ v e. e },
   (
-    record { wants = refl; plain = refl; passes = λ v e. e },
+    record { wants = inl refl; plain = tt; passes = λ v e. e },
     (
-      record { wants = refl; plain = refl; passes = λ v e. refl },
-      (record { wants = refl; plain = refl; passes = λ v e. refl }, tt),
+      record { wants = inl refl; plain = tt; passes = λ v e. refl },
+      (record { wants = inl refl; plain = tt; passes = λ v e. refl }, tt),
     ),
   ),
 )
 
 demo_checks : AllByRecursion (Checks good) demo_level.rules
 demo_checks = (
-  record { wants = refl; plain = refl; passes = λ v e. e },
-  (record { wants = refl; plain = refl; passes = λ v e. e }, tt),
+  record { wants = inl refl; plain = tt; passes = λ v e. e },
+  (record { wants = inl refl; plain = tt; passes = λ v e. e }, tt),
 )
 
 detect_checks : AllByRecursion (Checks good) detect_level.rules
 detect_checks = (
-  record { wants = refl; plain = refl; passes = λ v e. refl },
+  record { wants = inl refl; plain = tt; passes = λ v e. refl },
   (
-    record { wants = refl; plain = refl; passes = λ v e. refl },
-    (record { wants = refl; plain = refl; passes = λ v e. refl }, tt),
+    record { wants = inl refl; plain = tt; passes = λ v e. refl },
+    (record { wants = inl refl; plain = tt; passes = λ v e. refl }, tt),
   ),
+)
+
+propose_checks : AllByRecursion (Checks good) propose_level.rules
+propose_checks = (
+  record { wants = inl refl; plain = tt; passes = λ v e. refl },
+  (record { wants = inl refl; plain = tt; passes = λ v e. refl }, tt),
 )
 
 -- a subcommand is there
@@ -143,12 +163,12 @@ number_meant low high text e =
     let taken = accepts-Accepts false (Unsigned low high) text e in
     record { digits = taken.0; value = refl; least = taken.2; most = taken.3 }
 
--- the steps, where they are given
-steps_stated : (given : Option Text) → ((text : Text) → given ≡ Some text → is_unsigned_in 0 most_steps text ≡ true)
-    → (steps : Option ℕ) × MayHaveNumber given 0 most_steps steps
-steps_stated None passes = (None, refl)
-steps_stated (Some text) passes =
-    (Some (digits_value 10 (without_leading_plus text)), (text, refl, number_meant 0 most_steps text (passes text refl)))
+-- a number, where it is given
+number_stated : (low high : ℕ) (given : Option Text) → ((text : Text) → given ≡ Some text → is_unsigned_in low high text ≡ true)
+    → (n : Option ℕ) × MayHaveNumber given low high n
+number_stated low high None passes = (None, refl)
+number_stated low high (Some text) passes =
+    (Some (digits_value 10 (without_leading_plus text)), (text, refl, number_meant low high text (passes text refl)))
 
 -- what each subcommand states
 solve_states : (words : List Text) → level_fault solve_level [] nothing_held words false [] ≡ []
@@ -157,13 +177,15 @@ solve_states words e =
     let rows : List Row = rows_after solve_level.rules [] words in
     let level = full_level good solve_level words solve_checks e in
     let lp = given_has good (codes "lp") rows (one_there (is_given (codes "lp") rows) level.1) level.0 in
-    let steps = steps_stated (first_of (codes "steps") rows) (λ text is. first_good good (codes "steps") rows text level.0 is) in (
-      Solve lp.0 (first_of (codes "dec") rows) steps.0 (first_of (codes "cert") rows) (first_of (codes "from") rows),
+    let steps = number_stated 0 most_steps (first_of (codes "steps") rows) (λ text is. first_good good (codes "steps") rows text level.0 is) in
+    let workers = number_stated 1 most_workers (first_of (codes "workers") rows) (λ text is. first_good good (codes "workers") rows text level.0 is) in
+    let order = number_stated 0 most_seed (first_of (codes "order") rows) (λ text is. first_good good (codes "order") rows text level.0 is) in (
+      Solve lp.0 (first_of (codes "dec") rows) steps.0 (first_of (codes "cert") rows) (first_of (codes "from") rows) workers.0 order.0,
       record {
         name = codes "solve";
         rows = rows;
         subcommand = refl;
-        values = (refl, lp.1, refl, steps.1, refl, refl);
+        values = (refl, lp.1, refl, steps.1, refl, refl, workers.1, order.1);
       },
     )
 
@@ -190,12 +212,12 @@ show_states words e =
     let rows : List Row = rows_after show_level.rules [] words in
     let level = full_level good show_level words show_checks e in
     let lp = given_has good (codes "lp") rows (one_there (is_given (codes "lp") rows) level.1) level.0 in (
-      Show lp.0 (first_of (codes "dec") rows),
+      Show lp.0 (first_of (codes "dec") rows) (is_set (first_of (codes "blocks") rows)),
       record {
         name = codes "show";
         rows = rows;
         subcommand = refl;
-        values = (refl, lp.1, refl);
+        values = (refl, lp.1, refl, refl);
       },
     )
 
@@ -263,10 +285,27 @@ detect_states words e =
       },
     )
 
+propose_states : (words : List Text) → level_fault propose_level [] nothing_held words false [] ≡ []
+    → (order : Order) × IsStated (Some (rows_at propose_level words)) order
+propose_states words e =
+    let rows : List Row = rows_after propose_level.rules [] words in
+    let level = full_level good propose_level words propose_checks e in
+    let both = two_there (is_given (codes "lp") rows) (is_given (codes "dec") rows) level.1 in
+    let lp = given_has good (codes "lp") rows both.0 level.0 in
+    let dec = given_has good (codes "dec") rows both.1 level.0 in (
+      Propose lp.0 dec.0,
+      record {
+        name = codes "propose";
+        rows = rows;
+        subcommand = refl;
+        values = (refl, lp.1, dec.1);
+      },
+    )
+
 -- the level that is met, by which subcommand's name answers
-abbrev met_level : (t u v w x y : Bool) → Option Shape
-met_level t u v w x y = if t then Some solve_level
-    else (if u then Some check_level else (if v then Some show_level else (if w then Some gen_level else (if x then Some demo_level else (if y then Some detect_level else None)))))
+abbrev met_level : (t u v w x y z : Bool) → Option Shape
+met_level t u v w x y z = if t then Some solve_level
+    else (if u then Some check_level else (if v then Some show_level else (if w then Some gen_level else (if x then Some demo_level else (if y then Some detect_level else (if z then Some propose_level else None))))))
 
 -- the subcommand that was met states an order
 met_states : (stop : Option (Text × List Text)) → entered_fault line stop ≡ [] → is_some (entered line stop) ≡ true
@@ -274,19 +313,21 @@ met_states : (stop : Option (Text × List Text)) → entered_fault line stop ≡
 met_states None e has = absurd (cc)
 met_states (Some p) e has =
     pick (answers_to p.0 (label_of solve_level)) (answers_to p.0 (label_of check_level)) (answers_to p.0 (label_of show_level))
-    (answers_to p.0 (label_of gen_level)) (answers_to p.0 (label_of demo_level)) (answers_to p.0 (label_of detect_level)) e has
+    (answers_to p.0 (label_of gen_level)) (answers_to p.0 (label_of demo_level)) (answers_to p.0 (label_of detect_level))
+    (answers_to p.0 (label_of propose_level)) e has
   where
-    pick : (t u v w x y : Bool)
-        → option_map_or (λ (s : Shape). level_fault s [] nothing_held p.1 false []) (met_level t u v w x y) [] ≡ []
-        → is_some (option_map (λ (s : Shape). rows_at s p.1) (met_level t u v w x y)) ≡ true
-        → (order : Order) × IsStated (option_map (λ (s : Shape). rows_at s p.1) (met_level t u v w x y)) order
-    pick true u v w x y e has = solve_states p.1 e
-    pick false true v w x y e has = check_states p.1 e
-    pick false false true w x y e has = show_states p.1 e
-    pick false false false true x y e has = gen_states p.1 e
-    pick false false false false true y e has = demo_states p.1 e
-    pick false false false false false true e has = detect_states p.1 e
-    pick false false false false false false e has = absurd (cc)
+    pick : (t u v w x y z : Bool)
+        → option_map_or (λ (s : Shape). level_fault s [] nothing_held p.1 false []) (met_level t u v w x y z) [] ≡ []
+        → is_some (option_map (λ (s : Shape). rows_at s p.1) (met_level t u v w x y z)) ≡ true
+        → (order : Order) × IsStated (option_map (λ (s : Shape). rows_at s p.1) (met_level t u v w x y z)) order
+    pick true u v w x y z e has = solve_states p.1 e
+    pick false true v w x y z e has = check_states p.1 e
+    pick false false true w x y z e has = show_states p.1 e
+    pick false false false true x y z e has = gen_states p.1 e
+    pick false false false false true y z e has = demo_states p.1 e
+    pick false false false false false true z e has = detect_states p.1 e
+    pick false false false false false false true e has = propose_states p.1 e
+    pick false false false false false false false e has = absurd (cc)
 
 -- words without fault give an order
 pub taken_gives : (words : List Text) → fault_of command_line words ≡ [] → (order : Order) × IsStated (subcommand_of command_line words) order

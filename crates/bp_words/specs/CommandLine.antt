@@ -2,6 +2,7 @@
 use Rattle.std.specs.Prelude.{◌≡◌, ℕ, ◌-◌, ◌^◌, [], ◌∷◌, Some, true, false, codes}
 use Rattle.clap.specs.Words.{App, Rule, Shape, new_rule, app_of}
 use Rattle.clap.specs.Simple.{new_shape}
+use Rattle.clap.specs.declared.builder.action.ArgAction.TheVariants.{SetTrue}
 use Rattle.clap.specs.declared.builder.command.Command.{Command}
 use Rattle.clap.specs.declared.builder.command.Command.TheViews.{out-Command}
 use Rattle.clap.specs.declared.builder.value_parser.ValueParser.TheVariants.{Unsigned}
@@ -22,7 +23,11 @@ cert_option = record (new_rule (codes "cert")) { long = Some (codes "cert") }
 abbrev pub from_option : Rule
 from_option = record (new_rule (codes "from")) { long = Some (codes "from") }
 
--- the greatest number of steps, of a seed and of a size
+-- whether the blocks are listed, by `--blocks`
+abbrev pub blocks_flag : Rule
+blocks_flag = record (new_rule (codes "blocks")) { long = Some (codes "blocks"); action = Some SetTrue }
+
+-- the greatest number of steps, of a seed, of a size and of workers
 abbrev pub most_steps : ℕ
 most_steps = 2 ^ 60
 
@@ -32,9 +37,19 @@ most_seed = 2 ^ 64 - 1
 abbrev pub most_size : ℕ
 most_size = 1024
 
+abbrev pub most_workers : ℕ
+most_workers = 64
+
 -- the steps, behind `--steps`
 abbrev pub steps_option : Rule
 steps_option = record (new_rule (codes "steps")) { long = Some (codes "steps"); parser = Some (Unsigned 0 most_steps) }
+
+-- how many workers there are and the seed of their order, behind `--workers` and `--order`
+abbrev pub workers_option : Rule
+workers_option = record (new_rule (codes "workers")) { long = Some (codes "workers"); parser = Some (Unsigned 1 most_workers) }
+
+abbrev pub order_option : Rule
+order_option = record (new_rule (codes "order")) { long = Some (codes "order"); parser = Some (Unsigned 0 most_seed) }
 
 -- the seed and the size, by their places
 abbrev pub seed_word : Rule
@@ -60,16 +75,22 @@ abbrev pub search_words : Shape
 search_words = record (new_shape (codes "solve")) { rules = lp_word ∷ dec_option ∷ steps_option ∷ [] }
 
 -- `solve LP [--dec FILE] [--steps N] [--cert FILE] [--from CERT]`
+abbrev pub kept_words : Shape
+kept_words = record (new_shape (codes "solve")) { rules = lp_word ∷ dec_option ∷ steps_option ∷ cert_option ∷ from_option ∷ [] }
+
+-- `solve LP [--dec FILE] [--steps N] [--cert FILE] [--from CERT] [--workers W] [--order SEED]`
 abbrev pub solve_words : Shape
-solve_words = record (new_shape (codes "solve")) { rules = lp_word ∷ dec_option ∷ steps_option ∷ cert_option ∷ from_option ∷ [] }
+solve_words = record (new_shape (codes "solve")) {
+  rules = lp_word ∷ dec_option ∷ steps_option ∷ cert_option ∷ from_option ∷ workers_option ∷ order_option ∷ [];
+}
 
 -- `check LP CERT [--dec FILE]`
 abbrev pub check_words : Shape
 check_words = record (new_shape (codes "check")) { rules = lp_word ∷ cert_word ∷ dec_option ∷ [] }
 
--- `show LP [--dec FILE]`
+-- `show LP [--dec FILE] [--blocks]`
 abbrev pub show_words : Shape
-show_words = record (new_shape (codes "show")) { rules = lp_word ∷ dec_option ∷ [] }
+show_words = record (new_shape (codes "show")) { rules = lp_word ∷ dec_option ∷ blocks_flag ∷ [] }
 
 -- `gen SEED SIZE LP DEC`
 abbrev pub gen_words : Shape
@@ -82,6 +103,10 @@ demo_words = record (new_shape (codes "demo")) { rules = seed_word ∷ size_word
 -- `detect LP ROWS DEC`
 abbrev pub detect_words : Shape
 detect_words = record (new_shape (codes "detect")) { rules = lp_word ∷ rows_word ∷ dec_word ∷ [] }
+
+-- `propose LP DEC`
+abbrev pub propose_words : Shape
+propose_words = record (new_shape (codes "propose")) { rules = lp_word ∷ dec_word ∷ [] }
 
 -- the program itself
 abbrev pub program_words : Shape
@@ -104,7 +129,7 @@ making_line = record { top = record program_words { is_leaf = false }; subs = so
 abbrev pub command_line : App
 command_line = record {
   top = record program_words { is_leaf = false };
-  subs = solve_words ∷ check_words ∷ show_words ∷ gen_words ∷ demo_words ∷ detect_words ∷ [];
+  subs = solve_words ∷ check_words ∷ show_words ∷ gen_words ∷ demo_words ∷ detect_words ∷ propose_words ∷ [];
 }
 
 -- a command reads words by a shape, and has no argument that its subcommands take over

@@ -1,10 +1,12 @@
 -- What a command line orders.
-use Rattle.std.specs.Prelude.{◌≡◌, ℕ, ◌≤◌, List, [], Option, Some, None, codes}
+use Rattle.std.specs.Prelude.{◌≡◌, ℕ, ◌≤◌, Bool, false, List, [], Option, Some, None, IfSome, codes}
+use Rattle.std.specs.Option.{option_map_or}
+use Rattle.std.specs.Str.{bytes_eq}
 use Rattle.std.specs.Str.Parse.{IsNumeral, digits_value, without_leading_plus}
 use Rattle.clap.specs.Words.{Row, Text, first_of, subcommand_of, fault_of}
-use Rattle.bp_words.specs.CommandLine.{command_line, most_steps, most_seed, most_size}
+use Rattle.bp_words.specs.CommandLine.{command_line, most_steps, most_seed, most_size, most_workers}
 use Rattle.bp_words.specs.declared.order.Order.{Order}
-use Rattle.bp_words.specs.declared.order.Order.TheVariants.{Solve, Check, Show, Gen, Demo, Detect}
+use Rattle.bp_words.specs.declared.order.Order.TheVariants.{Solve, Check, Show, Gen, Demo, Detect, Propose}
 
 -- a text means a number from `low` to `high`: it is decimal digits, before which a plus may stand
 pub record IsNumber (text : Text) (low high n : ℕ) : Type 0 where
@@ -22,17 +24,23 @@ abbrev pub MayHaveNumber : Option Text → (low high : ℕ) → Option ℕ → T
 MayHaveNumber given low high None = given ≡ None
 MayHaveNumber given low high (Some n) = HasNumber given low high n
 
+-- a flag is given: its value is then `true`
+abbrev pub is_set : Option Text → Bool
+is_set given = option_map_or (λ text. bytes_eq text (codes "true")) given false
+
 -- an order has the values that stand in the rows of the subcommand
 abbrev pub HasValues : Text → List Row → Order → Type 0
-HasValues name rows (Solve lp dec steps cert from) =
+HasValues name rows (Solve lp dec steps cert from workers order) =
     (name ≡ codes "solve") × (first_of (codes "lp") rows ≡ Some lp) × (first_of (codes "dec") rows ≡ dec)
     × MayHaveNumber (first_of (codes "steps") rows) 0 most_steps steps × (first_of (codes "cert") rows ≡ cert)
-    × (first_of (codes "from") rows ≡ from)
+    × (first_of (codes "from") rows ≡ from) × MayHaveNumber (first_of (codes "workers") rows) 1 most_workers workers
+    × MayHaveNumber (first_of (codes "order") rows) 0 most_seed order
 HasValues name rows (Check lp cert dec) =
     (name ≡ codes "check") × (first_of (codes "lp") rows ≡ Some lp) × (first_of (codes "cert") rows ≡ Some cert)
     × (first_of (codes "dec") rows ≡ dec)
-HasValues name rows (Show lp dec) =
+HasValues name rows (Show lp dec blocks) =
     (name ≡ codes "show") × (first_of (codes "lp") rows ≡ Some lp) × (first_of (codes "dec") rows ≡ dec)
+    × (is_set (first_of (codes "blocks") rows) ≡ blocks)
 HasValues name rows (Gen seed size lp dec) =
     (name ≡ codes "gen") × HasNumber (first_of (codes "seed") rows) 0 most_seed seed
     × HasNumber (first_of (codes "size") rows) 1 most_size size × (first_of (codes "lp") rows ≡ Some lp)
@@ -43,16 +51,19 @@ HasValues name rows (Demo seed size) =
 HasValues name rows (Detect lp list dec) =
     (name ≡ codes "detect") × (first_of (codes "lp") rows ≡ Some lp) × (first_of (codes "rows") rows ≡ Some list)
     × (first_of (codes "dec") rows ≡ Some dec)
+HasValues name rows (Propose lp dec) =
+    (name ≡ codes "propose") × (first_of (codes "lp") rows ≡ Some lp) × (first_of (codes "dec") rows ≡ Some dec)
 
 -- the numbers of an order are in their ranges
 abbrev pub IsInRange : Order → Type 0
-IsInRange (Solve lp dec None cert from) = Unit {0}
-IsInRange (Solve lp dec (Some n) cert from) = n ≤ most_steps
+IsInRange (Solve lp dec steps cert from workers order) =
+    IfSome steps (λ n. n ≤ most_steps) × IfSome workers (λ n. (1 ≤ n) × (n ≤ most_workers))
 IsInRange (Check lp cert dec) = Unit {0}
-IsInRange (Show lp dec) = Unit {0}
+IsInRange (Show lp dec blocks) = Unit {0}
 IsInRange (Gen seed size lp dec) = (1 ≤ size) × (size ≤ most_size)
 IsInRange (Demo seed size) = (1 ≤ size) × (size ≤ most_size)
 IsInRange (Detect lp list dec) = Unit {0}
+IsInRange (Propose lp dec) = Unit {0}
 
 -- the subcommand that was met, with its rows, states an order
 pub record IsStated (met : Option (Text × List Row)) (order : Order) : Type 0 where

@@ -1,10 +1,10 @@
 // The command of the program, for the crate that reads words.
 ghost use Rattle.std.specs.Prelude.{◌≡◌, Some, true, false, codes, IfOk};
 ghost use Rattle.clap.specs.Words.{app_of, new_rule, rule_of};
-ghost use Rattle.bp_words.specs.CommandLine.{search_words, solve_words, check_words, show_words, gen_words, demo_words, detect_words, program_words, reading_line, making_line, command_line, IsShaped};
+ghost use Rattle.bp_words.specs.CommandLine.{search_words, kept_words, solve_words, check_words, show_words, gen_words, demo_words, detect_words, propose_words, program_words, reading_line, making_line, command_line, IsShaped};
 
 use clap::builder::ValueParser;
-use clap::{Arg, Command};
+use clap::{Arg, ArgAction, Command};
 use std::alloc::{AllocError, Global};
 
 /// The greatest number of steps.
@@ -13,12 +13,18 @@ pub const MOST_STEPS: u64 = 1 << 60;
 /// The greatest size.
 pub const MOST_SIZE: u64 = 1024;
 
+/// The greatest number of workers.
+pub const MOST_WORKERS: u64 = 64;
+
 /// The command: its subcommands, one of which is required, without help or version words.
 pub fn make_command<'a>(alloc: Global) -> Result<Command<'a>, AllocError>
     ensures { IfOk result (λ command. app_of command ≡ command_line) }
 {
     let detect = detect_command(alloc)?;
-    making_command(alloc)?.subcommand(detect)
+    let propose = propose_command(alloc)?;
+    making_command(alloc)?
+        .subcommand(detect)?
+        .subcommand(propose)
 }
 
 // The program with the subcommands that read texts and those that make them.
@@ -54,9 +60,18 @@ fn program<'a>(alloc: Global) -> Command<'a>
         .subcommand_required(true)
 }
 
-// `solve LP [--dec FILE] [--steps N] [--cert FILE] [--from CERT]`
+// `solve LP [--dec FILE] [--steps N] [--cert FILE] [--from CERT] [--workers W] [--order SEED]`
 fn solve_command<'a>(alloc: Global) -> Result<Command<'a>, AllocError>
     ensures { IfOk result (λ command. IsShaped command solve_words) }
+{
+    let workers = number_option(alloc, "workers", 1, MOST_WORKERS);
+    let order = number_option(alloc, "order", 0, u64::MAX);
+    kept_command(alloc)?.arg(workers)?.arg(order)
+}
+
+// `solve LP [--dec FILE] [--steps N] [--cert FILE] [--from CERT]`
+fn kept_command<'a>(alloc: Global) -> Result<Command<'a>, AllocError>
+    ensures { IfOk result (λ command. IsShaped command kept_words) }
 {
     let cert = file_option(alloc, "cert");
     let from = file_option(alloc, "from");
@@ -69,7 +84,7 @@ fn search_command<'a>(alloc: Global) -> Result<Command<'a>, AllocError>
 {
     let lp = file_word(alloc, "lp");
     let dec = file_option(alloc, "dec");
-    let steps = number_option(alloc, "steps", MOST_STEPS);
+    let steps = number_option(alloc, "steps", 0, MOST_STEPS);
     Command::new(alloc, "solve").arg(lp)?.arg(dec)?.arg(steps)
 }
 
@@ -83,13 +98,14 @@ fn check_command<'a>(alloc: Global) -> Result<Command<'a>, AllocError>
     Command::new(alloc, "check").arg(lp)?.arg(cert)?.arg(dec)
 }
 
-// `show LP [--dec FILE]`
+// `show LP [--dec FILE] [--blocks]`
 fn show_command<'a>(alloc: Global) -> Result<Command<'a>, AllocError>
     ensures { IfOk result (λ command. IsShaped command show_words) }
 {
     let lp = file_word(alloc, "lp");
     let dec = file_option(alloc, "dec");
-    Command::new(alloc, "show").arg(lp)?.arg(dec)
+    let blocks = flag(alloc, "blocks");
+    Command::new(alloc, "show").arg(lp)?.arg(dec)?.arg(blocks)
 }
 
 // `gen SEED SIZE LP DEC`
@@ -126,6 +142,15 @@ fn detect_command<'a>(alloc: Global) -> Result<Command<'a>, AllocError>
     Command::new(alloc, "detect").arg(lp)?.arg(rows)?.arg(dec)
 }
 
+// `propose LP DEC`
+fn propose_command<'a>(alloc: Global) -> Result<Command<'a>, AllocError>
+    ensures { IfOk result (λ command. IsShaped command propose_words) }
+{
+    let lp = file_word(alloc, "lp");
+    let dec = file_word(alloc, "dec");
+    Command::new(alloc, "propose").arg(lp)?.arg(dec)
+}
+
 // A number that must be given, by its place.
 fn number_word<'a>(alloc: Global, id: &'a str, low: u64, high: u64) -> Arg<'a>
     ensures rule { rule_of result ≡ record (new_rule id.entry.now) { required = true; parser = Some (ValueParser.Unsigned low high) } }
@@ -137,13 +162,13 @@ fn number_word<'a>(alloc: Global, id: &'a str, low: u64, high: u64) -> Arg<'a>
 }
 
 // A number that may be given behind `--` and a word.
-fn number_option<'a>(alloc: Global, id: &'a str, high: u64) -> Arg<'a>
-    ensures rule { rule_of result ≡ record (new_rule id.entry.now) { long = Some id.entry.now; parser = Some (ValueParser.Unsigned 0 high) } }
+fn number_option<'a>(alloc: Global, id: &'a str, low: u64, high: u64) -> Arg<'a>
+    ensures rule { rule_of result ≡ record (new_rule id.entry.now) { long = Some id.entry.now; parser = Some (ValueParser.Unsigned low high) } }
     ensures local { result.global ≡ false }
 {
     Arg::new(alloc, id)
         .long(id)
-        .value_parser(ValueParser::unsigned(0, high))
+        .value_parser(ValueParser::unsigned(low, high))
 }
 
 // A file that must be named, by its place.
@@ -160,4 +185,12 @@ fn file_option<'a>(alloc: Global, id: &'a str) -> Arg<'a>
     ensures local { result.global ≡ false }
 {
     Arg::new(alloc, id).long(id)
+}
+
+// A flag behind `--`.
+fn flag<'a>(alloc: Global, id: &'a str) -> Arg<'a>
+    ensures rule { rule_of result ≡ record (new_rule id.entry.now) { long = Some id.entry.now; action = Some ArgAction.SetTrue } }
+    ensures local { result.global ≡ false }
+{
+    Arg::new(alloc, id).long(id).action(ArgAction::SetTrue)
 }

@@ -9,8 +9,8 @@ use thiserror::Error;
 /// What a command line orders.
 #[derive(Drop)]
 pub enum Order {
-    /// Solve the LP file by a decomposition, from the start or from where a certificate stopped, and write a certificate
-    /// where a file is named for it.
+    /// Solve the LP file by a decomposition, from the start or from where a certificate stopped, by a crew where workers or
+    /// their order are given, and write a certificate where a file is named for it.
     Solve {
         /// The LP file.
         lp: Text,
@@ -22,6 +22,10 @@ pub enum Order {
         cert: Option<Text>,
         /// The file of the certificate to go on from, where there is one.
         from: Option<Text>,
+        /// How many workers there are, 1 to 64, where a number is given.
+        workers: Option<u32>,
+        /// The seed of the order in which the workers have their turns, where one is given.
+        order: Option<u64>,
     },
     /// Check a certificate of the LP file.
     Check {
@@ -38,6 +42,8 @@ pub enum Order {
         lp: Text,
         /// The decomposition's file, where there is one.
         dec: Option<Text>,
+        /// Whether each block is listed.
+        blocks: bool,
     },
     /// Write the texts that the generator makes.
     Gen {
@@ -63,6 +69,13 @@ pub enum Order {
         lp: Text,
         /// The file of the master rows.
         rows: Text,
+        /// The decomposition's file.
+        dec: Text,
+    },
+    /// Write a decomposition of the LP file that the program chooses.
+    Propose {
+        /// The LP file.
+        lp: Text,
         /// The decomposition's file.
         dec: Text,
     },

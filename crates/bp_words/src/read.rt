@@ -2,10 +2,10 @@
 ghost use Rattle.std.specs.Prelude.{◌≡◌, ◌≢◌, ◌<◌, ◌^◌, ℕ, [], map, length, string_bytes, Ok, Err, None, Some, Option, option_map, codes, IfOk, IfErr, IfSome, IfNone};
 ghost use Rattle.clap.specs.Words.{app_of, fault_of, found_of, rows_of, first_of, kind_of, subcommand_rows_of};
 ghost use Rattle.bp_words.specs.CommandLine.{command_line};
-ghost use Rattle.bp_words.specs.Orders.{IsNumber, HasNumber, MayHaveNumber, HasValues, IsInRange, IsStated, IsOrderOf};
+ghost use Rattle.bp_words.specs.Orders.{IsNumber, HasNumber, MayHaveNumber, is_set, HasValues, IsInRange, IsStated, IsOrderOf};
 ghost use Rattle.bp_words.specs.declared.order.Order.{Order};
 
-use crate::command::{MOST_SIZE, MOST_STEPS, make_command};
+use crate::command::{MOST_SIZE, MOST_STEPS, MOST_WORKERS, make_command};
 use crate::order::{Order, WordFault};
 use crate::text::Text;
 use clap::ArgMatches;
@@ -51,6 +51,9 @@ fn stated_order(alloc: Global, matches: &ArgMatches) -> Result<Order, WordFault>
     if let Some(detect) = matches.subcommand_matches("detect") {
         return detect_order(alloc, detect);
     }
+    if let Some(propose) = matches.subcommand_matches("propose") {
+        return propose_order(alloc, propose);
+    }
     Err(WordFault::Refused)
 }
 
@@ -76,12 +79,16 @@ fn solve_order(alloc: Global, solve: &ArgMatches) -> Result<Order, WordFault>
     let steps = optional_number(solve, "steps", 0, MOST_STEPS)?;
     let cert = optional(alloc, solve, "cert")?;
     let from = optional(alloc, solve, "from")?;
+    let workers = optional_count(solve, "workers", 1, MOST_WORKERS)?;
+    let order = optional_number(solve, "order", 0, u64::MAX)?;
     Ok(Order::Solve {
         lp,
         dec,
         steps,
         cert,
         from,
+        workers,
+        order,
     })
 }
 
@@ -105,7 +112,8 @@ fn show_order(alloc: Global, show: &ArgMatches) -> Result<Order, WordFault>
 {
     let lp = given(alloc, show, "lp")?;
     let dec = optional(alloc, show, "dec")?;
-    Ok(Order::Show { lp, dec })
+    let blocks = flag(show, "blocks");
+    Ok(Order::Show { lp, dec, blocks })
 }
 
 // The order to make texts.
@@ -152,6 +160,17 @@ fn detect_order(alloc: Global, detect: &ArgMatches) -> Result<Order, WordFault>
     Ok(Order::Detect { lp, rows, dec })
 }
 
+// The order to choose a decomposition.
+fn propose_order(alloc: Global, propose: &ArgMatches) -> Result<Order, WordFault>
+    ensures order { IfOk result (HasValues (codes "propose") (rows_of (found_of propose.now))) }
+    ensures refused { result ≡ Err WordFault.Refused →
+        (order : Order) → HasValues (codes "propose") (rows_of (found_of propose.now)) order → ⊥ }
+{
+    let lp = given(alloc, propose, "lp")?;
+    let dec = given(alloc, propose, "dec")?;
+    Ok(Order::Propose { lp, dec })
+}
+
 // The number of an argument.
 fn number(matches: &ArgMatches, id: &str, low: u64, high: u64) -> Result<u64, WordFault>
     ensures number { IfOk result (HasNumber (first_of id.now (rows_of (found_of matches.now))) low high) }
@@ -181,6 +200,24 @@ fn optional_number(
     }
 }
 
+// The number of an argument, of 32 bits, where it is given.
+fn optional_count(
+    matches: &ArgMatches,
+    id: &str,
+    low: u64,
+    high: u64,
+) -> Result<Option<u32>, WordFault>
+    requires { high < 2 ^ 32 }
+    ensures number { IfOk result (MayHaveNumber (first_of id.now (rows_of (found_of matches.now))) low high) }
+    ensures refused { result ≡ Err WordFault.Refused →
+        (n : Option ℕ) → MayHaveNumber (first_of id.now (rows_of (found_of matches.now))) low high n → ⊥ }
+{
+    match optional_number(matches, id, low, high)? {
+        Some(n) => Ok(Some(n as u32)),
+        None => Ok(None),
+    }
+}
+
 // The number that a text means, where it means one from `low` to `high`.
 fn number_in(text: &str, low: u64, high: u64) -> Option<u64>
     ensures number { IfSome result (IsNumber text.now low high) }
@@ -189,6 +226,16 @@ fn number_in(text: &str, low: u64, high: u64) -> Option<u64>
     match text.parse::<u64>() {
         Ok(n) if low <= n && n <= high => Some(n),
         _ => None,
+    }
+}
+
+// Whether a flag is given.
+fn flag(matches: &ArgMatches, id: &str) -> bool
+    ensures { result ≡ is_set (first_of id.now (rows_of (found_of matches.now))) }
+{
+    match value_of(matches, id) {
+        Some(text) => text == "true",
+        None => false,
     }
 }
 

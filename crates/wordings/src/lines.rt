@@ -7,19 +7,29 @@ use std::test::Fail;
 /// without letters. Other lines are headings.
 const LINES: &str = "\
 # Files, joined to their options and apart.
-solve a.lp - - - - @ solve a.lp
-solve a.lp - - c - @ solve --cert=c a.lp
-solve a.lp d - c - @ solve a.lp --cert c --dec d
-solve a.lp - - c c @ solve a.lp --from=c --cert c
-solve --cert - - - - @ solve -- --cert
+solve a.lp - - - - - - @ solve a.lp
+solve a.lp - - c - - - @ solve --cert=c a.lp
+solve a.lp d - c - - - @ solve a.lp --cert c --dec d
+solve a.lp - - c c - - @ solve a.lp --from=c --cert c
+solve --cert - - - - - - @ solve -- --cert
 check a.lp c - @ check a.lp c
 check a.lp c d @ check --dec=d a.lp c
-show a.lp - @ show a.lp
-show a.lp d @ show a.lp --dec d
+show a.lp - - @ show a.lp
+show a.lp d - @ show a.lp --dec d
+show a.lp - blocks @ show --blocks a.lp
+show a.lp d blocks @ show a.lp --dec=d --blocks
+show a.lp d blocks @ show a.lp --blocks --dec d
+show --blocks - - @ show -- --blocks
 detect a.lp r d @ detect a.lp r d
+propose a.lp d @ propose a.lp d
+propose a.lp --dec @ propose a.lp -- --dec
 # Numbers.
-solve a.lp - 7 - - @ solve a.lp --steps 007
-solve a.lp - 1152921504606846976 - - @ solve --steps=1152921504606846976 a.lp
+solve a.lp - 7 - - - - @ solve a.lp --steps 007
+solve a.lp - 1152921504606846976 - - - - @ solve --steps=1152921504606846976 a.lp
+solve a.lp - - - - 1 - @ solve a.lp --workers 1
+solve a.lp - - - - 64 0 @ solve a.lp --workers=64 --order=0
+solve a.lp - - - - - 18446744073709551615 @ solve --order 18446744073709551615 a.lp
+solve a.lp d 0 c f 3 19 @ solve a.lp --order 19 --workers +3 --from f --cert c --steps 0 --dec d
 gen 0 1024 a.lp a.dec @ gen +0 1024 a.lp a.dec
 demo 18446744073709551615 1 @ demo 18446744073709551615 1
 refused @ solve a.lp --steps
@@ -27,6 +37,15 @@ refused @ solve a.lp --steps=-1
 refused @ solve a.lp --steps=1152921504606846977
 refused @ solve a.lp --steps=1.5
 refused @ solve a.lp --steps=1 --steps=1
+refused @ solve a.lp --workers
+refused @ solve a.lp --workers 0
+refused @ solve a.lp --workers 65
+refused @ solve a.lp --workers=-1
+refused @ solve a.lp --workers 4294967297
+refused @ solve a.lp --workers 3 --workers 3
+refused @ solve a.lp --order
+refused @ solve a.lp --order=18446744073709551616
+refused @ solve a.lp --order 1 --order=2
 refused @ gen 1 0 a.lp a.dec
 refused @ gen 1 1025 a.lp a.dec
 refused @ gen 18446744073709551616 1 a.lp a.dec
@@ -52,8 +71,20 @@ refused @ check a.lp
 refused @ check a.lp c --from c
 refused @ show
 refused @ show a.lp --cert=c
+refused @ show a.lp --blocks=x
+refused @ show a.lp --blocks=true
+refused @ show a.lp --blocks --blocks
+refused @ show a.lp --blocks d
+refused @ show --blocks
+refused @ solve a.lp --blocks
+refused @ check a.lp c --workers 2
 refused @ detect a.lp r
 refused @ detect a.lp --dec d r
+refused @ propose
+refused @ propose a.lp
+refused @ propose a.lp d e
+refused @ propose a.lp --dec d
+refused @ propose a.lp d --blocks
 ";
 
 /// The words of a line, behind the program's name.
@@ -76,22 +107,24 @@ fn name_of(text: &Option<Text>) -> &str {
 }
 
 /// A number that may be given.
-fn number_of(alloc: Global, number: &Option<u64>) -> Result<String, AllocError> {
+fn number_of(alloc: Global, number: Option<u64>) -> Result<String, AllocError> {
     match number {
         Some(number) => format!(in alloc; "{number}"),
         None => String::from_str(alloc, "-"),
     }
 }
 
-/// An order to solve in short.
+/// An order to solve in short: the files, the steps, the workers and their order.
 fn solve_line(
     alloc: Global,
     files: (&str, &str, &str, &str),
-    steps: &Option<u64>,
+    numbers: (Option<u64>, Option<u32>, Option<u64>),
 ) -> Result<String, AllocError> {
-    let steps = number_of(alloc, steps)?;
+    let steps = number_of(alloc, numbers.0)?;
+    let workers = number_of(alloc, numbers.1.map(u64::from))?;
+    let order = number_of(alloc, numbers.2)?;
     let (lp, dec, cert, from) = files;
-    format!(in alloc; "solve {lp} {dec} {steps} {cert} {from}")
+    format!(in alloc; "solve {lp} {dec} {steps} {cert} {from} {workers} {order}")
 }
 
 /// An order in short.
@@ -103,14 +136,19 @@ fn order_line(alloc: Global, order: &Order) -> Result<String, AllocError> {
             steps,
             cert,
             from,
+            workers,
+            order,
         } => {
             let files = (lp.as_str(), name_of(dec), name_of(cert), name_of(from));
-            solve_line(alloc, files, steps)
+            solve_line(alloc, files, (*steps, *workers, *order))
         }
         Order::Check { lp, cert, dec } => {
             format!(in alloc; "check {} {} {}", lp.as_str(), cert.as_str(), name_of(dec))
         }
-        Order::Show { lp, dec } => format!(in alloc; "show {} {}", lp.as_str(), name_of(dec)),
+        Order::Show { lp, dec, blocks } => {
+            let blocks = if *blocks { "blocks" } else { "-" };
+            format!(in alloc; "show {} {} {blocks}", lp.as_str(), name_of(dec))
+        }
         Order::Gen {
             seed,
             size,
@@ -120,6 +158,9 @@ fn order_line(alloc: Global, order: &Order) -> Result<String, AllocError> {
         Order::Demo { seed, size } => format!(in alloc; "demo {seed} {size}"),
         Order::Detect { lp, rows, dec } => {
             format!(in alloc; "detect {} {} {}", lp.as_str(), rows.as_str(), dec.as_str())
+        }
+        Order::Propose { lp, dec } => {
+            format!(in alloc; "propose {} {}", lp.as_str(), dec.as_str())
         }
     }
 }
@@ -154,7 +195,7 @@ fn wrong(alloc: Global) -> Result<(String, usize), AllocError> {
 fn each_line_gives_its_order_or_is_refused(rt: HostRuntime) -> Result<(), Fail> {
     let (wrong, count) = wrong(rt.alloc())?;
     assert_eq!(rt; wrong.as_str(), "");
-    assert_eq!(rt; count, 45);
+    assert_eq!(rt; count, 76);
     Ok(())
 }
 
