@@ -4,3 +4,4 @@ pub mod Unique
 pub mod OneFront
 pub mod Lifts
 pub mod RowNames
+pub mod Written

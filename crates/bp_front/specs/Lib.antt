@@ -3,3 +3,4 @@ pub mod Front
 pub mod Halts
 pub mod Endings
 pub mod Answers
+pub mod Written

@@ -1,16 +1,20 @@
 // How a run ends: its status, what it keeps, and what it prints.
-ghost use Rattle.std.specs.Prelude.{◌≡◌, ◌≢◌, ◌⊎◌, ◌++◌, ◌<◌, ℕ, IsTrue, take, None};
+ghost use Rattle.std.specs.Prelude.{◌≡◌, ◌≢◌, ◌⊎◌, ◌++◌, ◌<◌, ℕ, [], IsTrue, take, None};
 ghost use Rattle.bp_shelf.specs.Shelf.{Rose};
 ghost use Rattle.bp_front.specs.Endings.{status_of};
 
 use bp_shelf::{ShelfFault, Sink};
 use branch_tree::Outcome;
+use search_laws::Event;
+use std::alloc::Global;
 
-/// How a run ended: the status that the program ends with, and the outcome of a search, where one was printed.
+/// How a run ended: the status that the program ends with, the outcome of a search, where one was printed, and what the workers
+/// of a crew did in that search, in order; nothing where no crew ran or no outcome is kept.
 #[derive(Drop)]
 pub struct Ended {
     pub status: u8,
     pub kept: Option<Outcome>,
+    pub events: Vec<Event>,
 }
 
 /// A report with the status that it is printed under.
@@ -21,32 +25,39 @@ pub struct Reply {
 }
 
 /// An end of this status with nothing kept.
-pub fn stopped(status: u8) -> Ended
+pub fn stopped(alloc: Global, status: u8) -> Ended
     ensures status { result.status ≡ status }
     ensures kept { result.kept ≡ None }
+    ensures events { result.events.items ≡ [] }
 {
-    Ended { status, kept: None }
-}
-
-/// The end of a run after a read that failed.
-pub fn stopped_by(fault: ShelfFault) -> Ended
-    ensures status { result.status ≡ status_of fault }
-    ensures kept { result.kept ≡ None }
-{
-    match fault {
-        ShelfFault::Failed => stopped(7),
-        ShelfFault::NoMemory => stopped(9),
-        ShelfFault::Missing => stopped(11),
+    Ended {
+        status,
+        kept: None,
+        events: Vec::new(alloc),
     }
 }
 
-/// Prints a report by one put, and ends with its status and with what is kept. A fault of the sink replaces the status,
-/// and then nothing is kept.
-pub fn print<O: Sink>(out: &mut O, reply: &Reply, kept: Option<Outcome>) -> Ended
+/// The end of a run after a read that failed.
+pub fn stopped_by(alloc: Global, fault: ShelfFault) -> Ended
+    ensures status { result.status ≡ status_of fault }
+    ensures kept { result.kept ≡ None }
+    ensures events { result.events.items ≡ [] }
+{
+    match fault {
+        ShelfFault::Failed => stopped(alloc, 7),
+        ShelfFault::NoMemory => stopped(alloc, 9),
+        ShelfFault::Missing => stopped(alloc, 11),
+    }
+}
+
+/// Prints a report by one put, and ends with its status and with what is kept, without events. A fault of the sink replaces
+/// the status, and then nothing is kept.
+pub fn print<O: Sink>(alloc: Global, out: &mut O, reply: &Reply, kept: Option<Outcome>) -> Ended
     requires { reply.now.status ≢ 8 }
     ensures status { (result.status ≡ reply.now.status) ⊎ (result.status ≡ 8) }
     ensures kept { result.status ≢ 8 → result.kept ≡ kept }
     ensures none_kept { result.status ≡ 8 → result.kept ≡ None }
+    ensures events { result.events.items ≡ [] }
     ensures printed { IsTrue (O.tells out.old) → result.status ≢ 8 → O.taken out.new ≡ O.taken out.old ++ reply.now.report.items }
     ensures partly { IsTrue (O.tells out.old) → result.status ≡ 8 →
         (count : ℕ) × (O.taken out.new ≡ O.taken out.old ++ take count reply.now.report.items) }
@@ -57,7 +68,8 @@ pub fn print<O: Sink>(out: &mut O, reply: &Reply, kept: Option<Outcome>) -> Ende
         Ok(()) => Ended {
             status: reply.status,
             kept,
+            events: Vec::new(alloc),
         },
-        Err(_) => stopped(8),
+        Err(_) => stopped(alloc, 8),
     }
 }

@@ -1,2 +1,3 @@
 pub mod PointLines
 pub mod Pieces
+pub mod BlockRows

@@ -5,7 +5,10 @@ use Rattle.std.proofs.lemmas.List.Concat.{flat_map-append}
 use Rattle.std.proofs.lemmas.List.FromFn.{map-range_with_len_more}
 use Rattle.std.specs.Prelude.{map, Result, Ok, Err, OnOk, is_ok, if◌then◌else◌}
 use Rattle.std.specs.List.{range_with_len, flat_map}
-use Rattle.bp_report.specs.Report.{class_line}
+use Rattle.std.specs.Prelude.{count_by, is_none, Option}
+use Rattle.block_form.specs.Blocked.{BlockedProgram}
+use Rattle.block_class.specs.Classes.{Grouping}
+use Rattle.bp_report.specs.Report.{class_line, first_classes, proposed_line, proposed_report}
 
 map_same : (xs : List ℕ) → map (λ x. x) xs ≡ xs
 map_same [] = refl
@@ -30,11 +33,23 @@ piece_more f n start text more was is =
 pub class_line_same : (class f g s t v w r q : ℕ) → f ≡ g → s ≡ t → v ≡ w → r ≡ q → class_line class f s v r ≡ class_line class g t w q
 class_line_same class f g s t v w r q first size variables rows = rw (first, size, variables, rows) refl
 
--- five words, each with a number behind it, and an end
+-- words, each with a number behind it, and an end
 pub five_named : (start a b c d e f g h i j end t u v w x : List ℕ) → t ≡ start ++ a ++ b → u ≡ t ++ c ++ d → v ≡ u ++ e ++ f → w ≡ v ++ g ++ h
     → x ≡ w ++ i ++ j → x ++ end ≡ start ++ (a ++ b ++ c ++ d ++ e ++ f ++ g ++ h ++ i ++ j ++ end)
 five_named start a b c d e f g h i j end t u v w x first second third fourth fifth =
     rw (fifth, fourth, third, second, first) (simp append_assoc)
+
+pub three_named : (start a b c d e f end t u v : List ℕ) → t ≡ start ++ a ++ b → u ≡ t ++ c ++ d → v ≡ u ++ e ++ f
+    → v ++ end ≡ start ++ (a ++ b ++ c ++ d ++ e ++ f ++ end)
+three_named start a b c d e f end t u v first second third = rw (third, second, first) (simp append_assoc)
+
+-- the line of a proposed decomposition by its program in blocks
+pub proposed_as : (b : BlockedProgram) (g : Grouping) (blocks classes master : ℕ) (start text : List ℕ) → blocks ≡ b.dec.blocks → classes ≡ first_classes blocks g
+    → master ≡ count_by is_none b.dec.places → start ≡ [] → text ≡ start ++ proposed_line blocks classes master → text ≡ proposed_report b g
+proposed_as b g blocks classes master start text blocks_are classes_are master_is none is =
+    is ∙ ap (λ (xs : List ℕ). xs ++ proposed_line blocks classes master) none ∙ ap (λ (n : ℕ). proposed_line n classes master) blocks_are
+    ∙ ap (λ (n : ℕ). proposed_line b.dec.blocks n master) (classes_are ∙ ap (λ (n : ℕ). first_classes n g) blocks_are)
+    ∙ ap (λ (n : ℕ). proposed_line b.dec.blocks (first_classes b.dec.blocks g) n) master_is
 
 -- what is pushed where there is room, is there at `Ok`
 pub pushed_if_ok : {T E : Type 0} (r : Result T E) (new longer old : List ℕ) → new ≡ (if is_ok r then longer else old) → OnOk r (new ≡ longer)

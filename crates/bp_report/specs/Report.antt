@@ -1,9 +1,11 @@
 -- The bytes of reports: lines of words with single spaces between, each line ended by one line feed.
-use Rattle.std.specs.Prelude.{ℕ, ◌+◌, option_map, length, count_by, is_none, List, [], ◌∷◌, ◌++◌, Option, Some, None, ℤ, codes, decimal}
+use Rattle.std.specs.Prelude.{ℕ, ◌+◌, nat_lt, Bool, if◌then◌else◌, option_map, map, filter, slice_index_or, length, count_by, is_none, List, [], ◌∷◌, ◌++◌, Option, Some, None, ℤ, codes, decimal}
 use Rattle.std.specs.Fmt.{signed_decimal}
 use Rattle.std.specs.List.{range_with_len, flat_map}
 use Rattle.std.specs.Option.{ForSome}
 use Rattle.bp_theory.specs.Program.{IsInside, value, in_sense}
+use Rattle.bp_theory.specs.Blocking.{Copy}
+use Rattle.bp_theory.specs.Decomposition.{is_block}
 use Rattle.bp_theory.specs.declared.Claim.{Claim}
 use Rattle.bp_theory.specs.declared.Claim.TheVariants.{Optimal, Infeasible, Bound}
 use Rattle.bp_theory.specs.declared.CheckKind.{CheckKind}
@@ -12,6 +14,7 @@ use Rattle.bp_model.specs.Named.{NamedProgram}
 use Rattle.block_form.specs.Blocked.{BlockedProgram}
 use Rattle.search_laws.specs.Spread.{block_at, class_at, class_blocks}
 use Rattle.block_class.specs.Classes.{Grouping}
+use Rattle.dec_find.specs.Text.{spaced}
 use Rattle.branch_tree.specs.declared.outcome.Outcome.{Outcome}
 use Rattle.branch_tree.specs.declared.outcome.Outcome.TheVariants as outcome
 use Rattle.cert_check.specs.declared.judge.Judged.{Judged}
@@ -158,6 +161,37 @@ class_lines b g = flat_map (line_of_class b g) (range_with_len 0 (length g.first
 abbrev pub show_report : BlockedProgram → Grouping → List ℕ
 show_report b g = size_lines b (length g.firsts) ++ class_lines b g
 
+-- ---- the rows and variables of blocks
+
+-- the rows in a block, by their places, in order
+abbrev pub rows_of_block : List (Option ℕ) → ℕ → List ℕ
+rows_of_block places block = filter (λ row. is_block block (slice_index_or places row None)) (range_with_len 0 (length places))
+
+-- the name of a number
+abbrev pub name_of : List (List ℕ) → ℕ → List ℕ
+name_of names n = slice_index_or names n []
+
+-- a word with the spaces around it, how many numbers there are, and the names of these, each behind a space
+abbrev pub counted_names : (word : List ℕ) → (names : List (List ℕ)) → (numbers : List ℕ) → List ℕ
+counted_names word names numbers = word ++ decimal (length numbers) ++ spaced (map (name_of names) numbers)
+
+-- the line of a block: its number, from 1, and its rows and variables, both in order
+abbrev pub block_line : BlockedProgram → ℕ → List ℕ
+block_line b block =
+    codes "block " ++ decimal (block + 1)
+    ++ counted_names (codes " rows ") b.named.row_names (rows_of_block b.dec.places block)
+    ++ counted_names (codes " variables ") b.named.names (map (λ (c : Copy). c.var) (block_at b.blocking block).copies) ++ codes "\n"
+
+-- the lines of all blocks
+abbrev pub block_lines : BlockedProgram → List ℕ
+block_lines b = flat_map (block_line b) (range_with_len 0 (length b.blocking.blocks))
+
+-- the report on sizes and classes, followed by the lines of the blocks where they are wanted
+abbrev pub show_report_with : BlockedProgram → Grouping → (blocks : Bool) → List ℕ
+show_report_with b g blocks = show_report b g ++ (if blocks then block_lines b else [])
+
+-- ---- texts that were made
+
 -- the report on texts that were made
 abbrev pub made_report : (variables rows : ℕ) → List ℕ
 made_report variables rows = codes "made variables " ++ decimal variables ++ codes " rows " ++ decimal rows ++ codes "\n"
@@ -165,6 +199,19 @@ made_report variables rows = codes "made variables " ++ decimal variables ++ cod
 -- the report on a decomposition that was found beside master rows
 abbrev pub detected_report : (blocks : ℕ) → List ℕ
 detected_report blocks = codes "detected blocks " ++ decimal blocks ++ codes "\n"
+
+-- how many classes of blocks have one of the first so many blocks
+abbrev pub first_classes : (blocks : ℕ) → Grouping → ℕ
+first_classes blocks g = count_by (λ first. nat_lt first blocks) g.firsts
+
+-- the line of a decomposition that was proposed: its blocks, their classes, and the master rows
+abbrev pub proposed_line : (blocks classes master : ℕ) → List ℕ
+proposed_line blocks classes master =
+    codes "proposed blocks " ++ decimal blocks ++ codes " classes " ++ decimal classes ++ codes " master " ++ decimal master ++ codes "\n"
+
+-- the report on such a decomposition, by its program in blocks and the classes at the root
+abbrev pub proposed_report : BlockedProgram → Grouping → List ℕ
+proposed_report b g = proposed_line b.dec.blocks (first_classes b.dec.blocks g) (count_by is_none b.dec.places)
 
 -- the first line on a made program that is solved and checked
 abbrev pub demo_line : (seed size : ℕ) → List ℕ

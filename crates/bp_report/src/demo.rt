@@ -43,17 +43,3 @@ fn push_demo(text: &mut Vec<u8>, seed: u64, size: u32) -> Result<(), AllocError>
     push_count(text, size as u64)?;
     text.extend_from_slice(b"\n")
 }
-
-#[cfg(test)]
-mod tests {
-    use super::*;
-    use std::test::Fail;
-
-    #[test]
-    fn a_made_program_is_told_by_seed_and_size(rt: HostRuntime) -> Result<(), Fail> {
-        let mut text = Vec::new(rt.alloc());
-        push_demo(&mut text, 7, 1)?;
-        assert_eq!(rt; text.as_slice(), b"demo 7 1\n".as_slice());
-        Ok(())
-    }
-}

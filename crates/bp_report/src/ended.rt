@@ -188,6 +188,3 @@ fn push_line(text: &mut Vec<u8>, name: &str, number: &i64) -> Result<(), AllocEr
     push_value(text, number)?;
     text.extend_from_slice(b"\n")
 }
-
-#[cfg(test)]
-mod tests;

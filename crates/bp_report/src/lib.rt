@@ -2,15 +2,15 @@
 //! refuses.
 #![tactic(auto)]
 
+mod blocks;
 mod checked;
 mod demo;
 mod ended;
 mod lines;
 mod refused;
-#[cfg(test)]
-mod sample;
 mod sizes;
 
+pub use blocks::show_blocks_text;
 pub use checked::check_text;
 pub use demo::{DEMO_STEPS, demo_text};
 pub use ended::{budget_text, ended_text, solve_text};
@@ -18,4 +18,4 @@ pub use refused::{
     Refusal, blocks_text, cert_text, dec_text, from_text, lp_text, refusal_text, rows_text,
     words_text,
 };
-pub use sizes::{detected_text, made_text, show_text};
+pub use sizes::{detected_text, made_text, proposed_text};

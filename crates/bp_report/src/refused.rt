@@ -199,6 +199,3 @@ fn cert_kind_name(kind: CertKind) -> &'static [u8]
         CertKind::Limit => b"limit",
     }
 }
-
-#[cfg(test)]
-mod tests;

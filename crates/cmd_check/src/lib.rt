@@ -1,7 +1,7 @@
 //! The command `check`: whether the certificate of a file is valid for a program in blocks. What it accepts is true.
 #![tactic(auto)]
 
-ghost use Rattle.std.specs.Prelude.{◌≡◌, ◌≢◌, ◌⊎◌, IfOk, IsErrOf, IsTrue, None};
+ghost use Rattle.std.specs.Prelude.{◌≡◌, ◌≢◌, ◌⊎◌, [], IfOk, IsErrOf, IsTrue, None};
 ghost use Rattle.std.specs.Option.{option_map};
 ghost use Rattle.bp_shelf.specs.Shelf.{CountsFailed};
 ghost use Rattle.bp_shelf.specs.declared.shelf.ShelfFault.TheVariants.{Missing};
@@ -36,6 +36,7 @@ pub fn check<F: Shelf, O: Sink>(
     ensures causes { HasCauses result.status (F.read_faults shelf.old) (F.read_faults shelf.new)
         (F.write_faults shelf.old) (F.write_faults shelf.new) (O.faults out.old) (O.faults out.new) }
     ensures kept { result.kept ≡ None }
+    ensures events { result.events.items ≡ [] }
     ensures words { result.status ≢ 2 }
     ensures files { F.file shelf.new ≡ F.file shelf.old }
     ensures writes { F.write_faults shelf.new ≡ F.write_faults shelf.old }
@@ -45,8 +46,8 @@ pub fn check<F: Shelf, O: Sink>(
 {
     match load(alloc, shelf, lp, dec) {
         Ok(b) => check_blocks(alloc, shelf, out, &b, cert),
-        Err(Halt::Refused(report)) => print(out, &Reply { status: 3, report }, None),
-        Err(Halt::Stopped(fault)) => stopped_by(fault),
+        Err(Halt::Refused(report)) => print(alloc, out, &Reply { status: 3, report }, None),
+        Err(Halt::Stopped(fault)) => stopped_by(alloc, fault),
     }
 }
 
@@ -64,6 +65,7 @@ fn check_blocks<F: Shelf, O: Sink>(
     ensures causes { HasCauses result.status (F.read_faults shelf.old) (F.read_faults shelf.new)
         (F.write_faults shelf.old) (F.write_faults shelf.new) (O.faults out.old) (O.faults out.new) }
     ensures kept { result.kept ≡ None }
+    ensures events { result.events.items ≡ [] }
     ensures words { result.status ≢ 2 }
     ensures files { F.file shelf.new ≡ F.file shelf.old }
     ensures writes { F.write_faults shelf.new ≡ F.write_faults shelf.old }
@@ -72,8 +74,8 @@ fn check_blocks<F: Shelf, O: Sink>(
         CutsOff (λ kept. ChecksBlocked (F.file shelf.old) cert.now b.now) result.status (O.taken out.old) (O.taken out.new) }
 {
     match judged_file(alloc, shelf, b, cert) {
-        Ok(reply) => print(out, &reply, None),
-        Err(fault) => stopped_by(fault),
+        Ok(reply) => print(alloc, out, &reply, None),
+        Err(fault) => stopped_by(alloc, fault),
     }
 }
 

@@ -1,7 +1,7 @@
 //! The command `demo`: a made problem is solved in memory, and its certificate is checked.
 #![tactic(auto)]
 
-ghost use Rattle.std.specs.Prelude.{◌≡◌, ◌⊎◌, ◌≤◌, ℕ, IfOk, IfErr, IsTrue, None, Some};
+ghost use Rattle.std.specs.Prelude.{◌≡◌, ◌⊎◌, ◌≤◌, [], ℕ, IfOk, IfErr, IsTrue, None, Some};
 ghost use Rattle.bp_search.specs.Ends.{IsOutcome};
 ghost use Rattle.cert_text.specs.Kept.{certificate_of};
 ghost use Rattle.cert_text.specs.Programs.{GoesWith};
@@ -30,14 +30,15 @@ pub fn demonstrate<O: Sink>(alloc: Global, out: &mut O, seed: u64, size: u32) ->
     ensures exact { IsOnly (AnswersDemo seed size result.kept) result.status }
     ensures causes { (reads writes : ℕ) → HasCauses result.status reads reads writes writes (O.faults out.old) (O.faults out.new) }
     ensures kept { (result.kept ≡ None) ⊎ ((result.status ≡ 0) ⊎ (result.status ≡ 4) ⊎ (result.status ≡ 5)) }
+    ensures events { result.events.items ≡ [] }
     ensures statuses { (result.status ≡ 0) ⊎ (result.status ≡ 3) ⊎ (result.status ≡ 4) ⊎ (result.status ≡ 5) ⊎ (result.status ≡ 8) ⊎ (result.status ≡ 9) }
     ensures silent { result.status ≡ 9 → O.taken out.new ≡ O.taken out.old }
     ensures cut_off { IsTrue (O.tells out.old) → CutsOff (AnswersDemo seed size) result.status (O.taken out.old) (O.taken out.new) }
 {
     match demonstrated(alloc, seed, size) {
-        Ok((reply, outcome)) => print(out, &reply, Some(outcome)),
-        Err(Halt::Refused(report)) => print(out, &Reply { status: 3, report }, None),
-        Err(Halt::Stopped(_)) => stopped(9),
+        Ok((reply, outcome)) => print(alloc, out, &reply, Some(outcome)),
+        Err(Halt::Refused(report)) => print(alloc, out, &Reply { status: 3, report }, None),
+        Err(Halt::Stopped(_)) => stopped(alloc, 9),
     }
 }
 

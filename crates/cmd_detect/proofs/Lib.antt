@@ -1,3 +1,2 @@
 pub mod OneAnswer
 pub mod Lifted
-pub mod Ends

@@ -15,11 +15,12 @@ use Rattle.dec_find.specs.Text.{text_of}
 use Rattle.bp_report.specs.Report.{detected_report}
 use Rattle.bp_report.specs.Refusals.{rows_refusal}
 use Rattle.bp_front.specs.Front.{HasModel}
-use Rattle.bp_front.specs.Halts.{LpHalts, CountsHalted}
+use Rattle.bp_front.specs.Halts.{CountsHalted}
+use Rattle.bp_front.specs.Written.{Answer, stops, IsHalt, IsTextHalt}
 use Rattle.bp_front.specs.declared.front.Halt.{Halt}
 use Rattle.bp_front.specs.declared.front.Halt.TheVariants.{Refused, Stopped}
 use Rattle.cmd_detect.specs.declared.Found.{Found}
-use Rattle.cmd_detect.specs.Detects.{Answer, stops, BlocksCome, many, found, RowsCome, missing, faulty, read, Detects, missing_lp, faulty_lp, with_model, answer_of, IsHalt, IsTextHalt}
+use Rattle.cmd_detect.specs.Detects.{BlocksCome, many, found, RowsCome, missing, faulty, read, Detects, with_model, answer_of}
 
 -- a front of so many bytes is the whole list, or both are too long
 front_or_long : (all front : List ℕ) (most : ℕ) → 16777216 < most → front ≡ take most all
@@ -62,16 +63,6 @@ rows_file m (Some all) front a most above there is_front come = rows_whole m all
 
 -- ---- the files
 
-pub lp_halted : (files : Files) (lp rows : List ℕ) (halt : Halt) → LpHalts (files lp) halt → IsHalt (Detects files lp rows) halt
-lp_halted files lp rows (Refused report) h = faulty_lp report.items h
-lp_halted files lp rows (Stopped Missing) h = missing_lp h
-lp_halted files lp rows (Stopped Failed) h = tt
-lp_halted files lp rows (Stopped NoMemory) h = tt
-
-pub lp_halts : {T : Type 0} (files : Files) (lp rows : List ℕ) (halt : Halt) (r : Result T Halt) → IsErrAnd r (λ e. e ≡ halt) → LpHalts (files lp) halt → IfErr r (IsHalt (Detects files lp rows))
-lp_halts files lp rows halt (Ok x) is h = tt
-lp_halts files lp rows halt (Err e) is h = subst (λ (s : Halt). IsHalt (Detects files lp rows) s) (sym is) (lp_halted files lp rows halt h)
-
 front_halted : (files : Files) (lp rows : List ℕ) (m : NamedProgram) (fault : ShelfFault) → HasModel (files lp) m → (fault ≡ Missing → files rows ≡ None)
     → IsHalt (Detects files lp rows) (Stopped fault)
 front_halted files lp rows m Missing model gone = with_model m (stops 11 []) model (missing (gone refl))
@@ -85,11 +76,6 @@ pub front_halts : {T : Type 0} (files : Files) (lp rows : List ℕ) (m : NamedPr
     → (fault ≡ Missing → files rows ≡ None) → IfErr r (IsHalt (Detects files lp rows))
 front_halts files lp rows m fault (Ok x) is model gone = tt
 front_halts files lp rows m fault (Err e) is model gone = subst (λ (s : Halt). IsHalt (Detects files lp rows) s) (sym is) (front_halted files lp rows m fault model gone)
-
--- a text that is refused, behind which nothing was done
-pub text_halts : {T : Type 0} (Right : Answer → Type 0) (halt : Halt) (r : Result T Halt) → IsErrAnd r (λ e. e ≡ halt) → IsTextHalt Right halt → IfErr r (IsTextHalt Right)
-text_halts Right halt (Ok x) is h = tt
-text_halts Right halt (Err e) is h = subst (λ (s : Halt). IsTextHalt Right s) (sym is) h
 
 pub list_found : (files : Files) (lp rows : List ℕ) (m : NamedProgram) (front : List ℕ) (r : Result Found Halt) (most : ℕ) → 16777216 < most → HasModel (files lp) m → IsSome (files rows)
     → IfSome (files rows) (λ all. front ≡ take most all) → IfOk r (λ f. RowsCome m (Some front) (answer_of f)) → IfOk r (λ f. Detects files lp rows (answer_of f))

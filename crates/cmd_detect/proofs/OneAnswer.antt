@@ -4,22 +4,13 @@ use Rattle.std.proofs.lemmas.Bool.{cases_order}
 use Rattle.bp_theory.specs.Decomposition.{Decomposition}
 use Rattle.bp_model.specs.Named.{NamedProgram}
 use Rattle.bp_shelf.specs.Shelf.{Files}
-use Rattle.lp_read.specs.Reading as lp_text
-use Rattle.lp_read.specs.Model.{Means}
-use Rattle.lp_read.proofs.Readings as lp_laws
-use Rattle.lp_token.specs.declared.LpKind.{LpKind}
 use Rattle.dec_find.specs.declared.fault.RowsKind.{RowsKind}
 use Rattle.dec_find.specs.Rows.{ListsRows, HasRowsFault, too_long, at_token}
 use Rattle.dec_find.specs.Joined.{IsFound}
 use Rattle.dec_find.proofs.FoundLemmas.{found_once}
-use Rattle.bp_front.proofs.Unique.{one_program}
-use Rattle.cmd_detect.specs.Detects.{Answer, BlocksCome, many, found, RowsCome, missing, faulty, read, Detects, missing_lp, faulty_lp, with_model}
-
-one_text : (file : Option (List ℕ)) (t u : List ℕ) → file ≡ Some t → file ≡ Some u → t ≡ u
-one_text file t u a b = cc
-
-no_text : (file : Option (List ℕ)) (t : List ℕ) → file ≡ None → file ≡ Some t → ⊥
-no_text file t a b = absurd (cc)
+use Rattle.bp_front.specs.Written.{Answer}
+use Rattle.bp_front.proofs.Written.{one_text, no_text, one_model, model_or_fault, HasOneStatus}
+use Rattle.cmd_detect.specs.Detects.{BlocksCome, many, found, RowsCome, missing, faulty, read, Detects, missing_lp, faulty_lp, with_model}
 
 -- blocks beside master rows are too many or not
 too_many : (m : NamedProgram) (master : List ℕ) (d e : Decomposition) → IsFound m.program master d → IsFound m.program master e → 4096 < d.blocks → e.blocks ≤ 4096 → ⊥
@@ -55,18 +46,14 @@ one_rows m file a b (read list master a' x h come) (read list' master' b' y g co
     one_blocks m master a' b' come (subst (λ (rows : List ℕ). BlocksCome m rows b') same come')
 
 -- the files are answered by one status
-pub one_answer : (files : Files) (lp rows : List ℕ) (a b : Answer) → Detects files lp rows a → Detects files lp rows b → a.status ≡ b.status
+pub one_answer : (files : Files) (lp rows : List ℕ) → HasOneStatus (Detects files lp rows)
 one_answer files lp rows a b (missing_lp x) (missing_lp y) = refl
 one_answer files lp rows a b (missing_lp x) (faulty_lp report h) = absurd (no_text (files lp) h.text x h.there)
 one_answer files lp rows a b (missing_lp x) (with_model m b' h come) = absurd (no_text (files lp) h.text x h.there)
 one_answer files lp rows a b (faulty_lp report h) (missing_lp y) = absurd (no_text (files lp) h.text y h.there)
 one_answer files lp rows a b (faulty_lp report h) (faulty_lp report' g) = refl
-one_answer files lp rows a b (faulty_lp report h) (with_model m b' g come) =
-    absurd (lp_laws.model_or_fault g.text g.means.0 h.line h.kind g.means.1 (subst (λ (t : List ℕ). lp_text.HasFault t h.line h.kind) (one_text (files lp) h.text g.text h.there g.there) h.fault))
+one_answer files lp rows a b (faulty_lp report h) (with_model m b' g come) = absurd (model_or_fault (files lp) m report g h)
 one_answer files lp rows a b (with_model m a' h come) (missing_lp y) = absurd (no_text (files lp) h.text y h.there)
-one_answer files lp rows a b (with_model m a' h come) (faulty_lp report g) =
-    absurd (lp_laws.model_or_fault h.text h.means.0 g.line g.kind h.means.1 (subst (λ (t : List ℕ). lp_text.HasFault t g.line g.kind) (one_text (files lp) g.text h.text g.there h.there) g.fault))
+one_answer files lp rows a b (with_model m a' h come) (faulty_lp report g) = absurd (model_or_fault (files lp) m report h g)
 one_answer files lp rows a b (with_model m a' h come) (with_model n b' g come') =
-    let means : Means h.text n = subst (λ (t : List ℕ). Means t n) (one_text (files lp) g.text h.text g.there h.there) g.means in
-    let same : n ≡ m = one_program h.text n m means h.means in
-    one_rows m (files rows) a' b' come (subst (λ (p : NamedProgram). RowsCome p (files rows) b') same come')
+    one_rows m (files rows) a' b' come (subst (λ (p : NamedProgram). RowsCome p (files rows) b') (one_model (files lp) n m g h) come')

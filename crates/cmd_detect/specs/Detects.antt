@@ -1,7 +1,6 @@
 -- What `detect` answers by the files.
-use Rattle.std.specs.Prelude.{◌≡◌, ℕ, ◌≤◌, List, [], Option, Some, None, Result, Ok, Err}
+use Rattle.std.specs.Prelude.{◌≡◌, ℕ, ◌≤◌, List, [], Option, Some, None}
 use Rattle.bp_shelf.specs.Shelf.{Files}
-use Rattle.bp_shelf.specs.declared.shelf.ShelfFault.TheVariants.{Missing, Failed, NoMemory}
 use Rattle.bp_theory.specs.Decomposition.{Decomposition}
 use Rattle.bp_model.specs.Named.{NamedProgram}
 use Rattle.dec_find.specs.declared.fault.RowsKind.{RowsKind}
@@ -12,19 +11,8 @@ use Rattle.dec_find.specs.Text.{text_of}
 use Rattle.bp_report.specs.Report.{detected_report}
 use Rattle.bp_report.specs.Refusals.{rows_refusal}
 use Rattle.bp_front.specs.Front.{HasModel, HasLpFault}
-use Rattle.bp_front.specs.declared.front.Halt.{Halt}
-use Rattle.bp_front.specs.declared.front.Halt.TheVariants.{Refused, Stopped}
+use Rattle.bp_front.specs.Written.{Answer, stops, Answered}
 use Rattle.cmd_detect.specs.declared.Found.{Found}
-
--- an answer: a status, what is printed, and the text that is written, if one is
-pub record Answer : Type 0 where
-  pub status : ℕ
-  pub report : List ℕ
-  pub text : Option (List ℕ)
-
--- an answer that writes nothing
-abbrev pub stops : (status : ℕ) → (report : List ℕ) → Answer
-stops status report = record { status = status; report = report; text = None }
 
 -- what master rows of a program are answered: more blocks than a decomposition may have, or the decomposition that is written
 pub data BlocksCome (m : NamedProgram) (master : List ℕ) : Answer → Type 0 where
@@ -47,20 +35,8 @@ pub data Detects (files : Files) (lp rows : List ℕ) : Answer → Type 0 where
 
 -- the same by its status and report
 abbrev pub AnswersDetect : Files → (lp rows : List ℕ) → (status : ℕ) → (report : List ℕ) → Type 0
-AnswersDetect files lp rows status report = (text : Option (List ℕ)) × Detects files lp rows (record { status = status; report = report; text = text })
+AnswersDetect files lp rows status report = Answered (Detects files lp rows) status report
 
 -- the text and the report of a decomposition that was found
 abbrev pub answer_of : Found → Answer
 answer_of f = record { status = f.reply.status; report = f.reply.report.items; text = Some f.text.items }
-
--- what a run ends with, where it is right to stop
-abbrev pub IsHalt : (Answer → Type 0) → Halt → Type 0
-IsHalt Right (Refused report) = Right (stops 3 report.items)
-IsHalt Right (Stopped Missing) = Right (stops 11 [])
-IsHalt Right (Stopped Failed) = Unit {0}
-IsHalt Right (Stopped NoMemory) = Unit {0}
-
--- a refusal of a text that is right, or want of memory
-abbrev pub IsTextHalt : (Answer → Type 0) → Halt → Type 0
-IsTextHalt Right (Refused report) = Right (stops 3 report.items)
-IsTextHalt Right (Stopped fault) = fault ≡ NoMemory

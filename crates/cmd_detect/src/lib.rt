@@ -10,7 +10,8 @@ ghost use Rattle.dec_find.specs.Text.{IsRowName, text_of};
 ghost use Rattle.bp_report.specs.Report.{detected_report};
 ghost use Rattle.bp_front.specs.Halts.{CountsHalted};
 ghost use Rattle.bp_front.specs.Answers.{AnswersBy, IsOnly, CutsOff, HasCauses};
-ghost use Rattle.cmd_detect.specs.Detects.{BlocksCome, RowsCome, Detects, AnswersDetect, answer_of, IsHalt, IsTextHalt};
+ghost use Rattle.bp_front.specs.Written.{IsHalt, IsTextHalt};
+ghost use Rattle.cmd_detect.specs.Detects.{BlocksCome, RowsCome, Detects, AnswersDetect, answer_of};
 ghost use Rattle.cmd_detect.specs.Files.{DetectLeaves, DetectWrites};
 
 use bp_front::{Ended, Halt, Reply, load_model, print, read_front, stopped, stopped_by};
@@ -44,6 +45,7 @@ pub fn detect<F: Shelf, O: Sink>(
     ensures causes { HasCauses result.status (F.read_faults shelf.old) (F.read_faults shelf.new)
         (F.write_faults shelf.old) (F.write_faults shelf.new) (O.faults out.old) (O.faults out.new) }
     ensures kept { result.kept ≡ None }
+    ensures events { result.events.items ≡ [] }
     ensures words { result.status ≢ 2 }
     ensures leaves { IsTrue (F.tells shelf.old) → DetectLeaves lp.now rows.now dec.now (F.file shelf.old) (F.file shelf.new) result.status }
     ensures others { IsTrue (F.tells shelf.old) → OthersAsBefore dec.now (F.file shelf.old) (F.file shelf.new) }
@@ -56,12 +58,12 @@ pub fn detect<F: Shelf, O: Sink>(
 {
     match load_found(alloc, shelf, lp, rows) {
         Ok(found) => match shelf.replace(dec, &found.text) {
-            Ok(()) => print(out, &found.reply, None),
-            Err(ShelfFault::Failed) => stopped(8),
-            Err(_) => stopped(9),
+            Ok(()) => print(alloc, out, &found.reply, None),
+            Err(ShelfFault::Failed) => stopped(alloc, 8),
+            Err(_) => stopped(alloc, 9),
         },
-        Err(Halt::Refused(report)) => print(out, &Reply { status: 3, report }, None),
-        Err(Halt::Stopped(fault)) => stopped_by(fault),
+        Err(Halt::Refused(report)) => print(alloc, out, &Reply { status: 3, report }, None),
+        Err(Halt::Stopped(fault)) => stopped_by(alloc, fault),
     }
 }
 

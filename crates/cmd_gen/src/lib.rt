@@ -1,7 +1,7 @@
 //! The command `gen`: the texts of a generalised assignment problem, made from a seed and a size.
 #![tactic(auto)]
 
-ghost use Rattle.std.specs.Prelude.{◌≡◌, ◌≢◌, ◌⊎◌, ◌<◌, ◌≤◌, IfOk, IsErrOf, IsTrue, None};
+ghost use Rattle.std.specs.Prelude.{◌≡◌, ◌≢◌, ◌⊎◌, ◌<◌, ◌≤◌, [], IfOk, IsErrOf, IsTrue, None};
 ghost use Rattle.bp_shelf.specs.Shelf.{CountsFailed};
 ghost use Rattle.bp_shelf.specs.declared.shelf.ShelfFault.TheVariants.{Missing};
 ghost use Rattle.bp_front.specs.Answers.{AnswersBy, IsOnly, CutsOff, HasCauses};
@@ -39,6 +39,7 @@ pub fn generate<F: Shelf, O: Sink>(
     ensures causes { HasCauses result.status (F.read_faults shelf.old) (F.read_faults shelf.new)
         (F.write_faults shelf.old) (F.write_faults shelf.new) (O.faults out.old) (O.faults out.new) }
     ensures kept { result.kept ≡ None }
+    ensures events { result.events.items ≡ [] }
     ensures statuses { (result.status ≡ 0) ⊎ (result.status ≡ 8) ⊎ (result.status ≡ 9) }
     ensures leaves { IsTrue (F.tells shelf.old) → GenLeaves seed size lp.now dec.now (F.file shelf.old) (F.file shelf.new) result.status }
     ensures others { IsTrue (F.tells shelf.old) → OthersStand lp.now dec.now (F.file shelf.old) (F.file shelf.new) }
@@ -47,12 +48,12 @@ pub fn generate<F: Shelf, O: Sink>(
     ensures cut_off { IsTrue (O.tells out.old) → CutsOff (λ kept. AnswersGen size) result.status (O.taken out.old) (O.taken out.new) }
 {
     let Ok(made) = make(alloc, seed, size) else {
-        return stopped(9);
+        return stopped(alloc, 9);
     };
     match write(shelf, &made, lp, dec) {
-        Ok(()) => print(out, &made.reply, None),
-        Err(ShelfFault::Failed) => stopped(8),
-        Err(_) => stopped(9),
+        Ok(()) => print(alloc, out, &made.reply, None),
+        Err(ShelfFault::Failed) => stopped(alloc, 8),
+        Err(_) => stopped(alloc, 9),
     }
 }
 

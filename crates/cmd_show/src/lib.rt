@@ -1,7 +1,7 @@
-//! The command `show`: the sizes of a program in blocks, and its classes at the root.
+//! The command `show`: the sizes of a program in blocks, its classes at the root, and its blocks where they are wanted.
 #![tactic(auto)]
 
-ghost use Rattle.std.specs.Prelude.{◌≡◌, ◌≢◌, ◌⊎◌, IfOk, IsTrue, None};
+ghost use Rattle.std.specs.Prelude.{◌≡◌, ◌≢◌, ◌⊎◌, [], IfOk, IsTrue, None};
 ghost use Rattle.std.specs.Option.{option_map};
 ghost use Rattle.bp_shelf.specs.Shelf.{Rose};
 ghost use Rattle.bp_front.specs.Answers.{AnswersBy, IsOnly, CutsOff, HasCauses};
@@ -10,64 +10,68 @@ ghost use Rattle.cmd_show.specs.Shows.{AnswersShow, ShowsBlocked, IsShown};
 use block_class::Classes;
 use block_form::{Blocked, Zone};
 use bp_front::{Ended, Halt, Reply, load, print, stopped, stopped_by};
-use bp_report::show_text;
+use bp_report::show_blocks_text;
 use bp_shelf::{Shelf, Sink};
 use std::alloc::{AllocError, Global};
 
-/// Prints the sizes of the program in blocks that the files come to, and its classes at the root.
+/// Prints the sizes of the program in blocks that the files come to, its classes at the root and, where they are wanted, the
+/// names of the rows and variables of each block.
 pub fn show<F: Shelf, O: Sink>(
     alloc: Global,
     shelf: &mut F,
     out: &mut O,
     lp: &str,
     dec: Option<&str>,
+    blocks: bool,
 ) -> Ended
     ensures answered { IsTrue (F.tells shelf.old) → IsTrue (O.tells out.old) →
-        AnswersBy (AnswersShow (F.file shelf.old) lp.now (option_map (λ name. name.now) dec.entry)) result.status (O.taken out.old) (O.taken out.new) }
+        AnswersBy (AnswersShow (F.file shelf.old) lp.now (option_map (λ name. name.now) dec.entry) blocks) result.status (O.taken out.old) (O.taken out.new) }
     ensures exact { IsTrue (F.tells shelf.old) →
-        IsOnly (AnswersShow (F.file shelf.old) lp.now (option_map (λ name. name.now) dec.entry)) result.status }
+        IsOnly (AnswersShow (F.file shelf.old) lp.now (option_map (λ name. name.now) dec.entry) blocks) result.status }
     ensures causes { HasCauses result.status (F.read_faults shelf.old) (F.read_faults shelf.new)
         (F.write_faults shelf.old) (F.write_faults shelf.new) (O.faults out.old) (O.faults out.new) }
     ensures kept { result.kept ≡ None }
+    ensures events { result.events.items ≡ [] }
     ensures words { result.status ≢ 2 }
     ensures files { F.file shelf.new ≡ F.file shelf.old }
     ensures writes { F.write_faults shelf.new ≡ F.write_faults shelf.old }
     ensures silent { (result.status ≡ 7) ⊎ (result.status ≡ 9) ⊎ (result.status ≡ 11) → O.taken out.new ≡ O.taken out.old }
     ensures cut_off { IsTrue (F.tells shelf.old) → IsTrue (O.tells out.old) →
-        CutsOff (λ kept. AnswersShow (F.file shelf.old) lp.now (option_map (λ name. name.now) dec.entry)) result.status (O.taken out.old) (O.taken out.new) }
+        CutsOff (λ kept. AnswersShow (F.file shelf.old) lp.now (option_map (λ name. name.now) dec.entry) blocks) result.status (O.taken out.old) (O.taken out.new) }
 {
     match load(alloc, shelf, lp, dec) {
-        Ok(b) => show_blocks(alloc, out, &b),
-        Err(Halt::Refused(report)) => print(out, &Reply { status: 3, report }, None),
-        Err(Halt::Stopped(fault)) => stopped_by(fault),
+        Ok(b) => print_blocked(alloc, out, &b, blocks),
+        Err(Halt::Refused(report)) => print(alloc, out, &Reply { status: 3, report }, None),
+        Err(Halt::Stopped(fault)) => stopped_by(alloc, fault),
     }
 }
 
-// Prints the sizes and classes of a program in blocks.
-fn show_blocks<O: Sink>(alloc: Global, out: &mut O, b: &Blocked) -> Ended
-    ensures answered { IsTrue (O.tells out.old) → AnswersBy (ShowsBlocked b.now) result.status (O.taken out.old) (O.taken out.new) }
-    ensures exact { IsOnly (ShowsBlocked b.now) result.status }
+// Prints the sizes and classes of a program in blocks, and its blocks where they are wanted.
+fn print_blocked<O: Sink>(alloc: Global, out: &mut O, b: &Blocked, blocks: bool) -> Ended
+    ensures answered { IsTrue (O.tells out.old) → AnswersBy (ShowsBlocked blocks b.now) result.status (O.taken out.old) (O.taken out.new) }
+    ensures exact { IsOnly (ShowsBlocked blocks b.now) result.status }
     ensures statuses { (result.status ≡ 0) ⊎ (result.status ≡ 8) ⊎ (result.status ≡ 9) }
     ensures kept { result.kept ≡ None }
+    ensures events { result.events.items ≡ [] }
     ensures fault { result.status ≡ 8 → Rose (O.faults out.old) (O.faults out.new) }
     ensures quiet { result.status ≢ 8 → O.faults out.new ≡ O.faults out.old }
     ensures silent { result.status ≡ 9 → O.taken out.new ≡ O.taken out.old }
-    ensures cut_off { IsTrue (O.tells out.old) → CutsOff (λ kept. ShowsBlocked b.now) result.status (O.taken out.old) (O.taken out.new) }
+    ensures cut_off { IsTrue (O.tells out.old) → CutsOff (λ kept. ShowsBlocked blocks b.now) result.status (O.taken out.old) (O.taken out.new) }
 {
-    match shown(alloc, b) {
-        Ok(reply) => print(out, &reply, None),
-        Err(_) => stopped(9),
+    match shown(alloc, b, blocks) {
+        Ok(reply) => print(alloc, out, &reply, None),
+        Err(_) => stopped(alloc, 9),
     }
 }
 
 // The reply to `show`.
-fn shown(alloc: Global, b: &Blocked) -> Result<Reply, AllocError>
-    ensures { IfOk result (IsShown b.now) }
+fn shown(alloc: Global, b: &Blocked, blocks: bool) -> Result<Reply, AllocError>
+    ensures { IfOk result (IsShown blocks b.now) }
 {
     let root = Zone::root(alloc, b)?;
     let classes = Classes::of(alloc, b, &root)?;
     Ok(Reply {
         status: 0,
-        report: show_text(alloc, b, &classes)?,
+        report: show_blocks_text(alloc, b, &classes, blocks)?,
     })
 }

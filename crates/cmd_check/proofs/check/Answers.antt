@@ -44,4 +44,4 @@ returns-in-Err-Stopped-clause-exact g c = λ told.
     let files = g.F.Shelf.file c.args.shelf.now in
     let halts = c.in-Err-Stopped.ensures.halted told in
     fault_only files c.args.lp.now (option_map (λ name. name.now) c.args.dec) (Unit {0}) (ChecksBlocked files c.args.cert.now) c.stopped_by.result.status c.in-Err-Stopped.fault
-    (rw c.in-Err-Stopped.field-0-is at halts) (rw c.in-Err-Stopped.field-0-is at c.stopped_by.ensures.status)
+    (rw c.in-Err-Stopped.field-0-is at halts) c.stopped_by.ensures.status

@@ -1,6 +1,8 @@
 use Rattle.std.proofs.Common.{subst, ℕ, List, Some, IfOk, IfErr}
-use Rattle.cmd_detect.specs.Detects.{BlocksCome, RowsCome, answer_of, IsTextHalt}
-use Rattle.cmd_detect.proofs.Lifted.{text_halts, blocks_found, blocks_halted}
+use Rattle.bp_front.specs.Written.{IsTextHalt}
+use Rattle.bp_front.proofs.Written.{text_halts}
+use Rattle.cmd_detect.specs.Detects.{BlocksCome, RowsCome, answer_of}
+use Rattle.cmd_detect.proofs.Lifted.{blocks_found, blocks_halted}
 use Rattle.cmd_detect.proofs.found_in.Goals as goal
 
 pub returns-in_err-master-clause-halted : goal.returns-in_err-master-clause-halted

@@ -1,14 +1,16 @@
 use Rattle.std.proofs.Common.{◌≡◌, ◌∙◌, refl, lit<, sym, subst, ap, ℕ, Bool, IsTrue, List, Some, IfOk, IfErr, IsSome, IfSome, take}
 use Rattle.bp_shelf.specs.Shelf.{Files}
 use Rattle.bp_shelf.specs.declared.shelf.ShelfFault.TheVariants.{Missing}
-use Rattle.cmd_detect.specs.Detects.{RowsCome, answer_of, IsTextHalt}
-use Rattle.cmd_detect.proofs.Lifted.{lp_halts, front_halts, still_missing, list_found, list_halted, list_counts}
+use Rattle.bp_front.specs.Written.{IsTextHalt}
+use Rattle.bp_front.proofs.Written.{lp_halts}
+use Rattle.cmd_detect.specs.Detects.{RowsCome, answer_of, Detects, missing_lp, faulty_lp}
+use Rattle.cmd_detect.proofs.Lifted.{front_halts, still_missing, list_found, list_halted, list_counts}
 use Rattle.cmd_detect.proofs.load_found.Goals as goal
 
 pub returns-in_err-model-clause-halted : goal.returns-in_err-model-clause-halted
 returns-in_err-model-clause-halted g c = λ told.
-    lp_halts (g.F.Shelf.file c.args.shelf.now) c.args.lp.now c.args.rows.now c.in_err-model.field-0.0 c.from_residual.result c.from_residual.ensures.1
-    (c.in_err-model.ensures.halted told)
+    lp_halts (Detects (g.F.Shelf.file c.args.shelf.now) c.args.lp.now c.args.rows.now) (g.F.Shelf.file c.args.shelf.now c.args.lp.now) c.in_err-model.field-0.0
+    c.from_residual.result missing_lp faulty_lp c.from_residual.ensures.1 (c.in_err-model.ensures.halted told)
 
 pub returns-in_err-list-clause-halted : goal.returns-in_err-list-clause-halted
 returns-in_err-list-clause-halted g c = λ told.

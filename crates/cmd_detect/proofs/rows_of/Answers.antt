@@ -1,7 +1,8 @@
 use Rattle.std.proofs.Common.{◌≡◌, refl, sym, subst, ℕ, List, Some}
 use Rattle.dec_find.specs.Rows.{IsRowsFault}
 use Rattle.bp_report.specs.Refusals.{rows_refusal}
-use Rattle.cmd_detect.specs.Detects.{stops, RowsCome, faulty}
+use Rattle.bp_front.specs.Written.{stops}
+use Rattle.cmd_detect.specs.Detects.{RowsCome, faulty}
 use Rattle.cmd_detect.proofs.rows_of.Goals as goal
 
 pub returns-in_ok-rows_text-in-Err-At-clause-halted : goal.returns-in_ok-rows_text-in-Err-At-clause-halted

@@ -5,29 +5,29 @@ use Rattle.cmd_show.proofs.show.Goals as goal
 
 pub returns-in-Ok-clause-answered : goal.returns-in-Ok-clause-answered
 returns-in-Ok-clause-answered g c = λ told heard.
-    lift_answers (g.F.Shelf.file c.args.shelf.now) c.args.lp.now (option_map (λ name. name.now) c.args.dec) (Unit {0}) ShowsBlocked c.in-Ok.b
-    c.show_blocks.result.status (g.O.Sink.taken c.args.out.now) (g.O.Sink.taken c.show_blocks.new.out) (c.in-Ok.ensures.blocked told)
-    (c.show_blocks.ensures.answered heard)
+    lift_answers (g.F.Shelf.file c.args.shelf.now) c.args.lp.now (option_map (λ name. name.now) c.args.dec) (Unit {0}) (ShowsBlocked c.args.blocks) c.in-Ok.b
+    c.print_blocked.result.status (g.O.Sink.taken c.args.out.now) (g.O.Sink.taken c.print_blocked.new.out) (c.in-Ok.ensures.blocked told)
+    (c.print_blocked.ensures.answered heard)
 
 pub returns-in-Ok-clause-exact : goal.returns-in-Ok-clause-exact
 returns-in-Ok-clause-exact g c = λ told.
-    lift_only (g.F.Shelf.file c.args.shelf.now) c.args.lp.now (option_map (λ name. name.now) c.args.dec) (Unit {0}) ShowsBlocked c.in-Ok.b
-    c.show_blocks.result.status (c.in-Ok.ensures.blocked told) c.show_blocks.ensures.exact
+    lift_only (g.F.Shelf.file c.args.shelf.now) c.args.lp.now (option_map (λ name. name.now) c.args.dec) (Unit {0}) (ShowsBlocked c.args.blocks) c.in-Ok.b
+    c.print_blocked.result.status (c.in-Ok.ensures.blocked told) c.print_blocked.ensures.exact
 
 pub returns-in-Ok-clause-cut_off : goal.returns-in-Ok-clause-cut_off
 returns-in-Ok-clause-cut_off g c = λ told heard.
-    lift_cut (g.F.Shelf.file c.args.shelf.now) c.args.lp.now (option_map (λ name. name.now) c.args.dec) (λ _. Unit {0}) (λ _. ShowsBlocked) c.in-Ok.b
-    c.show_blocks.result.status (g.O.Sink.taken c.args.out.now) (g.O.Sink.taken c.show_blocks.new.out) (c.in-Ok.ensures.blocked told)
-    (c.show_blocks.ensures.cut_off heard)
+    lift_cut (g.F.Shelf.file c.args.shelf.now) c.args.lp.now (option_map (λ name. name.now) c.args.dec) (λ _. Unit {0}) (λ _. ShowsBlocked c.args.blocks) c.in-Ok.b
+    c.print_blocked.result.status (g.O.Sink.taken c.args.out.now) (g.O.Sink.taken c.print_blocked.new.out) (c.in-Ok.ensures.blocked told)
+    (c.print_blocked.ensures.cut_off heard)
 
 pub returns-in-Err-Refused-clause-exact : goal.returns-in-Err-Refused-clause-exact
 returns-in-Err-Refused-clause-exact g c = λ told.
     let halts = c.in-Err-Refused.ensures.halted told in
-    stop_only (g.F.Shelf.file c.args.shelf.now) c.args.lp.now (option_map (λ name. name.now) c.args.dec) (Unit {0}) ShowsBlocked c.print.result.status 3 c.in-Err-Refused.report.items
+    stop_only (g.F.Shelf.file c.args.shelf.now) c.args.lp.now (option_map (λ name. name.now) c.args.dec) (Unit {0}) (ShowsBlocked c.args.blocks) c.print.result.status 3 c.in-Err-Refused.report.items
     (rw c.in-Err-Refused.field-0-is at halts) (printed_status c.print.result.status 3 c.print.ensures.status)
 
 pub returns-in-Err-Stopped-clause-exact : goal.returns-in-Err-Stopped-clause-exact
 returns-in-Err-Stopped-clause-exact g c = λ told.
     let halts = c.in-Err-Stopped.ensures.halted told in
-    fault_only (g.F.Shelf.file c.args.shelf.now) c.args.lp.now (option_map (λ name. name.now) c.args.dec) (Unit {0}) ShowsBlocked c.stopped_by.result.status c.in-Err-Stopped.fault
-    (rw c.in-Err-Stopped.field-0-is at halts) (rw c.in-Err-Stopped.field-0-is at c.stopped_by.ensures.status)
+    fault_only (g.F.Shelf.file c.args.shelf.now) c.args.lp.now (option_map (λ name. name.now) c.args.dec) (Unit {0}) (ShowsBlocked c.args.blocks) c.stopped_by.result.status c.in-Err-Stopped.fault
+    (rw c.in-Err-Stopped.field-0-is at halts) c.stopped_by.ensures.status

@@ -1,0 +1,199 @@
+// Reports one behind another, and the bytes that they are to be.
+use crate::programs::{in_one_block, maximised};
+use block_class::Classes;
+use block_form::{BlockFault, Zone};
+use bp_model::Model;
+use bp_report::{
+    Refusal, blocks_text, budget_text, cert_text, check_text, dec_text, demo_text, ended_text,
+    lp_text, made_text, proposed_text, refusal_text, show_blocks_text, words_text,
+};
+use bp_theory::{CheckKind, Claim};
+use branch_tree::{Grove, Outcome};
+use cert_check::Judged;
+use cert_text::CertKind;
+use dec_read::{DecFault, DecKind};
+use lp_token::LpKind;
+use std::alloc::{AllocError, Global};
+use std::test::Fail;
+
+// One report more.
+fn add(all: &mut Vec<u8>, report: Result<Vec<u8>, AllocError>) -> Result<(), AllocError> {
+    all.extend_from_slice(&report?)
+}
+
+const REFUSED: &str = "\
+refused words
+refused words
+refused lp 0 limit
+refused lp 4294967295 row-twice
+refused dec 5 unassigned
+refused cert 4 too-large
+";
+
+// Words and texts that are refused. Want of memory has no report.
+fn refused(alloc: Global) -> Result<Vec<u8>, AllocError> {
+    let mut all = Vec::new(alloc);
+    add(&mut all, words_text(alloc))?;
+    add(&mut all, refusal_text(alloc, None, &Refusal::Words))?;
+    add(
+        &mut all,
+        refusal_text(alloc, None, &Refusal::Dec(DecFault::NoMemory)),
+    )?;
+    add(&mut all, lp_text(alloc, 0, LpKind::Limit))?;
+    add(&mut all, lp_text(alloc, u32::MAX, LpKind::RowTwice))?;
+    add(&mut all, dec_text(alloc, 5, DecKind::Unassigned))?;
+    add(&mut all, cert_text(alloc, 4, CertKind::TooLarge))?;
+    Ok(all)
+}
+
+const UNBLOCKED: &str = "\
+refused blocks linking x c1 c2
+refused blocks var-place x11
+refused blocks var-place x11
+";
+
+// Decompositions of a model that are refused.
+fn unblocked(alloc: Global, m: &Model) -> Result<Vec<u8>, Fail> {
+    if m.vars() < 2 || m.rows() < 2 {
+        return Err(Fail::new("no second variable or row"));
+    }
+    let linking = BlockFault::Linking {
+        var: 0,
+        row1: 0,
+        row2: 1,
+    };
+    let misplaced = Refusal::Blocks(BlockFault::VarPlace(1));
+    let mut all = Vec::new(alloc);
+    add(&mut all, blocks_text(alloc, m, &linking))?;
+    add(&mut all, blocks_text(alloc, m, &BlockFault::VarPlace(1)))?;
+    add(&mut all, refusal_text(alloc, Some(m), &misplaced))?;
+    Ok(all)
+}
+
+const JUDGED: &str = "\
+accepted optimal -8
+accepted infeasible
+accepted bound 15
+accepted bound 15 value 0
+rejected 4 weak
+rejected 18446744073709551615 point-row
+";
+
+// Certificates that are judged.
+fn judged(alloc: Global) -> Result<Vec<u8>, AllocError> {
+    let verdicts = [
+        Judged::Accepted(Claim::Optimal(-8)),
+        Judged::Accepted(Claim::Infeasible),
+        Judged::Accepted(Claim::Bound(15, None)),
+        Judged::Accepted(Claim::Bound(15, Some(0))),
+        Judged::Rejected {
+            line: 4,
+            kind: CheckKind::Weak,
+        },
+        Judged::Rejected {
+            line: u64::MAX,
+            kind: CheckKind::PointRow,
+        },
+    ];
+    let mut all = Vec::new(alloc);
+    for verdict in &verdicts {
+        add(&mut all, check_text(alloc, verdict))?;
+    }
+    Ok(all)
+}
+
+const SEARCHED: &str = "\
+optimal 44
+x 9
+x11 -9
+infeasible
+budget 7
+bound 50
+value 44
+x 9
+x11 -9
+budget 0
+bound 50
+";
+
+// Searches that ended or were stopped, with a best point and without one.
+fn searched(alloc: Global, m: &Model) -> Result<Vec<u8>, Fail> {
+    let point: &[i64] = &[9, -9];
+    if m.misses(point).is_some() {
+        return Err(Fail::new("the point is infeasible"));
+    }
+    let mut all = Vec::new(alloc);
+    add(&mut all, ended_text(alloc, m, Some(point)))?;
+    add(&mut all, ended_text(alloc, m, None))?;
+    add(&mut all, budget_text(alloc, m, 7, &-50, Some(point)))?;
+    add(&mut all, budget_text(alloc, m, 0, &-50, None))?;
+    Ok(all)
+}
+
+const SHOWN: &str = "\
+made variables 4 rows 5
+demo 7 1
+infeasible
+accepted infeasible
+proposed blocks 1 classes 1 master 1
+variables 2
+rows 2
+master 1
+blocks 1
+classes 1
+class 1 first 1 size 1 variables 2 rows 1
+block 1 rows 1 c1 variables 2 x x11
+";
+
+// Sizes, blocks, and a made program.
+fn shown(alloc: Global) -> Result<Vec<u8>, Fail> {
+    let b = in_one_block(alloc)?;
+    let root = Classes::of(alloc, &b, &Zone::root(alloc, &b)?)?;
+    let none = Outcome::Infeasible {
+        grove: Grove::plant(alloc, &b)?,
+    };
+    let accepted = Judged::Accepted(Claim::Infeasible);
+    let mut all = Vec::new(alloc);
+    add(&mut all, made_text(alloc, 4, 5))?;
+    add(&mut all, demo_text(alloc, 7, 1, &b, &none, &accepted))?;
+    add(&mut all, proposed_text(alloc, &b, &root))?;
+    add(&mut all, show_blocks_text(alloc, &b, &root, true))?;
+    Ok(all)
+}
+
+#[test]
+fn refusals_are_told(rt: HostRuntime) -> Result<(), Fail> {
+    let told = refused(rt.alloc())?;
+    assert_eq!(rt; told.as_slice(), REFUSED.as_bytes());
+    Ok(())
+}
+
+#[test]
+fn refused_blocks_are_told_by_names(rt: HostRuntime) -> Result<(), Fail> {
+    let model = maximised(rt.alloc())?;
+    let told = unblocked(rt.alloc(), &model)?;
+    assert_eq!(rt; told.as_slice(), UNBLOCKED.as_bytes());
+    Ok(())
+}
+
+#[test]
+fn judged_certificates_are_told(rt: HostRuntime) -> Result<(), Fail> {
+    let told = judged(rt.alloc())?;
+    assert_eq!(rt; told.as_slice(), JUDGED.as_bytes());
+    Ok(())
+}
+
+#[test]
+fn searches_are_told_by_names(rt: HostRuntime) -> Result<(), Fail> {
+    let model = maximised(rt.alloc())?;
+    let told = searched(rt.alloc(), &model)?;
+    assert_eq!(rt; told.as_slice(), SEARCHED.as_bytes());
+    Ok(())
+}
+
+#[test]
+fn sizes_and_blocks_are_told(rt: HostRuntime) -> Result<(), Fail> {
+    let told = shown(rt.alloc())?;
+    assert_eq!(rt; told.as_slice(), SHOWN.as_bytes());
+    Ok(())
+}
