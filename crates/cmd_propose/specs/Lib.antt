@@ -1,0 +1,2 @@
+pub mod Proposes
+pub mod Files
