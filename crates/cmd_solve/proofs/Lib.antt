@@ -1,2 +1,3 @@
 pub mod Writable
 pub mod Starting
+pub mod CrewEvents

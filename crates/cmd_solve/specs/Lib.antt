@@ -1,3 +1,4 @@
 pub mod Starts
 pub mod Solves
 pub mod Saves
+pub mod Crews

@@ -2,9 +2,10 @@
 //! the start or from where a certificate stopped, with a certificate where a file is named for it.
 #![tactic(auto)]
 
+mod crew;
 mod start;
 
-ghost use Rattle.std.specs.Prelude.{◌<◌, ◌≡◌, ◌≢◌, ◌⊎◌, ◌≤◌, ◌^◌, IfOk, IfSome, IsOk, IsTrue, None, Some, IsErrOf, IfErr, ℕ};
+ghost use Rattle.std.specs.Prelude.{[], ◌<◌, ◌≡◌, ◌≢◌, ◌⊎◌, ◌≤◌, ◌^◌, IfOk, IfSome, IsOk, IsTrue, None, Some, IsErrOf, IfErr, ℕ};
 ghost use Rattle.std.specs.Option.{option_map};
 ghost use Rattle.branch_tree.specs.Loads.{IsLoaded};
 ghost use Rattle.bp_search.specs.Ends.{EndsWithin, most_steps};
@@ -13,13 +14,15 @@ ghost use Rattle.bp_shelf.specs.declared.shelf.ShelfFault.TheVariants.{Missing, 
 ghost use Rattle.bp_front.specs.Answers.{AnswersBy, IsOnly, CutsOff, HasCauses, FilesStand, IsUntouched};
 ghost use Rattle.cmd_solve.specs.Starts.{stop_of};
 ghost use Rattle.cmd_solve.specs.Solves.{AnswersSolve, SolvesBy, SolvesBlocked, outcome_status};
+ghost use Rattle.cmd_solve.specs.Crews.{HasEventsFrom, EventsBy, HasEvents};
 ghost use Rattle.cmd_solve.specs.Saves.{IsSolved, IsSaved, SavesBlocked, HasCertificate, LeavesBlocked, LeavesBy, LeavesCertificate};
 
+use crate::crew::{CrewOrder, Searched, crew_ordered, kept_events, search_from};
 use crate::start::{Start, begin};
 use block_form::Blocked;
 use bp_front::{Ended, Halt, Reply, load, print, stopped, stopped_by};
 use bp_report::solve_text;
-use bp_search::{MAX_STEPS, resume, search};
+use bp_search::MAX_STEPS;
 use bp_shelf::{Shelf, ShelfFault, Sink};
 use branch_tree::{Loaded, Outcome};
 use cert_text::write_cert;
@@ -27,7 +30,8 @@ use std::alloc::{AllocError, Global};
 
 /// Solves the model of a file, from the start or from where the certificate of a named file stopped, writes the certificate
 /// where a file is named for it, and prints the report. The certificate to go on from is read and judged before the search,
-/// so one file may be named for both. What is written is written before the report: where only the report could not be put,
+/// so one file may be named for both. Where a number of workers or the seed of their order is given, a crew searches, whose events
+/// are handed out beside the outcome. What is written is written before the report: where only the report could not be put,
 /// it stands whole.
 pub fn solve<F: Shelf, O: Sink>(
     alloc: Global,
@@ -38,8 +42,11 @@ pub fn solve<F: Shelf, O: Sink>(
     steps: Option<u64>,
     cert: Option<&str>,
     from: Option<&str>,
+    workers: Option<u32>,
+    order: Option<u64>,
 ) -> Ended
-    requires { IfSome steps (λ n. n ≤ 2 ^ 60) }
+    requires few { IfSome steps (λ n. n ≤ 2 ^ 60) }
+    requires some { IfSome workers (λ w. 1 ≤ w) }
     ensures answered { IsTrue (F.tells shelf.old) → IsTrue (O.tells out.old) →
         AnswersBy (AnswersSolve (F.file shelf.old) lp.now (option_map (λ name. name.now) dec.entry) steps (option_map (λ name. name.now) from.entry) result.kept) result.status (O.taken out.old) (O.taken out.new) }
     ensures exact { IsTrue (F.tells shelf.old) →
@@ -51,6 +58,9 @@ pub fn solve<F: Shelf, O: Sink>(
     ensures causes { HasCauses result.status (F.read_faults shelf.old) (F.read_faults shelf.new)
         (F.write_faults shelf.old) (F.write_faults shelf.new) (O.faults out.old) (O.faults out.new) }
     ensures kept { (result.kept ≡ None) ⊎ ((result.status ≡ 0) ⊎ (result.status ≡ 4) ⊎ (result.status ≡ 5)) }
+    ensures events { IsTrue (F.tells shelf.old) →
+        HasEvents (F.file shelf.old) lp.now (option_map (λ name. name.now) dec.entry) steps (option_map (λ name. name.now) from.entry) workers order result.kept result.events.items }
+    ensures no_events { result.kept ≡ None → result.events.items ≡ [] }
     ensures words { result.status ≢ 2 }
     ensures files { IsTrue (F.tells shelf.old) → FilesStand (option_map (λ name. name.now) cert.entry) (F.file shelf.old) (F.file shelf.new) }
     ensures untouched { IsTrue (F.tells shelf.old) → IsUntouched result.status → F.file shelf.new ≡ F.file shelf.old }
@@ -60,9 +70,12 @@ pub fn solve<F: Shelf, O: Sink>(
         CutsOff (AnswersSolve (F.file shelf.old) lp.now (option_map (λ name. name.now) dec.entry) steps (option_map (λ name. name.now) from.entry)) result.status (O.taken out.old) (O.taken out.new) }
 {
     match load(alloc, shelf, lp, dec) {
-        Ok(b) => solve_blocks(alloc, shelf, out, &b, steps, cert, from),
-        Err(Halt::Refused(report)) => print(out, &Reply { status: 3, report }, None),
-        Err(Halt::Stopped(fault)) => stopped_by(fault),
+        Ok(b) => {
+            let crew = crew_ordered(workers, order);
+            solve_blocks(alloc, shelf, out, &b, steps, cert, from, crew)
+        }
+        Err(Halt::Refused(report)) => print(alloc, out, &Reply { status: 3, report }, None),
+        Err(Halt::Stopped(fault)) => stopped_by(alloc, fault),
     }
 }
 
@@ -75,8 +88,10 @@ fn solve_blocks<F: Shelf, O: Sink>(
     steps: Option<u64>,
     cert: Option<&str>,
     from: Option<&str>,
+    crew: Option<CrewOrder>,
 ) -> Ended
-    requires { IfSome steps (λ n. n ≤ 2 ^ 60) }
+    requires few { IfSome steps (λ n. n ≤ 2 ^ 60) }
+    requires some { IfSome crew (λ c. 1 ≤ c.workers) }
     ensures answered { IsTrue (F.tells shelf.old) → IsTrue (O.tells out.old) →
         AnswersBy (SolvesBy (F.file shelf.old) (option_map (λ name. name.now) from.entry) steps result.kept b.now) result.status (O.taken out.old) (O.taken out.new) }
     ensures exact { IsTrue (F.tells shelf.old) → IsOnly (SolvesBy (F.file shelf.old) (option_map (λ name. name.now) from.entry) steps result.kept b.now) result.status }
@@ -86,6 +101,9 @@ fn solve_blocks<F: Shelf, O: Sink>(
     ensures causes { HasCauses result.status (F.read_faults shelf.old) (F.read_faults shelf.new)
         (F.write_faults shelf.old) (F.write_faults shelf.new) (O.faults out.old) (O.faults out.new) }
     ensures kept { (result.kept ≡ None) ⊎ ((result.status ≡ 0) ⊎ (result.status ≡ 4) ⊎ (result.status ≡ 5)) }
+    ensures events { IsTrue (F.tells shelf.old) →
+        EventsBy (F.file shelf.old) (option_map (λ name. name.now) from.entry) steps crew b.now result.kept result.events.items }
+    ensures no_events { result.kept ≡ None → result.events.items ≡ [] }
     ensures words { result.status ≢ 2 }
     ensures files { IsTrue (F.tells shelf.old) → FilesStand (option_map (λ name. name.now) cert.entry) (F.file shelf.old) (F.file shelf.new) }
     ensures untouched { IsTrue (F.tells shelf.old) → IsUntouched result.status → F.file shelf.new ≡ F.file shelf.old }
@@ -96,15 +114,15 @@ fn solve_blocks<F: Shelf, O: Sink>(
 {
     let _ = b.blocks();
     match begin(alloc, shelf, b, from) {
-        Ok(Start::Fresh) => answer(alloc, shelf, out, b, None, steps, cert),
-        Ok(Start::Ready(from)) => answer(alloc, shelf, out, b, Some(from), steps, cert),
-        Ok(Start::Refused(reply)) => print(out, &reply, None),
-        Err(fault) => stopped_by(fault),
+        Ok(Start::Fresh) => answer(alloc, shelf, out, b, None, steps, cert, crew),
+        Ok(Start::Ready(from)) => { answer(alloc, shelf, out, b, Some(from), steps, cert, crew) }
+        Ok(Start::Refused(reply)) => print(alloc, out, &reply, None),
+        Err(fault) => stopped_by(alloc, fault),
     }
 }
 
-// Searches a program in blocks from a tree, or from the start, writes the certificate where a file is named for it, and
-// prints the report.
+// Searches a program in blocks from a tree, or from the start, by a crew where one is ordered, writes the certificate where a
+// file is named for it, and prints the report.
 fn answer<F: Shelf, O: Sink>(
     alloc: Global,
     shelf: &mut F,
@@ -113,9 +131,11 @@ fn answer<F: Shelf, O: Sink>(
     from: Option<Loaded>,
     steps: Option<u64>,
     cert: Option<&str>,
+    crew: Option<CrewOrder>,
 ) -> Ended
     requires loaded { IfSome from (IsLoaded b.now) }
     requires few { IfSome steps (λ n. n ≤ 2 ^ 60) }
+    requires some { IfSome crew (λ c. 1 ≤ c.workers) }
     ensures answered { IsTrue (O.tells out.old) →
         AnswersBy (SolvesBlocked (stop_of from steps) steps result.kept b.now) result.status (O.taken out.old) (O.taken out.new) }
     ensures exact { IsOnly (SolvesBlocked (stop_of from steps) steps result.kept b.now) result.status }
@@ -125,6 +145,7 @@ fn answer<F: Shelf, O: Sink>(
     ensures causes { HasCauses result.status (F.read_faults shelf.old) (F.read_faults shelf.new)
         (F.write_faults shelf.old) (F.write_faults shelf.new) (O.faults out.old) (O.faults out.new) }
     ensures kept { (result.kept ≡ None) ⊎ ((result.status ≡ 0) ⊎ (result.status ≡ 4) ⊎ (result.status ≡ 5)) }
+    ensures events { HasEventsFrom b.now from steps crew result.kept result.events.items }
     ensures statuses { (result.status ≡ 0) ⊎ (result.status ≡ 4) ⊎ (result.status ≡ 5) ⊎ (result.status ≡ 8) ⊎ (result.status ≡ 9) }
     ensures files { IsTrue (F.tells shelf.old) → FilesStand (option_map (λ name. name.now) cert.entry) (F.file shelf.old) (F.file shelf.new) }
     ensures untouched { IsTrue (F.tells shelf.old) → result.status ≡ 9 → F.file shelf.new ≡ F.file shelf.old }
@@ -132,34 +153,56 @@ fn answer<F: Shelf, O: Sink>(
     ensures unwritten { F.write_faults shelf.old < F.write_faults shelf.new → O.taken out.new ≡ O.taken out.old }
     ensures cut_off { IsTrue (O.tells out.old) → CutsOff (λ kept. SolvesBlocked (stop_of from steps) steps kept b.now) result.status (O.taken out.old) (O.taken out.new) }
 {
-    let Ok(outcome) = search_from(alloc, b, from, steps) else {
-        return stopped(9);
+    let Ok(searched) = search_from(alloc, b, from, steps, crew) else {
+        return stopped(alloc, 9);
     };
-    let Ok(reply) = reply_to(alloc, b, &outcome, steps) else {
-        return stopped(9);
-    };
-    match save(alloc, shelf, b, &outcome, cert) {
-        Ok(()) => print(out, &reply, Some(outcome)),
-        Err(ShelfFault::Failed) => stopped(8),
-        Err(ShelfFault::NoMemory) => stopped(9),
-        Err(ShelfFault::Missing) => stopped(9),
+    let Searched { outcome, events } = searched;
+    let Ended { status, kept, .. } = tell(alloc, shelf, out, b, outcome, steps, cert);
+    let events = kept_events(alloc, &kept, events);
+    Ended {
+        status,
+        kept,
+        events,
     }
 }
 
-// The outcome of a search from a tree, or from the start.
-fn search_from(
+// Writes the certificate of an outcome, where a file is named for it, and prints the report.
+fn tell<F: Shelf, O: Sink>(
     alloc: Global,
+    shelf: &mut F,
+    out: &mut O,
     b: &Blocked,
-    from: Option<Loaded>,
+    outcome: Outcome,
     steps: Option<u64>,
-) -> Result<Outcome, AllocError>
-    requires loaded { IfSome from (IsLoaded b.now) }
-    requires few { IfSome steps (λ n. n ≤ 2 ^ 60) }
-    ensures { IfOk result (EndsWithin b.now (stop_of from steps)) }
+    cert: Option<&str>,
+) -> Ended
+    requires { (most : ℕ) × EndsWithin b.now most outcome }
+    ensures answered { IsTrue (O.tells out.old) → (most : ℕ) → EndsWithin b.now most outcome →
+        AnswersBy (SolvesBlocked most steps result.kept b.now) result.status (O.taken out.old) (O.taken out.new) }
+    ensures exact { (most : ℕ) → IsOnly (SolvesBlocked most steps result.kept b.now) result.status }
+    ensures saved { IsTrue (F.tells shelf.old) → SavesBlocked b.now (option_map (λ name. name.now) cert.entry) (F.file shelf.new) result.kept }
+    ensures put_last { IsTrue (F.tells shelf.old) → O.faults out.old < O.faults out.new → (most : ℕ) → EndsWithin b.now most outcome →
+        LeavesBlocked most (option_map (λ name. name.now) cert.entry) (F.file shelf.new) b.now }
+    ensures causes { HasCauses result.status (F.read_faults shelf.old) (F.read_faults shelf.new)
+        (F.write_faults shelf.old) (F.write_faults shelf.new) (O.faults out.old) (O.faults out.new) }
+    ensures kept { (result.kept ≡ None) ⊎ ((result.status ≡ 0) ⊎ (result.status ≡ 4) ⊎ (result.status ≡ 5)) }
+    ensures outcome { (result.kept ≡ None) ⊎ (result.kept ≡ Some outcome) }
+    ensures statuses { (result.status ≡ 0) ⊎ (result.status ≡ 4) ⊎ (result.status ≡ 5) ⊎ (result.status ≡ 8) ⊎ (result.status ≡ 9) }
+    ensures files { IsTrue (F.tells shelf.old) → FilesStand (option_map (λ name. name.now) cert.entry) (F.file shelf.old) (F.file shelf.new) }
+    ensures untouched { IsTrue (F.tells shelf.old) → result.status ≡ 9 → F.file shelf.new ≡ F.file shelf.old }
+    ensures silent { result.status ≡ 9 → O.taken out.new ≡ O.taken out.old }
+    ensures unwritten { F.write_faults shelf.old < F.write_faults shelf.new → O.taken out.new ≡ O.taken out.old }
+    ensures cut_off { IsTrue (O.tells out.old) → (most : ℕ) → EndsWithin b.now most outcome →
+        CutsOff (λ kept. SolvesBlocked most steps kept b.now) result.status (O.taken out.old) (O.taken out.new) }
 {
-    match from {
-        None => search(alloc, b, steps),
-        Some(from) => resume(alloc, b, from, steps),
+    let Ok(reply) = reply_to(alloc, b, &outcome, steps) else {
+        return stopped(alloc, 9);
+    };
+    match save(alloc, shelf, b, &outcome, cert) {
+        Ok(()) => print(alloc, out, &reply, Some(outcome)),
+        Err(ShelfFault::Failed) => stopped(alloc, 8),
+        Err(ShelfFault::NoMemory) => stopped(alloc, 9),
+        Err(ShelfFault::Missing) => stopped(alloc, 9),
     }
 }
 

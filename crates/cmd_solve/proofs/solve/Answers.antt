@@ -8,6 +8,9 @@ use Rattle.bp_front.proofs.OneFront.{one_front}
 use Rattle.bp_front.proofs.Lifts.{lift_answers, lift_only, lift_cut, stop_only, fault_only, printed_status}
 use Rattle.cmd_solve.specs.Saves.{LeavesBy}
 use Rattle.cmd_solve.specs.Solves.{SolvesBy}
+use Rattle.cmd_solve.specs.declared.crew.CrewOrder.{CrewOrder}
+use Rattle.cmd_solve.specs.Crews.{ordered_crew, EventsBy}
+use Rattle.cmd_solve.proofs.CrewEvents.{lift_events, none_of, printed_none}
 use Rattle.cmd_solve.proofs.solve.Goals as goal
 
 pub returns-in-Ok-clause-answered : goal.returns-in-Ok-clause-answered
@@ -78,3 +81,22 @@ returns-in-Err-Refused-clause-put_last g c = λ told rose other come.
     let halts = c.in-Err-Refused.ensures.halted told in
     absurd (one_front (g.F.Shelf.file c.args.shelf.now) c.args.lp.now (option_map (λ name. name.now) c.args.dec) (blocked other)
     (ends 3 c.in-Err-Refused.report.items) come (rw c.in-Err-Refused.field-0-is at halts))
+
+pub returns-in-Ok-clause-events : goal.returns-in-Ok-clause-events
+returns-in-Ok-clause-events g c = λ told.
+    let files = g.F.Shelf.file c.args.shelf.now in
+    let from : Option (List ℕ) = option_map (λ name. name.now) c.args.from in
+    let still : IsTrue (g.F.Shelf.tells c.load.new.shelf) = subst (λ (t : Bool). IsTrue t) (sym c.in-Ok.ensures.told) told in
+    lift_events files c.args.lp.now (option_map (λ name. name.now) c.args.dec) c.args.steps from c.args.workers c.args.order c.in-Ok.b c.solve_blocks.result.kept
+    c.solve_blocks.result.events.items (c.in-Ok.ensures.blocked told)
+    (subst (λ (fs : Files). EventsBy fs from c.args.steps (ordered_crew c.args.workers c.args.order) c.in-Ok.b c.solve_blocks.result.kept c.solve_blocks.result.events.items)
+    c.in-Ok.ensures.files
+    (subst (λ (crew : Option CrewOrder). EventsBy (g.F.Shelf.file c.load.new.shelf) from c.args.steps crew c.in-Ok.b c.solve_blocks.result.kept c.solve_blocks.result.events.items)
+    c.crew_ordered-crew.ensures (c.solve_blocks.ensures.events still)))
+
+pub returns-in-Err-Refused-clause-events : goal.returns-in-Err-Refused-clause-events
+returns-in-Err-Refused-clause-events g c = λ told.
+    none_of (g.F.Shelf.file c.args.shelf.now) c.args.lp.now (option_map (λ name. name.now) c.args.dec) c.args.steps (option_map (λ name. name.now) c.args.from) c.args.workers c.args.order
+    c.print.result.kept c.print.result.events.items
+    (printed_none c.print.result.status 3 c.print.result.kept c.print.ensures.status c.print.ensures.kept c.print.ensures.none_kept (λ e. absurd (cc)))
+    c.print.ensures.events

@@ -6,6 +6,7 @@ use Rattle.bp_front.specs.Answers.{AnswersBy, IsOnly, CutsOff}
 use Rattle.cmd_solve.specs.Solves.{SolvesBy}
 use Rattle.cmd_solve.specs.Saves.{LeavesBy}
 use Rattle.cmd_solve.proofs.Starting.{fresh_from, ready_from, refused_from, ready_answers, ready_only, ready_cut, ready_leaves, refused_answers, refusal_only, refused_cut, refused_leaves, fault_answers, fault_only}
+use Rattle.cmd_solve.proofs.CrewEvents.{fresh_events, ready_events, none_by, printed_none, refused_apart}
 use Rattle.cmd_solve.proofs.solve_blocks.Goals as goal
 
 -- ---- from the start
@@ -129,3 +130,31 @@ returns-in-Err-clause-exact g c = λ told.
     let from : Option (List ℕ) = option_map (λ name. name.now) c.args.from in
     fault_only files from c.args.steps c.stopped_by.result.kept c.args.b.now c.in-Err.fault c.stopped_by.result.status
     (λ e. c.in-Err.ensures.missing told (ap (λ (f : ShelfFault). Err f) e)) c.stopped_by.ensures.status
+
+-- ---- events
+
+pub returns-in-Ok-Fresh-clause-events : goal.returns-in-Ok-Fresh-clause-events
+returns-in-Ok-Fresh-clause-events g c = λ told.
+    let files = g.F.Shelf.file c.args.shelf.now in
+    let from : Option (List ℕ) = option_map (λ name. name.now) c.args.from in
+    let start = c.in-Ok-Fresh.ensures.start told in
+    fresh_events files from c.args.steps c.args.crew c.args.b.now c.answer.result.kept c.answer.result.events.items
+    (fresh_from files from c.args.b.now (rw c.in-Ok-Fresh.field-0-is at start)) c.answer.ensures.events
+
+pub returns-in-Ok-Ready-clause-events : goal.returns-in-Ok-Ready-clause-events
+returns-in-Ok-Ready-clause-events g c = λ told.
+    let files = g.F.Shelf.file c.args.shelf.now in
+    let from : Option (List ℕ) = option_map (λ name. name.now) c.args.from in
+    let start = c.in-Ok-Ready.ensures.start told in
+    ready_events files from c.args.steps c.args.crew c.args.b.now c.in-Ok-Ready.from c.answer-in-Ok-Ready.result.kept c.answer-in-Ok-Ready.result.events.items
+    (ready_from files from c.args.b.now c.in-Ok-Ready.from (rw c.in-Ok-Ready.field-0-is at start)) c.answer-in-Ok-Ready.ensures.events
+
+pub returns-in-Ok-Refused-clause-events : goal.returns-in-Ok-Refused-clause-events
+returns-in-Ok-Refused-clause-events g c = λ told.
+    let files = g.F.Shelf.file c.args.shelf.now in
+    let from : Option (List ℕ) = option_map (λ name. name.now) c.args.from in
+    let usable = c.in-Ok-Refused.ensures.usable in
+    none_by files from c.args.steps c.args.crew c.args.b.now c.print.result.kept c.print.result.events.items
+    (printed_none c.print.result.status c.in-Ok-Refused.reply.status c.print.result.kept c.print.ensures.status c.print.ensures.kept c.print.ensures.none_kept
+    (refused_apart c.in-Ok-Refused.reply.status (rw c.in-Ok-Refused.field-0-is at usable)))
+    c.print.ensures.events

@@ -1,0 +1,62 @@
+-- The events of a crew that searches.
+use Rattle.std.specs.Prelude.{◌≡◌, ℕ, List, [], Option, Some, None}
+use Rattle.bp_shelf.specs.Shelf.{Files}
+use Rattle.block_form.specs.Blocked.{BlockedProgram}
+use Rattle.search_laws.specs.declared.Event.{Event}
+use Rattle.branch_tree.specs.Loads.{IsFresh}
+use Rattle.branch_tree.specs.declared.loaded.Loaded.{Loaded}
+use Rattle.branch_tree.specs.declared.outcome.Outcome.{Outcome}
+use Rattle.bp_search.specs.Ends.{last_step}
+use Rattle.bp_crew.specs.Runs.{IsCrewRun}
+use Rattle.bp_front.specs.Front.{FilesCome, blocked}
+use Rattle.cmd_solve.specs.Starts.{IsStart}
+use Rattle.cmd_solve.specs.declared.crew.CrewOrder.{CrewOrder}
+
+-- the crew that is ordered: one worker and the seed 0 where only the other is given
+abbrev pub ordered_crew : (workers order : Option ℕ) → Option CrewOrder
+ordered_crew None None = None
+ordered_crew None (Some o) = Some (record { workers = 1; order = o })
+ordered_crew (Some w) None = Some (record { workers = w; order = 0 })
+ordered_crew (Some w) (Some o) = Some (record { workers = w; order = o })
+
+-- the tree from which a crew begins: a loaded one, or the planted one
+abbrev pub BeginsAt : BlockedProgram → Option Loaded → Loaded → Type 0
+BeginsAt b None start = IsFresh b start
+BeginsAt b (Some from) start = start ≡ from
+
+-- an outcome and events are those of a run of the crew from where the search begins, whose events are drawn from its seed
+pub record IsCrewSearch (b : BlockedProgram) (from : Option Loaded) (steps : Option ℕ) (crew : CrewOrder) (outcome : Outcome) (events : List Event) : Type 0 where
+  pub start : Loaded
+  pub begins : BeginsAt b from start
+  pub run : IsCrewRun b start crew.workers crew.order (last_step start.grove steps) outcome events
+
+-- what a search's events are: those of the crew, or none where none was ordered
+abbrev pub IsSearchOf : BlockedProgram → Option Loaded → (steps : Option ℕ) → Option CrewOrder → Outcome → List Event → Type 0
+IsSearchOf b from steps None outcome events = events ≡ []
+IsSearchOf b from steps (Some crew) outcome events = IsCrewSearch b from steps crew outcome events
+
+-- the same beside what is kept: no events where nothing is
+abbrev pub HasEventsFrom : BlockedProgram → Option Loaded → (steps : Option ℕ) → Option CrewOrder → Option Outcome → List Event → Type 0
+HasEventsFrom b from steps crew None events = events ≡ []
+HasEventsFrom b from steps crew (Some outcome) events = IsSearchOf b from steps crew outcome events
+
+-- events beside what is kept
+abbrev pub events_with : Option Outcome → List Event → List Event
+events_with None events = []
+events_with (Some outcome) events = events
+
+-- where a search begins: at the start, or at what a named file is loaded as
+abbrev pub LoadsBy : Files → Option (List ℕ) → BlockedProgram → Option Loaded → Type 0
+LoadsBy files None b from = from ≡ None
+LoadsBy files (Some name) b from = (text : List ℕ) × (loaded : Loaded) × (files name ≡ Some text) × IsStart b text loaded × (from ≡ Some loaded)
+
+-- the events of a program in blocks, beside what is kept
+abbrev pub EventsBy : Files → (from : Option (List ℕ)) → (steps : Option ℕ) → Option CrewOrder → BlockedProgram → Option Outcome → List Event → Type 0
+EventsBy files from steps crew b None events = events ≡ []
+EventsBy files from steps crew b (Some outcome) events = (start : Option Loaded) × LoadsBy files from b start × IsSearchOf b start steps crew outcome events
+
+-- the events of `solve`: none where nothing is kept, and else those of the program in blocks that the files come to
+abbrev pub HasEvents : Files → (lp : List ℕ) → (dec : Option (List ℕ)) → (steps : Option ℕ) → (from : Option (List ℕ)) → (workers order : Option ℕ) → Option Outcome → List Event → Type 0
+HasEvents files lp dec steps from workers order None events = events ≡ []
+HasEvents files lp dec steps from workers order (Some outcome) events =
+    (b : BlockedProgram) × FilesCome files lp dec (blocked b) × EventsBy files from steps (ordered_crew workers order) b (Some outcome) events
