@@ -129,15 +129,15 @@ ln -s link "$room/user/other-link"
 bare ./other-link solve own.lp
 expect 'a link to a link' 0 "$report" 0
 bare "$clone/bprice" solve missing.lp
-expect 'a file that is not there' 11 '' 0
+expect 'a file that is not there' 11 '' 1 'bprice: missing.lp: there is no such file'
 bare "$clone/bprice" solve "own lp.lp" --steps
-expect 'words that are no command line' 2 'refused words' 0
+expect 'words that are no command line' 2 'refused words' 2 'bprice: --steps wants a value behind it'
 
 # Files that would be written over what is read.
 cp "$room/user/own.lp" "$room/user/kept.lp"
 ln -s own.lp "$room/user/linked.lp"
 for it in 'solve own.lp --cert own.lp' 'solve --cert=./own.lp own.lp' 'solve linked.lp --cert own.lp' 'solve own.lp --dec linked.lp --cert own.lp' \
-    'detect own.lp linked.lp own.lp' 'gen 1 2 linked.lp own.lp' 'gen 1 2 new.lp new.lp'; do
+    'detect own.lp linked.lp own.lp' 'propose own.lp linked.lp' 'gen 1 2 linked.lp own.lp' 'gen 1 2 new.lp new.lp'; do
     bare "$clone/bprice" $it
     expect "a file that is read and written: $it" 125 '' 1 'would be written'
 done
@@ -145,15 +145,17 @@ holds 'a file that is read and written stands' cmp -s "$room/user/own.lp" "$room
 bare "$clone/bprice" solve own.lp --from own.cert --cert own.cert
 expect 'one certificate to go on from and to write' 0 "$report" 0
 bare "$clone/bprice" solve -- own.lp --cert own.lp
-expect 'words behind two dashes' 2 'refused words' 0
+expect 'words behind two dashes' 2 'refused words' 2 'is one word too many for solve'
 
-# Words that ask for help, on standard error; the program refuses them as others.
+# Words that ask for help: the program refuses them as others, and tells its usage on standard error.
 for it in '' -h --help help; do
     bare "$clone/bprice" $it
-    expect "help: '$it'" 2 'refused words' 10 'usage: bprice COMMAND'
+    expect "help: '$it'" 2 'refused words' 19 'usage: bprice COMMAND'
 done
+bare "$clone/bprice" help demo
+expect 'help of a command' 2 'refused words' 2 'usage: bprice demo SEED SIZE'
 bare "$clone/bprice" --version
-expect 'the version' 2 'refused words' 3 'kit of the test'
+expect 'the version' 2 'refused words' 4 'kit of the test'
 
 # Two runs at once.
 fresh 'two at once'

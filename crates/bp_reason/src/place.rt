@@ -1,0 +1,199 @@
+// Where in a text the fault of a refusal stands.
+use crate::blocks::{Names, first_wrong};
+use crate::grammar::expected;
+use crate::reading::{Found, Reading, read, uncut};
+use crate::watched::{Files, Seen};
+use std::alloc::{AllocError, Global};
+
+/// The place of a fault: its column, from 1, in bytes; the slice of its token; the key of its sentence; and what is
+/// expected in the token's place, or nothing.
+#[derive(Clone, Copy)]
+pub struct Spot {
+    pub column: u64,
+    pub from: usize,
+    pub to: usize,
+    pub key: &'static str,
+    pub expected: &'static str,
+}
+
+// The line and the column of a place in a text, both from 1.
+fn place_of(text: &[u8], at: usize) -> (u64, u64) {
+    let end = at.min(text.len());
+    let mut line = 1u64;
+    let mut column = 1u64;
+    for b in &text[..end] {
+        if *b == b'\n' {
+            line = line.saturating_add(1);
+            column = 1;
+        } else {
+            column = column.saturating_add(1);
+        }
+    }
+    (line, column)
+}
+
+// Where a line of a text begins and ends.
+fn range_of(text: &[u8], number: u64) -> Option<(usize, usize)> {
+    let mut line = 1u64;
+    let mut from = 0usize;
+    for at in 0..text.len() {
+        if text[at] == b'\n' {
+            if line == number {
+                return Some((from, at));
+            }
+            line = line.saturating_add(1);
+            from = at + 1;
+        }
+    }
+    (line == number && from <= text.len()).then_some((from, text.len()))
+}
+
+/// The bytes of a line of a text, by its number in digits.
+pub fn line_of<'a>(text: &'a [u8], number: &str) -> Option<&'a [u8]> {
+    let (from, to) = range_of(text, number.parse::<u64>().ok()?)?;
+    if from < to && to <= text.len() {
+        return Some(&text[from..to]);
+    }
+    None
+}
+
+// The spot of a slice of a text, where that stands on the line.
+fn spot_at(
+    text: &[u8],
+    number: u64,
+    slice: (usize, usize),
+    key: &'static str,
+    expected: &'static str,
+) -> Option<Spot> {
+    let (from, to) = slice;
+    let (line, column) = place_of(text, from);
+    if line != number {
+        return None;
+    }
+    Some(Spot {
+        column,
+        from,
+        to,
+        key,
+        expected,
+    })
+}
+
+/// The spot of an LP text's fault, where it can be told.
+pub fn lp_spot(
+    alloc: Global,
+    seen: &Seen,
+    line: &str,
+    kind: &str,
+) -> Result<Option<Spot>, AllocError> {
+    let Ok(number) = line.parse::<u64>() else {
+        return Ok(None);
+    };
+    match seen.text() {
+        None => Ok(None),
+        Some(text) => match kind {
+            "bad-byte" => Ok(uncut_spot(text, number, "bad-byte")),
+            "long-name" => Ok(uncut_spot(text, number, "long-name")),
+            "no-end" => Ok(None),
+            _ => read_spot(alloc, text, number, kind),
+        },
+    }
+}
+
+// The spot of what can't be cut on a line.
+fn uncut_spot(text: &[u8], number: u64, key: &'static str) -> Option<Spot> {
+    let (from, to) = range_of(text, number)?;
+    let slice = uncut(text, from, to)?;
+    spot_at(text, number, slice, key, "")
+}
+
+// The spot of a fault behind the cut of the text.
+fn read_spot(
+    alloc: Global,
+    text: &[u8],
+    number: u64,
+    kind: &str,
+) -> Result<Option<Spot>, AllocError> {
+    let Some((reading, found)) = read(alloc, text)? else {
+        return Ok(None);
+    };
+    match found {
+        None => Ok(sums_spot(text, number, kind, &reading)),
+        Some(found) => Ok(found_spot(text, number, kind, &reading, found)),
+    }
+}
+
+// The spot of a fault that was found, where it is of this kind and on this line.
+fn found_spot(
+    text: &[u8],
+    number: u64,
+    kind: &str,
+    reading: &Reading,
+    found: Found,
+) -> Option<Spot> {
+    let at = found.token?;
+    let token = reading.token(at)?;
+    if !is_of(found.key, kind) {
+        return None;
+    }
+    let hint = if kind == "syntax" {
+        expected(reading.state(), reading.symbol(text, at))
+    } else {
+        ""
+    };
+    spot_at(text, number, (token.from, token.to), found.key, hint)
+}
+
+// Whether a sentence's key is of a kind: the kind, perhaps with a dash and a word behind it.
+fn is_of(key: &str, kind: &str) -> bool {
+    match key.strip_prefix(kind) {
+        Some(rest) => rest.len() == 0 || rest.as_bytes().first() == Some(&b'-'),
+        None => false,
+    }
+}
+
+// The spot of sums that are too large: those of the objective, or of the only row, that the line begins.
+fn sums_spot(text: &[u8], number: u64, kind: &str, reading: &Reading) -> Option<Spot> {
+    if kind != "activity" {
+        return None;
+    }
+    let at = reading.lone_sum(number)?;
+    let token = reading.token(at)?;
+    spot_at(text, number, (token.from, token.to), "activity", "")
+}
+
+/// The spot of the fault of a decomposition, or of a list of rows, where it can be told: the names are those of the text
+/// that was read first.
+pub fn names_spot(
+    alloc: Global,
+    files: &Files,
+    seen: &Seen,
+    line: &str,
+    kind: &str,
+    list: bool,
+) -> Result<Option<Spot>, AllocError> {
+    let (Ok(number), Some(text), Some(model)) = (line.parse::<u64>(), seen.text(), model_of(files))
+    else {
+        return Ok(None);
+    };
+    let Some((reading, _)) = read(alloc, model)? else {
+        return Ok(None);
+    };
+    let names = Names {
+        text: model,
+        reading: &reading,
+    };
+    match first_wrong(alloc, text, &names, list)? {
+        Some(wrong) if wrong.key == kind => {
+            let hint = if kind == "syntax" { wrong.expected } else { "" };
+            let slice = (wrong.word.from, wrong.word.to);
+            Ok(spot_at(text, number, slice, wrong.key, hint))
+        }
+        _ => Ok(None),
+    }
+}
+
+// The model's text.
+fn model_of(files: &Files) -> Option<&[u8]> {
+    files.first()?.text()
+}
