@@ -1,2 +1,4 @@
 pub mod OneOrder
 pub mod Words
+pub mod Truth
+pub mod Headlines

@@ -6,11 +6,12 @@ use Rattle.branch_tree.specs.declared.outcome.Outcome.{Outcome}
 use Rattle.bp_words.specs.CommandLine.{command_line}
 use Rattle.bp_words.specs.Orders.{IsOrderOf}
 use Rattle.bp_words.specs.declared.order.Order.{Order}
-use Rattle.bp_words.specs.declared.order.Order.TheVariants.{Solve, Check, Show, Gen, Demo, Detect}
+use Rattle.bp_words.specs.declared.order.Order.TheVariants.{Solve, Check, Show, Gen, Demo, Detect, Propose}
 use Rattle.bp_front.specs.Answers.{AnswersBy, IsOnly, CutsOff}
 use Rattle.bp_cli.specs.Running.{Answers, refused, ordered, AnswersOrder, OfOrder, HasWritten}
 use Rattle.cmd_gen.specs.Generates.{untouched}
 use Rattle.cmd_detect.specs.Files as detected
+use Rattle.cmd_propose.specs.Files as proposed
 use Rattle.bp_cli.proofs.OneOrder.{one_order}
 
 -- an answer of the order
@@ -56,13 +57,14 @@ refused_only words files status fault two = λ no_read no_write no_want meant re
 
 -- an order that was not begun left nothing
 pub nothing_written : (files : Files) (order : Order) → HasWritten order files files None 9
-nothing_written files (Solve lp dec steps None from) = (tt, refl, λ _. refl)
-nothing_written files (Solve lp dec steps (Some cert) from) = (tt, λ other apart. refl, λ _. refl)
+nothing_written files (Solve lp dec steps None from workers order) = (tt, refl, λ _. refl)
+nothing_written files (Solve lp dec steps (Some cert) from workers order) = (tt, λ other apart. refl, λ _. refl)
 nothing_written files (Check lp cert dec) = refl
-nothing_written files (Show lp dec) = refl
+nothing_written files (Show lp dec blocks) = refl
 nothing_written files (Gen seed size lp dec) = untouched refl refl
 nothing_written files (Demo seed size) = refl
 nothing_written files (Detect lp list dec) = detected.untouched refl (inr refl)
+nothing_written files (Propose lp dec) = proposed.untouched refl (inr refl)
 
 -- answers of an order that keeps nothing
 pub kept_answers : (kept : Option Outcome) (Right : ℕ → List ℕ → Type 0) (status : ℕ) (before now : List ℕ) → kept ≡ None → AnswersBy Right status before now

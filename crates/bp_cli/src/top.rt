@@ -7,7 +7,9 @@ ghost use Rattle.bp_words.specs.CommandLine.{command_line};
 ghost use Rattle.bp_words.specs.Orders.{IsInRange};
 ghost use Rattle.bp_report.specs.Refusals.{words_refusal};
 ghost use Rattle.bp_front.specs.Answers.{AnswersBy, IsOnly, CutsOff, HasCauses};
-ghost use Rattle.bp_cli.specs.Running.{Answers, AnswersOrder, HasWritten, HasPutLast, OfOrder};
+ghost use Rattle.bp_cli.specs.Headline.{SolvesTruly, SolvesAccepted, ChecksTruly};
+ghost use Rattle.bp_cli.specs.Promises.{SolvesDecomposed, WritesCertificate};
+ghost use Rattle.bp_cli.specs.Running.{Answers, AnswersOrder, HasWritten, HasPutLast, Lists, OfOrder};
 
 use bp_front::{Ended, Reply, print, stopped};
 use bp_report::words_text;
@@ -17,6 +19,7 @@ use cmd_check::check;
 use cmd_demo::demonstrate;
 use cmd_detect::detect;
 use cmd_gen::generate;
+use cmd_propose::propose;
 use cmd_show::show;
 use cmd_solve::solve;
 use std::alloc::Global;
@@ -27,7 +30,22 @@ use std::alloc::Global;
 /// LP text and that no such point betters, `infeasible` where none exists, or `budget` after exactly the given steps with
 /// a bound that no such point betters; the certificate that it writes is valid, and whatever `check` accepts is true,
 /// whoever wrote it. From a valid certificate it goes on, whoever wrote that, with the given steps beside those of its tree.
+/// All this holds for a crew of any number of workers in any order too, whose events are listed.
 pub fn run<F: Shelf, O: Sink>(alloc: Global, words: &[String], shelf: &mut F, out: &mut O) -> Ended
+    // The headline, for told files and a sink that tells. What `solve` prints is true of the program that the LP text means:
+    // `optimal` with a best point, `infeasible`, or `budget` after exactly the given steps with a bound that no point betters.
+    ensures solved_truly { IsTrue (F.tells shelf.old) → IsTrue (O.tells out.old) → OfOrder (map string_bytes words.now)
+        (λ order. SolvesTruly order (F.file shelf.old) result.kept result.status (O.taken out.old) (O.taken out.new)) }
+    // `solve` tells one of these of each LP text that means a program, and of each decomposition of it that is accepted.
+    ensures solves_accepted { IsTrue (F.tells shelf.old) → IsTrue (O.tells out.old) → OfOrder (map string_bytes words.now)
+        (λ order. SolvesAccepted order (F.file shelf.old) result.status) }
+    ensures solves_decomposed { IsTrue (F.tells shelf.old) → IsTrue (O.tells out.old) → OfOrder (map string_bytes words.now)
+        (λ order. SolvesDecomposed order (F.file shelf.old) result.status) }
+    // The certificate that `solve` writes is one that `check` accepts, and what `check` accepts is true, whoever wrote it.
+    ensures certified { IsTrue (F.tells shelf.old) → IsTrue (O.tells out.old) → OfOrder (map string_bytes words.now)
+        (λ order. WritesCertificate order (F.file shelf.new) result.kept) }
+    ensures checked_truly { IsTrue (F.tells shelf.old) → IsTrue (O.tells out.old) → OfOrder (map string_bytes words.now)
+        (λ order. ChecksTruly order (F.file shelf.old) result.status (O.taken out.old) (O.taken out.new)) }
     // Without a fault and with its memory a run answers the words by the files, and adds its report whole.
     ensures answered { IsTrue (F.tells shelf.old) → IsTrue (O.tells out.old) →
         AnswersBy (Answers (map string_bytes words.now) (F.file shelf.old) result.kept) result.status (O.taken out.old) (O.taken out.new) }
@@ -36,6 +54,10 @@ pub fn run<F: Shelf, O: Sink>(alloc: Global, words: &[String], shelf: &mut F, ou
     // What is written: the valid certificate of the outcome that is kept, or the texts that are made; and that nothing else is.
     ensures written { IsTrue (F.tells shelf.old) →
         OfOrder (map string_bytes words.now) (λ order. HasWritten order (F.file shelf.old) (F.file shelf.new) result.kept result.status) }
+    // What a crew did, where one was ordered and its outcome is kept; and else nothing.
+    ensures events { IsTrue (F.tells shelf.old) →
+        OfOrder (map string_bytes words.now) (λ order. Lists order (F.file shelf.old) result.kept result.events.items) }
+    ensures no_events { result.kept ≡ None → result.events.items ≡ [] }
     // The report is put last: where it could not be put, what is written stands whole.
     ensures put_last { IsTrue (F.tells shelf.old) → O.faults out.old < O.faults out.new →
         OfOrder (map string_bytes words.now) (λ order. HasPutLast order (F.file shelf.old) (F.file shelf.new)) }
@@ -53,10 +75,49 @@ pub fn run<F: Shelf, O: Sink>(alloc: Global, words: &[String], shelf: &mut F, ou
     ensures cut_off { IsTrue (F.tells shelf.old) → IsTrue (O.tells out.old) →
         CutsOff (Answers (map string_bytes words.now) (F.file shelf.old)) result.status (O.taken out.old) (O.taken out.new) }
 {
+    answer_words(alloc, words, shelf, out)
+}
+
+// Answers words.
+fn answer_words<F: Shelf, O: Sink>(
+    alloc: Global,
+    words: &[String],
+    shelf: &mut F,
+    out: &mut O,
+) -> Ended
+    // Without a fault and with its memory a run answers the words by the files, and adds its report whole.
+    ensures answered { IsTrue (F.tells shelf.old) → IsTrue (O.tells out.old) →
+        AnswersBy (Answers (map string_bytes words.now) (F.file shelf.old) result.kept) result.status (O.taken out.old) (O.taken out.new) }
+    // No other status is right.
+    ensures exact { IsTrue (F.tells shelf.old) → IsOnly (Answers (map string_bytes words.now) (F.file shelf.old) result.kept) result.status }
+    // What is written: the valid certificate of the outcome that is kept, or the texts that are made; and that nothing else is.
+    ensures written { IsTrue (F.tells shelf.old) →
+        OfOrder (map string_bytes words.now) (λ order. HasWritten order (F.file shelf.old) (F.file shelf.new) result.kept result.status) }
+    // The report is put last: where it could not be put, what is written stands whole.
+    ensures put_last { IsTrue (F.tells shelf.old) → O.faults out.old < O.faults out.new →
+        OfOrder (map string_bytes words.now) (λ order. HasPutLast order (F.file shelf.old) (F.file shelf.new)) }
+    // Which status comes only where, over any shelf and sink.
+    ensures causes { HasCauses result.status (F.read_faults shelf.old) (F.read_faults shelf.new)
+        (F.write_faults shelf.old) (F.write_faults shelf.new) (O.faults out.old) (O.faults out.new) }
+    ensures kept { (result.kept ≡ None) ⊎ ((result.status ≡ 0) ⊎ (result.status ≡ 4) ⊎ (result.status ≡ 5)) }
+    // What a crew did, where one was ordered and its outcome is kept; and else nothing.
+    ensures events { IsTrue (F.tells shelf.old) →
+        OfOrder (map string_bytes words.now) (λ order. Lists order (F.file shelf.old) result.kept result.events.items) }
+    ensures no_events { result.kept ≡ None → result.events.items ≡ [] }
+    ensures words { result.status ≡ 2 → fault_of command_line (map string_bytes words.now) ≢ [] }
+    ensures no_words { fault_of command_line (map string_bytes words.now) ≢ [] → (result.status ≡ 2) ⊎ (result.status ≡ 8) ⊎ (result.status ≡ 9) }
+    ensures refusal { result.status ≡ 2 → IsTrue (O.tells out.old) → O.taken out.new ≡ O.taken out.old ++ words_refusal }
+    // What stands afterwards.
+    ensures nothing_ordered { fault_of command_line (map string_bytes words.now) ≢ [] → F.file shelf.new ≡ F.file shelf.old }
+    ensures silent { (result.status ≡ 7) ⊎ (result.status ≡ 9) ⊎ (result.status ≡ 11) → O.taken out.new ≡ O.taken out.old }
+    ensures unwritten { F.write_faults shelf.old < F.write_faults shelf.new → O.taken out.new ≡ O.taken out.old }
+    ensures cut_off { IsTrue (F.tells shelf.old) → IsTrue (O.tells out.old) →
+        CutsOff (Answers (map string_bytes words.now) (F.file shelf.old)) result.status (O.taken out.old) (O.taken out.new) }
+{
     match read_words(alloc, words) {
         Ok(order) => obey(alloc, &order, shelf, out),
         Err(WordFault::Refused) => refuse_words(alloc, out),
-        Err(WordFault::NoMemory) => stopped(9),
+        Err(WordFault::NoMemory) => stopped(alloc, 9),
     }
 }
 
@@ -71,6 +132,8 @@ fn obey<F: Shelf, O: Sink>(alloc: Global, order: &Order, shelf: &mut F, out: &mu
     ensures causes { HasCauses result.status (F.read_faults shelf.old) (F.read_faults shelf.new)
         (F.write_faults shelf.old) (F.write_faults shelf.new) (O.faults out.old) (O.faults out.new) }
     ensures kept { (result.kept ≡ None) ⊎ ((result.status ≡ 0) ⊎ (result.status ≡ 4) ⊎ (result.status ≡ 5)) }
+    ensures events { IsTrue (F.tells shelf.old) → Lists order.now (F.file shelf.old) result.kept result.events.items }
+    ensures no_events { result.kept ≡ None → result.events.items ≡ [] }
     ensures words { result.status ≢ 2 }
     ensures silent { (result.status ≡ 7) ⊎ (result.status ≡ 9) ⊎ (result.status ≡ 11) → O.taken out.new ≡ O.taken out.old }
     ensures unwritten { F.write_faults shelf.old < F.write_faults shelf.new → O.taken out.new ≡ O.taken out.old }
@@ -84,6 +147,8 @@ fn obey<F: Shelf, O: Sink>(alloc: Global, order: &Order, shelf: &mut F, out: &mu
             steps,
             cert,
             from,
+            workers,
+            order,
         } => solve(
             alloc,
             shelf,
@@ -93,11 +158,15 @@ fn obey<F: Shelf, O: Sink>(alloc: Global, order: &Order, shelf: &mut F, out: &mu
             *steps,
             named(cert),
             named(from),
+            *workers,
+            *order,
         ),
         Order::Check { lp, cert, dec } => {
             check(alloc, shelf, out, lp.as_str(), cert.as_str(), named(dec))
         }
-        Order::Show { lp, dec } => show(alloc, shelf, out, lp.as_str(), named(dec)),
+        Order::Show { lp, dec, blocks } => {
+            show(alloc, shelf, out, lp.as_str(), named(dec), *blocks)
+        }
         Order::Gen {
             seed,
             size,
@@ -108,6 +177,7 @@ fn obey<F: Shelf, O: Sink>(alloc: Global, order: &Order, shelf: &mut F, out: &mu
         Order::Detect { lp, rows, dec } => {
             detect(alloc, shelf, out, lp.as_str(), rows.as_str(), dec.as_str())
         }
+        Order::Propose { lp, dec } => propose(alloc, shelf, out, lp.as_str(), dec.as_str()),
     }
 }
 
@@ -125,6 +195,7 @@ fn named(text: &Option<Text>) -> Option<&str>
 fn refuse_words<O: Sink>(alloc: Global, out: &mut O) -> Ended
     ensures statuses { (result.status ≡ 2) ⊎ (result.status ≡ 8) ⊎ (result.status ≡ 9) }
     ensures kept { result.kept ≡ None }
+    ensures events { result.events.items ≡ [] }
     ensures fault { result.status ≡ 8 → Rose (O.faults out.old) (O.faults out.new) }
     ensures rose { O.faults out.old < O.faults out.new → result.status ≡ 8 }
     ensures printed { IsTrue (O.tells out.old) → result.status ≡ 2 → O.taken out.new ≡ O.taken out.old ++ words_refusal }
@@ -133,7 +204,7 @@ fn refuse_words<O: Sink>(alloc: Global, out: &mut O) -> Ended
     ensures silent { result.status ≡ 9 → O.taken out.new ≡ O.taken out.old }
 {
     match words_text(alloc) {
-        Ok(report) => print(out, &Reply { status: 2, report }, None),
-        Err(_) => stopped(9),
+        Ok(report) => print(alloc, out, &Reply { status: 2, report }, None),
+        Err(_) => stopped(alloc, 9),
     }
 }

@@ -6,6 +6,8 @@
 // - `run WORDS`: runs the program with these words, and prints them, its report and its status;
 // - `first WORDS`: the same, and of the report its first line alone; `heads WORDS`: of each of its lines the first word;
 // - `twice WORDS`: runs the program twice, tells whether the answers are the same, and prints the last line's first word;
+// - `events N WORDS`: runs the program, and tells of the first N events which worker, from 1, takes a leaf, reports on its
+//   leaf or drops it;
 // - `words`: the same with no words at all, not even the program's own name;
 // - `beginnings NAME WORDS`: the same with each beginning of the file, from no bytes to the whole; like answers of
 //   neighbours are printed once;
@@ -16,6 +18,7 @@
 use crate::draft::Draft;
 use crate::stage::{Answer, Stage};
 use crate::view::{View, seen};
+use search_laws::{Event, Kind};
 use std::alloc::{AllocError, Global};
 
 // A script in the midst of its lines.
@@ -72,6 +75,7 @@ impl Player {
             "first" => self.run(rest, View::First),
             "heads" => self.run(rest, View::Heads),
             "twice" => self.run_twice(rest),
+            "events" => self.run_events(rest),
             "words" => self.run_nameless(),
             "beginnings" => self.run_beginnings(rest),
             "show" => self.show(rest, View::Whole),
@@ -131,6 +135,29 @@ impl Player {
             "another answer"
         })?;
         self.tell_bytes(&first.report, View::Last)
+    }
+
+    fn run_events(&mut self, text: &str) -> Result<(), AllocError> {
+        let (count, text) = text.split_once(' ').unwrap_or((text, ""));
+        let words = words_of(self.alloc, text)?;
+        let answer = self.stage.run(&words)?;
+        let line = format!(in self.alloc; "> {text}, events")?;
+        self.tell(line.as_str())?;
+        for event in answer.events.iter().take(count.parse().unwrap_or(0)) {
+            self.tell_event(event)?;
+        }
+        Ok(())
+    }
+
+    fn tell_event(&mut self, event: &Event) -> Result<(), AllocError> {
+        let act = match event.kind {
+            Kind::Take => "takes",
+            Kind::Shut | Kind::Fork => "reports",
+            Kind::Drop => "drops",
+        };
+        let worker = u64::from(event.worker) + 1;
+        let line = format!(in self.alloc; "worker {worker} {act}")?;
+        self.tell(line.as_str())
     }
 
     fn run_nameless(&mut self) -> Result<(), AllocError> {

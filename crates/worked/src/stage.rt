@@ -2,6 +2,7 @@
 use bp_cli::run;
 use bp_front::read_front;
 use bp_shelf::{MemShelf, MemSink};
+use search_laws::Event;
 use std::alloc::{AllocError, Global};
 
 // Every file is shorter than this.
@@ -17,15 +18,16 @@ struct Given {
     bytes: Vec<u8>,
 }
 
-/// What a command answered: the bytes that it printed, and its status.
+/// What a command answered: the bytes that it printed, its status, and what the workers of a crew did, if one worked.
 #[derive(Drop)]
 pub struct Answer {
     pub report: Vec<u8>,
     pub status: u8,
+    pub events: Vec<Event>,
 }
 
 impl Answer {
-    /// Whether another answer is the same.
+    /// Whether another answer has the same report and status.
     pub fn is_same(&self, other: &Answer) -> bool {
         self.status == other.status && self.report.as_slice() == other.report.as_slice()
     }
@@ -99,6 +101,7 @@ impl Stage {
         Ok(Answer {
             report: sink.bytes().to_vec(self.alloc)?,
             status: ended.status,
+            events: ended.events,
         })
     }
 }

@@ -5,8 +5,9 @@ use Rattle.bp_front.specs.Answers.{AnswersBy, IsOnly, CutsOff}
 use Rattle.cmd_check.specs.Checks.{AnswersCheck}
 use Rattle.cmd_show.specs.Shows.{AnswersShow}
 use Rattle.cmd_detect.specs.Detects.{AnswersDetect}
-use Rattle.bp_cli.specs.Running.{AnswersOrder}
-use Rattle.bp_cli.proofs.OneOrder.{as_solve, as_check, as_show, as_gen, as_detect}
+use Rattle.cmd_propose.specs.Proposes.{AnswersPropose}
+use Rattle.bp_cli.specs.Running.{AnswersOrder, HasWritten}
+use Rattle.bp_cli.proofs.OneOrder.{as_solve, as_check, as_show, as_gen, as_detect, as_propose}
 use Rattle.bp_cli.proofs.Words.{kept_answers, kept_only, kept_cut}
 use Rattle.bp_cli.proofs.top.obey.Goals as goal
 
@@ -14,19 +15,19 @@ pub returns-in-Solve-clause-answered : goal.returns-in-Solve-clause-answered
 returns-in-Solve-clause-answered g c = λ told heard.
     subst (λ (o : Order). AnswersBy (AnswersOrder o (g.F.Shelf.file c.args.shelf.now) c.solve.result.kept) c.solve.result.status (g.O.Sink.taken c.args.out.now)
     (g.O.Sink.taken c.solve.new.out)) (as_solve c.args.order.now c.as_str.result.now c.in-Solve.lp (option_map (λ name. name.now) c.named.result) c.in-Solve.dec c.in-Solve.steps (option_map (λ name. name.now) c.named-in-Solve.result)
-    c.in-Solve.cert (option_map (λ name. name.now) c.named-in-Solve-2.result) c.in-Solve.from c.in-Solve.is c.as_str.ensures c.named.ensures c.named-in-Solve.ensures c.named-in-Solve-2.ensures)
+    c.in-Solve.cert (option_map (λ name. name.now) c.named-in-Solve-2.result) c.in-Solve.from c.in-Solve.workers c.in-Solve.order c.in-Solve.is c.as_str.ensures c.named.ensures c.named-in-Solve.ensures c.named-in-Solve-2.ensures)
     (c.solve.ensures.answered told heard)
 
 pub returns-in-Solve-clause-exact : goal.returns-in-Solve-clause-exact
 returns-in-Solve-clause-exact g c = λ told.
     subst (λ (o : Order). IsOnly (AnswersOrder o (g.F.Shelf.file c.args.shelf.now) c.solve.result.kept) c.solve.result.status) (as_solve c.args.order.now c.as_str.result.now c.in-Solve.lp (option_map (λ name. name.now) c.named.result) c.in-Solve.dec c.in-Solve.steps (option_map (λ name. name.now) c.named-in-Solve.result)
-    c.in-Solve.cert (option_map (λ name. name.now) c.named-in-Solve-2.result) c.in-Solve.from c.in-Solve.is c.as_str.ensures c.named.ensures c.named-in-Solve.ensures c.named-in-Solve-2.ensures)
+    c.in-Solve.cert (option_map (λ name. name.now) c.named-in-Solve-2.result) c.in-Solve.from c.in-Solve.workers c.in-Solve.order c.in-Solve.is c.as_str.ensures c.named.ensures c.named-in-Solve.ensures c.named-in-Solve-2.ensures)
     (c.solve.ensures.exact told)
 
 pub returns-in-Solve-clause-cut_off : goal.returns-in-Solve-clause-cut_off
 returns-in-Solve-clause-cut_off g c = λ told heard.
     subst (λ (o : Order). CutsOff (AnswersOrder o (g.F.Shelf.file c.args.shelf.now)) c.solve.result.status (g.O.Sink.taken c.args.out.now) (g.O.Sink.taken c.solve.new.out)) (as_solve c.args.order.now c.as_str.result.now c.in-Solve.lp (option_map (λ name. name.now) c.named.result) c.in-Solve.dec c.in-Solve.steps (option_map (λ name. name.now) c.named-in-Solve.result)
-    c.in-Solve.cert (option_map (λ name. name.now) c.named-in-Solve-2.result) c.in-Solve.from c.in-Solve.is c.as_str.ensures c.named.ensures c.named-in-Solve.ensures c.named-in-Solve-2.ensures)
+    c.in-Solve.cert (option_map (λ name. name.now) c.named-in-Solve-2.result) c.in-Solve.from c.in-Solve.workers c.in-Solve.order c.in-Solve.is c.as_str.ensures c.named.ensures c.named-in-Solve.ensures c.named-in-Solve-2.ensures)
     (c.solve.ensures.cut_off told heard)
 
 pub returns-in-Check-clause-answered : goal.returns-in-Check-clause-answered
@@ -54,21 +55,21 @@ pub returns-in-Show-clause-answered : goal.returns-in-Show-clause-answered
 returns-in-Show-clause-answered g c = λ told heard.
     subst (λ (o : Order). AnswersBy (AnswersOrder o (g.F.Shelf.file c.args.shelf.now) c.show.result.kept) c.show.result.status (g.O.Sink.taken c.args.out.now)
     (g.O.Sink.taken c.show.new.out)) (as_show c.args.order.now c.as_str-in-Show.result.now c.in-Show.lp (option_map (λ name. name.now) c.named-in-Show.result) c.in-Show.dec
-    c.in-Show.is c.as_str-in-Show.ensures c.named-in-Show.ensures)
+    c.in-Show.blocks c.in-Show.is c.as_str-in-Show.ensures c.named-in-Show.ensures)
     (kept_answers c.show.result.kept
-    (AnswersShow (g.F.Shelf.file c.args.shelf.now) c.as_str-in-Show.result.now (option_map (λ name. name.now) c.named-in-Show.result))
+    (AnswersShow (g.F.Shelf.file c.args.shelf.now) c.as_str-in-Show.result.now (option_map (λ name. name.now) c.named-in-Show.result) c.in-Show.blocks)
     c.show.result.status _ _ c.show.ensures.kept (c.show.ensures.answered told heard))
 
 pub returns-in-Show-clause-exact : goal.returns-in-Show-clause-exact
 returns-in-Show-clause-exact g c = λ told.
     subst (λ (o : Order). IsOnly (AnswersOrder o (g.F.Shelf.file c.args.shelf.now) c.show.result.kept) c.show.result.status) (as_show c.args.order.now c.as_str-in-Show.result.now c.in-Show.lp (option_map (λ name. name.now) c.named-in-Show.result) c.in-Show.dec
-    c.in-Show.is c.as_str-in-Show.ensures c.named-in-Show.ensures)
+    c.in-Show.blocks c.in-Show.is c.as_str-in-Show.ensures c.named-in-Show.ensures)
     (kept_only c.show.result.kept _ c.show.result.status (c.show.ensures.exact told))
 
 pub returns-in-Show-clause-cut_off : goal.returns-in-Show-clause-cut_off
 returns-in-Show-clause-cut_off g c = λ told heard.
     subst (λ (o : Order). CutsOff (AnswersOrder o (g.F.Shelf.file c.args.shelf.now)) c.show.result.status (g.O.Sink.taken c.args.out.now) (g.O.Sink.taken c.show.new.out)) (as_show c.args.order.now c.as_str-in-Show.result.now c.in-Show.lp (option_map (λ name. name.now) c.named-in-Show.result) c.in-Show.dec
-    c.in-Show.is c.as_str-in-Show.ensures c.named-in-Show.ensures)
+    c.in-Show.blocks c.in-Show.is c.as_str-in-Show.ensures c.named-in-Show.ensures)
     (kept_cut _ c.show.result.status _ _ (c.show.ensures.cut_off told heard))
 
 pub returns-in-Gen-clause-cut_off : goal.returns-in-Gen-clause-cut_off
@@ -112,3 +113,29 @@ returns-in-Detect-clause-cut_off g c = λ told heard.
     subst (λ (o : Order). CutsOff (AnswersOrder o (g.F.Shelf.file c.args.shelf.now)) c.detect.result.status (g.O.Sink.taken c.args.out.now) (g.O.Sink.taken c.detect.new.out)) (as_detect c.args.order.now c.as_str-in-Detect.result.now c.in-Detect.lp c.as_str-in-Detect-2.result.now c.in-Detect.rows c.as_str-in-Detect-3.result.now
     c.in-Detect.dec c.in-Detect.is c.as_str-in-Detect.ensures c.as_str-in-Detect-2.ensures c.as_str-in-Detect-3.ensures)
     (kept_cut _ c.detect.result.status _ _ (c.detect.ensures.cut_off told heard))
+
+pub returns-in-Propose-clause-answered : goal.returns-in-Propose-clause-answered
+returns-in-Propose-clause-answered g c = λ told heard.
+    subst (λ (o : Order). AnswersBy (AnswersOrder o (g.F.Shelf.file c.args.shelf.now) c.propose.result.kept) c.propose.result.status (g.O.Sink.taken c.args.out.now)
+    (g.O.Sink.taken c.propose.new.out)) (as_propose c.args.order.now c.as_str-in-Propose.result.now c.in-Propose.lp c.as_str-in-Propose-2.result.now
+    c.in-Propose.dec c.in-Propose.is c.as_str-in-Propose.ensures c.as_str-in-Propose-2.ensures)
+    (kept_answers c.propose.result.kept (AnswersPropose (g.F.Shelf.file c.args.shelf.now) c.as_str-in-Propose.result.now)
+    c.propose.result.status _ _ c.propose.ensures.kept (c.propose.ensures.answered told heard))
+
+pub returns-in-Propose-clause-exact : goal.returns-in-Propose-clause-exact
+returns-in-Propose-clause-exact g c = λ told.
+    subst (λ (o : Order). IsOnly (AnswersOrder o (g.F.Shelf.file c.args.shelf.now) c.propose.result.kept) c.propose.result.status) (as_propose c.args.order.now c.as_str-in-Propose.result.now c.in-Propose.lp c.as_str-in-Propose-2.result.now
+    c.in-Propose.dec c.in-Propose.is c.as_str-in-Propose.ensures c.as_str-in-Propose-2.ensures)
+    (kept_only c.propose.result.kept _ c.propose.result.status (c.propose.ensures.exact told))
+
+pub returns-in-Propose-clause-cut_off : goal.returns-in-Propose-clause-cut_off
+returns-in-Propose-clause-cut_off g c = λ told heard.
+    subst (λ (o : Order). CutsOff (AnswersOrder o (g.F.Shelf.file c.args.shelf.now)) c.propose.result.status (g.O.Sink.taken c.args.out.now) (g.O.Sink.taken c.propose.new.out)) (as_propose c.args.order.now c.as_str-in-Propose.result.now c.in-Propose.lp c.as_str-in-Propose-2.result.now
+    c.in-Propose.dec c.in-Propose.is c.as_str-in-Propose.ensures c.as_str-in-Propose-2.ensures)
+    (kept_cut _ c.propose.result.status _ _ (c.propose.ensures.cut_off told heard))
+
+pub returns-in-Gen-clause-written : goal.returns-in-Gen-clause-written
+returns-in-Gen-clause-written g c = λ told.
+    subst (λ (o : Order). HasWritten o (g.F.Shelf.file c.args.shelf.now) (g.F.Shelf.file c.generate.new.shelf) c.generate.result.kept c.generate.result.status)
+    (as_gen c.args.order.now c.in-Gen.seed c.in-Gen.size c.as_str-in-Gen.result.now c.in-Gen.lp c.as_str-in-Gen-2.result.now
+    c.in-Gen.dec c.in-Gen.is c.as_str-in-Gen.ensures c.as_str-in-Gen-2.ensures) (c.generate.ensures.leaves told)

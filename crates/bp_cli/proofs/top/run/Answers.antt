@@ -1,31 +1,28 @@
-use Rattle.std.proofs.Common.{refl, None}
 use Rattle.std.specs.Prelude.{map, string_bytes}
-use Rattle.bp_report.specs.Refusals.{words_refusal}
-use Rattle.bp_cli.specs.Running.{refused, HasPutLast}
-use Rattle.bp_cli.proofs.Words.{order_answers, order_only, order_cut, of_order}
+use Rattle.bp_cli.proofs.Headlines.{solved, accepts, decomposes, certifies, checked}
 use Rattle.bp_cli.proofs.top.run.Goals as goal
 
-pub returns-in-Ok-clause-answered : goal.returns-in-Ok-clause-answered
-returns-in-Ok-clause-answered g c = λ told heard.
-    order_answers (map string_bytes c.args.words.now) c.in-Ok.order (g.F.Shelf.file c.args.shelf.now) c.obey.result.kept c.obey.result.status (g.O.Sink.taken c.args.out.now)
-    (g.O.Sink.taken c.obey.new.out) c.in-Ok.ensures.order (c.obey.ensures.answered told heard)
+pub returns-clause-solved_truly : goal.returns-clause-solved_truly
+returns-clause-solved_truly g c = λ told heard.
+    solved (map string_bytes c.args.words.now) (g.F.Shelf.file c.args.shelf.now) c.answer_words.result.kept c.answer_words.result.status (g.O.Sink.taken c.args.out.now)
+    (g.O.Sink.taken c.answer_words.new.out) (c.answer_words.ensures.answered told heard)
 
-pub returns-in-Ok-clause-exact : goal.returns-in-Ok-clause-exact
-returns-in-Ok-clause-exact g c = λ told.
-    order_only (map string_bytes c.args.words.now) c.in-Ok.order (g.F.Shelf.file c.args.shelf.now) c.obey.result.kept c.obey.result.status c.in-Ok.ensures.order
-    (c.obey.ensures.exact told)
+pub returns-clause-solves_accepted : goal.returns-clause-solves_accepted
+returns-clause-solves_accepted g c = λ told heard.
+    accepts (map string_bytes c.args.words.now) (g.F.Shelf.file c.args.shelf.now) c.answer_words.result.kept c.answer_words.result.status (g.O.Sink.taken c.args.out.now)
+    (g.O.Sink.taken c.answer_words.new.out) c.answer_words.ensures.causes.known (c.answer_words.ensures.answered told heard)
 
-pub returns-in-Ok-clause-put_last : goal.returns-in-Ok-clause-put_last
-returns-in-Ok-clause-put_last g c = λ told more.
-    of_order (map string_bytes c.args.words.now) c.in-Ok.order (λ order. HasPutLast order (g.F.Shelf.file c.args.shelf.now) (g.F.Shelf.file c.obey.new.shelf))
-    c.in-Ok.ensures.order (c.obey.ensures.put_last told more)
+pub returns-clause-solves_decomposed : goal.returns-clause-solves_decomposed
+returns-clause-solves_decomposed g c = λ told heard.
+    decomposes (map string_bytes c.args.words.now) (g.F.Shelf.file c.args.shelf.now) c.answer_words.result.kept c.answer_words.result.status (g.O.Sink.taken c.args.out.now)
+    (g.O.Sink.taken c.answer_words.new.out) c.answer_words.ensures.causes.known (c.answer_words.ensures.answered told heard)
 
-pub returns-in-Ok-clause-cut_off : goal.returns-in-Ok-clause-cut_off
-returns-in-Ok-clause-cut_off g c = λ told heard.
-    order_cut (map string_bytes c.args.words.now) c.in-Ok.order (g.F.Shelf.file c.args.shelf.now) c.obey.result.status (g.O.Sink.taken c.args.out.now) (g.O.Sink.taken c.obey.new.out)
-    c.in-Ok.ensures.order (c.obey.ensures.cut_off told heard)
+pub returns-clause-certified : goal.returns-clause-certified
+returns-clause-certified g c = λ told heard.
+    certifies (map string_bytes c.args.words.now) (g.F.Shelf.file c.args.shelf.now) (g.F.Shelf.file c.answer_words.new.shelf) c.answer_words.result.kept c.answer_words.result.status
+    (g.O.Sink.taken c.args.out.now) (g.O.Sink.taken c.answer_words.new.out) c.answer_words.ensures.kept (c.answer_words.ensures.answered told heard) (c.answer_words.ensures.written told)
 
-pub returns-in-Err-Refused-clause-cut_off : goal.returns-in-Err-Refused-clause-cut_off
-returns-in-Err-Refused-clause-cut_off g c = λ told heard is_fault.
-    let printed = c.refuse_words.ensures.partly heard is_fault in
-    (None, 2, words_refusal, printed.0, refused (c.read_words.ensures.refused (rw c.in-Err-Refused.field-0-is at c.in-Err-Refused.is)) refl refl refl, printed.1)
+pub returns-clause-checked_truly : goal.returns-clause-checked_truly
+returns-clause-checked_truly g c = λ told heard.
+    checked (map string_bytes c.args.words.now) (g.F.Shelf.file c.args.shelf.now) c.answer_words.result.kept c.answer_words.result.status (g.O.Sink.taken c.args.out.now)
+    (g.O.Sink.taken c.answer_words.new.out) (c.answer_words.ensures.answered told heard)

@@ -1,0 +1,321 @@
+-- What each command answers makes the headline true.
+use Rattle.std.proofs.Common.{◌≡◌, ◌≢◌, ◌∙◌, refl, sym, ap, subst, inl, inr, ◌⊎◌, ℕ, Bool, true, false, List, ◌++◌, Option, Some, None, IfSome, arith}
+use Rattle.std.proofs.Math.IntN.{ℤ}
+use Rattle.std.specs.Prelude.{IsTrue, is_none, ◌≤ℤ◌}
+use Rattle.std.specs.Option.{option_map}
+use Rattle.std.proofs.lemmas.List.{append-nil}
+use Rattle.bp_theory.specs.Program.{IsFeasible, in_sense, cost}
+use Rattle.bp_theory.specs.Claims.{NoneBetter, IsTrueClaim}
+use Rattle.bp_theory.specs.declared.Claim.{Claim}
+use Rattle.bp_theory.proofs.TruthProof.{in_sense_twice}
+use Rattle.bp_theory.specs.Decomposition.{Decomposition}
+use Rattle.bp_model.specs.Named.{NamedProgram}
+use Rattle.bp_model.specs.Dec.{plain_of}
+use Rattle.bp_shelf.specs.Shelf.{Files, OthersAsBefore}
+use Rattle.lp_read.specs.Model.{Means}
+use Rattle.lp_read.specs.Reading as lp_text
+use Rattle.lp_read.proofs.Readings as lp_laws
+use Rattle.block_form.specs.Blocked.{BlockedProgram}
+use Rattle.block_form.specs.Checks.{HasBlockFault}
+use Rattle.block_form.specs.declared.fault.BlockFault.{BlockFault}
+use Rattle.block_form.specs.declared.fault.BlockFault.TheVariants.{Linking, VarPlace, NoMemory}
+use Rattle.branch_tree.specs.declared.outcome.Outcome.{Outcome}
+use Rattle.branch_tree.specs.declared.outcome.Outcome.TheVariants.{Optimal, Infeasible, Budget}
+use Rattle.bp_search.specs.Ends.{EndsWithin, most_steps, last_step}
+use Rattle.bp_report.specs.Report.{solve_report, accepted_report}
+use Rattle.bp_front.specs.Front.{Front, blocked, ends, BlocksCome, formed, refused, DecComes, plain, missing, faulty, read, FilesCome, missing_lp, faulty_lp, read_lp}
+use Rattle.bp_front.specs.Answers.{AnswersBy, stopped, went_on, IsStatus}
+use Rattle.bp_front.proofs.OneFront.{one_front}
+use Rattle.cmd_check.specs.Checks as checks
+use Rattle.cmd_check.specs.Checks.{ChecksBlocked, AnswersCheck}
+use Rattle.cmd_solve.specs.Starts as starts
+use Rattle.cmd_solve.specs.Starts.{RefusesStart}
+use Rattle.cmd_solve.specs.Solves as solves
+use Rattle.cmd_solve.specs.Solves.{SolvesBlocked, SolvesBy, AnswersSolve, outcome_status, outcome_certificate}
+use Rattle.cmd_solve.specs.Saves.{HasCertificate}
+use Rattle.bp_cli.specs.Headline.{IsTrueReport, optimal, infeasible, budget, HasProgram, IsStoppedAfter, IsOutcomeStatus, WasStopped, TellsTruly, AcceptsTruly}
+
+-- ---- what files come to
+
+-- what is true of an end, and of a program in blocks
+abbrev EndsOrHas : (ℕ → Type 0) → (BlockedProgram → Type 0) → Front → Type 0
+EndsOrHas Ends Has (blocked b) = Has b
+EndsOrHas Ends Has (ends status report) = Ends status
+
+abbrev IsRefusal : ℕ → Type 0
+IsRefusal status = (status ≡ 3) ⊎ (status ≡ 11)
+
+blocks_come : (m : NamedProgram) (d : Decomposition) (f : Front) → BlocksCome m d f → EndsOrHas IsRefusal (λ b. b.named ≡ m) f
+blocks_come m d f (formed b named decs is placed) = named
+blocks_come m d f (refused fault known has) = inl refl
+
+dec_comes : (files : Files) (m : NamedProgram) (name : Option (List ℕ)) (f : Front) → DecComes files m name f → EndsOrHas IsRefusal (λ b. b.named ≡ m) f
+dec_comes files m name f (plain _ come) = blocks_come m (plain_of m.program) f come
+dec_comes files m name f (missing n there) = inr refl
+dec_comes files m name f (faulty n text line kind there fault) = inl refl
+dec_comes files m name f (read n text d _ there reads come) = blocks_come m d f come
+
+-- files come to an end under status 3 or 11, or to a program in blocks that the LP text means
+files_come : (files : Files) (lp : List ℕ) (dec : Option (List ℕ)) (f : Front) → FilesCome files lp dec f → EndsOrHas IsRefusal (λ b. HasProgram (files lp) b.named) f
+files_come files lp dec f (missing_lp there) = inr refl
+files_come files lp dec f (faulty_lp text line kind there fault) = inl refl
+files_come files lp dec f (read_lp text m _ there means come) = by f (dec_comes files m dec f come)
+  where
+    by : (g : Front) → EndsOrHas IsRefusal (λ b. b.named ≡ m) g → EndsOrHas IsRefusal (λ b. HasProgram (files lp) b.named) g
+    by (blocked b) named = record { text = text; there = there; means = subst (λ (n : NamedProgram). Means text n) (sym named) means }
+    by (ends status report) is = is
+
+-- files that no longer hold the same come to the same where those that are read do
+files_move : (before now : Files) (lp : List ℕ) (dec : Option (List ℕ)) (f : Front) → now lp ≡ before lp → ((name : List ℕ) → dec ≡ Some name → now name ≡ before name)
+    → FilesCome before lp dec f → FilesCome now lp dec f
+files_move before now lp dec f same others (missing_lp there) = missing_lp (same ∙ there)
+files_move before now lp dec f same others (faulty_lp text line kind there fault) = faulty_lp text line kind (same ∙ there) fault
+files_move before now lp dec f same others (read_lp text m _ there means come) = read_lp text m f (same ∙ there) means (by dec f others come)
+  where
+    by : (d : Option (List ℕ)) (g : Front) → ((name : List ℕ) → d ≡ Some name → now name ≡ before name) → DecComes before m d g → DecComes now m d g
+    by d g still (plain _ come) = plain g come
+    by d g still (missing name gone) = missing name (still name refl ∙ gone)
+    by d g still (faulty name words line kind stands fault) = faulty name words line kind (still name refl ∙ stands) fault
+    by d g still (read name words e _ stands reads come) = read name words e g (still name refl ∙ stands) reads come
+
+-- ---- accepted files come to no end
+
+abbrev NoEnd : Front → Type 0
+NoEnd f = EndsOrHas (λ status. ⊥) (λ b. Unit {0}) f
+
+-- the plain form has no fault
+plain_fault : (m : NamedProgram) (fault : BlockFault) → fault ≢ NoMemory → HasBlockFault m.program (plain_of m.program) fault → ⊥
+plain_fault m (Linking v r s) known has = let there = has.linking.there in omega arith
+plain_fault m (VarPlace v) known has = let there = has.1.there in omega arith
+plain_fault m NoMemory known has = known refl
+
+plain_blocks : (m : NamedProgram) (f : Front) → BlocksCome m (plain_of m.program) f → NoEnd f
+plain_blocks m f (formed b named decs is placed) = tt
+plain_blocks m f (refused fault known has) = absurd (plain_fault m fault known has)
+
+plain_dec : (files : Files) (m : NamedProgram) (f : Front) → DecComes files m None f → NoEnd f
+plain_dec files m f (plain _ come) = plain_blocks m f come
+
+plain_files : (files : Files) (lp : List ℕ) (m : NamedProgram) (f : Front) → HasProgram (files lp) m → FilesCome files lp None f → NoEnd f
+plain_files files lp m f has (missing_lp there) = let text = has.there in absurd (cc)
+plain_files files lp m f has (faulty_lp text line kind there fault) =
+    let same : text ≡ has.text = one_text (files lp) text has.text there has.there in
+    absurd (lp_laws.model_or_fault has.text has.means.0 line kind has.means.1 (subst (λ (t : List ℕ). lp_text.HasFault t line kind) same fault))
+  where
+    one_text : (file : Option (List ℕ)) (t u : List ℕ) → file ≡ Some t → file ≡ Some u → t ≡ u
+    one_text file t u a b = cc
+plain_files files lp m f has (read_lp text n _ there means come) = plain_dec files n f come
+
+-- ---- outcomes
+
+-- a told outcome is true
+true_outcome : (b : BlockedProgram) (most given : ℕ) (o : Outcome) → EndsWithin b most o → IsTrueReport b.named given (outcome_status o) (solve_report b.named given o)
+true_outcome b most given (Optimal g point value) is = optimal point is.best refl refl
+true_outcome b most given (Infeasible g) is = infeasible is.none_feasible refl (append-nil _)
+true_outcome b most given (Budget g best bound) is =
+    budget (in_sense b.named.program.maximises bound) (option_map (λ (k : List ℤ × ℤ). k.0) best) none (known best is.kept) refl refl
+  where
+    none : NoneBetter b.named.program (in_sense b.named.program.maximises bound)
+    none x feasible = subst (λ (z : ℤ). z ≤ℤ cost b.named.program x) (sym (in_sense_twice b.named.program.maximises bound)) (is.none_below x feasible)
+
+    known : (k : Option (List ℤ × ℤ)) → IfSome k (λ e. IsFeasible b.named.program e.0 × (e.1 ≡ cost b.named.program e.0))
+        → IfSome (option_map (λ (e : List ℤ × ℤ). e.0) k) (IsFeasible b.named.program)
+    known None h = tt
+    known (Some e) h = h.0
+
+outcome_statuses : (o : Outcome) → IsOutcomeStatus (outcome_status o)
+outcome_statuses (Optimal g point value) = inl refl
+outcome_statuses (Infeasible g) = inr (inl refl)
+outcome_statuses (Budget g best bound) = inr (inr refl)
+
+-- an outcome that is out of steps has taken them
+spent : (b : BlockedProgram) (most : ℕ) (o : Outcome) → EndsWithin b most o → outcome_status o ≡ 5 → IsStoppedAfter (Some o) most
+spent b most (Optimal g point value) is five = absurd (cc)
+spent b most (Infeasible g) is five = absurd (cc)
+spent b most (Budget g best bound) is five = record { grove = g; best = best; least = bound; is_kept = refl; taken = is.spent }
+
+-- what is told of a program in blocks
+tells : (files : Files) (lp : List ℕ) (b : BlockedProgram) (most given : ℕ) (steps : Option ℕ) (begun : Bool) (kept : Option Outcome) (status : ℕ) (report before now : List ℕ)
+    → HasProgram (files lp) b.named → SolvesBlocked most steps kept b status report → (IsTrue begun → most ≡ most_steps steps) → now ≡ before ++ report
+    → TellsTruly (files lp) (most_steps steps) begun kept status before now
+tells files lp b most given steps begun kept status report before now has right same printed = record {
+  program = b.named;
+  report = report;
+  read = has;
+  is_true = subst (λ (s : ℕ). IsTrueReport b.named (most_steps steps) s report) (sym right.has_status)
+      (subst (λ (r : List ℕ). IsTrueReport b.named (most_steps steps) (outcome_status right.outcome) r) (sym right.has_report)
+      (true_outcome b most (most_steps steps) right.outcome right.is_outcome));
+  printed = printed;
+  spent = λ five is_begun. subst (λ (k : Option Outcome). IsStoppedAfter k (most_steps steps)) (sym right.is_kept)
+      (subst (λ (n : ℕ). IsStoppedAfter (Some right.outcome) n) (same is_begun)
+      (spent b most right.outcome right.is_outcome (sym right.has_status ∙ five)));
+}
+
+-- ---- what `solve` tells
+
+not_outcome : (status : ℕ) → IsOutcomeStatus status → (status ≡ 3) ⊎ (status ≡ 6) ⊎ (status ≡ 11) → ⊥
+not_outcome status (inl zero) (inl three) = absurd (cc)
+not_outcome status (inl zero) (inr (inl six)) = absurd (cc)
+not_outcome status (inl zero) (inr (inr eleven)) = absurd (cc)
+not_outcome status (inr (inl four)) (inl three) = absurd (cc)
+not_outcome status (inr (inl four)) (inr (inl six)) = absurd (cc)
+not_outcome status (inr (inl four)) (inr (inr eleven)) = absurd (cc)
+not_outcome status (inr (inr five)) (inl three) = absurd (cc)
+not_outcome status (inr (inr five)) (inr (inl six)) = absurd (cc)
+not_outcome status (inr (inr five)) (inr (inr eleven)) = absurd (cc)
+
+as_refusal : (status : ℕ) → IsRefusal status → (status ≡ 3) ⊎ (status ≡ 6) ⊎ (status ≡ 11)
+as_refusal status (inl three) = inl three
+as_refusal status (inr eleven) = inr (inr eleven)
+
+-- an outcome's status is none of a run that was stopped
+went_through : (status : ℕ) → IsOutcomeStatus status → (status ≢ 7) × (status ≢ 8) × (status ≢ 9)
+went_through status (inl zero) = ((λ e. absurd (cc)), (λ e. absurd (cc)), (λ e. absurd (cc)))
+went_through status (inr (inl four)) = ((λ e. absurd (cc)), (λ e. absurd (cc)), (λ e. absurd (cc)))
+went_through status (inr (inr five)) = ((λ e. absurd (cc)), (λ e. absurd (cc)), (λ e. absurd (cc)))
+
+refuses_status : (b : BlockedProgram) (text : List ℕ) (status : ℕ) (report : List ℕ) → RefusesStart b text status report → (status ≡ 3) ⊎ (status ≡ 6) ⊎ (status ≡ 11)
+refuses_status b text status report (starts.faulty line kind fault is printed) = inl is
+refuses_status b text status report (starts.rejected cert line kind spells has fault is printed) = inr (inl is)
+refuses_status b text status report (starts.too_deep cert line spells has valid deep is printed) = inl is
+
+-- what is answered under an outcome's status is told truly
+solves_told : (files : Files) (lp : List ℕ) (steps : Option ℕ) (from : Option (List ℕ)) (kept : Option Outcome) (b : BlockedProgram) (status : ℕ) (report before now : List ℕ)
+    → HasProgram (files lp) b.named → SolvesBy files from steps kept b status report → IsOutcomeStatus status → now ≡ before ++ report
+    → TellsTruly (files lp) (most_steps steps) (is_none from) kept status before now
+solves_told files lp steps None kept b status report before now has right is printed =
+    tells files lp b (most_steps steps) (most_steps steps) steps true kept status report before now has right (λ begun. refl) printed
+solves_told files lp steps (Some name) kept b status report before now has (solves.missing gone none eleven empty) is printed =
+    absurd (not_outcome status is (inr (inr eleven)))
+solves_told files lp steps (Some name) kept b status report before now has (solves.refused text there none refuses) is printed =
+    absurd (not_outcome status is (refuses_status b text status report refuses))
+solves_told files lp steps (Some name) kept b status report before now has (solves.went_on text from there start right) is printed =
+    tells files lp b (last_step from.grove steps) (most_steps steps) steps false kept status report before now has right (λ begun. absurd (cc)) printed
+
+pub solves_truly : (files : Files) (lp : List ℕ) (dec : Option (List ℕ)) (steps : Option ℕ) (from : Option (List ℕ)) (kept : Option Outcome) (status : ℕ) (before now : List ℕ)
+    → AnswersBy (AnswersSolve files lp dec steps from kept) status before now → IsOutcomeStatus status
+    → TellsTruly (files lp) (most_steps steps) (is_none from) kept status before now
+solves_truly files lp dec steps from kept status before now answers is =
+    let through = went_through status is in
+    let answer = answers through.0 through.1 through.2 in
+    by answer.0 answer.1 answer.2
+  where
+    by : (report : List ℕ) → AnswersSolve files lp dec steps from kept status report → now ≡ before ++ report
+        → TellsTruly (files lp) (most_steps steps) (is_none from) kept status before now
+    by report (stopped come stops) printed =
+        absurd (not_outcome status is (as_refusal status (files_come files lp dec (ends status report) come)))
+    by report (went_on b come right) printed =
+        solves_told files lp steps from kept b status report before now (files_come files lp dec (blocked b) come) right is printed
+
+-- ---- accepted files are told an outcome
+
+solved_status : (b : BlockedProgram) (most : ℕ) (steps : Option ℕ) (kept : Option Outcome) (status : ℕ) (report : List ℕ) → SolvesBlocked most steps kept b status report → IsOutcomeStatus status
+solved_status b most steps kept status report right = subst IsOutcomeStatus (sym right.has_status) (outcome_statuses right.outcome)
+
+solves_unless : (files : Files) (lp : List ℕ) (dec : Option (List ℕ)) (steps : Option ℕ) (kept : Option Outcome) (status : ℕ) (before now : List ℕ)
+    → IsStatus status → AnswersBy (AnswersSolve files lp dec steps None kept) status before now → ((s : ℕ) (r : List ℕ) → FilesCome files lp dec (ends s r) → ⊥)
+    → IsOutcomeStatus status ⊎ WasStopped status
+solves_unless files lp dec steps kept status before now known answers accepted = by known
+  where
+    told_right : (report : List ℕ) → AnswersSolve files lp dec steps None kept status report → IsOutcomeStatus status
+    told_right report (stopped come stops) = absurd (accepted status report come)
+    told_right report (went_on b come right) = solved_status b (most_steps steps) steps kept status report right
+
+    going : (status ≢ 7) → (status ≢ 8) → (status ≢ 9) → IsOutcomeStatus status ⊎ WasStopped status
+    going a b c = let answer = answers a b c in inl (told_right answer.0 answer.1)
+
+    by : IsStatus status → IsOutcomeStatus status ⊎ WasStopped status
+    by (inl is) = inl (inl is)
+    by (inr (inl is)) = going (λ e. absurd (cc)) (λ e. absurd (cc)) (λ e. absurd (cc))
+    by (inr (inr (inl is))) = going (λ e. absurd (cc)) (λ e. absurd (cc)) (λ e. absurd (cc))
+    by (inr (inr (inr (inl is)))) = inl (inr (inl is))
+    by (inr (inr (inr (inr (inl is))))) = inl (inr (inr is))
+    by (inr (inr (inr (inr (inr (inl is)))))) = going (λ e. absurd (cc)) (λ e. absurd (cc)) (λ e. absurd (cc))
+    by (inr (inr (inr (inr (inr (inr (inl is))))))) = inr (inl is)
+    by (inr (inr (inr (inr (inr (inr (inr (inl is)))))))) = inr (inr (inl is))
+    by (inr (inr (inr (inr (inr (inr (inr (inr (inl is))))))))) = inr (inr (inr is))
+    by (inr (inr (inr (inr (inr (inr (inr (inr (inr is))))))))) = going (λ e. absurd (cc)) (λ e. absurd (cc)) (λ e. absurd (cc))
+
+pub solves_accepted : (files : Files) (lp : List ℕ) (steps : Option ℕ) (kept : Option Outcome) (status : ℕ) (before now : List ℕ)
+    → IsStatus status → AnswersBy (AnswersSolve files lp None steps None kept) status before now → (m : NamedProgram) → HasProgram (files lp) m
+    → IsOutcomeStatus status ⊎ WasStopped status
+solves_accepted files lp steps kept status before now known answers m has =
+    solves_unless files lp None steps kept status before now known answers (λ s r come. plain_files files lp m (ends s r) has come)
+
+pub solves_decomposed : (files : Files) (lp : List ℕ) (dec : Option (List ℕ)) (steps : Option ℕ) (kept : Option Outcome) (status : ℕ) (before now : List ℕ)
+    → IsStatus status → AnswersBy (AnswersSolve files lp dec steps None kept) status before now → (b : BlockedProgram) → FilesCome files lp dec (blocked b)
+    → IsOutcomeStatus status ⊎ WasStopped status
+solves_decomposed files lp dec steps kept status before now known answers b come =
+    solves_unless files lp dec steps kept status before now known answers (λ s r other. one_front files lp dec (ends s r) (blocked b) other come)
+
+-- ---- the certificate that is written is accepted
+
+-- what the certificate of an outcome claims is true
+outcome_true : (b : BlockedProgram) (most : ℕ) (o : Outcome) → EndsWithin b most o → IsTrueClaim b.named.program (outcome_certificate b.named.program o).claim
+outcome_true b most (Optimal g point value) is = (point, is.best, ap (in_sense b.named.program.maximises) (sym is.is_cost))
+outcome_true b most (Infeasible g) is = is.none_feasible
+outcome_true b most (Budget g None bound) is = λ x feasible.
+    subst (λ (z : ℤ). z ≤ℤ cost b.named.program x) (sym (in_sense_twice b.named.program.maximises bound)) (is.none_below x feasible)
+outcome_true b most (Budget g (Some k) bound) is = (
+  (λ x feasible. subst (λ (z : ℤ). z ≤ℤ cost b.named.program x) (sym (in_sense_twice b.named.program.maximises bound)) (is.none_below x feasible)),
+  (k.0, record { feasible = is.kept.0; has_value = ap (in_sense b.named.program.maximises) (sym is.kept.1) }),
+)
+
+pub writes_certificate : (before now : Files) (lp cert : List ℕ) (dec : Option (List ℕ)) (o : Outcome) → HasCertificate before lp dec (Some cert) now (Some o)
+    → OthersAsBefore cert before now → ((b : BlockedProgram) → FilesCome before lp dec (blocked b) → (most : ℕ) × EndsWithin b most o) → cert ≢ lp → dec ≢ Some cert
+    → (claim : Claim) × AnswersCheck now lp cert dec 0 (accepted_report claim)
+writes_certificate before now lp cert dec o has others ended apart away =
+    let b = has.0 in
+    let c = outcome_certificate b.named.program o in
+    let end = ended b has.1 in (
+      c.claim,
+      went_on b (files_move before now lp dec (blocked b) (others lp (λ e. apart (sym e))) (λ name is. others name (λ e. away (is ∙ ap (λ (t : List ℕ). Some t) e))) has.1)
+          (checks.accepted has.2.0 c has.2.1 has.2.2.spelled has.2.2.valid (outcome_true b end.0 o end.1) refl refl),
+    )
+
+-- ---- what `check` accepts
+
+pub checks_truly : (files : Files) (lp cert : List ℕ) (dec : Option (List ℕ)) (status : ℕ) (before now : List ℕ)
+    → AnswersBy (AnswersCheck files lp cert dec) status before now → status ≡ 0 → AcceptsTruly (files lp) before now
+checks_truly files lp cert dec status before now answers zero =
+    let through = went_through status (inl zero) in
+    let answer = answers through.0 through.1 through.2 in
+    by answer.0 answer.1 answer.2
+  where
+    by_blocks : (b : BlockedProgram) (report : List ℕ) → HasProgram (files lp) b.named → ChecksBlocked files cert b status report → now ≡ before ++ report → AcceptsTruly (files lp) before now
+    by_blocks b report has (checks.missing gone eleven empty) printed = absurd (not_outcome status (inl zero) (inr (inr eleven)))
+    by_blocks b report has (checks.faulty text line kind there fault three heard) printed = absurd (not_outcome status (inl zero) (inl three))
+    by_blocks b report has (checks.accepted text c there spells valid is_true is heard) printed =
+        record { program = b.named; claim = c.claim; read = has; is_true = is_true; printed = printed ∙ ap (λ (r : List ℕ). before ++ r) heard }
+    by_blocks b report has (checks.rejected text c line kind there spells point fault six heard) printed = absurd (not_outcome status (inl zero) (inr (inl six)))
+
+    by : (report : List ℕ) → AnswersCheck files lp cert dec status report → now ≡ before ++ report → AcceptsTruly (files lp) before now
+    by report (stopped come stops) printed =
+        absurd (not_outcome status (inl zero) (as_refusal status (files_come files lp dec (ends status report) come)))
+    by report (went_on b come right) printed = by_blocks b report (files_come files lp dec (blocked b) come) right printed
+
+-- the outcome that is kept is one of a search of the program in blocks that the files come to
+pub kept_outcome : (files : Files) (lp : List ℕ) (dec : Option (List ℕ)) (steps : Option ℕ) (from : Option (List ℕ)) (o : Outcome) (status : ℕ) (before now : List ℕ)
+    → AnswersBy (AnswersSolve files lp dec steps from (Some o)) status before now → IsOutcomeStatus status
+    → (b : BlockedProgram) → FilesCome files lp dec (blocked b) → (most : ℕ) × EndsWithin b most o
+kept_outcome files lp dec steps from o status before now answers is b come =
+    let through = went_through status is in
+    let answer = answers through.0 through.1 through.2 in
+    by answer.0 answer.1
+  where
+    one : (p q : Outcome) → (let x : Option Outcome = Some p in x) ≡ Some q → p ≡ q
+    one p q e = cc
+
+    ends_so : (c : BlockedProgram) (most : ℕ) (report : List ℕ) → c ≡ b → SolvesBlocked most steps (Some o) c status report → (n : ℕ) × EndsWithin b n o
+    ends_so c most report same right =
+        (most, subst (λ (d : BlockedProgram). EndsWithin d most o) same (subst (λ (p : Outcome). EndsWithin c most p) (sym (one o right.outcome right.is_kept)) right.is_outcome))
+
+    begun : (f : Option (List ℕ)) (c : BlockedProgram) (report : List ℕ) → c ≡ b → SolvesBy files f steps (Some o) c status report → (n : ℕ) × EndsWithin b n o
+    begun None c report same right = ends_so c (most_steps steps) report same right
+    begun (Some name) c report same (solves.missing gone none eleven empty) = absurd (not_outcome status is (inr (inr eleven)))
+    begun (Some name) c report same (solves.refused text there none refuses) = absurd (not_outcome status is (refuses_status c text status report refuses))
+    begun (Some name) c report same (solves.went_on text start there loaded right) = ends_so c (last_step start.grove steps) report same right
+
+    by : (report : List ℕ) → AnswersSolve files lp dec steps from (Some o) status report → (n : ℕ) × EndsWithin b n o
+    by report (stopped other stops) = absurd (not_outcome status is (as_refusal status (files_come files lp dec (ends status report) other)))
+    by report (went_on c other right) = begun from c report (one_front files lp dec (blocked c) (blocked b) other come) right
