@@ -245,8 +245,7 @@ class Certificate:
         depths = [0]
         while depths:
             line, word, depth = self.line, self.take(b"split", b"leaf ", b"open "), depths.pop()
-            comes = re.compile(b" " * (word == b"split") + INTEGER.pattern).match(self.text, self.at)  # a number, however it is spelled
-            need(depth <= DEPTH or not comes, "refused cert", line, "depth")
+            need(depth <= DEPTH or not re.match(b" " * (word == b"split") + INTEGER.pattern, self.text[self.at:self.at + 32]), "refused cert", line, "depth")
             number = next(self.ascending(1, variables)) if word == b"split" else self.number(SCALE, 0)
             at = self.take(b" ") and self.number(LARGEST) if word == b"split" else None
             proof = (None, None) if word == b"split" else self.read_proof(block_of, blocks)

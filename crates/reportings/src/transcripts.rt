@@ -1,7 +1,10 @@
 // Reports one behind another, and the bytes that they are to be.
+ghost use Rattle.std.specs.Prelude.{IfOk};
+ghost use Rattle.block_class.specs.Classes.{AreSameClasses};
+
 use crate::programs::{in_one_block, maximised};
 use block_class::Classes;
-use block_form::{BlockFault, Zone};
+use block_form::{BlockFault, Blocked, Zone};
 use bp_model::Model;
 use bp_report::{
     Refusal, blocks_text, budget_text, cert_text, check_text, dec_text, demo_text, ended_text,
@@ -130,11 +133,25 @@ fn searched(alloc: Global, m: &Model) -> Result<Vec<u8>, Fail> {
     Ok(all)
 }
 
-const SHOWN: &str = "\
+const MADE: &str = "\
 made variables 4 rows 5
 demo 7 1
 infeasible
 accepted infeasible
+";
+
+// Made texts, and a made program that is solved and checked.
+fn made(alloc: Global, b: &Blocked) -> Result<Vec<u8>, AllocError> {
+    let none = Outcome::Infeasible {
+        grove: Grove::plant(alloc, b)?,
+    };
+    let accepted = Judged::Accepted(Claim::Infeasible);
+    let mut all = made_text(alloc, 4, 5)?;
+    add(&mut all, demo_text(alloc, 7, 1, b, &none, &accepted))?;
+    Ok(all)
+}
+
+const SHOWN: &str = "\
 proposed blocks 1 classes 1 master 1
 variables 2
 rows 2
@@ -145,19 +162,20 @@ class 1 first 1 size 1 variables 2 rows 1
 block 1 rows 1 c1 variables 2 x x11
 ";
 
-// Sizes, blocks, and a made program.
-fn shown(alloc: Global) -> Result<Vec<u8>, Fail> {
-    let b = in_one_block(alloc)?;
-    let root = Classes::of(alloc, &b, &Zone::root(alloc, &b)?)?;
-    let none = Outcome::Infeasible {
-        grove: Grove::plant(alloc, &b)?,
-    };
-    let accepted = Judged::Accepted(Claim::Infeasible);
-    let mut all = Vec::new(alloc);
-    add(&mut all, made_text(alloc, 4, 5))?;
-    add(&mut all, demo_text(alloc, 7, 1, &b, &none, &accepted))?;
-    add(&mut all, proposed_text(alloc, &b, &root))?;
-    add(&mut all, show_blocks_text(alloc, &b, &root, true))?;
+// The classes of a program in blocks at the root.
+fn root_classes(alloc: Global, b: &Blocked) -> Result<Classes, AllocError>
+    ensures { IfOk result (AreSameClasses b.now.named.program.spans b.now.blocking) }
+{
+    let root = Zone::root(alloc, b)?;
+    Classes::of(alloc, b, &root)
+}
+
+// Sizes and blocks.
+fn shown(alloc: Global, b: &Blocked, root: &Classes) -> Result<Vec<u8>, AllocError>
+    requires { AreSameClasses b.now.named.program.spans b.now.blocking root.now }
+{
+    let mut all = proposed_text(alloc, b, root)?;
+    add(&mut all, show_blocks_text(alloc, b, root, true))?;
     Ok(all)
 }
 
@@ -192,8 +210,18 @@ fn searches_are_told_by_names(rt: HostRuntime) -> Result<(), Fail> {
 }
 
 #[test]
+fn made_programs_are_told(rt: HostRuntime) -> Result<(), Fail> {
+    let b = in_one_block(rt.alloc())?;
+    let told = made(rt.alloc(), &b)?;
+    assert_eq!(rt; told.as_slice(), MADE.as_bytes());
+    Ok(())
+}
+
+#[test]
 fn sizes_and_blocks_are_told(rt: HostRuntime) -> Result<(), Fail> {
-    let told = shown(rt.alloc())?;
+    let b = in_one_block(rt.alloc())?;
+    let root = root_classes(rt.alloc(), &b)?;
+    let told = shown(rt.alloc(), &b, &root)?;
     assert_eq!(rt; told.as_slice(), SHOWN.as_bytes());
     Ok(())
 }
