@@ -5,4 +5,5 @@ pub mod Held
 pub mod Standing
 pub mod TurnPlaces
 pub mod Adopting
+pub mod Below
 pub mod PlainBound

@@ -7,13 +7,14 @@ use Rattle.bp_theory.specs.Trees.{HasSoundSplits, IsProper, steps, depth}
 use Rattle.bp_theory.specs.declared.Span.{Span}
 use Rattle.bp_theory.specs.contracts.Span as span_type
 use Rattle.block_form.specs.Blocked.{BlockedProgram}
+use Rattle.search_laws.specs.declared.Side.{Side}
 use Rattle.search_laws.specs.contracts.Side as side_type
 use Rattle.search_laws.specs.declared.Side.TheVariants.{Low, High}
 use Rattle.search_laws.specs.Grove.{GrowingTree, live_at, zone_at, live_count, live_bounds, certificate_tree, planted}
 use Rattle.search_laws.specs.GroveFacts.{IsGrove, IsLeastOf}
 use Rattle.search_laws.specs.Queue.{Queue, IsQueue, IsFirstEntry, IsWith, IsWithout, SameKey}
 use Rattle.search_laws.specs.TreeCodes.{coded_growing}
-use Rattle.branch_tree.specs.Queues.{Entries, queue_of, IsEntryAt}
+use Rattle.branch_tree.specs.Queues.{Entries, queue_of, IsEntryAt, LiesBelow, IsFirstBelow}
 use Rattle.branch_tree.specs.declared.turn.Turn.{Turn}
 
 -- a grove: its tree, the zone of the root, and the queue of its live leaves
@@ -81,6 +82,16 @@ pub record IsTurnAt (g : GroveState) (place : ℕ) (turn : Turn) : Type 0 where
   pub live : IsLiveTurn g turn
   pub number : ℕ
   pub entry : IsEntryAt g.queue place turn.bound number turn.path
+
+-- the live leaf at or below a path that comes first of those in the queue's order
+pub record IsTurnBelow (g : GroveState) (above : List Side) (turn : Turn) : Type 0 where
+  pub live : IsLiveTurn g turn
+  pub number : ℕ
+  pub first : IsFirstBelow (queue_of g.queue) above turn.bound number turn.path
+
+-- no leaf at or below a path is live
+abbrev pub NoneLiveBelow : GrowingTree → List Side → Type 0
+NoneLiveBelow t above = (path : List Side) → LiesBelow above path → live_at t path ≡ None
 
 -- a queue without a turn's entry
 pub record IsShutQueue (before : Queue) (turn : Turn) (after : Queue) : Type 0 where

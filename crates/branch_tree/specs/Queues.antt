@@ -1,10 +1,10 @@
 -- The queue of live leaves as a list of entries.
-use Rattle.std.specs.Prelude.{◌≡◌, ℕ, ◌+◌, List, length, Some, None, ℤ}
+use Rattle.std.specs.Prelude.{◌≡◌, ℕ, ◌+◌, List, ◌++◌, length, Some, None, ℤ}
 use Rattle.std.specs.List.{filter}
 use Rattle.std.specs.Ordering.{is_eq, is_lt, int_cmp, nat_cmp, ordering_then}
 use Rattle.std.specs.Map.{lookup}
 use Rattle.std.specs.declared.cmp.Ordering.{Ordering}
-use Rattle.search_laws.specs.Queue.{Queue, SameKey}
+use Rattle.search_laws.specs.Queue.{Queue, SameKey, ComesFirst}
 use Rattle.search_laws.specs.declared.Side.{Side}
 
 -- entries in order: a bound and a number of making, and the path of the leaf
@@ -34,3 +34,13 @@ pub record IsDivided (before : Queue) (z : ℤ) (n : ℕ) (next : ℤ) (number :
   pub low : after next number ≡ Some first
   pub high : after next (number + 1) ≡ Some second
   pub others : (w : ℤ) (m : ℕ) → (SameKey w m z n → ⊥) → (SameKey w m next number → ⊥) → (SameKey w m next (number + 1) → ⊥) → after w m ≡ before w m
+
+-- a path goes through a node's path, or is it: what it leads to lies at or below the node
+abbrev pub LiesBelow : (above path : List Side) → Type 0
+LiesBelow above path = (rest : List Side) × (path ≡ above ++ rest)
+
+-- an entry of a leaf at or below a node, which no other such entry comes before
+pub record IsFirstBelow (entry : Queue) (above : List Side) (z : ℤ) (n : ℕ) (path : List Side) : Type 0 where
+  pub there : entry z n ≡ Some path
+  pub below : LiesBelow above path
+  pub first : (w : ℤ) (m : ℕ) (other : List Side) → entry w m ≡ Some other → LiesBelow above other → ComesFirst z n w m

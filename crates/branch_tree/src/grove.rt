@@ -54,7 +54,7 @@ impl Grove {
     ghost use Rattle.branch_tree.specs.Turns.{IsTurn};
     ghost use Rattle.branch_tree.specs.Trees.{tree_of};
     ghost use Rattle.branch_tree.specs.Queues.{queue_of};
-    ghost use Rattle.branch_tree.specs.Groves.{IsStanding, IsGroveOf, IsPlanted, IsLiveTurn, IsNextTurn, IsTurnAt, IsShutQueue, IsForkedQueue, made};
+    ghost use Rattle.branch_tree.specs.Groves.{IsStanding, IsGroveOf, IsPlanted, IsLiveTurn, IsNextTurn, IsTurnAt, IsTurnBelow, NoneLiveBelow, IsShutQueue, IsForkedQueue, made};
     ghost use Rattle.branch_tree.specs.Adopted.{IsAdopted};
 
     /// One live leaf with the program's whole zone, with the proof of scale 1 that names no row and picks no block, and
@@ -132,6 +132,22 @@ impl Grove {
             return Ok(None);
         }
         let Some((_, path)) = self.queue.at_place(place) else {
+            return Ok(None);
+        };
+        let root = self.root.copy(alloc)?;
+        let leaf = turn_at(alloc, &self.tree, path, root)?;
+        Ok(Some(leaf))
+    }
+
+    /// The live leaf at or below a path that is next of those: of least bound, and of equal bounds the one made first. None
+    /// exactly where no leaf there is live. The leaf stays live. The walk through the queue passes all live leaves that come
+    /// before it.
+    pub fn take_below(&self, alloc: Global, above: &[Side]) -> Result<Option<Turn>, AllocError>
+        ensures next { IfOk result (λ turn. MatchOption turn (NoneLiveBelow self.now.tree above.now) (IsTurnBelow self.now above.now)) }
+        ensures kept { (b : BlockedProgram) → IsGroveOf b self.now → IfOk result (λ turn. IfSome turn (IsTurn b)) }
+        ensures standing { IsStanding self.now }
+    {
+        let Some((_, path)) = self.queue.first_below(above) else {
             return Ok(None);
         };
         let root = self.root.copy(alloc)?;

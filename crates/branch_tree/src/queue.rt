@@ -1,5 +1,6 @@
 // The queue of a tree's live leaves, in order of bound and then of making.
 ghost use Rattle.std.specs.Prelude.{◌≡◌, ◌↔◌, IsTrue};
+ghost use Rattle.branch_tree.specs.Queues.{LiesBelow};
 
 use bp_theory::Items;
 use search_laws::Side;
@@ -21,12 +22,13 @@ impl std::marker::Model for LeafQueue {
 }
 
 impl LeafQueue {
-    ghost use Rattle.std.specs.Prelude.{◌≡◌, ◌+◌, ◌<◌, ◌≤◌, ◌^◌, length, IsSome, OnOk, OnErr, IfSome, IfNone, None, Some, ℕ};
+    ghost use Rattle.std.specs.Prelude.{◌≡◌, ◌+◌, ◌<◌, ◌≤◌, ◌^◌, length, IsSome, OnOk, OnErr, IfSome, IfNone, List, None, Some, ℕ, ℤ};
+    ghost use Rattle.search_laws.specs.declared.Side.{Side};
     ghost use Rattle.search_laws.specs.Queue.{IsEmptyQueue, IsWith, IsWithout, IsFirstEntry};
     ghost use Rattle.std.specs.Ordering.{is_eq};
     ghost use Rattle.std.specs.Map.{remove_entry};
     ghost use Rattle.std.specs.BTreeMap.{insert_entry};
-    ghost use Rattle.branch_tree.specs.Queues.{key_cmp, queue_of, IsDivided, IsEntryAt};
+    ghost use Rattle.branch_tree.specs.Queues.{key_cmp, queue_of, IsDivided, IsEntryAt, LiesBelow, IsFirstBelow};
 
     /// No entries.
     pub fn new(alloc: Global) -> LeafQueue
@@ -77,6 +79,20 @@ impl LeafQueue {
             None => None,
             Some((key, path)) => Some((key, path.as_slice())),
         }
+    }
+
+    /// The first of the entries whose leaves lie at or below a path, or None where there is no such entry. The walk from the
+    /// front passes all entries before it.
+    pub fn first_below(&self, above: &[Side]) -> Option<(&(i64, u64), &[Side])>
+        ensures some { IfSome result (λ e. IsFirstBelow (queue_of self.now) above.now e.0.now.0 e.0.now.1 e.1.now) }
+        ensures none { IfNone result ((z : ℤ) (n : ℕ) (path : List Side) → queue_of self.now z n ≡ Some path → LiesBelow above.now path → ⊥) }
+    {
+        for (key, path) in self.entries.range(..) {
+            if lies_below(path.as_slice(), above) {
+                return Some((key, path.as_slice()));
+            }
+        }
+        None
     }
 
     /// Puts two entries in place of one, under a key and that of the next number. Where memory is short nothing changes.
@@ -141,6 +157,18 @@ fn same_path(path: &[Side], other: &[Side]) -> bool
         ([], []) => true,
         ([Side::Low, rest @ ..], [Side::Low, others @ ..]) => same_path(rest, others),
         ([Side::High, rest @ ..], [Side::High, others @ ..]) => same_path(rest, others),
+        _ => false,
+    }
+}
+
+// Whether a leaf's path goes through a node's.
+fn lies_below(path: &[Side], above: &[Side]) -> bool
+    ensures { IsTrue result ↔ LiesBelow above.now path.now }
+{
+    match (above, path) {
+        ([], _) => true,
+        ([Side::Low, rest @ ..], [Side::Low, others @ ..]) => lies_below(others, rest),
+        ([Side::High, rest @ ..], [Side::High, others @ ..]) => lies_below(others, rest),
         _ => false,
     }
 }
