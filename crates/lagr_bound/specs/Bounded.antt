@@ -30,6 +30,12 @@ IsBounded b zone proof cap bounds.Endless = IsEndless b zone proof
 IsBounded b zone proof cap (bounds.Cut k) =
     (k < length b.blocks) × IsTrue (is_picked proof.picked k) × IsExceeded cap (spans_of zone (block_at b k))
 
+-- a fact of a bound that is whole
+abbrev pub IfWhole : Bounded → (ℤ → Type 0) → Type 0
+IfWhole (bounds.Whole v) P = P v
+IfWhole bounds.Endless P = Unit {0}
+IfWhole (bounds.Cut k) P = Unit {0}
+
 -- a picked block that no picked block of its class comes before
 pub record IsLowest (classes : List ℕ) (picked : Picked) (k : ℕ) : Type 0 where
   pub own : is_picked picked k ≡ true

@@ -1,5 +1,5 @@
 // Bounds of proofs, each class of blocks priced once.
-ghost use Rattle.std.specs.Prelude.{◌≡◌, ◌<◌, ◌+◌, length, map};
+ghost use Rattle.std.specs.Prelude.{◌≡◌, ◌<◌, ◌≤◌, ◌+◌, ◌^◌, length, map, unsigned_abs};
 ghost use Rattle.bp_theory.specs.Bound.{Fits, IsEndless};
 ghost use Rattle.bp_theory.specs.Trees.{IsZone};
 ghost use Rattle.block_class.specs.Classes.{AreSameClasses};
@@ -7,7 +7,7 @@ ghost use Rattle.pricing.specs.declared.Cap.TheVariants.{Never};
 ghost use Rattle.lagr_bound.specs.Desks.{told_point};
 ghost use Rattle.lagr_bound.specs.Forms.{forms_in};
 ghost use Rattle.lagr_bound.specs.Works.{forms_of, point_at, IsSilent};
-ghost use Rattle.lagr_bound.specs.Bounded.{IsBounded, IsPartAnswer, TellsPoints, AreTold, AreKnown, IfLeast};
+ghost use Rattle.lagr_bound.specs.Bounded.{IsBounded, IfWhole, IsPartAnswer, TellsPoints, AreTold, AreKnown, IfLeast};
 
 use crate::bounded::Bounded;
 use crate::costs::base;
@@ -21,7 +21,7 @@ use pricing::{Cap, Priced, plus};
 
 /// The weak Lagrangian bound of a proof in a zone with the zone's classes, whose picked blocks are priced once a class: the
 /// lowest picked block, since blocks that are the same in the zone have the same least. It is the sum over all blocks, as
-/// that of `sum_bound`. After a whole bound `Work::point` tells a point of each such block that reaches its least.
+/// that of `sum_bound`, and its magnitude at most `2^116`. After a whole bound `Work::point` tells a point of each such block that reaches its least.
 pub fn bound(
     work: &mut Work,
     b: &Blocked,
@@ -36,6 +36,7 @@ pub fn bound(
     requires fits { Fits b.now.blocking proof.now }
     ensures answer { IsBounded b.now.blocking zone.now proof.now cap result }
     ensures endless { cap ≡ Never → IsEndless b.now.blocking zone.now proof.now → result ≡ Bounded.Endless }
+    ensures size { IfWhole result (λ v. unsigned_abs v ≤ 2 ^ 116) }
     ensures made_for { forms_of work.new ≡ forms_of work.old }
     ensures points { TellsPoints b.now.blocking zone.now proof.now classes.now.classes result (point_at work.new) }
 {

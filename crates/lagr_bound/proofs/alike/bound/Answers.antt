@@ -72,3 +72,8 @@ returns-clause-endless c never endless =
     (all_parts c.args.b.now.blocking c.args.zone.now c.args.proof.now c.loop-number.number (to_z w128 c.loop-number.sum-bits)
     (omega (arith, c.loop-number.invariant.2, c.loop-number-test.false, c.blocks-blocks.ensures.blocks)) c.loop-number.invariant.1)
     never endless
+
+pub returns-clause-size : goal.returns-clause-size
+returns-clause-size c =
+    parts_small c.args.b.now.blocking c.args.zone.now c.args.proof.now c.loop-number.number (to_z w128 c.loop-number.sum-bits) c.loop-number.invariant.1
+    (bound_small c.args.b.now c.args.zone.now c.args.proof.now c.blocks-blocks.ensures.formed c.requires.zone c.requires.fits)
