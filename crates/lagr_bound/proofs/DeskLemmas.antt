@@ -6,7 +6,7 @@ use Rattle.std.specs.List.{AllByRecursion}
 use Rattle.std.proofs.lemmas.Int.{ints}
 use Rattle.std.proofs.lemmas.List.Elements.{All-from_recursion}
 use Rattle.std.proofs.Math.IntN.{ℤ, pos}
-use Rattle.std.specs.Prelude.{◌≤ℤ◌, All}
+use Rattle.std.specs.Prelude.{◌≤ℤ◌, ◌↔◌, All, IsTrue}
 use Rattle.bp_theory.specs.Program.{span_at}
 use Rattle.bp_theory.specs.Blocking.{Copy}
 use Rattle.bp_theory.specs.Trees.{IsSubspan, IsSubzone, IsProper}
@@ -23,7 +23,11 @@ use Rattle.block_form.specs.Blocked.{BlockedProgram, RootBlock, IsFormed}
 use Rattle.pricing.specs.Form.{IsForm}
 use Rattle.pricing.proofs.BlockLaws.{blocks_have_form_lem}
 use Rattle.lagr_bound.specs.Forms.{BlockForm, form_in, form_with, forms_in}
-use Rattle.lagr_bound.specs.Pricers.{IsEnough, AreEnough}
+use Rattle.knap_price.specs.Taken.{IsTaken}
+use Rattle.search_laws.specs.Spread.{block_at}
+use Rattle.lagr_bound.specs.Pricers.{IsEnough, AreEnough, IsFitting, is_table, rows_of as pricer_rows, spans_of as pricer_spans}
+use Rattle.lagr_bound.specs.declared.pricers.BlockPricer.{BlockPricer}
+use Rattle.lagr_bound.specs.declared.pricers.BlockPricer.TheVariants.{Table, States, Search}
 
 -- one place more is as it should be
 pub same_more : {X : Type 0} (d : X) (xs ys : List X) (k : ℕ) (v : X) → k < length xs → v ≡ get_or ys k d
@@ -166,6 +170,26 @@ enough_at cells desks k desk l is enough =
     let same : form_of desk ≡ get_or (map form_of desks) k nothing =
     ap form_of is ∙ sym (get_or-map form_of desks k desk nothing l) in
     subst (λ (f : BlockForm). IsEnough cells f.rows f.spans) (sym same) (enough k nothing (omega (arith, l, length-map desks form_of)))
+
+-- ---- which blocks have tables
+
+table_where_taken : (pricer : BlockPricer) → IsFitting pricer → IsTrue (is_table pricer) ↔ IsTaken (pricer_rows pricer) (pricer_spans pricer)
+table_where_taken (Table plan) taken = (λ _. taken, λ _. refl)
+table_where_taken (States states) other = (λ same. absurd (cc), λ taken. absurd (other taken))
+table_where_taken (Search search') other = (λ same. absurd (cc), λ taken. absurd (other taken))
+
+pub tables_where_taken : (b : BlockedProgram) (desks : List Desk) → map form_of desks ≡ forms_in b → All (λ (desk : Desk). IsFitting desk.pricer) desks
+    → (k : ℕ) (desk : Desk) → k < length b.blocking.blocks
+    → IsTrue (is_table (get_or desks k desk).pricer) ↔ IsTaken (block_at b.blocking k).rows (spans_of b.named.program.spans (block_at b.blocking k))
+tables_where_taken b desks e fitting k desk l =
+    let there : k < length desks = desk_there b desks k e l in
+    let none : Block = record { copies = []; rows = [] } in
+    let nothing : BlockForm = record { rows = []; spans = [] } in
+    let form : form_of (get_or desks k desk) ≡ form_with b.named.program.spans (block_at b.blocking k) =
+    sym (get_or-map form_of desks k desk nothing there) ∙ ap (λ (fs : List BlockForm). get_or fs k nothing) e
+    ∙ get_or-map (form_with b.named.program.spans) b.blocking.blocks k none nothing l in
+    subst (λ (f : BlockForm). IsTrue (is_table (get_or desks k desk).pricer) ↔ IsTaken f.rows f.spans) form
+    (table_where_taken (get_or desks k desk).pricer (fitting k desk there))
 
 -- ---- the spans of a block in a zone
 

@@ -1,5 +1,5 @@
 -- What the pricer of a block keeps, whichever it is.
-use Rattle.std.specs.Prelude.{ℕ, ◌≤◌, List, All, ℤ}
+use Rattle.std.specs.Prelude.{ℕ, ◌≤◌, Bool, true, false, List, All, ℤ}
 use Rattle.bp_theory.specs.declared.Span.{Span}
 use Rattle.bp_theory.specs.declared.Row.{Row}
 use Rattle.knap_price.specs.Kept as by_table
@@ -36,6 +36,12 @@ IsEnough cells rows spans = IsTaken rows spans → cells_of rows spans ≤ cells
 -- they are for each of these forms
 abbrev pub AreEnough : (cells : ℕ) → List BlockForm → Type 0
 AreEnough cells forms = All (λ (f : BlockForm). IsEnough cells f.rows f.spans) forms
+
+-- whether it is a table
+abbrev pub is_table : BlockPricer → Bool
+is_table (Table plan) = true
+is_table (States pricer) = false
+is_table (Search pricer) = false
 
 -- a table exactly where one takes the block
 abbrev pub IsFitting : BlockPricer → Type 0

@@ -1,6 +1,11 @@
 -- What pricing all blocks keeps and tells.
-use Rattle.std.specs.Prelude.{◌≡◌, ℕ, ◌<◌, List, length, map, ℤ, Option, None, slice_index_or}
+use Rattle.std.specs.Prelude.{◌≡◌, ◌↔◌, ℕ, ◌<◌, List, length, map, ℤ, Option, None, IsTrue, slice_index_or}
+use Rattle.bp_theory.specs.Bound.{spans_of}
+use Rattle.search_laws.specs.Spread.{block_at}
+use Rattle.block_form.specs.Blocked.{BlockedProgram}
+use Rattle.knap_price.specs.Taken.{IsTaken}
 use Rattle.lagr_bound.specs.Forms.{BlockForm}
+use Rattle.lagr_bound.specs.Pricers.{is_table}
 use Rattle.lagr_bound.specs.Desks.{form_of, told_point}
 use Rattle.lagr_bound.specs.declared.desk.Desk.{Desk}
 use Rattle.lagr_bound.specs.declared.work.Work.{Work}
@@ -16,3 +21,10 @@ point_at work k = slice_index_or (map told_point work.desks.items) k None
 -- it tells no point
 abbrev pub IsSilent : Work → Type 0
 IsSilent work = (k : ℕ) → point_at work k ≡ None
+
+-- each block of a program has a table exactly where a table takes its rows and its spans at the root
+abbrev pub HasTables : BlockedProgram → Work → Type 0
+HasTables b work =
+    (k : ℕ) (desk : Desk) → k < length b.blocking.blocks
+    → IsTrue (is_table (slice_index_or work.desks.items k desk).pricer)
+    ↔ IsTaken (block_at b.blocking k).rows (spans_of b.named.program.spans (block_at b.blocking k))

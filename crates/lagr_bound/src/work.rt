@@ -33,12 +33,13 @@ impl Work {
     ghost use Rattle.lagr_bound.specs.declared.desk.Desk.{Desk};
     ghost use Rattle.lagr_bound.specs.Desks.{told_point, priced_point};
     ghost use Rattle.lagr_bound.specs.Forms.{forms_in};
-    ghost use Rattle.lagr_bound.specs.Works.{forms_of, point_at, IsSilent};
+    ghost use Rattle.lagr_bound.specs.Works.{forms_of, point_at, IsSilent, HasTables};
 
-    /// The pricers of a program's blocks, which tell no point.
+    /// The pricers of a program's blocks, which tell no point. A block has a table exactly where a table takes it.
     pub fn make(alloc: Global, b: &Blocked) -> Result<Work, AllocError>
         ensures forms { IfOk result (λ work. forms_of work ≡ forms_in b.now) }
         ensures silent { IfOk result (λ work. IsSilent work) }
+        ensures tables { IfOk result (λ work. HasTables b.now work) }
     {
         let mut desks = Vec::new(alloc);
         let mut most = 0;
