@@ -84,26 +84,45 @@ fn coef_product(mults: &[(u32, i64)], coef: &(u32, i64)) -> i128
     product(&multiplier(mults, coef.0), &coef.1)
 }
 
-// The multiplier of a row, 0 where it has none, by halving.
+// The multiplier of a row, 0 where it has none. It is looked for at the row's own place first: where most rows have multipliers, it is
+// there or, by the number of the row that is, not far below. Else the rest is halved.
 fn multiplier(mults: &[(u32, i64)], row: u32) -> i64
     requires { IsStrictlyIncreasing (map (λ m. m.0) mults.now) }
     ensures { result ≡ sum_at (λ m. m.0) (λ m. m.1) mults.now row }
 {
     let mut from = 0;
     let mut to = mults.len();
+    let mut guess = row as usize;
     while from < to {
-        let middle = from + (to - from) / 2;
-        let here = &mults[middle];
+        let place = within(guess, from, to);
+        let here = &mults[place];
         if here.0 == row {
             return number(here);
         }
         if here.0 < row {
-            from = middle + 1;
+            from = place + 1;
+            guess = from + (to - from) / 2;
         } else {
-            to = middle;
+            to = place;
+            guess = place.saturating_sub((here.0 - row) as usize);
         }
     }
     0
+}
+
+// The place that is nearest to a guess, of those from one on and below another.
+fn within(guess: usize, from: usize, to: usize) -> usize
+    requires { from < to }
+    ensures from { from ≤ result }
+    ensures to { result < to }
+{
+    if guess < from {
+        from
+    } else if guess < to {
+        guess
+    } else {
+        to - 1
+    }
 }
 
 // The number of a row.

@@ -1,4 +1,4 @@
-use Rattle.std.proofs.Common.{◌≡◌, ◌∙◌, ◌+◌, ◌-◌, ◌/◌, ◌<◌, ℕ, length, arith, to_z, of_z}
+use Rattle.std.proofs.Common.{◌≡◌, ◌∙◌, ◌<◌, length, arith, to_z, of_z}
 use Rattle.std.specs.Int.{w64}
 use Rattle.std.proofs.lemmas.Int.{ints}
 use Rattle.lagr_bound.proofs.MultLemmas.{multiplier_at, none_between, below_middle, above_middle}
@@ -6,29 +6,26 @@ use Rattle.lagr_bound.proofs.costs.multiplier.Goals as goal
 
 pub returns-then-here-row : goal.returns-then-here-row
 returns-then-here-row c =
-    let i : ℕ = c.loop-from.from + (c.loop-from.to - c.loop-from.from) / 2 in
     let same : to_z w64 (of_z w64 c.number.result) ≡ c.number.result = omega (arith, ints) in
-    let there : i < length c.args.mults.now = omega (arith, c.loop-from-test.true, c.loop-from.invariant.1) in
-    same ∙ c.number.ensures ∙ multiplier_at c.args.mults.now c.args.row i c.requires there c.if-here-row.true
+    let there : c.within-place.result < length c.args.mults.now = omega (arith, c.within-place.ensures.to, c.loop-from.invariant.1) in
+    same ∙ c.number.ensures ∙ multiplier_at c.args.mults.now c.args.row c.within-place.result c.requires there c.if-here-row.true
 
 pub loop-from-preserved-then-here-row-2 : goal.loop-from-preserved-then-here-row-2
 loop-from-preserved-then-here-row-2 c =
-    let i : ℕ = c.loop-from.from + (c.loop-from.to - c.loop-from.from) / 2 in
-    let there : i < length c.args.mults.now = omega (arith, c.loop-from-test.true, c.loop-from.invariant.1) in (
-      omega (arith, c.loop-from-test.true),
+    let there : c.within-place.result < length c.args.mults.now = omega (arith, c.within-place.ensures.to, c.loop-from.invariant.1) in (
+      omega (arith, c.within-place.ensures.to),
       c.loop-from.invariant.1,
-      below_middle c.args.mults.now c.args.row i c.requires there c.if-here-row-2.true,
+      below_middle c.args.mults.now c.args.row c.within-place.result c.requires there c.if-here-row-2.true,
       c.loop-from.invariant.3,
     )
 
 pub loop-from-preserved : goal.loop-from-preserved
 loop-from-preserved c =
-    let i : ℕ = c.loop-from.from + (c.loop-from.to - c.loop-from.from) / 2 in
-    let there : i < length c.args.mults.now = omega (arith, c.loop-from-test.true, c.loop-from.invariant.1) in (
-      omega arith,
+    let there : c.within-place.result < length c.args.mults.now = omega (arith, c.within-place.ensures.to, c.loop-from.invariant.1) in (
+      c.within-place.ensures.from,
       omega (arith, there),
       c.loop-from.invariant.2,
-      above_middle c.args.mults.now c.args.row i c.requires there c.if-here-row.false c.if-here-row-2.false,
+      above_middle c.args.mults.now c.args.row c.within-place.result c.requires there c.if-here-row.false c.if-here-row-2.false,
     )
 
 pub returns : goal.returns
