@@ -1,5 +1,6 @@
 pub mod Steps
 pub mod LeastLaws
+pub mod Near
 pub mod Bounds
 pub mod Ends
 pub mod Shared

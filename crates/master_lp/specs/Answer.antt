@@ -1,8 +1,8 @@
 -- What an answer to a restricted master says, whatever led to it.
-use Rattle.std.specs.Prelude.{◌≡◌, ℕ, ◌^◌, ◌<◌, ◌≤◌, List, zip, length, ℤ, pos, ◌≤ℤ◌, unsigned_abs, All}
+use Rattle.std.specs.Prelude.{◌≡◌, ◌↔◌, ℕ, ◌^◌, ◌<◌, ◌≤◌, List, zip, length, ℤ, pos, ◌+ℤ◌, ◌*ℤ◌, ◌≤ℤ◌, unsigned_abs, All}
 use Rattle.bp_theory.specs.declared.MasterRow.{MasterRow}
 use Rattle.search_laws.specs.declared.Column.{Column}
-use Rattle.search_laws.specs.Master.{class_weight, AreConvex, HaveFittingSigns, gap, short}
+use Rattle.search_laws.specs.Master.{class_weight, AreConvex, HaveFittingSigns, FitsTimes, one_weight, weighted_cost, gap, short}
 use Rattle.master_lp.specs.declared.answer.MasterAnswer.{MasterAnswer}
 use Rattle.master_lp.specs.Restricted.{Restricted}
 
@@ -25,3 +25,10 @@ pub record IsAnswer (m : Restricted) (a : MasterAnswer) : Type 0 where
   pub convex : AreConvex m.cols (length m.counts) a.mults.items a.convex.items
   pub gap_is : a.gap ≡ gap m.rows m.counts (zip m.cols a.weights.items) a.mults.items a.convex.items
   pub short_is : a.short ≡ pos (short m.rows m.counts (zip m.cols a.weights.items))
+
+-- What the gap and what is short mean: weights that fit a number of times cost no less than the answer's as many times, but for the
+-- gap as many times; and nothing is short exactly where the answer's weights fit.
+pub record IsNearBest (m : Restricted) (a : MasterAnswer) : Type 0 where
+  pub near : (n : ℕ) (others : List ℤ) → All (λ y. pos 0 ≤ℤ y) others → FitsTimes n m.rows m.counts (zip m.cols others)
+      → (pos n *ℤ weighted_cost (zip m.cols a.weights.items)) ≤ℤ (pos one_weight *ℤ weighted_cost (zip m.cols others) +ℤ pos n *ℤ a.gap)
+  pub fits : a.short ≡ pos 0 ↔ FitsTimes one_weight m.rows m.counts (zip m.cols a.weights.items)

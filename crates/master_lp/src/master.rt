@@ -1,7 +1,7 @@
 // The restricted master, kept between rounds.
 ghost use Rattle.std.specs.Prelude.{◌≡◌, IfOk, OnOk, OnErr};
 ghost use Rattle.master_lp.specs.Restricted.{IsModest, without_columns, with_column};
-ghost use Rattle.master_lp.specs.Answer.{IsAnswer};
+ghost use Rattle.master_lp.specs.Answer.{IsAnswer, IsNearBest};
 
 use crate::answer::MasterAnswer;
 use crate::measure::measured;
@@ -73,10 +73,12 @@ impl Master {
     }
 
     /// Weights of the columns and multipliers of the rows after at most so many pivots of a simplex that takes the
-    /// column of least reduced cost. Nothing is promised of how good they are: the answer says it, exactly.
+    /// column of least reduced cost. Nothing is promised of how good they are: the answer says it, exactly, by its gap and by
+    /// what it is short of.
     pub fn solve(&mut self, alloc: Global, pivots: u32) -> Result<MasterAnswer, AllocError>
         requires { IsModest self.old }
         ensures answer { IfOk result (IsAnswer self.old) }
+        ensures near { IfOk result (IsNearBest self.old) }
         ensures same { self.new ≡ self.old }
     {
         let proposal = self.simplex.propose(alloc, &self.cols, pivots)?;
@@ -123,7 +125,8 @@ pub fn solve_master(
     pivots: u32,
 ) -> Result<MasterAnswer, AllocError>
     requires { IsModest (record { cols = cols.now; rows = rows.now; counts = counts.now }) }
-    ensures { IfOk result (IsAnswer (record { cols = cols.now; rows = rows.now; counts = counts.now })) }
+    ensures answer { IfOk result (IsAnswer (record { cols = cols.now; rows = rows.now; counts = counts.now })) }
+    ensures near { IfOk result (IsNearBest (record { cols = cols.now; rows = rows.now; counts = counts.now })) }
 {
     let mut master = Master::make(alloc, rows, counts)?;
     for col in cols {

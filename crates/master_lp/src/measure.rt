@@ -2,7 +2,7 @@
 ghost use Rattle.std.specs.Prelude.{◌≡◌, pos, zip, length, IfOk};
 ghost use Rattle.search_laws.specs.Master.{AreConvex, gap, short};
 ghost use Rattle.master_lp.specs.Restricted.{IsModest};
-ghost use Rattle.master_lp.specs.Answer.{AreWeights, AreMultipliers, IsAnswer};
+ghost use Rattle.master_lp.specs.Answer.{AreWeights, AreMultipliers, IsAnswer, IsNearBest};
 
 use crate::answer::MasterAnswer;
 use crate::clip::{clipped_multipliers, clipped_weights};
@@ -66,7 +66,8 @@ pub fn measured(
     mults: &[i64],
 ) -> Result<MasterAnswer, AllocError>
     requires { IsModest (record { cols = cols.now; rows = rows.now; counts = counts.now }) }
-    ensures { IfOk result (IsAnswer (record { cols = cols.now; rows = rows.now; counts = counts.now })) }
+    ensures answer { IfOk result (IsAnswer (record { cols = cols.now; rows = rows.now; counts = counts.now })) }
+    ensures near { IfOk result (IsNearBest (record { cols = cols.now; rows = rows.now; counts = counts.now })) }
 {
     let weights = clipped_weights(alloc, cols, counts.len(), weights)?;
     let mults = clipped_multipliers(alloc, rows, mults)?;

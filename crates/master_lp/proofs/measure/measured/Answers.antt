@@ -7,6 +7,7 @@ use Rattle.search_laws.specs.Master.{column_price, AreConvex, gap, short}
 use Rattle.master_lp.specs.Restricted.{Restricted}
 use Rattle.master_lp.proofs.Steps.{passed}
 use Rattle.master_lp.proofs.Bounds.{price_small}
+use Rattle.master_lp.proofs.Near.{near_best}
 use Rattle.master_lp.proofs.measure.measured.Goals as goal
 
 pub least_prices-requires-clause-small : goal.least_prices-requires-clause-small
@@ -15,8 +16,8 @@ least_prices-requires-clause-small c =
     subst (λ (ms : List ℤ). All (λ (k : Column). unsigned_abs (column_price ms k) < 2 ^ 126) m.cols) (sym c.deref.ensures.value)
     (λ j d l. omega (arith, price_small m c.in_ok-mults.mults.items c.requires c.in_ok-mults.ensures j d l))
 
-pub returns : goal.returns
-returns c =
+pub returns-clause-answer : goal.returns-clause-answer
+returns-clause-answer c =
     let cols = c.args.cols.now in
     let rows = c.args.rows.now in
     let counts = c.args.counts.now in
@@ -37,3 +38,6 @@ returns c =
           ∙ c.in_ok-short.ensures
           ∙ ap (λ (ws : List ℤ). pos (short rows counts (zip cols ws))) c.deref-5.ensures.value;
     }
+
+pub returns-clause-near : goal.returns-clause-near
+returns-clause-near c = near_best (record { cols = c.args.cols.now; rows = c.args.rows.now; counts = c.args.counts.now }) _ c.requires (returns-clause-answer c)
