@@ -19,6 +19,11 @@ cd "$top/examples"
 draw matrix cutting-stock/model.lp --dec cutting-stock/model.dec "$here/cutting-matrix.svg"
 draw tree routing/model.lp routing/model.cert "$here/routing-tree.svg"
 
+"$bprice" solve "$here/small.lp" --cert "$room/small.cert" >"$room/report"
+draw tree "$here/small.lp" "$room/small.cert" "$here/small-tree.svg"
+
+"$top/tools/layers.py"
+
 # A hundred jobs for five machines, of the recipe whose instances are the hardest: the first twenty seconds of a search of many
 # steps are drawn.
 python3 "$top/bench/models.py" "$room" assignment-D-5-100

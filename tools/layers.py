@@ -1,0 +1,86 @@
+#!/usr/bin/env python3
+"""Draws the crates as crates.txt has them, each above what it stands on: docs/pictures/layers.svg.
+
+    tools/layers.py            draws it anew (needs graphviz)
+    tools/layers.py --check    fails where the picture is not that of crates.txt
+
+A line goes from a crate to each crate that it names and that it does not reach by another one already. ROOMS says in which part of the
+house a crate stands: a new crate is put into one of them.
+"""
+import hashlib
+import pathlib
+import subprocess
+import sys
+
+TOP = pathlib.Path(__file__).resolve().parent.parent
+PICTURE = TOP / "docs/pictures/layers.svg"
+ROOMS = {  # a room's title: its colour, and its crates
+    "theory: definitions and laws": ("#fff3c4", "bp_theory search_laws"),
+    "texts and models": ("#d9ead3", "lp_token bp_model lp_read dec_read dec_find dec_guess bp_gen"),
+    "blocks": ("#cfe2f3", "block_form block_class disagg"),
+    "pricing and bounds": ("#d0e0e3", "pricing search_price knap_price state_price lagr_bound"),
+    "hints: nothing proved rests on how good they are": (
+        "#eeeeee", "col_pool master_lp lp_factor lp_core column_lp lone_leaf point_hint column_hint node_hint"),
+    "search": ("#f4cccc", "branch_tree node_eval bp_search bp_crew tree_merge"),
+    "certificates": ("#ead1dc", "cert_text cert_check cert_load"),
+    "files, words and reports": ("#fce5cd", "bp_shelf bp_real bp_reason bp_words bp_report bp_front"),
+    "commands": ("#d9d2e9", "cmd_show cmd_solve cmd_check cmd_gen cmd_detect cmd_propose cmd_merge cmd_demo bp_cli bprice"),
+}
+TESTS = "readings pricings wordings reportings worked calls crews".split()  # not drawn
+
+
+def crates():
+    """Each crate with those that it stands on, as far as they are of this repository."""
+    lines = [line.split(":") for line in (TOP / "crates.txt").read_text().splitlines() if line.strip()]
+    names = {name for name, _ in lines}
+    return {name: [it for it in below.split() if it in names] for name, below in lines}
+
+
+def reach(stands_on):
+    """Each crate with all that it stands on, directly or by others."""
+    reached = {}
+
+    def reach_from(name):
+        if name not in reached:
+            reached[name] = set(stands_on[name]).union(*(reach_from(it) for it in stands_on[name]))
+        return reached[name]
+
+    for name in stands_on:
+        reach_from(name)
+    return reached
+
+
+def dot(stands_on):
+    room_of = {crate: title for title, (_, names) in ROOMS.items() for crate in names.split()}
+    lost = [it for it in stands_on if it not in room_of and it not in TESTS]
+    if lost:
+        sys.exit(f"tools/layers.py: no room has {', '.join(lost)}: put each into one of ROOMS, or into TESTS")
+    reached = reach(stands_on)
+    lines = ["digraph crates {", '  graph [rankdir=BT, fontname="Helvetica", ranksep=0.35, nodesep=0.15, newrank=true];',
+             '  node [shape=box, style="filled,rounded", fontname="Helvetica", fontsize=12, height=0.3];', "  edge [arrowsize=0.5, color=\"#666666\"];"]
+    for number, (title, (colour, names)) in enumerate(ROOMS.items()):
+        drawn = [it for it in names.split() if it in stands_on]
+        lines += [f"  subgraph cluster_{number} {{", f'    label="{title}"; labeljust=l; fontsize=13; color="#999999"; style=rounded;']
+        lines += [f'    {it} [fillcolor="{colour}"];' for it in drawn]
+        lines.append("  }")
+    for name, below in stands_on.items():
+        if name not in TESTS:
+            lines += [f"  {it} -> {name};" for it in below if not any(it in reached[other] for other in below)]
+    return "\n".join([*lines, "}", ""])
+
+
+def main(words):
+    text = dot(crates())
+    mark = f"<!-- of crates.txt: {hashlib.sha256(text.encode()).hexdigest()} -->"
+    if words == ["--check"]:
+        if not PICTURE.exists() or mark not in PICTURE.read_text():
+            sys.exit("tools/layers.py: docs/pictures/layers.svg is not that of crates.txt: run tools/layers.py, which needs graphviz")
+        return
+    if words:
+        sys.exit(__doc__)
+    drawn = subprocess.run(["dot", "-Tsvg"], input=text, capture_output=True, text=True, check=True).stdout
+    PICTURE.write_text(drawn.rstrip("\n") + "\n" + mark + "\n")
+
+
+if __name__ == "__main__":
+    main(sys.argv[1:])
