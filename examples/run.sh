@@ -55,7 +55,8 @@ checks cutting-stock 'optimal 2' model.lp model.cert --dec model.dec
 checks cutting-stock 'optimal 5' harder.lp harder.cert --dec harder.dec
 solves rostering
 solves rostering --dec model.dec
-checks rostering 'optimal 42' model.lp model.cert --dec model.dec
+checks rostering 'optimal 368' model.lp model.cert --dec model.dec
+checks rostering 'optimal 42' three.lp three.cert --dec three.dec
 solves routing
 solves routing --dec model.dec
 checks routing 'optimal 37' model.lp model.cert

@@ -17,7 +17,7 @@ PROGRAM_ALONE = re.compile(r"refused (lp [0-9]+ (limit|activity)|dec 0 limit|dec
 EXAMPLES = [
     ("cutting-stock/model.lp", "cutting-stock/model.cert", "cutting-stock/model.dec"),
     ("cutting-stock/harder.lp", "cutting-stock/harder.cert", "cutting-stock/harder.dec"),
-    ("rostering/model.lp", "rostering/model.cert", "rostering/model.dec"),
+    ("rostering/three.lp", "rostering/three.cert", "rostering/three.dec"),
     ("routing/model.lp", "routing/model.cert", None),
     ("assignment/model.lp", "assignment/model.cert", None),
 ]
