@@ -5,3 +5,4 @@ pub mod OneFront
 pub mod Lifts
 pub mod RowNames
 pub mod Written
+pub mod Faults

@@ -1,5 +1,5 @@
 -- What is right for a program in blocks is right for the files that come to it, and no other status is.
-use Rattle.std.proofs.Common.{◌≡◌, subst, ℕ, List, Option, ◌∙◌, [], ◌≢◌, ◌⊎◌, inl, inr}
+use Rattle.std.proofs.Common.{◌≡◌, subst, ℕ, Bool, List, Option, ◌∙◌, [], ◌≢◌, ◌⊎◌, inl, inr}
 use Rattle.bp_shelf.specs.Shelf.{Files}
 use Rattle.block_form.specs.Blocked.{BlockedProgram}
 use Rattle.branch_tree.specs.declared.outcome.Outcome.{Outcome}
@@ -14,9 +14,9 @@ use Rattle.bp_front.proofs.OneFront.{one_front}
 
 -- an answer for the program in blocks
 pub lift_answers : (files : Files) (lp : List ℕ) (dec : Option (List ℕ)) (Stops : Type 0) (Right : BlockedProgram → ℕ → List ℕ → Type 0) (b : BlockedProgram)
-    (status : ℕ) (before now : List ℕ) → FilesCome files lp dec (blocked b) → AnswersBy (Right b) status before now
-    → AnswersBy (AnswersFront files lp dec Stops Right) status before now
-lift_answers files lp dec Stops Right b status before now come answers = λ no_read no_write no_want.
+    (status : ℕ) (tells : Bool) (before now : List ℕ) → FilesCome files lp dec (blocked b) → AnswersBy (Right b) status tells before now
+    → AnswersBy (AnswersFront files lp dec Stops Right) status tells before now
+lift_answers files lp dec Stops Right b status tells before now come answers = λ no_read no_write no_want.
     let answer = answers no_read no_write no_want in
     (answer.0, went_on b come answer.1, answer.2)
 

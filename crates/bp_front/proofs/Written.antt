@@ -1,5 +1,5 @@
 -- How a run ends that writes one file, by its answer.
-use Rattle.std.proofs.Common.{◌≡◌, ◌≢◌, ◌⊎◌, ◌∙◌, ◌++◌, ℕ, List, [], Option, Some, None, Result, Ok, Err, IfErr, IsErrAnd, take, refl, sym, subst, inl, inr, ⊎_elim}
+use Rattle.std.proofs.Common.{◌≡◌, ◌≢◌, ◌⊎◌, ◌∙◌, ◌++◌, ℕ, Bool, IsTrue, List, [], Option, Some, None, Result, Ok, Err, IfErr, IsErrAnd, take, refl, sym, subst, inl, inr, ⊎_elim}
 use Rattle.std.proofs.lemmas.List.{append-nil}
 use Rattle.bp_model.specs.Named.{NamedProgram}
 use Rattle.bp_shelf.specs.Shelf.{Files, OthersAsBefore}
@@ -13,7 +13,7 @@ use Rattle.bp_front.specs.Answers.{AnswersBy, IsOnly, CutsOff}
 use Rattle.bp_front.specs.Endings.{status_of}
 use Rattle.bp_front.specs.Front.{HasModel, HasLpFault}
 use Rattle.bp_front.specs.Halts.{LpHalts}
-use Rattle.bp_front.specs.Written.{Answer, stops, Answered, IsHalt, IsTextHalt, TextStands, Leaves, answered, unput, Writes}
+use Rattle.bp_front.specs.Written.{Answer, stops, Answered, IsHalt, IsTextHalt, TextStands, Leaves, answered, unput, StandsUnput}
 use Rattle.bp_front.specs.declared.front.Halt.{Halt}
 use Rattle.bp_front.specs.declared.front.Halt.TheVariants.{Refused, Stopped}
 use Rattle.bp_front.proofs.Unique.{one_program}
@@ -36,11 +36,11 @@ halt_only Right one status Failed halts is = λ no_read no_write no_want meant r
 halt_only Right one status NoMemory halts is = λ no_read no_write no_want meant report other. absurd (no_want is)
 
 -- a right answer with its report
-pub right_answers : (Right : Answer → Type 0) (a : Answer) (status : ℕ) (before now : List ℕ) → Right a → (status ≡ a.status) ⊎ (status ≡ 8)
-    → (status ≢ 8 → now ≡ before ++ a.report) → AnswersBy (Answered Right) status before now
-right_answers Right a status before now right is printed = λ no_read no_write no_want.
+pub right_answers : (Right : Answer → Type 0) (a : Answer) (status : ℕ) (tells : Bool) (before now : List ℕ) → Right a → (status ≡ a.status) ⊎ (status ≡ 8)
+    → (IsTrue tells → status ≢ 8 → now ≡ before ++ a.report) → AnswersBy (Answered Right) status tells before now
+right_answers Right a status tells before now right is printed = λ no_read no_write no_want.
     let same : status ≡ a.status = ⊎_elim (λ (e : status ≡ a.status). e) (λ e. absurd (no_write e)) is in
-    (a.report, (a.text, subst (λ (s : ℕ). Right (record { status = s; report = a.report; text = a.text })) (sym same) right), printed no_write)
+    (a.report, (a.text, subst (λ (s : ℕ). Right (record { status = s; report = a.report; text = a.text })) (sym same) right), λ told. printed told no_write)
 
 -- ---- what stands
 
@@ -54,7 +54,7 @@ pub written_stands : (name bytes text : List ℕ) (before between now : Files) �
 written_stands name bytes text before between now same value writes =
     subst (λ (t : List ℕ). (now name ≡ Some t) × OthersAsBefore name before now) value (subst (λ (files : Files). (now name ≡ Some bytes) × OthersAsBefore name files now) same writes)
 
-pub right_writes : (Right : Answer → Type 0) (name : List ℕ) (before now : Files) (a : Answer) → Right a → TextStands name before now a.text → Writes Right name before now
+pub right_writes : (Right : Answer → Type 0) (name : List ℕ) (before now : Files) (a : Answer) → Right a → TextStands name before now a.text → StandsUnput Right name before now
 right_writes Right name before now a right stands = (a.status, record { answer = a; right = right; of = refl; stands = stands })
 
 -- ---- a report that could not be put whole

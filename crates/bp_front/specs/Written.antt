@@ -52,5 +52,5 @@ pub data Leaves (Right : Answer → Type 0) (name : List ℕ) (before now : File
   unput : (meant : ℕ) → HasAnswered Right name before now meant → status ≡ 8 → Leaves Right name before now status
 
 -- what stands where the report could not be put, which is put last
-abbrev pub Writes : (Answer → Type 0) → (name : List ℕ) → (before now : Files) → Type 0
-Writes Right name before now = (meant : ℕ) × HasAnswered Right name before now meant
+abbrev pub StandsUnput : (Answer → Type 0) → (name : List ℕ) → (before now : Files) → Type 0
+StandsUnput Right name before now = (meant : ℕ) × HasAnswered Right name before now meant

@@ -1,6 +1,6 @@
 // How a run ends: its status, what it keeps, and what it prints.
 ghost use Rattle.std.specs.Prelude.{◌≡◌, ◌≢◌, ◌⊎◌, ◌++◌, ◌<◌, ℕ, [], IsTrue, take, None};
-ghost use Rattle.bp_shelf.specs.Shelf.{Rose};
+ghost use Rattle.bp_shelf.specs.Shelf.{Rose, next_count};
 ghost use Rattle.bp_front.specs.Endings.{status_of};
 
 use bp_shelf::{ShelfFault, Sink};
@@ -58,6 +58,7 @@ pub fn print<O: Sink>(alloc: Global, out: &mut O, reply: &Reply, kept: Option<Ou
     ensures kept { result.status ≢ 8 → result.kept ≡ kept }
     ensures none_kept { result.status ≡ 8 → result.kept ≡ None }
     ensures events { result.events.items ≡ [] }
+    ensures once { O.puts out.new ≡ next_count (O.puts out.old) }
     ensures printed { IsTrue (O.tells out.old) → result.status ≢ 8 → O.taken out.new ≡ O.taken out.old ++ reply.now.report.items }
     ensures partly { IsTrue (O.tells out.old) → result.status ≡ 8 →
         (count : ℕ) × (O.taken out.new ≡ O.taken out.old ++ take count reply.now.report.items) }

@@ -76,7 +76,7 @@ fn is_missing(kind: ErrorKind) -> bool {
 
 impl<R: Files> Shelf for FileShelf<'_, R> {
     ghost use Rattle.std.specs.Prelude.{false, None};
-    ghost use Rattle.std.proofs.Common.{rules};
+    ghost use Rattle.std.proofs.lemmas.Bool.{false≢true};
 
     ghost tells = { λ _. false };
 
@@ -86,7 +86,7 @@ impl<R: Files> Shelf for FileShelf<'_, R> {
 
     ghost write_faults = { λ shelf. shelf.writes };
 
-    ghost short = { λ shelf told name bytes none. Prim.search rules };
+    ghost short = { λ shelf told. absurd (false≢true told) };
 
     fn read_at(&mut self, name: &str, at: u64, into: &mut [u8]) -> Result<usize, ShelfFault> {
         if at >= LIMIT {

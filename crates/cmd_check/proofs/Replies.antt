@@ -16,12 +16,12 @@ use Rattle.cert_check.specs.declared.judge.Judged.TheVariants.{Accepted, Rejecte
 use Rattle.bp_report.specs.Report.{accepted_report}
 use Rattle.bp_front.specs.declared.ending.Reply.{Reply}
 use Rattle.cmd_check.specs.Checks.{accepted, rejected}
-use Rattle.cmd_check.specs.Replies.{IsReplyTo, IsVerdict, RepliesFrom}
+use Rattle.cmd_check.specs.Replies.{IsReplyTo, TellsJudged, RepliesFrom}
 
 -- the verdict on the certificate of a text is the right reply to it
 pub verdict_replies : (b : BlockedProgram) (text : List ℕ) (c : Certificate) (judged : Judged) (reply : Reply)
     → IsText (frame_for b) One (cert_of c) text → HasItsPoint (named_value c.claim) c.point
-    → IsJudged b c judged → IsTrueIfAccepted b.named.program judged → IsVerdict judged reply → IsReplyTo b text reply
+    → IsJudged b c judged → IsTrueIfAccepted b.named.program judged → TellsJudged judged reply → IsReplyTo b text reply
 verdict_replies b text c (Accepted claim) reply spells has is holds v = λ files cert there.
     accepted text c there spells is.1 (subst (λ (k : Claim). IsTrueClaim b.named.program k) is.0 holds) v.ended
     (v.told ∙ ap (λ (k : Claim). accepted_report k) is.0)
@@ -31,7 +31,7 @@ verdict_replies b text c (Rejected line kind) reply spells has is holds v = λ f
 -- the same of what may want memory
 pub verdicts_reply : {E : Type 0} (b : BlockedProgram) (text : List ℕ) (c : Certificate) (judged : Judged) (r : Result Reply E)
     → IsText (frame_for b) One (cert_of c) text → HasItsPoint (named_value c.claim) c.point
-    → IsJudged b c judged → IsTrueIfAccepted b.named.program judged → IfOk r (IsVerdict judged) → IfOk r (IsReplyTo b text)
+    → IsJudged b c judged → IsTrueIfAccepted b.named.program judged → IfOk r (TellsJudged judged) → IfOk r (IsReplyTo b text)
 verdicts_reply b text c judged (Ok reply) spells has is holds v = verdict_replies b text c judged reply spells has is holds v
 verdicts_reply b text c judged (Err e) spells has is holds v = tt
 

@@ -22,6 +22,6 @@ judged_status (Accepted claim) = 0
 judged_status (Rejected line kind) = 6
 
 -- the reply to a judged certificate
-pub record IsVerdict (judged : Judged) (reply : Reply) : Type 0 where
+pub record TellsJudged (judged : Judged) (reply : Reply) : Type 0 where
   pub ended : reply.status ≡ judged_status judged
   pub told : reply.report.items ≡ check_report judged

@@ -5,9 +5,9 @@ ghost use Rattle.std.specs.Prelude.{◌≡◌, ◌≢◌, ◌⊎◌, [], IfOk, I
 ghost use Rattle.std.specs.Option.{option_map};
 ghost use Rattle.bp_shelf.specs.Shelf.{CountsFailed};
 ghost use Rattle.bp_shelf.specs.declared.shelf.ShelfFault.TheVariants.{Missing};
-ghost use Rattle.bp_front.specs.Answers.{AnswersBy, IsOnly, CutsOff, HasCauses};
+ghost use Rattle.bp_front.specs.Answers.{AnswersBy, IsOnly, CutsOff, HasCauses, PutsReport, IsUnput};
 ghost use Rattle.cmd_check.specs.Checks.{AnswersCheck, ChecksBlocked};
-ghost use Rattle.cmd_check.specs.Replies.{IsReplyTo, RepliesFrom, IsVerdict};
+ghost use Rattle.cmd_check.specs.Replies.{IsReplyTo, RepliesFrom, TellsJudged};
 
 use block_form::Blocked;
 use bp_front::{Ended, Halt, Reply, load, print, read_front, stopped_by};
@@ -29,8 +29,8 @@ pub fn check<F: Shelf, O: Sink>(
     cert: &str,
     dec: Option<&str>,
 ) -> Ended
-    ensures answered { IsTrue (F.tells shelf.old) → IsTrue (O.tells out.old) →
-        AnswersBy (AnswersCheck (F.file shelf.old) lp.now cert.now (option_map (λ name. name.now) dec.entry)) result.status (O.taken out.old) (O.taken out.new) }
+    ensures answered { IsTrue (F.tells shelf.old) →
+        AnswersBy (AnswersCheck (F.file shelf.old) lp.now cert.now (option_map (λ name. name.now) dec.entry)) result.status (O.tells out.old) (O.taken out.old) (O.taken out.new) }
     ensures exact { IsTrue (F.tells shelf.old) →
         IsOnly (AnswersCheck (F.file shelf.old) lp.now cert.now (option_map (λ name. name.now) dec.entry)) result.status }
     ensures causes { HasCauses result.status (F.read_faults shelf.old) (F.read_faults shelf.new)
@@ -41,6 +41,9 @@ pub fn check<F: Shelf, O: Sink>(
     ensures files { F.file shelf.new ≡ F.file shelf.old }
     ensures writes { F.write_faults shelf.new ≡ F.write_faults shelf.old }
     ensures silent { (result.status ≡ 7) ⊎ (result.status ≡ 9) ⊎ (result.status ≡ 11) → O.taken out.new ≡ O.taken out.old }
+    ensures puts { PutsReport result.status (O.puts out.old) (O.puts out.new) }
+    ensures failed { result.status ≡ 8 → IsUnput (F.file shelf.new ≡ F.file shelf.old) (F.write_faults shelf.old) (F.write_faults shelf.new)
+        (O.faults out.old) (O.faults out.new) (O.puts out.old) (O.puts out.new) }
     ensures cut_off { IsTrue (F.tells shelf.old) → IsTrue (O.tells out.old) →
         CutsOff (λ kept. AnswersCheck (F.file shelf.old) lp.now cert.now (option_map (λ name. name.now) dec.entry)) result.status (O.taken out.old) (O.taken out.new) }
 {
@@ -59,8 +62,8 @@ fn check_blocks<F: Shelf, O: Sink>(
     b: &Blocked,
     cert: &str,
 ) -> Ended
-    ensures answered { IsTrue (F.tells shelf.old) → IsTrue (O.tells out.old) →
-        AnswersBy (ChecksBlocked (F.file shelf.old) cert.now b.now) result.status (O.taken out.old) (O.taken out.new) }
+    ensures answered { IsTrue (F.tells shelf.old) →
+        AnswersBy (ChecksBlocked (F.file shelf.old) cert.now b.now) result.status (O.tells out.old) (O.taken out.old) (O.taken out.new) }
     ensures exact { IsTrue (F.tells shelf.old) → IsOnly (ChecksBlocked (F.file shelf.old) cert.now b.now) result.status }
     ensures causes { HasCauses result.status (F.read_faults shelf.old) (F.read_faults shelf.new)
         (F.write_faults shelf.old) (F.write_faults shelf.new) (O.faults out.old) (O.faults out.new) }
@@ -70,6 +73,9 @@ fn check_blocks<F: Shelf, O: Sink>(
     ensures files { F.file shelf.new ≡ F.file shelf.old }
     ensures writes { F.write_faults shelf.new ≡ F.write_faults shelf.old }
     ensures silent { (result.status ≡ 7) ⊎ (result.status ≡ 9) ⊎ (result.status ≡ 11) → O.taken out.new ≡ O.taken out.old }
+    ensures puts { PutsReport result.status (O.puts out.old) (O.puts out.new) }
+    ensures failed { result.status ≡ 8 → IsUnput (F.file shelf.new ≡ F.file shelf.old) (F.write_faults shelf.old) (F.write_faults shelf.new)
+        (O.faults out.old) (O.faults out.new) (O.puts out.old) (O.puts out.new) }
     ensures cut_off { IsTrue (F.tells shelf.old) → IsTrue (O.tells out.old) →
         CutsOff (λ kept. ChecksBlocked (F.file shelf.old) cert.now b.now) result.status (O.taken out.old) (O.taken out.new) }
 {
@@ -117,7 +123,7 @@ fn judged(alloc: Global, b: &Blocked, text: &[u8]) -> Result<Reply, AllocError>
 
 // The reply to a judged certificate.
 fn verdict(alloc: Global, judged: &Judged) -> Result<Reply, AllocError>
-    ensures { IfOk result (IsVerdict judged.now) }
+    ensures { IfOk result (TellsJudged judged.now) }
 {
     let status = match judged {
         Judged::Accepted(_) => 0,

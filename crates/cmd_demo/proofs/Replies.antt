@@ -1,5 +1,5 @@
 -- Which replies are right.
-use Rattle.std.proofs.Common.{◌≡◌, ◌≢◌, ◌⊎◌, ◌∙◌, ◌++◌, refl, sym, ap, subst, ℕ, List, [], ◌∷◌, Option, Some, None, Result, Ok, Err, IfErr, IsErrAnd, take}
+use Rattle.std.proofs.Common.{◌≡◌, ◌≢◌, ◌⊎◌, ◌∙◌, ◌++◌, refl, sym, ap, subst, ℕ, Bool, IsTrue, List, [], ◌∷◌, Option, Some, None, Result, Ok, Err, IfErr, IsErrAnd, take}
 use Rattle.bp_theory.specs.Claims.{Certificate, IsCertified}
 use Rattle.bp_shelf.specs.declared.shelf.ShelfFault.TheVariants.{NoMemory}
 use Rattle.block_form.specs.Blocked.{BlockedProgram}
@@ -41,15 +41,15 @@ want_halts seed size (Err (Refused report)) is = let none : ⊥ = cc in absurd n
 want_halts seed size (Err (Stopped fault)) is = cc
 
 -- a summary that is printed
-pub demo_answers : (seed size : ℕ) (reply : Reply) (outcome : Outcome) (kept : Option Outcome) (status : ℕ) (before now : List ℕ) → IsDemo seed size (reply, outcome)
-    → (status ≡ reply.status) ⊎ (status ≡ 8) → (status ≢ 8 → kept ≡ Some outcome) → (status ≢ 8 → now ≡ before ++ reply.report.items)
-    → AnswersBy (AnswersDemo seed size kept) status before now
-demo_answers seed size reply outcome kept status before now demo is is_kept whole = λ no_read no_write no_want.
+pub demo_answers : (seed size : ℕ) (reply : Reply) (outcome : Outcome) (kept : Option Outcome) (status : ℕ) (tells : Bool) (before now : List ℕ) → IsDemo seed size (reply, outcome)
+    → (status ≡ reply.status) ⊎ (status ≡ 8) → (status ≢ 8 → kept ≡ Some outcome) → (IsTrue tells → status ≢ 8 → now ≡ before ++ reply.report.items)
+    → AnswersBy (AnswersDemo seed size kept) status tells before now
+demo_answers seed size reply outcome kept status tells before now demo is is_kept whole = λ no_read no_write no_want.
     let right : DemosBlocked seed size (Some outcome) demo.0 status reply.report.items =
     subst (λ (s : ℕ). DemosBlocked seed size (Some outcome) demo.0 s reply.report.items) (sym (printed_status status reply.status is no_write)) demo.2 in (
       reply.report.items,
       went_on demo.0 demo.1 (subst (λ (k : Option Outcome). DemosBlocked seed size k demo.0 status reply.report.items) (sym (is_kept no_write)) right),
-      whole no_write,
+      λ told. whole told no_write,
     )
 
 pub demo_cut : (seed size : ℕ) (reply : Reply) (outcome : Outcome) (status : ℕ) (before now : List ℕ) → IsDemo seed size (reply, outcome)
@@ -59,12 +59,12 @@ demo_cut seed size reply outcome status before now demo partly = λ is_fault.
     (Some outcome, reply.status, reply.report.items, part.0, went_on demo.0 demo.1 demo.2, part.1)
 
 -- a refusal that is printed
-pub refused_answers : (seed size : ℕ) (report : List ℕ) (kept : Option Outcome) (status : ℕ) (before now : List ℕ) → MadeCome seed size (ends 3 report)
-    → (status ≡ 3) ⊎ (status ≡ 8) → (status ≢ 8 → kept ≡ None) → (status ≢ 8 → now ≡ before ++ report) → AnswersBy (AnswersDemo seed size kept) status before now
-refused_answers seed size report kept status before now come is is_kept whole = λ no_read no_write no_want. (
+pub refused_answers : (seed size : ℕ) (report : List ℕ) (kept : Option Outcome) (status : ℕ) (tells : Bool) (before now : List ℕ) → MadeCome seed size (ends 3 report)
+    → (status ≡ 3) ⊎ (status ≡ 8) → (status ≢ 8 → kept ≡ None) → (IsTrue tells → status ≢ 8 → now ≡ before ++ report) → AnswersBy (AnswersDemo seed size kept) status tells before now
+refused_answers seed size report kept status tells before now come is is_kept whole = λ no_read no_write no_want. (
   report,
   subst (λ (s : ℕ). AnswersDemo seed size kept s report) (sym (printed_status status 3 is no_write)) (stopped come (is_kept no_write)),
-  whole no_write,
+  λ told. whole told no_write,
 )
 
 pub refused_only : (seed size : ℕ) (report : List ℕ) (kept : Option Outcome) (status : ℕ) → MadeCome seed size (ends 3 report)

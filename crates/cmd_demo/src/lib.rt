@@ -5,7 +5,7 @@ ghost use Rattle.std.specs.Prelude.{◌≡◌, ◌⊎◌, ◌≤◌, [], ℕ, If
 ghost use Rattle.bp_search.specs.Ends.{IsOutcome};
 ghost use Rattle.cert_text.specs.Kept.{certificate_of};
 ghost use Rattle.cert_text.specs.Programs.{GoesWith};
-ghost use Rattle.bp_front.specs.Answers.{AnswersBy, IsOnly, CutsOff, HasCauses};
+ghost use Rattle.bp_front.specs.Answers.{AnswersBy, IsOnly, CutsOff, HasCauses, PutsReport, IsUnput};
 ghost use Rattle.cmd_solve.specs.Solves.{outcome_certificate};
 ghost use Rattle.cmd_demo.specs.Demos.{AnswersDemo, IsSummary, IsDemo, DemoHalts};
 
@@ -26,13 +26,15 @@ use std::alloc::{AllocError, Global};
 pub fn demonstrate<O: Sink>(alloc: Global, out: &mut O, seed: u64, size: u32) -> Ended
     requires some { 1 ≤ size }
     requires few { size ≤ 1024 }
-    ensures answered { IsTrue (O.tells out.old) → AnswersBy (AnswersDemo seed size result.kept) result.status (O.taken out.old) (O.taken out.new) }
+    ensures answered { AnswersBy (AnswersDemo seed size result.kept) result.status (O.tells out.old) (O.taken out.old) (O.taken out.new) }
     ensures exact { IsOnly (AnswersDemo seed size result.kept) result.status }
     ensures causes { (reads writes : ℕ) → HasCauses result.status reads reads writes writes (O.faults out.old) (O.faults out.new) }
     ensures kept { (result.kept ≡ None) ⊎ ((result.status ≡ 0) ⊎ (result.status ≡ 4) ⊎ (result.status ≡ 5)) }
     ensures events { result.events.items ≡ [] }
     ensures statuses { (result.status ≡ 0) ⊎ (result.status ≡ 3) ⊎ (result.status ≡ 4) ⊎ (result.status ≡ 5) ⊎ (result.status ≡ 8) ⊎ (result.status ≡ 9) }
     ensures silent { result.status ≡ 9 → O.taken out.new ≡ O.taken out.old }
+    ensures puts { PutsReport result.status (O.puts out.old) (O.puts out.new) }
+    ensures failed { result.status ≡ 8 → (writes : ℕ) → IsUnput (Unit {0}) writes writes (O.faults out.old) (O.faults out.new) (O.puts out.old) (O.puts out.new) }
     ensures cut_off { IsTrue (O.tells out.old) → CutsOff (AnswersDemo seed size) result.status (O.taken out.old) (O.taken out.new) }
 {
     match demonstrated(alloc, seed, size) {

@@ -20,7 +20,7 @@ use Rattle.bp_front.specs.Written.{Answer, stops, IsHalt, IsTextHalt}
 use Rattle.bp_front.specs.declared.front.Halt.{Halt}
 use Rattle.bp_front.specs.declared.front.Halt.TheVariants.{Refused, Stopped}
 use Rattle.cmd_detect.specs.declared.Found.{Found}
-use Rattle.cmd_detect.specs.Detects.{BlocksCome, many, found, RowsCome, missing, faulty, read, Detects, with_model, answer_of}
+use Rattle.cmd_detect.specs.Detects.{DetectsBeside, many, found, RowsCome, missing, faulty, read, Detects, with_model, answer_of}
 
 -- a front of so many bytes is the whole list, or both are too long
 front_or_long : (all front : List ℕ) (most : ℕ) → 16777216 < most → front ≡ take most all
@@ -101,11 +101,11 @@ list_counts Right (Err (Stopped NoMemory)) before now halts same = same
 
 -- ---- a list
 
-pub blocks_found : (m : NamedProgram) (list master : List ℕ) (r : Result Found Halt) → ListsRows list m master → IfOk r (λ f. BlocksCome m master (answer_of f)) → IfOk r (λ f. RowsCome m (Some list) (answer_of f))
+pub blocks_found : (m : NamedProgram) (list master : List ℕ) (r : Result Found Halt) → ListsRows list m master → IfOk r (λ f. DetectsBeside m master (answer_of f)) → IfOk r (λ f. RowsCome m (Some list) (answer_of f))
 blocks_found m list master (Ok f) lists come = read list master (answer_of f) refl lists come
 blocks_found m list master (Err e) lists come = tt
 
-pub blocks_halted : {T : Type 0} (m : NamedProgram) (list master : List ℕ) (r : Result T Halt) → ListsRows list m master → IfErr r (IsTextHalt (BlocksCome m master)) → IfErr r (IsTextHalt (RowsCome m (Some list)))
+pub blocks_halted : {T : Type 0} (m : NamedProgram) (list master : List ℕ) (r : Result T Halt) → ListsRows list m master → IfErr r (IsTextHalt (DetectsBeside m master)) → IfErr r (IsTextHalt (RowsCome m (Some list)))
 blocks_halted m list master (Ok f) lists halts = tt
 blocks_halted m list master (Err (Refused report)) lists halts = read list master (stops 3 report.items) refl lists halts
 blocks_halted m list master (Err (Stopped fault)) lists halts = halts
@@ -113,13 +113,13 @@ blocks_halted m list master (Err (Stopped fault)) lists halts = halts
 -- ---- a decomposition that was found
 
 come_as : (m : NamedProgram) (master : List ℕ) (s status : ℕ) (r report x text : List ℕ) → status ≡ s → report ≡ r → text ≡ x
-    → BlocksCome m master (record { status = s; report = r; text = Some x }) → BlocksCome m master (record { status = status; report = report; text = Some text })
+    → DetectsBeside m master (record { status = s; report = r; text = Some x }) → DetectsBeside m master (record { status = status; report = report; text = Some text })
 come_as m master s status r report x text a b c come = rw (a, b, c) come
 
 pub found_come : (m : NamedProgram) (master : List ℕ) (d : Decomposition) (f : Found) → IsFound m.program master d → d.blocks ≤ 4096 → f.text.items ≡ text_of m d
-    → f.reply.report.items ≡ detected_report d.blocks → f.reply.status ≡ 0 → BlocksCome m master (answer_of f)
+    → f.reply.report.items ≡ detected_report d.blocks → f.reply.status ≡ 0 → DetectsBeside m master (answer_of f)
 found_come m master d f is few text report done =
     come_as m master 0 f.reply.status (detected_report d.blocks) f.reply.report.items (text_of m d) f.text.items done report text (found d is few)
 
-pub many_come : (m : NamedProgram) (master report : List ℕ) → HasTooMany m.program master → report ≡ rows_refusal 0 Blocks → BlocksCome m master (stops 3 report)
-many_come m master report more printed = subst (λ (r : List ℕ). BlocksCome m master (stops 3 r)) (sym printed) (many more)
+pub many_come : (m : NamedProgram) (master report : List ℕ) → HasTooMany m.program master → report ≡ rows_refusal 0 Blocks → DetectsBeside m master (stops 3 report)
+many_come m master report more printed = subst (λ (r : List ℕ). DetectsBeside m master (stops 3 r)) (sym printed) (many more)

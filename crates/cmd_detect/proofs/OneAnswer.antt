@@ -10,7 +10,7 @@ use Rattle.dec_find.specs.Joined.{IsFound}
 use Rattle.dec_find.proofs.FoundLemmas.{found_once}
 use Rattle.bp_front.specs.Written.{Answer}
 use Rattle.bp_front.proofs.Written.{one_text, no_text, one_model, model_or_fault, HasOneStatus}
-use Rattle.cmd_detect.specs.Detects.{BlocksCome, many, found, RowsCome, missing, faulty, read, Detects, missing_lp, faulty_lp, with_model}
+use Rattle.cmd_detect.specs.Detects.{DetectsBeside, many, found, RowsCome, missing, faulty, read, Detects, missing_lp, faulty_lp, with_model}
 
 -- blocks beside master rows are too many or not
 too_many : (m : NamedProgram) (master : List ℕ) (d e : Decomposition) → IsFound m.program master d → IsFound m.program master e → 4096 < d.blocks → e.blocks ≤ 4096 → ⊥
@@ -18,7 +18,7 @@ too_many m master d e hd he more few =
     let same : d.blocks ≡ e.blocks = ap (λ (x : Decomposition). x.blocks) (found_once m.program master d e hd he) in
     omega (arith, same, more, few)
 
-one_blocks : (m : NamedProgram) (master : List ℕ) (a b : Answer) → BlocksCome m master a → BlocksCome m master b → a.status ≡ b.status
+one_blocks : (m : NamedProgram) (master : List ℕ) (a b : Answer) → DetectsBeside m master a → DetectsBeside m master b → a.status ≡ b.status
 one_blocks m master a b (many h) (many g) = refl
 one_blocks m master a b (many h) (found d is few) = absurd (too_many m master h.found d h.is_found is h.many few)
 one_blocks m master a b (found d is few) (many h) = absurd (too_many m master h.found d h.is_found is h.many few)
@@ -43,7 +43,7 @@ one_rows m file a b (read list master a' x h come) (faulty list' line kind y g) 
 one_rows m file a b (read list master a' x h come) (read list' master' b' y g come') =
     let lists : ListsRows list m master' = subst (λ (t : List ℕ). ListsRows t m master') (one_text file list' list y x) g in
     let same : master' ≡ master = lists.meant ∙ sym h.meant in
-    one_blocks m master a' b' come (subst (λ (rows : List ℕ). BlocksCome m rows b') same come')
+    one_blocks m master a' b' come (subst (λ (rows : List ℕ). DetectsBeside m rows b') same come')
 
 -- the files are answered by one status
 pub one_answer : (files : Files) (lp rows : List ℕ) → HasOneStatus (Detects files lp rows)

@@ -15,17 +15,17 @@ use Rattle.bp_front.specs.Written.{Answer, stops, Answered}
 use Rattle.cmd_detect.specs.declared.Found.{Found}
 
 -- what master rows of a program are answered: more blocks than a decomposition may have, or the decomposition that is written
-pub data BlocksCome (m : NamedProgram) (master : List ℕ) : Answer → Type 0 where
-  many : HasTooMany m.program master → BlocksCome m master (stops 3 (rows_refusal 0 Blocks))
+pub data DetectsBeside (m : NamedProgram) (master : List ℕ) : Answer → Type 0 where
+  many : HasTooMany m.program master → DetectsBeside m master (stops 3 (rows_refusal 0 Blocks))
   found : (d : Decomposition) → IsFound m.program master d → d.blocks ≤ 4096
-      → BlocksCome m master (record { status = 0; report = detected_report d.blocks; text = Some (text_of m d) })
+      → DetectsBeside m master (record { status = 0; report = detected_report d.blocks; text = Some (text_of m d) })
 
 -- what the file of master rows is answered, beside a program
 pub data RowsCome (m : NamedProgram) (file : Option (List ℕ)) : Answer → Type 0 where
   missing : file ≡ None → RowsCome m file (stops 11 [])
   faulty : (list : List ℕ) (line : ℕ) (kind : RowsKind) → file ≡ Some list → HasRowsFault list m line kind
       → RowsCome m file (stops 3 (rows_refusal line kind))
-  read : (list : List ℕ) (master : List ℕ) (a : Answer) → file ≡ Some list → ListsRows list m master → BlocksCome m master a → RowsCome m file a
+  read : (list : List ℕ) (master : List ℕ) (a : Answer) → file ≡ Some list → ListsRows list m master → DetectsBeside m master a → RowsCome m file a
 
 -- what `detect` answers: the first file that isn't there or whose text is refused, or the blocks beside the master rows
 pub data Detects (files : Files) (lp rows : List ℕ) : Answer → Type 0 where

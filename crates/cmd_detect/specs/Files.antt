@@ -1,7 +1,7 @@
 -- The files after a run of `detect`.
 use Rattle.std.specs.Prelude.{ℕ, List}
 use Rattle.bp_shelf.specs.Shelf.{Files}
-use Rattle.bp_front.specs.Written.{Leaves, Writes}
+use Rattle.bp_front.specs.Written.{Leaves, StandsUnput}
 use Rattle.cmd_detect.specs.Detects.{Detects}
 pub use Rattle.bp_front.specs.Written.{answered, untouched, begun, unput}
 
@@ -11,4 +11,4 @@ DetectLeaves lp rows dec before now status = Leaves (Detects before lp rows) dec
 
 -- what stands where the report could not be put, which is put last
 abbrev pub DetectWrites : (lp rows dec : List ℕ) → (before now : Files) → Type 0
-DetectWrites lp rows dec before now = Writes (Detects before lp rows) dec before now
+DetectWrites lp rows dec before now = StandsUnput (Detects before lp rows) dec before now

@@ -9,9 +9,9 @@ ghost use Rattle.dec_find.specs.Rows.{ListsRows};
 ghost use Rattle.dec_find.specs.Text.{IsRowName, text_of};
 ghost use Rattle.bp_report.specs.Report.{detected_report};
 ghost use Rattle.bp_front.specs.Halts.{CountsHalted};
-ghost use Rattle.bp_front.specs.Answers.{AnswersBy, IsOnly, CutsOff, HasCauses};
+ghost use Rattle.bp_front.specs.Answers.{AnswersBy, IsOnly, CutsOff, HasCauses, PutsReport, FailsToWrite};
 ghost use Rattle.bp_front.specs.Written.{IsHalt, IsTextHalt};
-ghost use Rattle.cmd_detect.specs.Detects.{BlocksCome, RowsCome, Detects, AnswersDetect, answer_of};
+ghost use Rattle.cmd_detect.specs.Detects.{DetectsBeside, RowsCome, Detects, AnswersDetect, answer_of};
 ghost use Rattle.cmd_detect.specs.Files.{DetectLeaves, DetectWrites};
 
 use bp_front::{Ended, Halt, Reply, load_model, print, read_front, stopped, stopped_by};
@@ -39,8 +39,8 @@ pub fn detect<F: Shelf, O: Sink>(
     rows: &str,
     dec: &str,
 ) -> Ended
-    ensures answered { IsTrue (F.tells shelf.old) → IsTrue (O.tells out.old) →
-        AnswersBy (AnswersDetect (F.file shelf.old) lp.now rows.now) result.status (O.taken out.old) (O.taken out.new) }
+    ensures answered { IsTrue (F.tells shelf.old) →
+        AnswersBy (AnswersDetect (F.file shelf.old) lp.now rows.now) result.status (O.tells out.old) (O.taken out.old) (O.taken out.new) }
     ensures exact { IsTrue (F.tells shelf.old) → IsOnly (AnswersDetect (F.file shelf.old) lp.now rows.now) result.status }
     ensures causes { HasCauses result.status (F.read_faults shelf.old) (F.read_faults shelf.new)
         (F.write_faults shelf.old) (F.write_faults shelf.new) (O.faults out.old) (O.faults out.new) }
@@ -49,10 +49,10 @@ pub fn detect<F: Shelf, O: Sink>(
     ensures words { result.status ≢ 2 }
     ensures leaves { IsTrue (F.tells shelf.old) → DetectLeaves lp.now rows.now dec.now (F.file shelf.old) (F.file shelf.new) result.status }
     ensures others { IsTrue (F.tells shelf.old) → OthersAsBefore dec.now (F.file shelf.old) (F.file shelf.new) }
-    ensures put_last { IsTrue (F.tells shelf.old) → O.faults out.old < O.faults out.new
-        → DetectWrites lp.now rows.now dec.now (F.file shelf.old) (F.file shelf.new) }
-    ensures silent { (result.status ≡ 7) ⊎ (result.status ≡ 9) ⊎ (result.status ≡ 11) ⊎ (F.write_faults shelf.old < F.write_faults shelf.new)
-        → O.taken out.new ≡ O.taken out.old }
+    ensures puts { PutsReport result.status (O.puts out.old) (O.puts out.new) }
+    ensures failed { result.status ≡ 8 → FailsToWrite (IsTrue (F.tells shelf.old) → DetectWrites lp.now rows.now dec.now (F.file shelf.old) (F.file shelf.new))
+        (F.write_faults shelf.old) (F.write_faults shelf.new) (O.faults out.old) (O.faults out.new) (O.puts out.old) (O.puts out.new) (O.taken out.old) (O.taken out.new) }
+    ensures silent { (result.status ≡ 7) ⊎ (result.status ≡ 9) ⊎ (result.status ≡ 11) → O.taken out.new ≡ O.taken out.old }
     ensures cut_off { IsTrue (F.tells shelf.old) → IsTrue (O.tells out.old) →
         CutsOff (λ kept. AnswersDetect (F.file shelf.old) lp.now rows.now) result.status (O.taken out.old) (O.taken out.new) }
 {
@@ -112,9 +112,9 @@ fn blocks_of(alloc: Global, model: &Model, master: &[u32]) -> Result<Found, Halt
     requires kept { IsKept model.now }
     requires names { All IsRowName model.now.row_names }
     requires below { All (λ r. r < length model.now.program.rows) master.now }
-    ensures found { IfOk result (λ f. BlocksCome model.now master.now (answer_of f)) }
+    ensures found { IfOk result (λ f. DetectsBeside model.now master.now (answer_of f)) }
     ensures done { IfOk result (λ f. f.reply.status ≡ 0) }
-    ensures halted { IfErr result (IsTextHalt (BlocksCome model.now master.now)) }
+    ensures halted { IfErr result (IsTextHalt (DetectsBeside model.now master.now)) }
 {
     match find(alloc, model, master) {
         Ok(dec) => Ok(written(alloc, model, &dec)?),

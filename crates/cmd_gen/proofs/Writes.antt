@@ -3,7 +3,7 @@ use Rattle.std.proofs.Common.{◌≡◌, ◌⊎◌, ◌∙◌, ap, subst, ℕ, L
 use Rattle.bp_shelf.specs.Shelf.{Files, OthersAsBefore, Writes}
 use Rattle.bp_shelf.specs.declared.shelf.ShelfFault.{ShelfFault}
 use Rattle.bp_shelf.specs.declared.shelf.ShelfFault.TheVariants.{Missing, Failed, NoMemory}
-use Rattle.cmd_gen.specs.Generates.{IsFirstWritten, IsSecondBegun, AreWritten, WritesBoth, Leaves, first_begun, second_begun}
+use Rattle.cmd_gen.specs.Generates.{IsFirstWritten, IsSecondBegun, AreWritten, WritesBoth, LeavesTexts, first_begun, second_begun}
 
 -- the first text stands alone where nothing was changed behind it
 first_stands : (lp bytes : List ℕ) (before between now : Files) → between lp ≡ Some bytes → OthersAsBefore lp before between → now ≡ between
@@ -35,7 +35,7 @@ known_texts lp dec first second lp_bytes dec_bytes before now a b written =
     subst (λ (t : List ℕ). AreWritten lp dec t dec_bytes before now) a (subst (λ (t : List ℕ). AreWritten lp dec first t before now) b written)
 
 pub failed_leaves : (lp dec first lp_bytes dec_bytes : List ℕ) (before now : Files) (status : ℕ) → first ≡ lp_bytes
-    → OthersAsBefore lp before now ⊎ IsSecondBegun lp dec first before now → status ≡ 8 → Leaves lp dec lp_bytes dec_bytes before now status
+    → OthersAsBefore lp before now ⊎ IsSecondBegun lp dec first before now → status ≡ 8 → LeavesTexts lp dec lp_bytes dec_bytes before now status
 failed_leaves lp dec first lp_bytes dec_bytes before now status a (inl begun) is = first_begun begun is
 failed_leaves lp dec first lp_bytes dec_bytes before now status a (inr begun) is =
     second_begun (subst (λ (t : List ℕ). IsSecondBegun lp dec t before now) a begun) is

@@ -13,7 +13,7 @@ pub record AnswersGen (size status : ℕ) (report : List ℕ) : Type 0 where
   pub printed : report ≡ made_report (4 * size) (size + 4)
 
 -- the texts of a seed and a size, and the answer
-pub record IsMade (seed size : ℕ) (made : Made) : Type 0 where
+pub record HoldsTexts (seed size : ℕ) (made : Made) : Type 0 where
   pub model : made.lp.items ≡ lp_text seed size
   pub decomposition : made.dec.items ≡ dec_text size
   pub answer : AnswersGen size made.reply.status made.reply.report.items
@@ -46,16 +46,16 @@ WritesBoth lp dec lp_bytes dec_bytes before now (Err _) = (now ≡ before) ⊎ I
 
 -- The files after a run, by its status: the LP text is written first, then the DEC text. Memory may be wanting before the
 -- first write or before the second, either write may fail, and both texts stand where only the report was left to be put.
-pub data Leaves (lp dec lp_bytes dec_bytes : List ℕ) (before now : Files) (status : ℕ) : Type 0 where
-  untouched : now ≡ before → status ≡ 9 → Leaves lp dec lp_bytes dec_bytes before now status
-  first_begun : OthersAsBefore lp before now → status ≡ 8 → Leaves lp dec lp_bytes dec_bytes before now status
-  first_alone : IsFirstWritten lp lp_bytes before now → status ≡ 9 → Leaves lp dec lp_bytes dec_bytes before now status
-  second_begun : IsSecondBegun lp dec lp_bytes before now → status ≡ 8 → Leaves lp dec lp_bytes dec_bytes before now status
-  both : AreWritten lp dec lp_bytes dec_bytes before now → (status ≡ 0) ⊎ (status ≡ 8) → Leaves lp dec lp_bytes dec_bytes before now status
+pub data LeavesTexts (lp dec lp_bytes dec_bytes : List ℕ) (before now : Files) (status : ℕ) : Type 0 where
+  untouched : now ≡ before → status ≡ 9 → LeavesTexts lp dec lp_bytes dec_bytes before now status
+  first_begun : OthersAsBefore lp before now → status ≡ 8 → LeavesTexts lp dec lp_bytes dec_bytes before now status
+  first_alone : IsFirstWritten lp lp_bytes before now → status ≡ 9 → LeavesTexts lp dec lp_bytes dec_bytes before now status
+  second_begun : IsSecondBegun lp dec lp_bytes before now → status ≡ 8 → LeavesTexts lp dec lp_bytes dec_bytes before now status
+  both : AreWritten lp dec lp_bytes dec_bytes before now → (status ≡ 0) ⊎ (status ≡ 8) → LeavesTexts lp dec lp_bytes dec_bytes before now status
 
 -- the same with the texts of a seed and a size
 abbrev pub GenLeaves : (seed size : ℕ) → (lp dec : List ℕ) → Files → Files → (status : ℕ) → Type 0
-GenLeaves seed size lp dec before now status = Leaves lp dec (lp_text seed size) (dec_text size) before now status
+GenLeaves seed size lp dec before now status = LeavesTexts lp dec (lp_text seed size) (dec_text size) before now status
 
 -- both texts of a seed and a size stand
 abbrev pub GenWrites : (seed size : ℕ) → (lp dec : List ℕ) → Files → Files → Type 0

@@ -4,8 +4,8 @@
 ghost use Rattle.std.specs.Prelude.{◌≡◌, ◌≢◌, ◌⊎◌, ◌<◌, ◌≤◌, [], IfOk, IsErrOf, IsTrue, None};
 ghost use Rattle.bp_shelf.specs.Shelf.{CountsFailed};
 ghost use Rattle.bp_shelf.specs.declared.shelf.ShelfFault.TheVariants.{Missing};
-ghost use Rattle.bp_front.specs.Answers.{AnswersBy, IsOnly, CutsOff, HasCauses};
-ghost use Rattle.cmd_gen.specs.Generates.{AnswersGen, IsMade, OthersStand, WritesBoth, GenLeaves, GenWrites};
+ghost use Rattle.bp_front.specs.Answers.{AnswersBy, IsOnly, CutsOff, HasCauses, PutsReport, FailsToWrite};
+ghost use Rattle.cmd_gen.specs.Generates.{AnswersGen, HoldsTexts, OthersStand, WritesBoth, GenLeaves, GenWrites};
 
 use bp_front::{Ended, Reply, print, stopped};
 use bp_gen::{make_dec, make_lp};
@@ -34,7 +34,7 @@ pub fn generate<F: Shelf, O: Sink>(
 ) -> Ended
     requires some { 1 ≤ size }
     requires few { size ≤ 1024 }
-    ensures answered { IsTrue (O.tells out.old) → AnswersBy (AnswersGen size) result.status (O.taken out.old) (O.taken out.new) }
+    ensures answered { AnswersBy (AnswersGen size) result.status (O.tells out.old) (O.taken out.old) (O.taken out.new) }
     ensures exact { IsOnly (AnswersGen size) result.status }
     ensures causes { HasCauses result.status (F.read_faults shelf.old) (F.read_faults shelf.new)
         (F.write_faults shelf.old) (F.write_faults shelf.new) (O.faults out.old) (O.faults out.new) }
@@ -43,8 +43,10 @@ pub fn generate<F: Shelf, O: Sink>(
     ensures statuses { (result.status ≡ 0) ⊎ (result.status ≡ 8) ⊎ (result.status ≡ 9) }
     ensures leaves { IsTrue (F.tells shelf.old) → GenLeaves seed size lp.now dec.now (F.file shelf.old) (F.file shelf.new) result.status }
     ensures others { IsTrue (F.tells shelf.old) → OthersStand lp.now dec.now (F.file shelf.old) (F.file shelf.new) }
-    ensures put_last { IsTrue (F.tells shelf.old) → O.faults out.old < O.faults out.new → GenWrites seed size lp.now dec.now (F.file shelf.old) (F.file shelf.new) }
-    ensures silent { (result.status ≡ 9) ⊎ (F.write_faults shelf.old < F.write_faults shelf.new) → O.taken out.new ≡ O.taken out.old }
+    ensures puts { PutsReport result.status (O.puts out.old) (O.puts out.new) }
+    ensures failed { result.status ≡ 8 → FailsToWrite (IsTrue (F.tells shelf.old) → GenWrites seed size lp.now dec.now (F.file shelf.old) (F.file shelf.new))
+        (F.write_faults shelf.old) (F.write_faults shelf.new) (O.faults out.old) (O.faults out.new) (O.puts out.old) (O.puts out.new) (O.taken out.old) (O.taken out.new) }
+    ensures silent { result.status ≡ 9 → O.taken out.new ≡ O.taken out.old }
     ensures cut_off { IsTrue (O.tells out.old) → CutsOff (λ kept. AnswersGen size) result.status (O.taken out.old) (O.taken out.new) }
 {
     let Ok(made) = make(alloc, seed, size) else {
@@ -60,7 +62,7 @@ pub fn generate<F: Shelf, O: Sink>(
 // Makes both texts and the report: 4 variables a job, and a row for each job and each agent.
 fn make(alloc: Global, seed: u64, size: u32) -> Result<Made, AllocError>
     requires { size ≤ 1024 }
-    ensures { IfOk result (IsMade seed size) }
+    ensures { IfOk result (HoldsTexts seed size) }
 {
     let lp = make_lp(alloc, seed, size)?;
     let dec = make_dec(alloc, size)?;

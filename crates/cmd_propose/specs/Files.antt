@@ -1,7 +1,7 @@
 -- The files after a run of `propose`.
 use Rattle.std.specs.Prelude.{ℕ, List}
 use Rattle.bp_shelf.specs.Shelf.{Files}
-use Rattle.bp_front.specs.Written.{Leaves, Writes}
+use Rattle.bp_front.specs.Written.{Leaves, StandsUnput}
 use Rattle.cmd_propose.specs.Proposes.{Proposes}
 pub use Rattle.bp_front.specs.Written.{answered, untouched, begun, unput}
 
@@ -11,4 +11,4 @@ ProposeLeaves lp dec before now status = Leaves (Proposes before lp) dec before 
 
 -- what stands where the report could not be put, which is put last
 abbrev pub ProposeWrites : (lp dec : List ℕ) → (before now : Files) → Type 0
-ProposeWrites lp dec before now = Writes (Proposes before lp) dec before now
+ProposeWrites lp dec before now = StandsUnput (Proposes before lp) dec before now

@@ -9,7 +9,7 @@ ghost use Rattle.dec_guess.specs.Guess.{IsGuess};
 ghost use Rattle.block_class.specs.Classes.{AreSameClasses};
 ghost use Rattle.bp_front.specs.Front.{BlocksCome, blocked};
 ghost use Rattle.bp_front.specs.Halts.{CountsHalted};
-ghost use Rattle.bp_front.specs.Answers.{AnswersBy, IsOnly, CutsOff, HasCauses};
+ghost use Rattle.bp_front.specs.Answers.{AnswersBy, IsOnly, CutsOff, HasCauses, PutsReport, FailsToWrite};
 ghost use Rattle.bp_front.specs.Written.{IsHalt};
 ghost use Rattle.cmd_propose.specs.Proposes.{Proposes, ModelProposes, AnswersPropose, HasReport, IsReported, answer_of};
 ghost use Rattle.cmd_propose.specs.Files.{ProposeLeaves, ProposeWrites};
@@ -40,8 +40,8 @@ pub fn propose<F: Shelf, O: Sink>(
     lp: &str,
     dec: &str,
 ) -> Ended
-    ensures answered { IsTrue (F.tells shelf.old) → IsTrue (O.tells out.old) →
-        AnswersBy (AnswersPropose (F.file shelf.old) lp.now) result.status (O.taken out.old) (O.taken out.new) }
+    ensures answered { IsTrue (F.tells shelf.old) →
+        AnswersBy (AnswersPropose (F.file shelf.old) lp.now) result.status (O.tells out.old) (O.taken out.old) (O.taken out.new) }
     ensures exact { IsTrue (F.tells shelf.old) → IsOnly (AnswersPropose (F.file shelf.old) lp.now) result.status }
     ensures causes { HasCauses result.status (F.read_faults shelf.old) (F.read_faults shelf.new)
         (F.write_faults shelf.old) (F.write_faults shelf.new) (O.faults out.old) (O.faults out.new) }
@@ -50,10 +50,10 @@ pub fn propose<F: Shelf, O: Sink>(
     ensures words { result.status ≢ 2 }
     ensures leaves { IsTrue (F.tells shelf.old) → ProposeLeaves lp.now dec.now (F.file shelf.old) (F.file shelf.new) result.status }
     ensures others { IsTrue (F.tells shelf.old) → OthersAsBefore dec.now (F.file shelf.old) (F.file shelf.new) }
-    ensures put_last { IsTrue (F.tells shelf.old) → O.faults out.old < O.faults out.new
-        → ProposeWrites lp.now dec.now (F.file shelf.old) (F.file shelf.new) }
-    ensures silent { (result.status ≡ 7) ⊎ (result.status ≡ 9) ⊎ (result.status ≡ 11) ⊎ (F.write_faults shelf.old < F.write_faults shelf.new)
-        → O.taken out.new ≡ O.taken out.old }
+    ensures puts { PutsReport result.status (O.puts out.old) (O.puts out.new) }
+    ensures failed { result.status ≡ 8 → FailsToWrite (IsTrue (F.tells shelf.old) → ProposeWrites lp.now dec.now (F.file shelf.old) (F.file shelf.new))
+        (F.write_faults shelf.old) (F.write_faults shelf.new) (O.faults out.old) (O.faults out.new) (O.puts out.old) (O.puts out.new) (O.taken out.old) (O.taken out.new) }
+    ensures silent { (result.status ≡ 7) ⊎ (result.status ≡ 9) ⊎ (result.status ≡ 11) → O.taken out.new ≡ O.taken out.old }
     ensures cut_off { IsTrue (F.tells shelf.old) → IsTrue (O.tells out.old) →
         CutsOff (λ kept. AnswersPropose (F.file shelf.old) lp.now) result.status (O.taken out.old) (O.taken out.new) }
 {

@@ -19,5 +19,5 @@ abbrev pub AnswersShow : Files → (lp : List ℕ) → (dec : Option (List ℕ))
 AnswersShow files lp dec blocks status report = AnswersFront files lp dec (Unit {0}) (ShowsBlocked blocks) status report
 
 -- the reply to `show`
-abbrev pub IsShown : (blocks : Bool) → BlockedProgram → Reply → Type 0
-IsShown blocks b reply = ShowsBlocked blocks b reply.status reply.report.items
+abbrev pub RepliesShow : (blocks : Bool) → BlockedProgram → Reply → Type 0
+RepliesShow blocks b reply = ShowsBlocked blocks b reply.status reply.report.items

@@ -3,9 +3,9 @@
 
 ghost use Rattle.std.specs.Prelude.{◌≡◌, ◌≢◌, ◌⊎◌, [], IfOk, IsTrue, None};
 ghost use Rattle.std.specs.Option.{option_map};
-ghost use Rattle.bp_shelf.specs.Shelf.{Rose};
-ghost use Rattle.bp_front.specs.Answers.{AnswersBy, IsOnly, CutsOff, HasCauses};
-ghost use Rattle.cmd_show.specs.Shows.{AnswersShow, ShowsBlocked, IsShown};
+ghost use Rattle.bp_shelf.specs.Shelf.{Rose, next_count};
+ghost use Rattle.bp_front.specs.Answers.{AnswersBy, IsOnly, CutsOff, HasCauses, PutsReport, IsUnput};
+ghost use Rattle.cmd_show.specs.Shows.{AnswersShow, ShowsBlocked, RepliesShow};
 
 use block_class::Classes;
 use block_form::{Blocked, Zone};
@@ -24,8 +24,8 @@ pub fn show<F: Shelf, O: Sink>(
     dec: Option<&str>,
     blocks: bool,
 ) -> Ended
-    ensures answered { IsTrue (F.tells shelf.old) → IsTrue (O.tells out.old) →
-        AnswersBy (AnswersShow (F.file shelf.old) lp.now (option_map (λ name. name.now) dec.entry) blocks) result.status (O.taken out.old) (O.taken out.new) }
+    ensures answered { IsTrue (F.tells shelf.old) →
+        AnswersBy (AnswersShow (F.file shelf.old) lp.now (option_map (λ name. name.now) dec.entry) blocks) result.status (O.tells out.old) (O.taken out.old) (O.taken out.new) }
     ensures exact { IsTrue (F.tells shelf.old) →
         IsOnly (AnswersShow (F.file shelf.old) lp.now (option_map (λ name. name.now) dec.entry) blocks) result.status }
     ensures causes { HasCauses result.status (F.read_faults shelf.old) (F.read_faults shelf.new)
@@ -36,6 +36,9 @@ pub fn show<F: Shelf, O: Sink>(
     ensures files { F.file shelf.new ≡ F.file shelf.old }
     ensures writes { F.write_faults shelf.new ≡ F.write_faults shelf.old }
     ensures silent { (result.status ≡ 7) ⊎ (result.status ≡ 9) ⊎ (result.status ≡ 11) → O.taken out.new ≡ O.taken out.old }
+    ensures puts { PutsReport result.status (O.puts out.old) (O.puts out.new) }
+    ensures failed { result.status ≡ 8 → IsUnput (F.file shelf.new ≡ F.file shelf.old) (F.write_faults shelf.old) (F.write_faults shelf.new)
+        (O.faults out.old) (O.faults out.new) (O.puts out.old) (O.puts out.new) }
     ensures cut_off { IsTrue (F.tells shelf.old) → IsTrue (O.tells out.old) →
         CutsOff (λ kept. AnswersShow (F.file shelf.old) lp.now (option_map (λ name. name.now) dec.entry) blocks) result.status (O.taken out.old) (O.taken out.new) }
 {
@@ -48,7 +51,7 @@ pub fn show<F: Shelf, O: Sink>(
 
 // Prints the sizes and classes of a program in blocks, and its blocks where they are wanted.
 fn print_blocked<O: Sink>(alloc: Global, out: &mut O, b: &Blocked, blocks: bool) -> Ended
-    ensures answered { IsTrue (O.tells out.old) → AnswersBy (ShowsBlocked blocks b.now) result.status (O.taken out.old) (O.taken out.new) }
+    ensures answered { AnswersBy (ShowsBlocked blocks b.now) result.status (O.tells out.old) (O.taken out.old) (O.taken out.new) }
     ensures exact { IsOnly (ShowsBlocked blocks b.now) result.status }
     ensures statuses { (result.status ≡ 0) ⊎ (result.status ≡ 8) ⊎ (result.status ≡ 9) }
     ensures kept { result.kept ≡ None }
@@ -56,6 +59,8 @@ fn print_blocked<O: Sink>(alloc: Global, out: &mut O, b: &Blocked, blocks: bool)
     ensures fault { result.status ≡ 8 → Rose (O.faults out.old) (O.faults out.new) }
     ensures quiet { result.status ≢ 8 → O.faults out.new ≡ O.faults out.old }
     ensures silent { result.status ≡ 9 → O.taken out.new ≡ O.taken out.old }
+    ensures once { result.status ≢ 9 → O.puts out.new ≡ next_count (O.puts out.old) }
+    ensures never { result.status ≡ 9 → O.puts out.new ≡ O.puts out.old }
     ensures cut_off { IsTrue (O.tells out.old) → CutsOff (λ kept. ShowsBlocked blocks b.now) result.status (O.taken out.old) (O.taken out.new) }
 {
     match shown(alloc, b, blocks) {
@@ -66,7 +71,7 @@ fn print_blocked<O: Sink>(alloc: Global, out: &mut O, b: &Blocked, blocks: bool)
 
 // The reply to `show`.
 fn shown(alloc: Global, b: &Blocked, blocks: bool) -> Result<Reply, AllocError>
-    ensures { IfOk result (IsShown blocks b.now) }
+    ensures { IfOk result (RepliesShow blocks b.now) }
 {
     let root = Zone::root(alloc, b)?;
     let classes = Classes::of(alloc, b, &root)?;

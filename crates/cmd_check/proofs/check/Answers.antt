@@ -7,13 +7,13 @@ use Rattle.cmd_check.specs.Checks.{ChecksBlocked}
 use Rattle.cmd_check.proofs.check.Goals as goal
 
 pub returns-in-Ok-clause-answered : goal.returns-in-Ok-clause-answered
-returns-in-Ok-clause-answered g c = λ told told_bytes.
+returns-in-Ok-clause-answered g c = λ told.
     let files = g.F.Shelf.file c.args.shelf.now in
     let still : IsTrue (g.F.Shelf.tells c.load.new.shelf) = subst (λ (t : Bool). IsTrue t) (sym c.in-Ok.ensures.told) told in
     lift_answers files c.args.lp.now (option_map (λ name. name.now) c.args.dec) (Unit {0}) (ChecksBlocked files c.args.cert.now) c.in-Ok.b c.check_blocks.result.status
-    (g.O.Sink.taken c.args.out.now) (g.O.Sink.taken c.check_blocks.new.out) (c.in-Ok.ensures.blocked told)
-    (subst (λ (fs : Files). AnswersBy (ChecksBlocked fs c.args.cert.now c.in-Ok.b) c.check_blocks.result.status (g.O.Sink.taken c.args.out.now) (g.O.Sink.taken c.check_blocks.new.out))
-    c.in-Ok.ensures.files (c.check_blocks.ensures.answered still told_bytes))
+    (g.O.Sink.tells c.args.out.now) (g.O.Sink.taken c.args.out.now) (g.O.Sink.taken c.check_blocks.new.out) (c.in-Ok.ensures.blocked told)
+    (subst (λ (fs : Files). AnswersBy (ChecksBlocked fs c.args.cert.now c.in-Ok.b) c.check_blocks.result.status (g.O.Sink.tells c.args.out.now) (g.O.Sink.taken c.args.out.now) (g.O.Sink.taken c.check_blocks.new.out))
+    c.in-Ok.ensures.files (c.check_blocks.ensures.answered still))
 
 pub returns-in-Ok-clause-exact : goal.returns-in-Ok-clause-exact
 returns-in-Ok-clause-exact g c = λ told.

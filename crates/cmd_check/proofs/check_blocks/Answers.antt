@@ -5,10 +5,10 @@ use Rattle.cmd_check.proofs.Printed.{printed_answers, printed_only, printed_cut}
 use Rattle.cmd_check.proofs.check_blocks.Goals as goal
 
 pub returns-in-Ok-clause-answered : goal.returns-in-Ok-clause-answered
-returns-in-Ok-clause-answered g c = λ told told_bytes.
+returns-in-Ok-clause-answered g c = λ told.
     let reply = c.in-Ok.reply in
-    printed_answers (ChecksBlocked (g.F.Shelf.file c.args.shelf.now) c.args.cert.now c.args.b.now) reply.status c.print.result.status reply.report.items
-    (g.O.Sink.taken c.args.out.now) (g.O.Sink.taken c.print.new.out) (c.in-Ok.ensures.right told) c.print.ensures.status (c.print.ensures.printed told_bytes)
+    printed_answers (ChecksBlocked (g.F.Shelf.file c.args.shelf.now) c.args.cert.now c.args.b.now) reply.status c.print.result.status (g.O.Sink.tells c.args.out.now) reply.report.items
+    (g.O.Sink.taken c.args.out.now) (g.O.Sink.taken c.print.new.out) (c.in-Ok.ensures.right told) c.print.ensures.status c.print.ensures.printed
 
 pub returns-in-Ok-clause-exact : goal.returns-in-Ok-clause-exact
 returns-in-Ok-clause-exact g c = λ told.

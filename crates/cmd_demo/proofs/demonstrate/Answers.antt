@@ -2,9 +2,9 @@ use Rattle.cmd_demo.proofs.Replies.{demo_answers, demo_cut, refused_answers, ref
 use Rattle.cmd_demo.proofs.demonstrate.Goals as goal
 
 pub returns-in-Ok-clause-answered : goal.returns-in-Ok-clause-answered
-returns-in-Ok-clause-answered g c = λ heard.
-    demo_answers c.args.seed c.args.size c.in-Ok.reply c.in-Ok.outcome c.print.result.kept c.print.result.status (g.O.Sink.taken c.args.out.now) (g.O.Sink.taken c.print.new.out)
-    c.in-Ok.ensures.shown c.print.ensures.status c.print.ensures.kept (c.print.ensures.printed heard)
+returns-in-Ok-clause-answered g c =
+    demo_answers c.args.seed c.args.size c.in-Ok.reply c.in-Ok.outcome c.print.result.kept c.print.result.status (g.O.Sink.tells c.args.out.now) (g.O.Sink.taken c.args.out.now) (g.O.Sink.taken c.print.new.out)
+    c.in-Ok.ensures.shown c.print.ensures.status c.print.ensures.kept c.print.ensures.printed
 
 pub returns-in-Ok-clause-cut_off : goal.returns-in-Ok-clause-cut_off
 returns-in-Ok-clause-cut_off g c = λ heard.
@@ -12,10 +12,10 @@ returns-in-Ok-clause-cut_off g c = λ heard.
     c.in-Ok.ensures.shown (c.print.ensures.partly heard)
 
 pub returns-in-Err-Refused-clause-answered : goal.returns-in-Err-Refused-clause-answered
-returns-in-Err-Refused-clause-answered g c = λ heard.
+returns-in-Err-Refused-clause-answered g c =
     let halts = c.in-Err-Refused.ensures.halted in
-    refused_answers c.args.seed c.args.size c.in-Err-Refused.report.items c.print-in-Err-Refused.result.kept c.print-in-Err-Refused.result.status (g.O.Sink.taken c.args.out.now) (g.O.Sink.taken c.print-in-Err-Refused.new.out)
-    (rw c.in-Err-Refused.field-0-is at halts) c.print-in-Err-Refused.ensures.status c.print-in-Err-Refused.ensures.kept (c.print-in-Err-Refused.ensures.printed heard)
+    refused_answers c.args.seed c.args.size c.in-Err-Refused.report.items c.print-in-Err-Refused.result.kept c.print-in-Err-Refused.result.status (g.O.Sink.tells c.args.out.now) (g.O.Sink.taken c.args.out.now) (g.O.Sink.taken c.print-in-Err-Refused.new.out)
+    (rw c.in-Err-Refused.field-0-is at halts) c.print-in-Err-Refused.ensures.status c.print-in-Err-Refused.ensures.kept c.print-in-Err-Refused.ensures.printed
 
 pub returns-in-Err-Refused-clause-exact : goal.returns-in-Err-Refused-clause-exact
 returns-in-Err-Refused-clause-exact g c =

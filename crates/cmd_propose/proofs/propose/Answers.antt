@@ -1,4 +1,4 @@
-use Rattle.std.proofs.Common.{refl, sym, subst, Bool, IsTrue}
+use Rattle.std.proofs.Common.{◌∙◌, inr, refl, sym, subst, Bool, IsTrue}
 use Rattle.bp_shelf.specs.Shelf.{Files, OthersAsBefore}
 use Rattle.bp_front.specs.Written.{stops, begun}
 use Rattle.bp_front.proofs.Written.{right_answers, right_only, right_leaves, right_writes, right_cut, unwritten_cut, halt_only, written_stands}
@@ -7,9 +7,9 @@ use Rattle.cmd_propose.proofs.Proposed.{one_answer}
 use Rattle.cmd_propose.proofs.propose.Goals as goal
 
 pub returns-in-Ok-replace-clause-answered : goal.returns-in-Ok-replace-clause-answered
-returns-in-Ok-replace-clause-answered g c = λ told heard.
+returns-in-Ok-replace-clause-answered g c = λ told.
     right_answers (Proposes (g.F.Shelf.file c.args.shelf.now) c.args.lp.now) (answer_of c.in-Ok.proposal) c.print.result.status
-    (g.O.Sink.taken c.args.out.now) (g.O.Sink.taken c.print.new.out) (c.in-Ok.ensures.proposed told) c.print.ensures.status (c.print.ensures.printed heard)
+    (g.O.Sink.tells c.args.out.now) (g.O.Sink.taken c.args.out.now) (g.O.Sink.taken c.print.new.out) (c.in-Ok.ensures.proposed told) c.print.ensures.status c.print.ensures.printed
 
 pub returns-in-Ok-replace-clause-exact : goal.returns-in-Ok-replace-clause-exact
 returns-in-Ok-replace-clause-exact g c = λ told.
@@ -24,13 +24,18 @@ returns-in-Ok-replace-clause-leaves g c = λ told.
     (written_stands c.args.dec.now c.deref.result.now c.in-Ok.proposal.text.items (g.F.Shelf.file c.args.shelf.now) (g.F.Shelf.file c.load_proposal.new.shelf) (g.F.Shelf.file c.replace.new.self)
     c.in-Ok.ensures.files c.deref.ensures.value (c.in-Ok-replace.ensures.files still))
 
-pub returns-in-Ok-replace-clause-put_last : goal.returns-in-Ok-replace-clause-put_last
-returns-in-Ok-replace-clause-put_last g c = λ told rose.
-    let still : IsTrue (g.F.Shelf.tells c.load_proposal.new.shelf) = subst (λ (t : Bool). IsTrue t) (sym c.in-Ok.ensures.told) told in
-    right_writes (Proposes (g.F.Shelf.file c.args.shelf.now) c.args.lp.now) c.args.dec.now (g.F.Shelf.file c.args.shelf.now) (g.F.Shelf.file c.replace.new.self) (answer_of c.in-Ok.proposal)
-    (c.in-Ok.ensures.proposed told)
-    (written_stands c.args.dec.now c.deref.result.now c.in-Ok.proposal.text.items (g.F.Shelf.file c.args.shelf.now) (g.F.Shelf.file c.load_proposal.new.shelf) (g.F.Shelf.file c.replace.new.self)
-    c.in-Ok.ensures.files c.deref.ensures.value (c.in-Ok-replace.ensures.files still))
+pub returns-in-Ok-replace-clause-failed : goal.returns-in-Ok-replace-clause-failed
+returns-in-Ok-replace-clause-failed g c = λ is_fault. inr (record {
+  rose = c.print.ensures.fault is_fault;
+  no_write = c.in-Ok-replace.ensures.cause ∙ c.in-Ok.ensures.writes;
+  once = c.print.ensures.once;
+  stands = λ told.
+      let still : IsTrue (g.F.Shelf.tells c.load_proposal.new.shelf) = subst (λ (t : Bool). IsTrue t) (sym c.in-Ok.ensures.told) told in
+      right_writes (Proposes (g.F.Shelf.file c.args.shelf.now) c.args.lp.now) c.args.dec.now (g.F.Shelf.file c.args.shelf.now) (g.F.Shelf.file c.replace.new.self) (answer_of c.in-Ok.proposal)
+      (c.in-Ok.ensures.proposed told)
+      (written_stands c.args.dec.now c.deref.result.now c.in-Ok.proposal.text.items (g.F.Shelf.file c.args.shelf.now) (g.F.Shelf.file c.load_proposal.new.shelf) (g.F.Shelf.file c.replace.new.self)
+      c.in-Ok.ensures.files c.deref.ensures.value (c.in-Ok-replace.ensures.files still));
+})
 
 pub returns-in-Ok-replace-clause-cut_off : goal.returns-in-Ok-replace-clause-cut_off
 returns-in-Ok-replace-clause-cut_off g c = λ told heard.
@@ -50,11 +55,11 @@ returns-in-Err-Failed-clause-cut_off g c = λ told heard.
     (g.O.Sink.taken c.args.out.now) (g.O.Sink.taken c.args.out.now) (c.in-Ok.ensures.proposed told) refl
 
 pub returns-in-Err-Refused-clause-answered : goal.returns-in-Err-Refused-clause-answered
-returns-in-Err-Refused-clause-answered g c = λ told heard.
+returns-in-Err-Refused-clause-answered g c = λ told.
     let halts = c.in-Err-Refused.ensures.halted told in
     right_answers (Proposes (g.F.Shelf.file c.args.shelf.now) c.args.lp.now) (stops 3 c.in-Err-Refused.report.items) c.print-in-Err-Refused.result.status
-    (g.O.Sink.taken c.args.out.now) (g.O.Sink.taken c.print-in-Err-Refused.new.out) (rw c.in-Err-Refused.field-0-is at halts) c.print-in-Err-Refused.ensures.status
-    (c.print-in-Err-Refused.ensures.printed heard)
+    (g.O.Sink.tells c.args.out.now) (g.O.Sink.taken c.args.out.now) (g.O.Sink.taken c.print-in-Err-Refused.new.out) (rw c.in-Err-Refused.field-0-is at halts) c.print-in-Err-Refused.ensures.status
+    c.print-in-Err-Refused.ensures.printed
 
 pub returns-in-Err-Refused-clause-exact : goal.returns-in-Err-Refused-clause-exact
 returns-in-Err-Refused-clause-exact g c = λ told.
@@ -69,11 +74,16 @@ returns-in-Err-Refused-clause-leaves g c = λ told.
     right_leaves (Proposes (g.F.Shelf.file c.args.shelf.now) c.args.lp.now) c.args.dec.now (g.F.Shelf.file c.args.shelf.now) (g.F.Shelf.file c.load_proposal.new.shelf) (stops 3 c.in-Err-Refused.report.items)
     c.print-in-Err-Refused.result.status (rw c.in-Err-Refused.field-0-is at halts) c.print-in-Err-Refused.ensures.status c.in-Err-Refused.ensures.files
 
-pub returns-in-Err-Refused-clause-put_last : goal.returns-in-Err-Refused-clause-put_last
-returns-in-Err-Refused-clause-put_last g c = λ told rose.
-    let halts = c.in-Err-Refused.ensures.halted told in
-    right_writes (Proposes (g.F.Shelf.file c.args.shelf.now) c.args.lp.now) c.args.dec.now (g.F.Shelf.file c.args.shelf.now) (g.F.Shelf.file c.load_proposal.new.shelf) (stops 3 c.in-Err-Refused.report.items)
-    (rw c.in-Err-Refused.field-0-is at halts) c.in-Err-Refused.ensures.files
+pub returns-in-Err-Refused-clause-failed : goal.returns-in-Err-Refused-clause-failed
+returns-in-Err-Refused-clause-failed g c = λ is_fault. inr (record {
+  rose = c.print-in-Err-Refused.ensures.fault is_fault;
+  no_write = c.in-Err-Refused.ensures.writes;
+  once = c.print-in-Err-Refused.ensures.once;
+  stands = λ told.
+      let halts = c.in-Err-Refused.ensures.halted told in
+      right_writes (Proposes (g.F.Shelf.file c.args.shelf.now) c.args.lp.now) c.args.dec.now (g.F.Shelf.file c.args.shelf.now) (g.F.Shelf.file c.load_proposal.new.shelf) (stops 3 c.in-Err-Refused.report.items)
+      (rw c.in-Err-Refused.field-0-is at halts) c.in-Err-Refused.ensures.files;
+})
 
 pub returns-in-Err-Refused-clause-cut_off : goal.returns-in-Err-Refused-clause-cut_off
 returns-in-Err-Refused-clause-cut_off g c = λ told heard.

@@ -1,0 +1,201 @@
+#!/usr/bin/env python3
+"""Refuses each request for memory of small runs of the program in turn, one in each run.
+
+    bench/refused_memory.py [PROGRAM]       PROGRAM is the program to run, or else release/bprice; wants a C compiler, `cc`
+
+A run whose Nth request is refused must either end as it ends with ample memory, with the same status, output and files, or with status 9,
+nothing printed, and its files as they were before; of `gen` the LP file may hold its whole text. The line of each run tells its
+requests, and how many of them, refused, led to status 9 and how many to the answer. The last line tells the sums, and the
+script ends with status 1 where a run did anything else.
+"""
+
+import os
+import subprocess
+import sys
+import tempfile
+
+REFUSER = r"""
+#define _GNU_SOURCE
+#include <dlfcn.h>
+#include <stdio.h>
+#include <stdlib.h>
+
+static long calls, refused;
+static void *(*next_malloc)(size_t), *(*next_realloc)(void *, size_t);
+
+__attribute__((constructor)) static void begin(void) {
+    next_malloc = (void *(*)(size_t))dlsym(RTLD_NEXT, "malloc");
+    next_realloc = (void *(*)(void *, size_t))dlsym(RTLD_NEXT, "realloc");
+    const char *number = getenv("REFUSED_CALL");
+    calls = 0;
+    refused = number ? atol(number) : 0;
+}
+
+static int is_refused(void) { return refused && ++calls == refused; }
+
+void *malloc(size_t size) {
+    if (!next_malloc) next_malloc = (void *(*)(size_t))dlsym(RTLD_NEXT, "malloc");
+    return is_refused() ? NULL : next_malloc(size);
+}
+
+void *realloc(void *old, size_t size) {
+    if (!next_realloc) next_realloc = (void *(*)(void *, size_t))dlsym(RTLD_NEXT, "realloc");
+    return is_refused() ? NULL : next_realloc(old, size);
+}
+
+__attribute__((destructor)) static void end(void) {
+    const char *name = getenv("REFUSED_COUNT");
+    long made = calls;
+    FILE *out = name ? fopen(name, "w") : NULL;
+    if (out) { fprintf(out, "%ld\n", made); fclose(out); }
+}
+"""
+
+TWO = """Maximize
+obj: 3 x + 2 y
+Subject To
+c1: 2 x + y <= 5
+c2: x + 3 y <= 7
+Bounds
+x <= 3
+y <= 3
+Generals
+x y
+End
+"""
+
+OPTIMAL = """bpcert 1
+claim optimal 8
+point 2 1
+leaf 5 rows 2 1 -7 2 -1 priced 0
+end
+"""
+
+OPEN = """bpcert 1
+claim bound 15
+open 1 rows 0 priced 0
+end
+"""
+
+AGENTS = """Minimize
+obj: 4 x11 + 7 x12 + 3 x13 + 5 x21 + 4 x22 + 6 x23
+Subject To
+job1: x11 + x21 = 1
+job2: x12 + x22 = 1
+job3: x13 + x23 = 1
+cap1: 2 x11 + 3 x12 + 2 x13 <= 4
+cap2: 3 x21 + 2 x22 + 2 x23 <= 4
+Binaries
+x11 x12 x13 x21 x22 x23
+End
+"""
+
+AGENTS_DEC = """NBLOCKS 2
+BLOCK 1
+cap1
+BLOCK 2
+cap2
+MASTERCONSS
+job1 job2 job3
+"""
+
+FILES = {
+    "two.lp": TWO,
+    "optimal.cert": OPTIMAL,
+    "open.cert": OPEN,
+    "agents.lp": AGENTS,
+    "agents.dec": AGENTS_DEC,
+    "jobs.txt": "job1 job2 job3\n",
+    "kept.cert": "kept\n",
+}
+
+# The words of each run, and the files of which one may hold its whole text where memory is wanting.
+RUNS = [
+    ("solve two.lp", []),
+    ("check two.lp optimal.cert", []),
+    ("solve agents.lp --dec agents.dec --cert kept.cert", []),
+    ("gen 0 1 made.lp made.dec", ["made.lp"]),
+    ("demo 7 1", []),
+    ("show agents.lp --dec agents.dec --blocks", []),
+    ("detect agents.lp jobs.txt found.dec", []),
+    ("propose agents.lp proposed.dec", []),
+    ("merge two.lp open.cert optimal.cert merged.cert", []),
+    ("solve two.lp --from open.cert --cert more.cert", []),
+    ("solve agents.lp --dec agents.dec --workers 2 --order 3", []),
+    ("solve two.lp --from open.cert --leaf 1 --cert more.cert", []),
+]
+
+
+def files_of(folder):
+    """The files of a folder, by their names."""
+    found = {}
+    for name in os.listdir(folder):
+        with open(os.path.join(folder, name), "rb") as file:
+            found[name] = file.read()
+    return found
+
+
+def run(program, refuser, words, call):
+    """Runs in a folder of its own with this request refused: the status, the output, the files behind it and its requests."""
+    with tempfile.TemporaryDirectory() as place:
+        folder = os.path.join(place, "files")
+        os.mkdir(folder)
+        for name, text in FILES.items():
+            with open(os.path.join(folder, name), "w") as file:
+                file.write(text)
+        count = os.path.join(place, "count")
+        env = dict(os.environ, LD_PRELOAD=refuser, REFUSED_CALL=str(call), REFUSED_COUNT=count)
+        ended = subprocess.run(
+            [program, *words], cwd=folder, env=env, stdout=subprocess.PIPE, stderr=subprocess.DEVNULL, timeout=120
+        )
+        with open(count) as file:
+            calls = int(file.read())
+        return (ended.returncode, ended.stdout, files_of(folder)), calls
+
+
+def stands(before, answer, now, partly):
+    """Whether files are as before, up to those of which the whole text may stand."""
+    for name in set(before) | set(now):
+        if now.get(name) != before.get(name) and not (name in partly and now.get(name) == answer.get(name)):
+            return False
+    return True
+
+
+def try_all(program, refuser, text, partly):
+    """Refuses each request of a run in turn: how many requests, how often status 9 and the answer came, and what was odd."""
+    words = text.split()
+    answer, calls = run(program, refuser, words, 10**15)
+    before = {name: text.encode() for name, text in FILES.items()}
+    wants, same, odd = 0, 0, []
+    for call in range(1, calls + 1):
+        ended, _ = run(program, refuser, words, call)
+        if ended == answer:
+            same += 1
+        elif ended[0] == 9 and ended[1] == b"" and stands(before, answer[2], ended[2], partly):
+            wants += 1
+        else:
+            odd.append((call, ended[0]))
+    print(f"{text}: status {answer[0]}, {calls} requests, refused: {wants} want of memory, {same} the answer", flush=True)
+    for call, status in odd:
+        print(f"  request {call}: status {status}, and not what must stand", flush=True)
+    return calls, wants, same, len(odd)
+
+
+def main():
+    here = os.path.dirname(os.path.abspath(__file__))
+    program = os.path.abspath(sys.argv[1]) if len(sys.argv) > 1 else os.path.join(here, "../release/bprice")
+    sums = [0, 0, 0, 0]
+    with tempfile.TemporaryDirectory() as place:
+        source = os.path.join(place, "refuser.c")
+        refuser = os.path.join(place, "refuser.so")
+        with open(source, "w") as file:
+            file.write(REFUSER)
+        subprocess.run(["cc", "-shared", "-fPIC", "-O1", "-o", refuser, source, "-ldl"], check=True)
+        for text, partly in RUNS:
+            sums = [a + b for a, b in zip(sums, try_all(program, refuser, text, partly))]
+    print(f"{len(RUNS)} runs, {sums[0]} requests, refused: {sums[1]} want of memory, {sums[2]} the answer, {sums[3]} anything else")
+    sys.exit(1 if sums[3] else 0)
+
+
+if __name__ == "__main__":
+    main()
