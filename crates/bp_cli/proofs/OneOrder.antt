@@ -1,13 +1,13 @@
 -- Words give one order.
-use Rattle.std.proofs.Common.{◌≡◌, ◌∙◌, refl, sym, ap, subst, ℕ, Bool, true, false, List, Option, Some, None}
+use Rattle.std.proofs.Common.{◌≡◌, ◌∙◌, inl, inr, refl, sym, ap, subst, ℕ, Bool, true, false, List, Option, Some, None}
 use Rattle.std.specs.Prelude.{codes}
 use Rattle.std.specs.Str.{bytes_eq}
 use Rattle.std.specs.Str.Parse.{digits_value, without_leading_plus}
 use Rattle.clap.specs.Words.{Row, Text, first_of}
-use Rattle.bp_words.specs.CommandLine.{most_steps, most_seed, most_size, most_workers}
-use Rattle.bp_words.specs.Orders.{HasNumber, MayHaveNumber, HasValues, IsOrderOf}
+use Rattle.bp_words.specs.CommandLine.{most_steps, most_leaf, most_seed, most_size, most_workers}
+use Rattle.bp_words.specs.Orders.{HasNumber, MayHaveNumber, IsLeafPlaced, HasValues, IsOrderOf, AreRefused}
 use Rattle.bp_words.specs.declared.order.Order.{Order}
-use Rattle.bp_words.specs.declared.order.Order.TheVariants.{Solve, Check, Show, Gen, Demo, Detect, Propose}
+use Rattle.bp_words.specs.declared.order.Order.TheVariants.{Solve, Check, Show, Gen, Demo, Detect, Propose, Merge}
 
 -- a value that is there is one
 one_value : (given : Option Text) (t u : Text) → given ≡ Some t → given ≡ Some u → t ≡ u
@@ -36,9 +36,9 @@ apart name s t a b same other =
     let both : true ≡ false = sym same ∙ ap (λ (u : Text). bytes_eq s u) (sym a ∙ b) ∙ other in
     absurd (cc)
 
-solves : (a b : Text) (c d : Option Text) (m n : Option ℕ) (e f g h : Option Text) (i j k l : Option ℕ) → a ≡ b → c ≡ d → m ≡ n → e ≡ f → g ≡ h
-    → i ≡ j → k ≡ l → Solve a c m e g i k ≡ Solve b d n f h j l
-solves a b c d m n e f g h i j k l p q r s t u v = rw (p, q, r, s, t, u, v) refl
+solves : (a b : Text) (c d : Option Text) (m n : Option ℕ) (e f g h : Option Text) (i j k l x y : Option ℕ) → a ≡ b → c ≡ d → m ≡ n → e ≡ f → g ≡ h
+    → i ≡ j → k ≡ l → x ≡ y → Solve a c m e g i k x ≡ Solve b d n f h j l y
+solves a b c d m n e f g h i j k l x y p q r s t u v w = rw (p, q, r, s, t, u, v, w) refl
 
 checks : (a b c d : Text) (e f : Option Text) → a ≡ b → c ≡ d → e ≡ f → Check a c e ≡ Check b d f
 checks a b c d e f p q r = rw (p, q, r) refl
@@ -58,20 +58,24 @@ detects a b c d e f p q r = rw (p, q, r) refl
 proposes : (a b c d : Text) → a ≡ b → c ≡ d → Propose a c ≡ Propose b d
 proposes a b c d p q = rw (p, q) refl
 
+merges : (a b c d e f g h : Text) (i k : Option Text) → a ≡ b → c ≡ d → e ≡ f → g ≡ h → i ≡ k → Merge a c e g i ≡ Merge b d f h k
+merges a b c d e f g h i k p q r s t = rw (p, q, r, s, t) refl
+
 -- a subcommand with its rows states one order
 pub one_stated : (name : Text) (rows : List Row) (o p : Order) → HasValues name rows o → HasValues name rows p → o ≡ p
-one_stated name rows (Solve a b c d i k m) (Solve e f g h j l n) x y =
-    solves a e b f c g d h i j k l m n (one_value (first_of (codes "lp") rows) a e x.1 y.1) (one_given (first_of (codes "dec") rows) b f x.2 y.2)
+one_stated name rows (Solve a b c d i k m o) (Solve e f g h j l n p) x y =
+    solves a e b f c g d h i j k l m n o p (one_value (first_of (codes "lp") rows) a e x.1 y.1) (one_given (first_of (codes "dec") rows) b f x.2 y.2)
     (may_be_one (first_of (codes "steps") rows) 0 most_steps c g x.3 y.3) (one_given (first_of (codes "cert") rows) d h x.4 y.4)
-    (one_given (first_of (codes "from") rows) i j x.5 y.5) (may_be_one (first_of (codes "workers") rows) 1 most_workers k l x.6 y.6)
-    (may_be_one (first_of (codes "order") rows) 0 most_seed m n x.7 y.7)
-one_stated name rows (Solve a b c d i k m) (Check e f g) x y = apart name (codes "solve") (codes "check") x.0 y.0 refl refl
-one_stated name rows (Solve a b c d i k m) (Show e f g) x y = apart name (codes "solve") (codes "show") x.0 y.0 refl refl
-one_stated name rows (Solve a b c d i k m) (Gen e f g h) x y = apart name (codes "solve") (codes "gen") x.0 y.0 refl refl
-one_stated name rows (Solve a b c d i k m) (Demo e f) x y = apart name (codes "solve") (codes "demo") x.0 y.0 refl refl
-one_stated name rows (Solve a b c d i k m) (Detect e f g) x y = apart name (codes "solve") (codes "detect") x.0 y.0 refl refl
-one_stated name rows (Solve a b c d i k m) (Propose e f) x y = apart name (codes "solve") (codes "propose") x.0 y.0 refl refl
-one_stated name rows (Check a b c) (Solve e f g h j l n) x y = apart name (codes "check") (codes "solve") x.0 y.0 refl refl
+    (one_given (first_of (codes "from") rows) i j x.5 y.5) (may_be_one (first_of (codes "leaf") rows) 1 most_leaf k l x.6 y.6)
+    (may_be_one (first_of (codes "workers") rows) 1 most_workers m n x.7 y.7) (may_be_one (first_of (codes "order") rows) 0 most_seed o p x.8 y.8)
+one_stated name rows (Solve a b c d i k m o) (Check e f g) x y = apart name (codes "solve") (codes "check") x.0 y.0 refl refl
+one_stated name rows (Solve a b c d i k m o) (Show e f g) x y = apart name (codes "solve") (codes "show") x.0 y.0 refl refl
+one_stated name rows (Solve a b c d i k m o) (Gen e f g h) x y = apart name (codes "solve") (codes "gen") x.0 y.0 refl refl
+one_stated name rows (Solve a b c d i k m o) (Demo e f) x y = apart name (codes "solve") (codes "demo") x.0 y.0 refl refl
+one_stated name rows (Solve a b c d i k m o) (Detect e f g) x y = apart name (codes "solve") (codes "detect") x.0 y.0 refl refl
+one_stated name rows (Solve a b c d i k m o) (Propose e f) x y = apart name (codes "solve") (codes "propose") x.0 y.0 refl refl
+one_stated name rows (Solve a b c d i k m o) (Merge e f g h j) x y = apart name (codes "solve") (codes "merge") x.0 y.0 refl refl
+one_stated name rows (Check a b c) (Solve e f g h j l n p) x y = apart name (codes "check") (codes "solve") x.0 y.0 refl refl
 one_stated name rows (Check a b c) (Check e f g) x y =
     checks a e b f c g (one_value (first_of (codes "lp") rows) a e x.1 y.1) (one_value (first_of (codes "cert") rows) b f x.2 y.2)
     (one_given (first_of (codes "dec") rows) c g x.3 y.3)
@@ -80,7 +84,8 @@ one_stated name rows (Check a b c) (Gen e f g h) x y = apart name (codes "check"
 one_stated name rows (Check a b c) (Demo e f) x y = apart name (codes "check") (codes "demo") x.0 y.0 refl refl
 one_stated name rows (Check a b c) (Detect e f g) x y = apart name (codes "check") (codes "detect") x.0 y.0 refl refl
 one_stated name rows (Check a b c) (Propose e f) x y = apart name (codes "check") (codes "propose") x.0 y.0 refl refl
-one_stated name rows (Show a b c) (Solve e f g h j l n) x y = apart name (codes "show") (codes "solve") x.0 y.0 refl refl
+one_stated name rows (Check a b c) (Merge e f g h j) x y = apart name (codes "check") (codes "merge") x.0 y.0 refl refl
+one_stated name rows (Show a b c) (Solve e f g h j l n p) x y = apart name (codes "show") (codes "solve") x.0 y.0 refl refl
 one_stated name rows (Show a b c) (Check e f g) x y = apart name (codes "show") (codes "check") x.0 y.0 refl refl
 one_stated name rows (Show a b c) (Show e f g) x y =
     shows a e b f c g (one_value (first_of (codes "lp") rows) a e x.1 y.1) (one_given (first_of (codes "dec") rows) b f x.2 y.2)
@@ -89,7 +94,8 @@ one_stated name rows (Show a b c) (Gen e f g h) x y = apart name (codes "show") 
 one_stated name rows (Show a b c) (Demo e f) x y = apart name (codes "show") (codes "demo") x.0 y.0 refl refl
 one_stated name rows (Show a b c) (Detect e f g) x y = apart name (codes "show") (codes "detect") x.0 y.0 refl refl
 one_stated name rows (Show a b c) (Propose e f) x y = apart name (codes "show") (codes "propose") x.0 y.0 refl refl
-one_stated name rows (Gen a b c d) (Solve e f g h j l n) x y = apart name (codes "gen") (codes "solve") x.0 y.0 refl refl
+one_stated name rows (Show a b c) (Merge e f g h j) x y = apart name (codes "show") (codes "merge") x.0 y.0 refl refl
+one_stated name rows (Gen a b c d) (Solve e f g h j l n p) x y = apart name (codes "gen") (codes "solve") x.0 y.0 refl refl
 one_stated name rows (Gen a b c d) (Check e f g) x y = apart name (codes "gen") (codes "check") x.0 y.0 refl refl
 one_stated name rows (Gen a b c d) (Show e f g) x y = apart name (codes "gen") (codes "show") x.0 y.0 refl refl
 one_stated name rows (Gen a b c d) (Gen e f g h) x y =
@@ -98,7 +104,8 @@ one_stated name rows (Gen a b c d) (Gen e f g h) x y =
 one_stated name rows (Gen a b c d) (Demo e f) x y = apart name (codes "gen") (codes "demo") x.0 y.0 refl refl
 one_stated name rows (Gen a b c d) (Detect e f g) x y = apart name (codes "gen") (codes "detect") x.0 y.0 refl refl
 one_stated name rows (Gen a b c d) (Propose e f) x y = apart name (codes "gen") (codes "propose") x.0 y.0 refl refl
-one_stated name rows (Demo a b) (Solve e f g h j l n) x y = apart name (codes "demo") (codes "solve") x.0 y.0 refl refl
+one_stated name rows (Gen a b c d) (Merge e f g h j) x y = apart name (codes "gen") (codes "merge") x.0 y.0 refl refl
+one_stated name rows (Demo a b) (Solve e f g h j l n p) x y = apart name (codes "demo") (codes "solve") x.0 y.0 refl refl
 one_stated name rows (Demo a b) (Check e f g) x y = apart name (codes "demo") (codes "check") x.0 y.0 refl refl
 one_stated name rows (Demo a b) (Show e f g) x y = apart name (codes "demo") (codes "show") x.0 y.0 refl refl
 one_stated name rows (Demo a b) (Gen e f g h) x y = apart name (codes "demo") (codes "gen") x.0 y.0 refl refl
@@ -106,7 +113,8 @@ one_stated name rows (Demo a b) (Demo e f) x y =
     demonstrates a e b f (one_number (first_of (codes "seed") rows) 0 most_seed a e x.1 y.1) (one_number (first_of (codes "size") rows) 1 most_size b f x.2 y.2)
 one_stated name rows (Demo a b) (Detect e f g) x y = apart name (codes "demo") (codes "detect") x.0 y.0 refl refl
 one_stated name rows (Demo a b) (Propose e f) x y = apart name (codes "demo") (codes "propose") x.0 y.0 refl refl
-one_stated name rows (Detect a b c) (Solve e f g h j l n) x y = apart name (codes "detect") (codes "solve") x.0 y.0 refl refl
+one_stated name rows (Demo a b) (Merge e f g h j) x y = apart name (codes "demo") (codes "merge") x.0 y.0 refl refl
+one_stated name rows (Detect a b c) (Solve e f g h j l n p) x y = apart name (codes "detect") (codes "solve") x.0 y.0 refl refl
 one_stated name rows (Detect a b c) (Check e f g) x y = apart name (codes "detect") (codes "check") x.0 y.0 refl refl
 one_stated name rows (Detect a b c) (Show e f g) x y = apart name (codes "detect") (codes "show") x.0 y.0 refl refl
 one_stated name rows (Detect a b c) (Gen e f g h) x y = apart name (codes "detect") (codes "gen") x.0 y.0 refl refl
@@ -115,7 +123,8 @@ one_stated name rows (Detect a b c) (Detect e f g) x y =
     detects a e b f c g (one_value (first_of (codes "lp") rows) a e x.1 y.1) (one_value (first_of (codes "rows") rows) b f x.2 y.2)
     (one_value (first_of (codes "dec") rows) c g x.3 y.3)
 one_stated name rows (Detect a b c) (Propose e f) x y = apart name (codes "detect") (codes "propose") x.0 y.0 refl refl
-one_stated name rows (Propose a b) (Solve e f g h j l n) x y = apart name (codes "propose") (codes "solve") x.0 y.0 refl refl
+one_stated name rows (Detect a b c) (Merge e f g h j) x y = apart name (codes "detect") (codes "merge") x.0 y.0 refl refl
+one_stated name rows (Propose a b) (Solve e f g h j l n p) x y = apart name (codes "propose") (codes "solve") x.0 y.0 refl refl
 one_stated name rows (Propose a b) (Check e f g) x y = apart name (codes "propose") (codes "check") x.0 y.0 refl refl
 one_stated name rows (Propose a b) (Show e f g) x y = apart name (codes "propose") (codes "show") x.0 y.0 refl refl
 one_stated name rows (Propose a b) (Gen e f g h) x y = apart name (codes "propose") (codes "gen") x.0 y.0 refl refl
@@ -123,6 +132,17 @@ one_stated name rows (Propose a b) (Demo e f) x y = apart name (codes "propose")
 one_stated name rows (Propose a b) (Detect e f g) x y = apart name (codes "propose") (codes "detect") x.0 y.0 refl refl
 one_stated name rows (Propose a b) (Propose e f) x y =
     proposes a e b f (one_value (first_of (codes "lp") rows) a e x.1 y.1) (one_value (first_of (codes "dec") rows) b f x.2 y.2)
+one_stated name rows (Propose a b) (Merge e f g h j) x y = apart name (codes "propose") (codes "merge") x.0 y.0 refl refl
+one_stated name rows (Merge a b c d i) (Solve e f g h j l n o) x y = apart name (codes "merge") (codes "solve") x.0 y.0 refl refl
+one_stated name rows (Merge a b c d i) (Check e f g) x y = apart name (codes "merge") (codes "check") x.0 y.0 refl refl
+one_stated name rows (Merge a b c d i) (Show e f g) x y = apart name (codes "merge") (codes "show") x.0 y.0 refl refl
+one_stated name rows (Merge a b c d i) (Gen e f g h) x y = apart name (codes "merge") (codes "gen") x.0 y.0 refl refl
+one_stated name rows (Merge a b c d i) (Demo e f) x y = apart name (codes "merge") (codes "demo") x.0 y.0 refl refl
+one_stated name rows (Merge a b c d i) (Detect e f g) x y = apart name (codes "merge") (codes "detect") x.0 y.0 refl refl
+one_stated name rows (Merge a b c d i) (Propose e f) x y = apart name (codes "merge") (codes "propose") x.0 y.0 refl refl
+one_stated name rows (Merge a b c d i) (Merge e f g h j) x y =
+    merges a e b f c g d h i j (one_value (first_of (codes "lp") rows) a e x.1 y.1) (one_value (first_of (codes "first") rows) b f x.2 y.2)
+    (one_value (first_of (codes "second") rows) c g x.3 y.3) (one_value (first_of (codes "new") rows) d h x.4 y.4) (sym x.5 ∙ y.5)
 
 -- what is met is met with one name and rows
 one_met : (met : Option (Text × List Row)) (p q : Text × List Row) → met ≡ Some p → met ≡ Some q → p ≡ q
@@ -135,10 +155,29 @@ one_order words o p x y =
     one_met _ (x.stated.name, x.stated.rows) (y.stated.name, y.stated.rows) x.stated.subcommand y.stated.subcommand in
     one_stated y.stated.name y.stated.rows o p (subst (λ (s : Text × List Row). HasValues s.0 s.1 o) same x.stated.values) y.stated.values
 
+-- an order to solve has its leaf where it may be named
+solve_is_placed : (rows : List Row) (order : Order) → HasValues (codes "solve") rows order → IsLeafPlaced rows
+solve_is_placed rows (Solve a b c d i k m o) has = has.9
+solve_is_placed rows (Check a b c) has = apart (codes "solve") (codes "solve") (codes "check") refl has.0 refl refl
+solve_is_placed rows (Show a b c) has = apart (codes "solve") (codes "solve") (codes "show") refl has.0 refl refl
+solve_is_placed rows (Gen a b c d) has = apart (codes "solve") (codes "solve") (codes "gen") refl has.0 refl refl
+solve_is_placed rows (Demo a b) has = apart (codes "solve") (codes "solve") (codes "demo") refl has.0 refl refl
+solve_is_placed rows (Detect a b c) has = apart (codes "solve") (codes "solve") (codes "detect") refl has.0 refl refl
+solve_is_placed rows (Propose a b) has = apart (codes "solve") (codes "solve") (codes "propose") refl has.0 refl refl
+solve_is_placed rows (Merge a b c d e) has = apart (codes "solve") (codes "solve") (codes "merge") refl has.0 refl refl
+
+-- words that are refused give no order
+pub not_both : (words : List Text) (order : Order) → AreRefused words → IsOrderOf words order → ⊥
+not_both words order (inl fault) is = fault is.taken
+not_both words order (inr astray) is =
+    let same : (is.stated.name, is.stated.rows) ≡ (codes "solve", astray.0) =
+    one_met _ (is.stated.name, is.stated.rows) (codes "solve", astray.0) is.stated.subcommand astray.1 in
+    astray.2 (solve_is_placed astray.0 order (subst (λ (s : Text × List Row). HasValues s.0 s.1 order) same is.stated.values))
+
 -- an order with its parts as other values that are the same
-pub as_solve : (order : Order) (a b : Text) (c d : Option Text) (m : Option ℕ) (e f g h : Option Text) (i k : Option ℕ) → order ≡ Solve b d m f h i k
-    → a ≡ b → c ≡ d → e ≡ f → g ≡ h → Solve a c m e g i k ≡ order
-as_solve order a b c d m e f g h i k is p q r s = solves a b c d m m e f g h i i k k p q refl r s refl refl ∙ sym is
+pub as_solve : (order : Order) (a b : Text) (c d : Option Text) (m : Option ℕ) (e f g h : Option Text) (i k l : Option ℕ) → order ≡ Solve b d m f h i k l
+    → a ≡ b → c ≡ d → e ≡ f → g ≡ h → Solve a c m e g i k l ≡ order
+as_solve order a b c d m e f g h i k l is p q r s = solves a b c d m m e f g h i i k k l l p q refl r s refl refl refl ∙ sym is
 
 pub as_check : (order : Order) (a b c d : Text) (e f : Option Text) → order ≡ Check b d f → a ≡ b → c ≡ d → e ≡ f → Check a c e ≡ order
 as_check order a b c d e f is p q r = checks a b c d e f p q r ∙ sym is
@@ -154,3 +193,6 @@ as_detect order a b c d e f is p q r = detects a b c d e f p q r ∙ sym is
 
 pub as_propose : (order : Order) (a b c d : Text) → order ≡ Propose b d → a ≡ b → c ≡ d → Propose a c ≡ order
 as_propose order a b c d is p q = proposes a b c d p q ∙ sym is
+
+pub as_merge : (order : Order) (a b c d e f g h : Text) (i k : Option Text) → order ≡ Merge b d f h k → a ≡ b → c ≡ d → e ≡ f → g ≡ h → i ≡ k → Merge a c e g i ≡ order
+as_merge order a b c d e f g h i k is p q r s t = merges a b c d e f g h i k p q r s t ∙ sym is

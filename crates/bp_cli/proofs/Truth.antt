@@ -1,5 +1,5 @@
 -- What each command answers makes the headline true.
-use Rattle.std.proofs.Common.{◌≡◌, ◌≢◌, ◌∙◌, refl, sym, ap, subst, inl, inr, ◌⊎◌, ℕ, Bool, true, false, List, ◌++◌, Option, Some, None, IfSome, arith}
+use Rattle.std.proofs.Common.{◌≡◌, ◌≢◌, ◌∙◌, refl, sym, ap, subst, inl, inr, ◌⊎◌, ℕ, Bool, true, false, List, ◌++◌, Option, Some, None, IfSome, ◌≤◌, arith}
 use Rattle.std.proofs.Math.IntN.{ℤ}
 use Rattle.std.specs.Prelude.{IsTrue, is_none, ◌≤ℤ◌}
 use Rattle.std.specs.Option.{option_map}
@@ -13,6 +13,9 @@ use Rattle.bp_model.specs.Named.{NamedProgram}
 use Rattle.bp_model.specs.Dec.{plain_of}
 use Rattle.bp_shelf.specs.Shelf.{Files, OthersAsBefore}
 use Rattle.lp_read.specs.Model.{Means}
+use Rattle.bp_theory.specs.Trees.{Tree}
+use Rattle.search_laws.specs.declared.Side.{Side}
+use Rattle.search_laws.specs.Grove.{GrowingTree}
 use Rattle.lp_read.specs.Reading as lp_text
 use Rattle.lp_read.proofs.Readings as lp_laws
 use Rattle.block_form.specs.Blocked.{BlockedProgram}
@@ -22,6 +25,7 @@ use Rattle.block_form.specs.declared.fault.BlockFault.TheVariants.{Linking, VarP
 use Rattle.branch_tree.specs.declared.outcome.Outcome.{Outcome}
 use Rattle.branch_tree.specs.declared.outcome.Outcome.TheVariants.{Optimal, Infeasible, Budget}
 use Rattle.bp_search.specs.Ends.{EndsWithin, most_steps, last_step}
+use Rattle.bp_search.specs.Below.{steps_in}
 use Rattle.bp_report.specs.Report.{solve_report, accepted_report}
 use Rattle.bp_front.specs.Front.{Front, blocked, ends, BlocksCome, formed, refused, DecComes, plain, missing, faulty, read, FilesCome, missing_lp, faulty_lp, read_lp}
 use Rattle.bp_front.specs.Answers.{AnswersBy, stopped, went_on, IsStatus}
@@ -29,11 +33,12 @@ use Rattle.bp_front.proofs.OneFront.{one_front}
 use Rattle.cmd_check.specs.Checks as checks
 use Rattle.cmd_check.specs.Checks.{ChecksBlocked, AnswersCheck}
 use Rattle.cmd_solve.specs.Starts as starts
-use Rattle.cmd_solve.specs.Starts.{RefusesStart}
+use Rattle.cmd_solve.specs.Starts.{RefusesStart, IsStartAt}
+use Rattle.cmd_solve.specs.Leaves.{IsWorkedOn}
 use Rattle.cmd_solve.specs.Solves as solves
-use Rattle.cmd_solve.specs.Solves.{SolvesBlocked, SolvesBy, AnswersSolve, outcome_status, outcome_certificate}
+use Rattle.cmd_solve.specs.Solves.{SolvesBlocked, SolvesBelow, SolvesOn, SolvesBy, AnswersSolve, outcome_status, outcome_certificate}
 use Rattle.cmd_solve.specs.Saves.{HasCertificate}
-use Rattle.bp_cli.specs.Headline.{IsTrueReport, optimal, infeasible, budget, HasProgram, IsStoppedAfter, IsOutcomeStatus, WasStopped, TellsTruly, AcceptsTruly}
+use Rattle.bp_cli.specs.Headline.{IsTrueReport, optimal, infeasible, budget, HasProgram, IsCount, IsStoppedAfter, IsOutcomeStatus, WasStopped, TellsTruly, AcceptsTruly}
 
 -- ---- what files come to
 
@@ -134,13 +139,24 @@ spent b most (Optimal g point value) is five = absurd (cc)
 spent b most (Infeasible g) is five = absurd (cc)
 spent b most (Budget g best bound) is five = record { grove = g; best = best; least = bound; is_kept = refl; taken = is.spent }
 
+-- the steps that are told
+count_all : (leaf : Option ℕ) (given : ℕ) → IsCount leaf given given
+count_all None given = refl
+count_all (Some number) given = omega arith
+
+count_below : (tree : Tree) (leaf : Option ℕ) (path : List Side) (given told : ℕ) → IsWorkedOn tree leaf (Some path) → told ≤ given → IsCount leaf given told
+count_below tree None path given told worked few = absurd (cc)
+count_below tree (Some number) path given told worked few = few
+
 -- what is told of a program in blocks
-tells : (files : Files) (lp : List ℕ) (b : BlockedProgram) (most given : ℕ) (steps : Option ℕ) (begun : Bool) (kept : Option Outcome) (status : ℕ) (report before now : List ℕ)
+tells_true : (files : Files) (lp : List ℕ) (leaf : Option ℕ) (b : BlockedProgram) (most : ℕ) (steps : Option ℕ) (begun : Bool) (kept : Option Outcome) (status : ℕ) (report before now : List ℕ)
     → HasProgram (files lp) b.named → SolvesBlocked most steps kept b status report → (IsTrue begun → most ≡ most_steps steps) → now ≡ before ++ report
-    → TellsTruly (files lp) (most_steps steps) begun kept status before now
-tells files lp b most given steps begun kept status report before now has right same printed = record {
+    → TellsTruly (files lp) leaf (most_steps steps) begun kept status before now
+tells_true files lp leaf b most steps begun kept status report before now has right same printed = record {
   program = b.named;
   report = report;
+  told = most_steps steps;
+  counted = count_all leaf (most_steps steps);
   read = has;
   is_true = subst (λ (s : ℕ). IsTrueReport b.named (most_steps steps) s report) (sym right.has_status)
       (subst (λ (r : List ℕ). IsTrueReport b.named (most_steps steps) (outcome_status right.outcome) r) (sym right.has_report)
@@ -149,6 +165,24 @@ tells files lp b most given steps begun kept status report before now has right 
   spent = λ five is_begun. subst (λ (k : Option Outcome). IsStoppedAfter k (most_steps steps)) (sym right.is_kept)
       (subst (λ (n : ℕ). IsStoppedAfter (Some right.outcome) n) (same is_begun)
       (spent b most right.outcome right.is_outcome (sym right.has_status ∙ five)));
+}
+
+-- what is told of a search below one leaf alone
+tells_below : (files : Files) (lp : List ℕ) (leaf : Option ℕ) (b : BlockedProgram) (start : GrowingTree) (path : List Side) (steps : Option ℕ) (kept : Option Outcome) (status : ℕ)
+    (report before now : List ℕ) → HasProgram (files lp) b.named → SolvesBelow start path steps kept b status report
+    → ((told : ℕ) → told ≤ most_steps steps → IsCount leaf (most_steps steps) told) → now ≡ before ++ report
+    → TellsTruly (files lp) leaf (most_steps steps) false kept status before now
+tells_below files lp leaf b start path steps kept status report before now has right counts printed = record {
+  program = b.named;
+  report = report;
+  told = right.is_outcome.taken;
+  counted = counts right.is_outcome.taken right.is_outcome.few;
+  read = has;
+  is_true = subst (λ (s : ℕ). IsTrueReport b.named right.is_outcome.taken s report) (sym right.has_status)
+      (subst (λ (r : List ℕ). IsTrueReport b.named right.is_outcome.taken (outcome_status right.outcome) r) (sym right.has_report)
+      (true_outcome b (steps_in right.outcome) right.is_outcome.taken right.outcome right.is_outcome.ends));
+  printed = printed;
+  spent = λ five is_begun. absurd (cc);
 }
 
 -- ---- what `solve` tells
@@ -174,50 +208,58 @@ went_through status (inl zero) = ((λ e. absurd (cc)), (λ e. absurd (cc)), (λ 
 went_through status (inr (inl four)) = ((λ e. absurd (cc)), (λ e. absurd (cc)), (λ e. absurd (cc)))
 went_through status (inr (inr five)) = ((λ e. absurd (cc)), (λ e. absurd (cc)), (λ e. absurd (cc)))
 
-refuses_status : (b : BlockedProgram) (text : List ℕ) (status : ℕ) (report : List ℕ) → RefusesStart b text status report → (status ≡ 3) ⊎ (status ≡ 6) ⊎ (status ≡ 11)
-refuses_status b text status report (starts.faulty line kind fault is printed) = inl is
-refuses_status b text status report (starts.rejected cert line kind spells has fault is printed) = inr (inl is)
-refuses_status b text status report (starts.too_deep cert line spells has valid deep is printed) = inl is
+refuses_status : (b : BlockedProgram) (leaf : Option ℕ) (text : List ℕ) (status : ℕ) (report : List ℕ) → RefusesStart b leaf text status report → (status ≡ 3) ⊎ (status ≡ 6) ⊎ (status ≡ 11)
+refuses_status b leaf text status report (starts.faulty line kind fault is printed) = inl is
+refuses_status b leaf text status report (starts.rejected cert line kind spells has fault is printed) = inr (inl is)
+refuses_status b leaf text status report (starts.too_deep cert line spells has valid deep is printed) = inl is
+refuses_status b leaf text status report (starts.no_leaf from number start named none is printed) = inl is
 
 -- what is answered under an outcome's status is told truly
-solves_told : (files : Files) (lp : List ℕ) (steps : Option ℕ) (from : Option (List ℕ)) (kept : Option Outcome) (b : BlockedProgram) (status : ℕ) (report before now : List ℕ)
-    → HasProgram (files lp) b.named → SolvesBy files from steps kept b status report → IsOutcomeStatus status → now ≡ before ++ report
-    → TellsTruly (files lp) (most_steps steps) (is_none from) kept status before now
-solves_told files lp steps None kept b status report before now has right is printed =
-    tells files lp b (most_steps steps) (most_steps steps) steps true kept status report before now has right (λ begun. refl) printed
-solves_told files lp steps (Some name) kept b status report before now has (solves.missing gone none eleven empty) is printed =
+solves_told : (files : Files) (lp : List ℕ) (steps : Option ℕ) (from : Option (List ℕ)) (leaf : Option ℕ) (kept : Option Outcome) (b : BlockedProgram) (status : ℕ) (report before now : List ℕ)
+    → HasProgram (files lp) b.named → SolvesBy files from leaf steps kept b status report → IsOutcomeStatus status → now ≡ before ++ report
+    → TellsTruly (files lp) leaf (most_steps steps) (is_none from) kept status before now
+solves_told files lp steps None leaf kept b status report before now has right is printed =
+    tells_true files lp leaf b (most_steps steps) steps true kept status report before now has right (λ begun. refl) printed
+solves_told files lp steps (Some name) leaf kept b status report before now has (solves.missing gone none eleven empty) is printed =
     absurd (not_outcome status is (inr (inr eleven)))
-solves_told files lp steps (Some name) kept b status report before now has (solves.refused text there none refuses) is printed =
-    absurd (not_outcome status is (refuses_status b text status report refuses))
-solves_told files lp steps (Some name) kept b status report before now has (solves.went_on text from there start right) is printed =
-    tells files lp b (last_step from.grove steps) (most_steps steps) steps false kept status report before now has right (λ begun. absurd (cc)) printed
+solves_told files lp steps (Some name) leaf kept b status report before now has (solves.refused text there none refuses) is printed =
+    absurd (not_outcome status is (refuses_status b leaf text status report refuses))
+solves_told files lp steps (Some name) leaf kept b status report before now has (solves.went_on text from below there start right) is printed = on below start right
+  where
+    on : (below : Option (List Side)) → IsStartAt b leaf text from below → SolvesOn from.grove.tree below steps kept b status report
+        → TellsTruly (files lp) leaf (most_steps steps) false kept status before now
+    on None start right =
+        tells_true files lp leaf b (last_step from.grove steps) steps false kept status report before now has right (λ begun. absurd (cc)) printed
+    on (Some path) start right =
+        tells_below files lp leaf b from.grove.tree path steps kept status report before now has right
+        (λ told few. count_below start.start.cert.tree leaf path (most_steps steps) told start.worked_on few) printed
 
-pub solves_truly : (files : Files) (lp : List ℕ) (dec : Option (List ℕ)) (steps : Option ℕ) (from : Option (List ℕ)) (kept : Option Outcome) (status : ℕ) (before now : List ℕ)
-    → AnswersBy (AnswersSolve files lp dec steps from kept) status before now → IsOutcomeStatus status
-    → TellsTruly (files lp) (most_steps steps) (is_none from) kept status before now
-solves_truly files lp dec steps from kept status before now answers is =
+pub solves_truly : (files : Files) (lp : List ℕ) (dec : Option (List ℕ)) (steps : Option ℕ) (from : Option (List ℕ)) (leaf : Option ℕ) (kept : Option Outcome) (status : ℕ) (tells : Bool) (before now : List ℕ)
+    → AnswersBy (AnswersSolve files lp dec steps from leaf kept) status tells before now → IsTrue tells → IsOutcomeStatus status
+    → TellsTruly (files lp) leaf (most_steps steps) (is_none from) kept status before now
+solves_truly files lp dec steps from leaf kept status tells before now answers heard is =
     let through = went_through status is in
     let answer = answers through.0 through.1 through.2 in
-    by answer.0 answer.1 answer.2
+    by answer.0 answer.1 (answer.2 heard)
   where
-    by : (report : List ℕ) → AnswersSolve files lp dec steps from kept status report → now ≡ before ++ report
-        → TellsTruly (files lp) (most_steps steps) (is_none from) kept status before now
+    by : (report : List ℕ) → AnswersSolve files lp dec steps from leaf kept status report → now ≡ before ++ report
+        → TellsTruly (files lp) leaf (most_steps steps) (is_none from) kept status before now
     by report (stopped come stops) printed =
         absurd (not_outcome status is (as_refusal status (files_come files lp dec (ends status report) come)))
     by report (went_on b come right) printed =
-        solves_told files lp steps from kept b status report before now (files_come files lp dec (blocked b) come) right is printed
+        solves_told files lp steps from leaf kept b status report before now (files_come files lp dec (blocked b) come) right is printed
 
 -- ---- accepted files are told an outcome
 
 solved_status : (b : BlockedProgram) (most : ℕ) (steps : Option ℕ) (kept : Option Outcome) (status : ℕ) (report : List ℕ) → SolvesBlocked most steps kept b status report → IsOutcomeStatus status
 solved_status b most steps kept status report right = subst IsOutcomeStatus (sym right.has_status) (outcome_statuses right.outcome)
 
-solves_unless : (files : Files) (lp : List ℕ) (dec : Option (List ℕ)) (steps : Option ℕ) (kept : Option Outcome) (status : ℕ) (before now : List ℕ)
-    → IsStatus status → AnswersBy (AnswersSolve files lp dec steps None kept) status before now → ((s : ℕ) (r : List ℕ) → FilesCome files lp dec (ends s r) → ⊥)
+solves_unless : (files : Files) (lp : List ℕ) (dec : Option (List ℕ)) (steps leaf : Option ℕ) (kept : Option Outcome) (status : ℕ) (tells : Bool) (before now : List ℕ)
+    → IsStatus status → AnswersBy (AnswersSolve files lp dec steps None leaf kept) status tells before now → ((s : ℕ) (r : List ℕ) → FilesCome files lp dec (ends s r) → ⊥)
     → IsOutcomeStatus status ⊎ WasStopped status
-solves_unless files lp dec steps kept status before now known answers accepted = by known
+solves_unless files lp dec steps leaf kept status tells before now known answers accepted = by known
   where
-    told_right : (report : List ℕ) → AnswersSolve files lp dec steps None kept status report → IsOutcomeStatus status
+    told_right : (report : List ℕ) → AnswersSolve files lp dec steps None leaf kept status report → IsOutcomeStatus status
     told_right report (stopped come stops) = absurd (accepted status report come)
     told_right report (went_on b come right) = solved_status b (most_steps steps) steps kept status report right
 
@@ -236,17 +278,17 @@ solves_unless files lp dec steps kept status before now known answers accepted =
     by (inr (inr (inr (inr (inr (inr (inr (inr (inl is))))))))) = inr (inr (inr is))
     by (inr (inr (inr (inr (inr (inr (inr (inr (inr is))))))))) = going (λ e. absurd (cc)) (λ e. absurd (cc)) (λ e. absurd (cc))
 
-pub solves_accepted : (files : Files) (lp : List ℕ) (steps : Option ℕ) (kept : Option Outcome) (status : ℕ) (before now : List ℕ)
-    → IsStatus status → AnswersBy (AnswersSolve files lp None steps None kept) status before now → (m : NamedProgram) → HasProgram (files lp) m
+pub solves_accepted : (files : Files) (lp : List ℕ) (steps leaf : Option ℕ) (kept : Option Outcome) (status : ℕ) (tells : Bool) (before now : List ℕ)
+    → IsStatus status → AnswersBy (AnswersSolve files lp None steps None leaf kept) status tells before now → (m : NamedProgram) → HasProgram (files lp) m
     → IsOutcomeStatus status ⊎ WasStopped status
-solves_accepted files lp steps kept status before now known answers m has =
-    solves_unless files lp None steps kept status before now known answers (λ s r come. plain_files files lp m (ends s r) has come)
+solves_accepted files lp steps leaf kept status tells before now known answers m has =
+    solves_unless files lp None steps leaf kept status tells before now known answers (λ s r come. plain_files files lp m (ends s r) has come)
 
-pub solves_decomposed : (files : Files) (lp : List ℕ) (dec : Option (List ℕ)) (steps : Option ℕ) (kept : Option Outcome) (status : ℕ) (before now : List ℕ)
-    → IsStatus status → AnswersBy (AnswersSolve files lp dec steps None kept) status before now → (b : BlockedProgram) → FilesCome files lp dec (blocked b)
+pub solves_decomposed : (files : Files) (lp : List ℕ) (dec : Option (List ℕ)) (steps leaf : Option ℕ) (kept : Option Outcome) (status : ℕ) (tells : Bool) (before now : List ℕ)
+    → IsStatus status → AnswersBy (AnswersSolve files lp dec steps None leaf kept) status tells before now → (b : BlockedProgram) → FilesCome files lp dec (blocked b)
     → IsOutcomeStatus status ⊎ WasStopped status
-solves_decomposed files lp dec steps kept status before now known answers b come =
-    solves_unless files lp dec steps kept status before now known answers (λ s r other. one_front files lp dec (ends s r) (blocked b) other come)
+solves_decomposed files lp dec steps leaf kept status tells before now known answers b come =
+    solves_unless files lp dec steps leaf kept status tells before now known answers (λ s r other. one_front files lp dec (ends s r) (blocked b) other come)
 
 -- ---- the certificate that is written is accepted
 
@@ -275,12 +317,12 @@ writes_certificate before now lp cert dec o has others ended apart away =
 
 -- ---- what `check` accepts
 
-pub checks_truly : (files : Files) (lp cert : List ℕ) (dec : Option (List ℕ)) (status : ℕ) (before now : List ℕ)
-    → AnswersBy (AnswersCheck files lp cert dec) status before now → status ≡ 0 → AcceptsTruly (files lp) before now
-checks_truly files lp cert dec status before now answers zero =
+pub checks_truly : (files : Files) (lp cert : List ℕ) (dec : Option (List ℕ)) (status : ℕ) (tells : Bool) (before now : List ℕ)
+    → AnswersBy (AnswersCheck files lp cert dec) status tells before now → IsTrue tells → status ≡ 0 → AcceptsTruly (files lp) before now
+checks_truly files lp cert dec status tells before now answers told zero =
     let through = went_through status (inl zero) in
     let answer = answers through.0 through.1 through.2 in
-    by answer.0 answer.1 answer.2
+    by answer.0 answer.1 (answer.2 told)
   where
     by_blocks : (b : BlockedProgram) (report : List ℕ) → HasProgram (files lp) b.named → ChecksBlocked files cert b status report → now ≡ before ++ report → AcceptsTruly (files lp) before now
     by_blocks b report has (checks.missing gone eleven empty) printed = absurd (not_outcome status (inl zero) (inr (inr eleven)))
@@ -295,10 +337,10 @@ checks_truly files lp cert dec status before now answers zero =
     by report (went_on b come right) printed = by_blocks b report (files_come files lp dec (blocked b) come) right printed
 
 -- the outcome that is kept is one of a search of the program in blocks that the files come to
-pub kept_outcome : (files : Files) (lp : List ℕ) (dec : Option (List ℕ)) (steps : Option ℕ) (from : Option (List ℕ)) (o : Outcome) (status : ℕ) (before now : List ℕ)
-    → AnswersBy (AnswersSolve files lp dec steps from (Some o)) status before now → IsOutcomeStatus status
+pub kept_outcome : (files : Files) (lp : List ℕ) (dec : Option (List ℕ)) (steps : Option ℕ) (from : Option (List ℕ)) (leaf : Option ℕ) (o : Outcome) (status : ℕ) (tells : Bool) (before now : List ℕ)
+    → AnswersBy (AnswersSolve files lp dec steps from leaf (Some o)) status tells before now → IsOutcomeStatus status
     → (b : BlockedProgram) → FilesCome files lp dec (blocked b) → (most : ℕ) × EndsWithin b most o
-kept_outcome files lp dec steps from o status before now answers is b come =
+kept_outcome files lp dec steps from leaf o status tells before now answers is b come =
     let through = went_through status is in
     let answer = answers through.0 through.1 through.2 in
     by answer.0 answer.1
@@ -310,12 +352,24 @@ kept_outcome files lp dec steps from o status before now answers is b come =
     ends_so c most report same right =
         (most, subst (λ (d : BlockedProgram). EndsWithin d most o) same (subst (λ (p : Outcome). EndsWithin c most p) (sym (one o right.outcome right.is_kept)) right.is_outcome))
 
-    begun : (f : Option (List ℕ)) (c : BlockedProgram) (report : List ℕ) → c ≡ b → SolvesBy files f steps (Some o) c status report → (n : ℕ) × EndsWithin b n o
+    ends_below : (c : BlockedProgram) (start : GrowingTree) (path : List Side) (report : List ℕ) → c ≡ b → SolvesBelow start path steps (Some o) c status report → (n : ℕ) × EndsWithin b n o
+    ends_below c start path report same right = (
+      steps_in right.outcome,
+      subst (λ (d : BlockedProgram). EndsWithin d (steps_in right.outcome) o) same
+          (subst (λ (p : Outcome). EndsWithin c (steps_in right.outcome) p) (sym (one o right.outcome right.is_kept)) right.is_outcome.ends),
+    )
+
+    goes_on : (c : BlockedProgram) (start : GrowingTree) (below : Option (List Side)) (report : List ℕ) → c ≡ b → SolvesOn start below steps (Some o) c status report
+        → (n : ℕ) × EndsWithin b n o
+    goes_on c start None report same right = ends_so c _ report same right
+    goes_on c start (Some path) report same right = ends_below c start path report same right
+
+    begun : (f : Option (List ℕ)) (c : BlockedProgram) (report : List ℕ) → c ≡ b → SolvesBy files f leaf steps (Some o) c status report → (n : ℕ) × EndsWithin b n o
     begun None c report same right = ends_so c (most_steps steps) report same right
     begun (Some name) c report same (solves.missing gone none eleven empty) = absurd (not_outcome status is (inr (inr eleven)))
-    begun (Some name) c report same (solves.refused text there none refuses) = absurd (not_outcome status is (refuses_status c text status report refuses))
-    begun (Some name) c report same (solves.went_on text start there loaded right) = ends_so c (last_step start.grove steps) report same right
+    begun (Some name) c report same (solves.refused text there none refuses) = absurd (not_outcome status is (refuses_status c leaf text status report refuses))
+    begun (Some name) c report same (solves.went_on text start below there loaded right) = goes_on c start.grove.tree below report same right
 
-    by : (report : List ℕ) → AnswersSolve files lp dec steps from (Some o) status report → (n : ℕ) × EndsWithin b n o
+    by : (report : List ℕ) → AnswersSolve files lp dec steps from leaf (Some o) status report → (n : ℕ) × EndsWithin b n o
     by report (stopped other stops) = absurd (not_outcome status is (as_refusal status (files_come files lp dec (ends status report) other)))
     by report (went_on c other right) = begun from c report (one_front files lp dec (blocked c) (blocked b) other come) right

@@ -1,23 +1,22 @@
 -- What is right for the order that words give is right for the words, and no other status is.
-use Rattle.std.proofs.Common.{◌≡◌, ◌≢◌, refl, subst, inr, ℕ, List, [], Option, Some, None}
+use Rattle.std.proofs.Common.{◌≡◌, ◌≢◌, ◌⊎◌, refl, subst, inl, inr, ℕ, Bool, List, [], Option, Some, None}
 use Rattle.bp_shelf.specs.Shelf.{Files}
-use Rattle.clap.specs.Words.{fault_of}
 use Rattle.branch_tree.specs.declared.outcome.Outcome.{Outcome}
-use Rattle.bp_words.specs.CommandLine.{command_line}
-use Rattle.bp_words.specs.Orders.{IsOrderOf}
+use Rattle.bp_words.specs.Orders.{IsOrderOf, AreRefused}
 use Rattle.bp_words.specs.declared.order.Order.{Order}
-use Rattle.bp_words.specs.declared.order.Order.TheVariants.{Solve, Check, Show, Gen, Demo, Detect, Propose}
+use Rattle.bp_words.specs.declared.order.Order.TheVariants.{Solve, Check, Show, Gen, Demo, Detect, Propose, Merge}
 use Rattle.bp_front.specs.Answers.{AnswersBy, IsOnly, CutsOff}
 use Rattle.bp_cli.specs.Running.{Answers, refused, ordered, AnswersOrder, OfOrder, HasWritten}
 use Rattle.cmd_gen.specs.Generates.{untouched}
 use Rattle.cmd_detect.specs.Files as detected
 use Rattle.cmd_propose.specs.Files as proposed
-use Rattle.bp_cli.proofs.OneOrder.{one_order}
+use Rattle.cmd_merge.specs.Files as merged
+use Rattle.bp_cli.proofs.OneOrder.{one_order, not_both}
 
 -- an answer of the order
-pub order_answers : (words : List (List ℕ)) (order : Order) (files : Files) (kept : Option Outcome) (status : ℕ) (before now : List ℕ) → IsOrderOf words order
-    → AnswersBy (AnswersOrder order files kept) status before now → AnswersBy (Answers words files kept) status before now
-order_answers words order files kept status before now is answers = λ no_read no_write no_want.
+pub order_answers : (words : List (List ℕ)) (order : Order) (files : Files) (kept : Option Outcome) (status : ℕ) (tells : Bool) (before now : List ℕ) → IsOrderOf words order
+    → AnswersBy (AnswersOrder order files kept) status tells before now → AnswersBy (Answers words files kept) status tells before now
+order_answers words order files kept status tells before now is answers = λ no_read no_write no_want.
     let answer = answers no_read no_write no_want in
     (answer.0, ordered order is answer.1, answer.2)
 
@@ -27,7 +26,7 @@ pub order_only : (words : List (List ℕ)) (order : Order) (files : Files) (kept
 order_only words order files kept status is only = λ no_read no_write no_want meant report right. by meant report (only no_read no_write no_want) right
   where
     by : (meant : ℕ) (report : List ℕ) → ((m : ℕ) (r : List ℕ) → AnswersOrder order files kept m r → status ≡ m) → Answers words files kept meant report → status ≡ meant
-    by meant report each (refused fault none two printed) = absurd (fault is.taken)
+    by meant report each (refused fault none two printed) = absurd (not_both words order fault is)
     by meant report each (ordered other other_is right) =
         each meant report (subst (λ (o : Order). AnswersOrder o files kept meant report) (one_order words other order other_is is) right)
 
@@ -43,33 +42,40 @@ pub of_order : (words : List (List ℕ)) (order : Order) (Holds : Order → Type
 of_order words order Holds is holds = λ other other_is. subst Holds (one_order words order other is other_is) holds
 
 -- words that are no command line give no order
-pub no_order : (words : List (List ℕ)) (Holds : Order → Type 0) → fault_of command_line words ≢ [] → OfOrder words Holds
-no_order words Holds fault = λ other other_is. absurd (fault other_is.taken)
+pub no_order : (words : List (List ℕ)) (Holds : Order → Type 0) → AreRefused words → OfOrder words Holds
+no_order words Holds fault = λ other other_is. absurd (not_both words other fault other_is)
 
 -- words that are refused
-pub refused_only : (words : List (List ℕ)) (files : Files) (status : ℕ) → fault_of command_line words ≢ [] → (status ≢ 8 → status ≢ 9 → status ≡ 2)
+pub refused_only : (words : List (List ℕ)) (files : Files) (status : ℕ) → AreRefused words → (status ≢ 8 → status ≢ 9 → status ≡ 2)
     → IsOnly (Answers words files None) status
 refused_only words files status fault two = λ no_read no_write no_want meant report right. by meant report right (two no_write no_want)
   where
     by : (meant : ℕ) (report : List ℕ) → Answers words files None meant report → status ≡ 2 → status ≡ meant
     by meant report (refused _ none is printed) is_two = cc
-    by meant report (ordered order is right) is_two = absurd (fault is.taken)
+    by meant report (ordered order is right) is_two = absurd (not_both words order fault is)
+
+-- the status of a refusal that was printed
+pub refused_two : (status : ℕ) → (status ≡ 2) ⊎ (status ≡ 8) ⊎ (status ≡ 9) → status ≢ 8 → status ≢ 9 → status ≡ 2
+refused_two status (inl two) no_write no_want = two
+refused_two status (inr (inl fault)) no_write no_want = absurd (no_write fault)
+refused_two status (inr (inr want)) no_write no_want = absurd (no_want want)
 
 -- an order that was not begun left nothing
 pub nothing_written : (files : Files) (order : Order) → HasWritten order files files None 9
-nothing_written files (Solve lp dec steps None from workers order) = (tt, refl, λ _. refl)
-nothing_written files (Solve lp dec steps (Some cert) from workers order) = (tt, λ other apart. refl, λ _. refl)
+nothing_written files (Solve lp dec steps None from leaf workers order) = (tt, refl, λ _. refl)
+nothing_written files (Solve lp dec steps (Some cert) from leaf workers order) = (tt, λ other apart. refl, λ _. refl)
 nothing_written files (Check lp cert dec) = refl
 nothing_written files (Show lp dec blocks) = refl
 nothing_written files (Gen seed size lp dec) = untouched refl refl
 nothing_written files (Demo seed size) = refl
 nothing_written files (Detect lp list dec) = detected.untouched refl (inr refl)
 nothing_written files (Propose lp dec) = proposed.untouched refl (inr refl)
+nothing_written files (Merge lp one other new dec) = merged.untouched refl (inr refl)
 
 -- answers of an order that keeps nothing
-pub kept_answers : (kept : Option Outcome) (Right : ℕ → List ℕ → Type 0) (status : ℕ) (before now : List ℕ) → kept ≡ None → AnswersBy Right status before now
-    → AnswersBy (λ s r. (kept ≡ None) × Right s r) status before now
-kept_answers kept Right status before now none answers = λ no_read no_write no_want.
+pub kept_answers : (kept : Option Outcome) (Right : ℕ → List ℕ → Type 0) (status : ℕ) (tells : Bool) (before now : List ℕ) → kept ≡ None → AnswersBy Right status tells before now
+    → AnswersBy (λ s r. (kept ≡ None) × Right s r) status tells before now
+kept_answers kept Right status tells before now none answers = λ no_read no_write no_want.
     let answer = answers no_read no_write no_want in
     (answer.0, (none, answer.1), answer.2)
 

@@ -1,6 +1,6 @@
 -- The headline: what the report of a run says of the LP text, in the words of integer programming. It speaks of told files
 -- and of a run that met no fault and had its memory, and follows from what each command is said to answer.
-use Rattle.std.specs.Prelude.{◌≡◌, ◌⊎◌, ℕ, List, ◌++◌, Option, Some, None, IfSome, ℤ, codes, Bool, IsTrue, is_none}
+use Rattle.std.specs.Prelude.{◌≡◌, ◌⊎◌, ◌≤◌, ℕ, List, ◌++◌, Option, Some, None, IfSome, ℤ, codes, Bool, IsTrue, is_none}
 use Rattle.bp_theory.specs.Program.{IsFeasible, IsBest, value}
 use Rattle.bp_theory.specs.Trees.{steps}
 use Rattle.bp_theory.specs.Claims.{NoneBetter, IsTrueClaim}
@@ -14,19 +14,19 @@ use Rattle.branch_tree.specs.declared.outcome.Outcome.{Outcome}
 use Rattle.branch_tree.specs.declared.outcome.Outcome.TheVariants.{Budget}
 use Rattle.bp_search.specs.Ends.{most_steps}
 use Rattle.bp_words.specs.declared.order.Order.{Order}
-use Rattle.bp_words.specs.declared.order.Order.TheVariants.{Solve, Check, Show, Gen, Demo, Detect, Propose}
+use Rattle.bp_words.specs.declared.order.Order.TheVariants.{Solve, Check, Show, Gen, Demo, Detect, Propose, Merge}
 use Rattle.bp_report.specs.Report.{count_line, value_line, point_lines, known_line, known_lines, accepted_report}
 
 -- A report of `solve` is true of a program: `optimal V`, and behind it a point that meets every row and bound, that has the
--- value V, and that no such point betters; or `infeasible`, and no point meets every row and bound; or `budget N` with the given steps, a
+-- value V, and that no such point betters; or `infeasible`, and no point meets every row and bound; or `budget N` with so many steps, a
 -- bound that no point betters that meets every row and bound, and such a point and its value where one is known.
-pub data IsTrueReport (m : NamedProgram) (given : ℕ) (status : ℕ) (report : List ℕ) : Type 0 where
+pub data IsTrueReport (m : NamedProgram) (told : ℕ) (status : ℕ) (report : List ℕ) : Type 0 where
   optimal : (x : List ℤ) → IsBest m.program x → status ≡ 0
-      → report ≡ value_line (codes "optimal ") (value m.program x) ++ point_lines m.names x → IsTrueReport m given status report
-  infeasible : ((x : List ℤ) → IsFeasible m.program x → ⊥) → status ≡ 4 → report ≡ codes "infeasible\n" → IsTrueReport m given status report
+      → report ≡ value_line (codes "optimal ") (value m.program x) ++ point_lines m.names x → IsTrueReport m told status report
+  infeasible : ((x : List ℤ) → IsFeasible m.program x → ⊥) → status ≡ 4 → report ≡ codes "infeasible\n" → IsTrueReport m told status report
   budget : (bound : ℤ) (known : Option (List ℤ)) → NoneBetter m.program bound → IfSome known (IsFeasible m.program) → status ≡ 5
-      → report ≡ (count_line (codes "budget ") given ++ value_line (codes "bound ") bound ++ known_line m known) ++ known_lines m known
-      → IsTrueReport m given status report
+      → report ≡ (count_line (codes "budget ") told ++ value_line (codes "bound ") bound ++ known_line m known) ++ known_lines m known
+      → IsTrueReport m told status report
 
 -- the file holds a text that means a program
 pub record HasProgram (file : Option (List ℕ)) (m : NamedProgram) : Type 0 where
@@ -50,38 +50,47 @@ IsOutcomeStatus status = (status ≡ 0) ⊎ (status ≡ 4) ⊎ (status ≡ 5)
 abbrev pub WasStopped : ℕ → Type 0
 WasStopped status = (status ≡ 7) ⊎ (status ≡ 8) ⊎ (status ≡ 9)
 
+-- the steps that a report tells: the given ones, and of a search below one leaf alone no more than those
+abbrev pub IsCount : (leaf : Option ℕ) → (given told : ℕ) → Type 0
+IsCount None given told = told ≡ given
+IsCount (Some number) given told = told ≤ given
+
 -- what `solve` prints under such a status is true of the program that the LP text means; a search that was begun at the start and ran out of
 -- steps took exactly the given ones
-pub record TellsTruly (file : Option (List ℕ)) (given : ℕ) (begun : Bool) (kept : Option Outcome) (status : ℕ) (before now : List ℕ) : Type 0 where
+pub record TellsTruly (file : Option (List ℕ)) (leaf : Option ℕ) (given : ℕ) (begun : Bool) (kept : Option Outcome) (status : ℕ) (before now : List ℕ) : Type 0 where
   pub program : NamedProgram
   pub report : List ℕ
+  pub told : ℕ
+  pub counted : IsCount leaf given told
   pub read : HasProgram file program
-  pub is_true : IsTrueReport program given status report
+  pub is_true : IsTrueReport program told status report
   pub printed : now ≡ before ++ report
   pub spent : status ≡ 5 → IsTrue begun → IsStoppedAfter kept given
 
 -- `solve` tells outcomes that are true
 abbrev pub SolvesTruly : Order → Files → Option Outcome → (status : ℕ) → (before now : List ℕ) → Type 0
-SolvesTruly (Solve lp dec steps cert from workers turns) files kept status before now =
-    IsOutcomeStatus status → TellsTruly (files lp) (most_steps steps) (is_none from) kept status before now
+SolvesTruly (Solve lp dec steps cert from leaf workers turns) files kept status before now =
+    IsOutcomeStatus status → TellsTruly (files lp) leaf (most_steps steps) (is_none from) kept status before now
 SolvesTruly (Check lp cert dec) files kept status before now = Unit {0}
 SolvesTruly (Show lp dec blocks) files kept status before now = Unit {0}
 SolvesTruly (Gen seed size lp dec) files kept status before now = Unit {0}
 SolvesTruly (Demo seed size) files kept status before now = Unit {0}
 SolvesTruly (Detect lp list dec) files kept status before now = Unit {0}
 SolvesTruly (Propose lp dec) files kept status before now = Unit {0}
+SolvesTruly (Merge lp one other new dec) files kept status before now = Unit {0}
 
 -- `solve LP` tells an outcome of each LP text that means a program, unless it was stopped
 abbrev pub SolvesAccepted : Order → Files → (status : ℕ) → Type 0
-SolvesAccepted (Solve lp None steps cert None workers turns) files status = (m : NamedProgram) → HasProgram (files lp) m → IsOutcomeStatus status ⊎ WasStopped status
-SolvesAccepted (Solve lp None steps cert (Some from) workers turns) files status = Unit {0}
-SolvesAccepted (Solve lp (Some dec) steps cert from workers turns) files status = Unit {0}
+SolvesAccepted (Solve lp None steps cert None leaf workers turns) files status = (m : NamedProgram) → HasProgram (files lp) m → IsOutcomeStatus status ⊎ WasStopped status
+SolvesAccepted (Solve lp None steps cert (Some from) leaf workers turns) files status = Unit {0}
+SolvesAccepted (Solve lp (Some dec) steps cert from leaf workers turns) files status = Unit {0}
 SolvesAccepted (Check lp cert dec) files status = Unit {0}
 SolvesAccepted (Show lp dec blocks) files status = Unit {0}
 SolvesAccepted (Gen seed size lp dec) files status = Unit {0}
 SolvesAccepted (Demo seed size) files status = Unit {0}
 SolvesAccepted (Detect lp list dec) files status = Unit {0}
 SolvesAccepted (Propose lp dec) files status = Unit {0}
+SolvesAccepted (Merge lp one other new dec) files status = Unit {0}
 
 -- what `check` accepts is true of the program that the LP text means, whoever wrote it
 pub record AcceptsTruly (file : Option (List ℕ)) (before now : List ℕ) : Type 0 where
@@ -92,10 +101,11 @@ pub record AcceptsTruly (file : Option (List ℕ)) (before now : List ℕ) : Typ
   pub printed : now ≡ before ++ accepted_report claim
 
 abbrev pub ChecksTruly : Order → Files → (status : ℕ) → (before now : List ℕ) → Type 0
-ChecksTruly (Solve lp dec steps cert from workers turns) files status before now = Unit {0}
+ChecksTruly (Solve lp dec steps cert from leaf workers turns) files status before now = Unit {0}
 ChecksTruly (Check lp cert dec) files status before now = status ≡ 0 → AcceptsTruly (files lp) before now
 ChecksTruly (Show lp dec blocks) files status before now = Unit {0}
 ChecksTruly (Gen seed size lp dec) files status before now = Unit {0}
 ChecksTruly (Demo seed size) files status before now = Unit {0}
 ChecksTruly (Detect lp list dec) files status before now = Unit {0}
 ChecksTruly (Propose lp dec) files status before now = Unit {0}
+ChecksTruly (Merge lp one other new dec) files status before now = Unit {0}

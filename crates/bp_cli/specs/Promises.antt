@@ -5,7 +5,7 @@ use Rattle.bp_shelf.specs.Shelf.{Files}
 use Rattle.block_form.specs.Blocked.{BlockedProgram}
 use Rattle.branch_tree.specs.declared.outcome.Outcome.{Outcome}
 use Rattle.bp_words.specs.declared.order.Order.{Order}
-use Rattle.bp_words.specs.declared.order.Order.TheVariants.{Solve, Check, Show, Gen, Demo, Detect, Propose}
+use Rattle.bp_words.specs.declared.order.Order.TheVariants.{Solve, Check, Show, Gen, Demo, Detect, Propose, Merge}
 use Rattle.bp_report.specs.Report.{accepted_report}
 use Rattle.bp_front.specs.Front.{FilesCome, blocked}
 use Rattle.cmd_check.specs.Checks.{AnswersCheck}
@@ -13,24 +13,26 @@ use Rattle.bp_cli.specs.Headline.{IsOutcomeStatus, WasStopped}
 
 -- `solve` tells an outcome of the files of a model and of its decomposition that come to a program in blocks, unless it was stopped
 abbrev pub SolvesDecomposed : Order → Files → (status : ℕ) → Type 0
-SolvesDecomposed (Solve lp dec steps cert None workers turns) files status = (b : BlockedProgram) → FilesCome files lp dec (blocked b) → IsOutcomeStatus status ⊎ WasStopped status
-SolvesDecomposed (Solve lp dec steps cert (Some from) workers turns) files status = Unit {0}
+SolvesDecomposed (Solve lp dec steps cert None leaf workers turns) files status = (b : BlockedProgram) → FilesCome files lp dec (blocked b) → IsOutcomeStatus status ⊎ WasStopped status
+SolvesDecomposed (Solve lp dec steps cert (Some from) leaf workers turns) files status = Unit {0}
 SolvesDecomposed (Check lp cert dec) files status = Unit {0}
 SolvesDecomposed (Show lp dec blocks) files status = Unit {0}
 SolvesDecomposed (Gen seed size lp dec) files status = Unit {0}
 SolvesDecomposed (Demo seed size) files status = Unit {0}
 SolvesDecomposed (Detect lp list dec) files status = Unit {0}
 SolvesDecomposed (Propose lp dec) files status = Unit {0}
+SolvesDecomposed (Merge lp one other new dec) files status = Unit {0}
 
 -- where an outcome is kept, `check` accepts the certificate that was written, if it isn't written over the model or the decomposition
 abbrev pub WritesCertificate : Order → (now : Files) → Option Outcome → Type 0
-WritesCertificate (Solve lp dec steps (Some cert) from workers turns) now (Some outcome) =
+WritesCertificate (Solve lp dec steps (Some cert) from leaf workers turns) now (Some outcome) =
     cert ≢ lp → dec ≢ Some cert → (claim : Claim) × AnswersCheck now lp cert dec 0 (accepted_report claim)
-WritesCertificate (Solve lp dec steps (Some cert) from workers turns) now None = Unit {0}
-WritesCertificate (Solve lp dec steps None from workers turns) now kept = Unit {0}
+WritesCertificate (Solve lp dec steps (Some cert) from leaf workers turns) now None = Unit {0}
+WritesCertificate (Solve lp dec steps None from leaf workers turns) now kept = Unit {0}
 WritesCertificate (Check lp cert dec) now kept = Unit {0}
 WritesCertificate (Show lp dec blocks) now kept = Unit {0}
 WritesCertificate (Gen seed size lp dec) now kept = Unit {0}
 WritesCertificate (Demo seed size) now kept = Unit {0}
 WritesCertificate (Detect lp list dec) now kept = Unit {0}
 WritesCertificate (Propose lp dec) now kept = Unit {0}
+WritesCertificate (Merge lp one other new dec) now kept = Unit {0}

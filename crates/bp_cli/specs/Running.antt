@@ -3,11 +3,9 @@ use Rattle.std.specs.Prelude.{◌≡◌, ◌≢◌, ℕ, List, [], Option, None}
 use Rattle.bp_shelf.specs.Shelf.{Files}
 use Rattle.search_laws.specs.declared.Event.{Event}
 use Rattle.branch_tree.specs.declared.outcome.Outcome.{Outcome}
-use Rattle.clap.specs.Words.{fault_of}
-use Rattle.bp_words.specs.CommandLine.{command_line}
-use Rattle.bp_words.specs.Orders.{IsOrderOf}
+use Rattle.bp_words.specs.Orders.{IsOrderOf, AreRefused}
 use Rattle.bp_words.specs.declared.order.Order.{Order}
-use Rattle.bp_words.specs.declared.order.Order.TheVariants.{Solve, Check, Show, Gen, Demo, Detect, Propose}
+use Rattle.bp_words.specs.declared.order.Order.TheVariants.{Solve, Check, Show, Gen, Demo, Detect, Propose, Merge}
 use Rattle.bp_report.specs.Refusals.{words_refusal}
 use Rattle.bp_front.specs.Answers.{FilesStand, IsUntouched}
 use Rattle.cmd_solve.specs.Solves.{AnswersSolve}
@@ -21,55 +19,62 @@ use Rattle.cmd_detect.specs.Detects.{AnswersDetect}
 use Rattle.cmd_detect.specs.Files.{DetectLeaves, DetectWrites}
 use Rattle.cmd_propose.specs.Proposes.{AnswersPropose}
 use Rattle.cmd_propose.specs.Files.{ProposeLeaves, ProposeWrites}
+use Rattle.cmd_merge.specs.Merges.{AnswersMerge}
+use Rattle.cmd_merge.specs.Files.{MergeLeaves, MergeWrites}
 
 -- what an order is answered by the files, with what is kept
 abbrev pub AnswersOrder : Order → Files → Option Outcome → (status : ℕ) → (report : List ℕ) → Type 0
-AnswersOrder (Solve lp dec steps cert from workers order) files kept status report = AnswersSolve files lp dec steps from kept status report
+AnswersOrder (Solve lp dec steps cert from leaf workers order) files kept status report = AnswersSolve files lp dec steps from leaf kept status report
 AnswersOrder (Check lp cert dec) files kept status report = (kept ≡ None) × AnswersCheck files lp cert dec status report
 AnswersOrder (Show lp dec blocks) files kept status report = (kept ≡ None) × AnswersShow files lp dec blocks status report
 AnswersOrder (Gen seed size lp dec) files kept status report = (kept ≡ None) × AnswersGen size status report
 AnswersOrder (Demo seed size) files kept status report = AnswersDemo seed size kept status report
 AnswersOrder (Detect lp list dec) files kept status report = (kept ≡ None) × AnswersDetect files lp list status report
 AnswersOrder (Propose lp dec) files kept status report = (kept ≡ None) × AnswersPropose files lp status report
+AnswersOrder (Merge lp one other new dec) files kept status report = (kept ≡ None) × AnswersMerge files lp one other dec status report
 
 -- what words are answered by the files, with what is kept: words that are no command line are refused
 pub data Answers (words : List (List ℕ)) (files : Files) (kept : Option Outcome) (status : ℕ) (report : List ℕ) : Type 0 where
-  refused : fault_of command_line words ≢ [] → kept ≡ None → status ≡ 2 → report ≡ words_refusal → Answers words files kept status report
+  refused : AreRefused words → kept ≡ None → status ≡ 2 → report ≡ words_refusal → Answers words files kept status report
   ordered : (order : Order) → IsOrderOf words order → AnswersOrder order files kept status report → Answers words files kept status report
 
 -- What an order wrote, and what stands of the files: the file of `--cert` holds the certificate of what is kept, and no other
--- file changed; or both made texts stand, or what a fault left of them; or the text of the decomposition that was found or chosen, likewise;
+-- file changed; or both made texts stand, or what a fault left of them; or the text of the decomposition that was found or chosen, or
+-- the merged certificate, likewise;
 -- every other order changes no file.
 abbrev pub HasWritten : Order → (before now : Files) → Option Outcome → (status : ℕ) → Type 0
-HasWritten (Solve lp dec steps cert from workers order) before now kept status = HasCertificate before lp dec cert now kept × FilesStand cert before now × (IsUntouched status → now ≡ before)
+HasWritten (Solve lp dec steps cert from leaf workers order) before now kept status = HasCertificate before lp dec cert now kept × FilesStand cert before now × (IsUntouched status → now ≡ before)
 HasWritten (Check lp cert dec) before now kept status = now ≡ before
 HasWritten (Show lp dec blocks) before now kept status = now ≡ before
 HasWritten (Gen seed size lp dec) before now kept status = GenLeaves seed size lp dec before now status
 HasWritten (Demo seed size) before now kept status = now ≡ before
 HasWritten (Detect lp list dec) before now kept status = DetectLeaves lp list dec before now status
 HasWritten (Propose lp dec) before now kept status = ProposeLeaves lp dec before now status
+HasWritten (Merge lp one other new dec) before now kept status = MergeLeaves lp one other dec new before now status
 
 -- What stands where the report could not be put: it is put last, behind the certificate of an outcome of the search, both
--- made texts or the text of the decomposition that was found or chosen, and nothing is written where the file to go on from is no start.
+-- made texts, the text of the decomposition that was found or chosen or the merged certificate, and nothing is written where the file to go on from is no start.
 abbrev pub HasPutLast : Order → (before now : Files) → Type 0
-HasPutLast (Solve lp dec steps cert from workers order) before now = LeavesCertificate before lp dec steps cert from now
+HasPutLast (Solve lp dec steps cert from leaf workers order) before now = LeavesCertificate before lp dec steps cert from leaf now
 HasPutLast (Check lp cert dec) before now = now ≡ before
 HasPutLast (Show lp dec blocks) before now = now ≡ before
 HasPutLast (Gen seed size lp dec) before now = GenWrites seed size lp dec before now
 HasPutLast (Demo seed size) before now = now ≡ before
 HasPutLast (Detect lp list dec) before now = DetectWrites lp list dec before now
 HasPutLast (Propose lp dec) before now = ProposeWrites lp dec before now
+HasPutLast (Merge lp one other new dec) before now = MergeWrites lp one other dec new before now
 
 -- The events of an order, beside what is kept: those of the crew that solved, where one was ordered and its outcome is kept; and
 -- else none.
-abbrev pub Lists : Order → (before : Files) → Option Outcome → List Event → Type 0
-Lists (Solve lp dec steps cert from workers order) before kept events = HasEvents before lp dec steps from workers order kept events
-Lists (Check lp cert dec) before kept events = events ≡ []
-Lists (Show lp dec blocks) before kept events = events ≡ []
-Lists (Gen seed size lp dec) before kept events = events ≡ []
-Lists (Demo seed size) before kept events = events ≡ []
-Lists (Detect lp list dec) before kept events = events ≡ []
-Lists (Propose lp dec) before kept events = events ≡ []
+abbrev pub ListsEvents : Order → (before : Files) → Option Outcome → List Event → Type 0
+ListsEvents (Solve lp dec steps cert from leaf workers order) before kept events = HasEvents before lp dec steps from workers order kept events
+ListsEvents (Check lp cert dec) before kept events = events ≡ []
+ListsEvents (Show lp dec blocks) before kept events = events ≡ []
+ListsEvents (Gen seed size lp dec) before kept events = events ≡ []
+ListsEvents (Demo seed size) before kept events = events ≡ []
+ListsEvents (Detect lp list dec) before kept events = events ≡ []
+ListsEvents (Propose lp dec) before kept events = events ≡ []
+ListsEvents (Merge lp one other new dec) before kept events = events ≡ []
 
 -- what is true of the order that the words give, if they give one
 abbrev pub OfOrder : List (List ℕ) → (Order → Type 0) → Type 0

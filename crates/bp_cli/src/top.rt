@@ -1,15 +1,13 @@
 // The top call.
 ghost use Rattle.std.specs.Prelude.{◌≡◌, ◌≢◌, ◌<◌, ◌⊎◌, ◌++◌, ℕ, [], map, string_bytes, IsTrue, None, take};
 ghost use Rattle.std.specs.Option.{option_map};
-ghost use Rattle.clap.specs.Words.{fault_of};
-ghost use Rattle.bp_shelf.specs.Shelf.{Rose};
-ghost use Rattle.bp_words.specs.CommandLine.{command_line};
-ghost use Rattle.bp_words.specs.Orders.{IsInRange};
+ghost use Rattle.bp_shelf.specs.Shelf.{Rose, next_count};
+ghost use Rattle.bp_words.specs.Orders.{IsInRange, AreRefused};
 ghost use Rattle.bp_report.specs.Refusals.{words_refusal};
-ghost use Rattle.bp_front.specs.Answers.{AnswersBy, IsOnly, CutsOff, HasCauses};
+ghost use Rattle.bp_front.specs.Answers.{AnswersBy, IsOnly, CutsOff, HasCauses, PutsReport, FailsToWrite};
 ghost use Rattle.bp_cli.specs.Headline.{SolvesTruly, SolvesAccepted, ChecksTruly};
 ghost use Rattle.bp_cli.specs.Promises.{SolvesDecomposed, WritesCertificate};
-ghost use Rattle.bp_cli.specs.Running.{Answers, AnswersOrder, HasWritten, HasPutLast, Lists, OfOrder};
+ghost use Rattle.bp_cli.specs.Running.{Answers, AnswersOrder, HasWritten, HasPutLast, ListsEvents, OfOrder};
 
 use bp_front::{Ended, Reply, print, stopped};
 use bp_report::words_text;
@@ -19,6 +17,7 @@ use cmd_check::check;
 use cmd_demo::demonstrate;
 use cmd_detect::detect;
 use cmd_gen::generate;
+use cmd_merge::merge;
 use cmd_propose::propose;
 use cmd_show::show;
 use cmd_solve::solve;
@@ -29,7 +28,8 @@ use std::alloc::Global;
 /// For all LP and DEC texts that are accepted, `solve` answers `optimal` with a point that meets every row and bound of the
 /// LP text and that no such point betters, `infeasible` where none exists, or `budget` after exactly the given steps with
 /// a bound that no such point betters; the certificate that it writes is valid, and whatever `check` accepts is true,
-/// whoever wrote it. From a valid certificate it goes on, whoever wrote that, with the given steps beside those of its tree.
+/// whoever wrote it. From a valid certificate it goes on, whoever wrote that, with the given steps beside those of its tree,
+/// or below one of its open leaves alone with no more than the given steps.
 /// All this holds for a crew of any number of workers in any order too, whose events are listed.
 pub fn run<F: Shelf, O: Sink>(alloc: Global, words: &[String], shelf: &mut F, out: &mut O) -> Ended
     // The headline, for told files and a sink that tells. What `solve` prints is true of the program that the LP text means:
@@ -37,18 +37,18 @@ pub fn run<F: Shelf, O: Sink>(alloc: Global, words: &[String], shelf: &mut F, ou
     ensures solved_truly { IsTrue (F.tells shelf.old) → IsTrue (O.tells out.old) → OfOrder (map string_bytes words.now)
         (λ order. SolvesTruly order (F.file shelf.old) result.kept result.status (O.taken out.old) (O.taken out.new)) }
     // `solve` tells one of these of each LP text that means a program, and of each decomposition of it that is accepted.
-    ensures solves_accepted { IsTrue (F.tells shelf.old) → IsTrue (O.tells out.old) → OfOrder (map string_bytes words.now)
+    ensures solves_accepted { IsTrue (F.tells shelf.old) → OfOrder (map string_bytes words.now)
         (λ order. SolvesAccepted order (F.file shelf.old) result.status) }
-    ensures solves_decomposed { IsTrue (F.tells shelf.old) → IsTrue (O.tells out.old) → OfOrder (map string_bytes words.now)
+    ensures solves_decomposed { IsTrue (F.tells shelf.old) → OfOrder (map string_bytes words.now)
         (λ order. SolvesDecomposed order (F.file shelf.old) result.status) }
     // The certificate that `solve` writes is one that `check` accepts, and what `check` accepts is true, whoever wrote it.
-    ensures certified { IsTrue (F.tells shelf.old) → IsTrue (O.tells out.old) → OfOrder (map string_bytes words.now)
+    ensures certified { IsTrue (F.tells shelf.old) → OfOrder (map string_bytes words.now)
         (λ order. WritesCertificate order (F.file shelf.new) result.kept) }
     ensures checked_truly { IsTrue (F.tells shelf.old) → IsTrue (O.tells out.old) → OfOrder (map string_bytes words.now)
         (λ order. ChecksTruly order (F.file shelf.old) result.status (O.taken out.old) (O.taken out.new)) }
-    // Without a fault and with its memory a run answers the words by the files, and adds its report whole.
-    ensures answered { IsTrue (F.tells shelf.old) → IsTrue (O.tells out.old) →
-        AnswersBy (Answers (map string_bytes words.now) (F.file shelf.old) result.kept) result.status (O.taken out.old) (O.taken out.new) }
+    // Without a fault and with its memory a run answers the words by the files, whatever its sink tells, and adds its report whole.
+    ensures answered { IsTrue (F.tells shelf.old) →
+        AnswersBy (Answers (map string_bytes words.now) (F.file shelf.old) result.kept) result.status (O.tells out.old) (O.taken out.old) (O.taken out.new) }
     // No other status is right.
     ensures exact { IsTrue (F.tells shelf.old) → IsOnly (Answers (map string_bytes words.now) (F.file shelf.old) result.kept) result.status }
     // What is written: the valid certificate of the outcome that is kept, or the texts that are made; and that nothing else is.
@@ -56,22 +56,24 @@ pub fn run<F: Shelf, O: Sink>(alloc: Global, words: &[String], shelf: &mut F, ou
         OfOrder (map string_bytes words.now) (λ order. HasWritten order (F.file shelf.old) (F.file shelf.new) result.kept result.status) }
     // What a crew did, where one was ordered and its outcome is kept; and else nothing.
     ensures events { IsTrue (F.tells shelf.old) →
-        OfOrder (map string_bytes words.now) (λ order. Lists order (F.file shelf.old) result.kept result.events.items) }
+        OfOrder (map string_bytes words.now) (λ order. ListsEvents order (F.file shelf.old) result.kept result.events.items) }
     ensures no_events { result.kept ≡ None → result.events.items ≡ [] }
-    // The report is put last: where it could not be put, what is written stands whole.
-    ensures put_last { IsTrue (F.tells shelf.old) → O.faults out.old < O.faults out.new →
-        OfOrder (map string_bytes words.now) (λ order. HasPutLast order (F.file shelf.old) (F.file shelf.new)) }
+    // The report is one put, and the last thing that is done. Where a write of the shelf failed, nothing is put, and where the
+    // report could not be put, what is written stands whole.
+    ensures puts { PutsReport result.status (O.puts out.old) (O.puts out.new) }
+    ensures failed { result.status ≡ 8 → FailsToWrite
+        (IsTrue (F.tells shelf.old) → OfOrder (map string_bytes words.now) (λ order. HasPutLast order (F.file shelf.old) (F.file shelf.new)))
+        (F.write_faults shelf.old) (F.write_faults shelf.new) (O.faults out.old) (O.faults out.new) (O.puts out.old) (O.puts out.new) (O.taken out.old) (O.taken out.new) }
     // Which status comes only where, over any shelf and sink.
     ensures causes { HasCauses result.status (F.read_faults shelf.old) (F.read_faults shelf.new)
         (F.write_faults shelf.old) (F.write_faults shelf.new) (O.faults out.old) (O.faults out.new) }
     ensures kept { (result.kept ≡ None) ⊎ ((result.status ≡ 0) ⊎ (result.status ≡ 4) ⊎ (result.status ≡ 5)) }
-    ensures words { result.status ≡ 2 → fault_of command_line (map string_bytes words.now) ≢ [] }
-    ensures no_words { fault_of command_line (map string_bytes words.now) ≢ [] → (result.status ≡ 2) ⊎ (result.status ≡ 8) ⊎ (result.status ≡ 9) }
+    ensures words { result.status ≡ 2 → AreRefused (map string_bytes words.now) }
+    ensures no_words { AreRefused (map string_bytes words.now) → (result.status ≡ 2) ⊎ (result.status ≡ 8) ⊎ (result.status ≡ 9) }
     ensures refusal { result.status ≡ 2 → IsTrue (O.tells out.old) → O.taken out.new ≡ O.taken out.old ++ words_refusal }
     // What stands afterwards.
-    ensures nothing_ordered { fault_of command_line (map string_bytes words.now) ≢ [] → F.file shelf.new ≡ F.file shelf.old }
+    ensures nothing_ordered { AreRefused (map string_bytes words.now) → F.file shelf.new ≡ F.file shelf.old }
     ensures silent { (result.status ≡ 7) ⊎ (result.status ≡ 9) ⊎ (result.status ≡ 11) → O.taken out.new ≡ O.taken out.old }
-    ensures unwritten { F.write_faults shelf.old < F.write_faults shelf.new → O.taken out.new ≡ O.taken out.old }
     ensures cut_off { IsTrue (F.tells shelf.old) → IsTrue (O.tells out.old) →
         CutsOff (Answers (map string_bytes words.now) (F.file shelf.old)) result.status (O.taken out.old) (O.taken out.new) }
 {
@@ -85,32 +87,34 @@ fn answer_words<F: Shelf, O: Sink>(
     shelf: &mut F,
     out: &mut O,
 ) -> Ended
-    // Without a fault and with its memory a run answers the words by the files, and adds its report whole.
-    ensures answered { IsTrue (F.tells shelf.old) → IsTrue (O.tells out.old) →
-        AnswersBy (Answers (map string_bytes words.now) (F.file shelf.old) result.kept) result.status (O.taken out.old) (O.taken out.new) }
+    // Without a fault and with its memory a run answers the words by the files, whatever its sink tells, and adds its report whole.
+    ensures answered { IsTrue (F.tells shelf.old) →
+        AnswersBy (Answers (map string_bytes words.now) (F.file shelf.old) result.kept) result.status (O.tells out.old) (O.taken out.old) (O.taken out.new) }
     // No other status is right.
     ensures exact { IsTrue (F.tells shelf.old) → IsOnly (Answers (map string_bytes words.now) (F.file shelf.old) result.kept) result.status }
     // What is written: the valid certificate of the outcome that is kept, or the texts that are made; and that nothing else is.
     ensures written { IsTrue (F.tells shelf.old) →
         OfOrder (map string_bytes words.now) (λ order. HasWritten order (F.file shelf.old) (F.file shelf.new) result.kept result.status) }
-    // The report is put last: where it could not be put, what is written stands whole.
-    ensures put_last { IsTrue (F.tells shelf.old) → O.faults out.old < O.faults out.new →
-        OfOrder (map string_bytes words.now) (λ order. HasPutLast order (F.file shelf.old) (F.file shelf.new)) }
+    // The report is one put, and the last thing that is done. Where a write of the shelf failed, nothing is put, and where the
+    // report could not be put, what is written stands whole.
+    ensures puts { PutsReport result.status (O.puts out.old) (O.puts out.new) }
+    ensures failed { result.status ≡ 8 → FailsToWrite
+        (IsTrue (F.tells shelf.old) → OfOrder (map string_bytes words.now) (λ order. HasPutLast order (F.file shelf.old) (F.file shelf.new)))
+        (F.write_faults shelf.old) (F.write_faults shelf.new) (O.faults out.old) (O.faults out.new) (O.puts out.old) (O.puts out.new) (O.taken out.old) (O.taken out.new) }
     // Which status comes only where, over any shelf and sink.
     ensures causes { HasCauses result.status (F.read_faults shelf.old) (F.read_faults shelf.new)
         (F.write_faults shelf.old) (F.write_faults shelf.new) (O.faults out.old) (O.faults out.new) }
     ensures kept { (result.kept ≡ None) ⊎ ((result.status ≡ 0) ⊎ (result.status ≡ 4) ⊎ (result.status ≡ 5)) }
     // What a crew did, where one was ordered and its outcome is kept; and else nothing.
     ensures events { IsTrue (F.tells shelf.old) →
-        OfOrder (map string_bytes words.now) (λ order. Lists order (F.file shelf.old) result.kept result.events.items) }
+        OfOrder (map string_bytes words.now) (λ order. ListsEvents order (F.file shelf.old) result.kept result.events.items) }
     ensures no_events { result.kept ≡ None → result.events.items ≡ [] }
-    ensures words { result.status ≡ 2 → fault_of command_line (map string_bytes words.now) ≢ [] }
-    ensures no_words { fault_of command_line (map string_bytes words.now) ≢ [] → (result.status ≡ 2) ⊎ (result.status ≡ 8) ⊎ (result.status ≡ 9) }
+    ensures words { result.status ≡ 2 → AreRefused (map string_bytes words.now) }
+    ensures no_words { AreRefused (map string_bytes words.now) → (result.status ≡ 2) ⊎ (result.status ≡ 8) ⊎ (result.status ≡ 9) }
     ensures refusal { result.status ≡ 2 → IsTrue (O.tells out.old) → O.taken out.new ≡ O.taken out.old ++ words_refusal }
     // What stands afterwards.
-    ensures nothing_ordered { fault_of command_line (map string_bytes words.now) ≢ [] → F.file shelf.new ≡ F.file shelf.old }
+    ensures nothing_ordered { AreRefused (map string_bytes words.now) → F.file shelf.new ≡ F.file shelf.old }
     ensures silent { (result.status ≡ 7) ⊎ (result.status ≡ 9) ⊎ (result.status ≡ 11) → O.taken out.new ≡ O.taken out.old }
-    ensures unwritten { F.write_faults shelf.old < F.write_faults shelf.new → O.taken out.new ≡ O.taken out.old }
     ensures cut_off { IsTrue (F.tells shelf.old) → IsTrue (O.tells out.old) →
         CutsOff (Answers (map string_bytes words.now) (F.file shelf.old)) result.status (O.taken out.old) (O.taken out.new) }
 {
@@ -124,19 +128,20 @@ fn answer_words<F: Shelf, O: Sink>(
 // Does what words order.
 fn obey<F: Shelf, O: Sink>(alloc: Global, order: &Order, shelf: &mut F, out: &mut O) -> Ended
     requires { IsInRange order.now }
-    ensures answered { IsTrue (F.tells shelf.old) → IsTrue (O.tells out.old) →
-        AnswersBy (AnswersOrder order.now (F.file shelf.old) result.kept) result.status (O.taken out.old) (O.taken out.new) }
+    ensures answered { IsTrue (F.tells shelf.old) →
+        AnswersBy (AnswersOrder order.now (F.file shelf.old) result.kept) result.status (O.tells out.old) (O.taken out.old) (O.taken out.new) }
     ensures exact { IsTrue (F.tells shelf.old) → IsOnly (AnswersOrder order.now (F.file shelf.old) result.kept) result.status }
     ensures written { IsTrue (F.tells shelf.old) → HasWritten order.now (F.file shelf.old) (F.file shelf.new) result.kept result.status }
-    ensures put_last { IsTrue (F.tells shelf.old) → O.faults out.old < O.faults out.new → HasPutLast order.now (F.file shelf.old) (F.file shelf.new) }
+    ensures puts { PutsReport result.status (O.puts out.old) (O.puts out.new) }
+    ensures failed { result.status ≡ 8 → FailsToWrite (IsTrue (F.tells shelf.old) → HasPutLast order.now (F.file shelf.old) (F.file shelf.new))
+        (F.write_faults shelf.old) (F.write_faults shelf.new) (O.faults out.old) (O.faults out.new) (O.puts out.old) (O.puts out.new) (O.taken out.old) (O.taken out.new) }
     ensures causes { HasCauses result.status (F.read_faults shelf.old) (F.read_faults shelf.new)
         (F.write_faults shelf.old) (F.write_faults shelf.new) (O.faults out.old) (O.faults out.new) }
     ensures kept { (result.kept ≡ None) ⊎ ((result.status ≡ 0) ⊎ (result.status ≡ 4) ⊎ (result.status ≡ 5)) }
-    ensures events { IsTrue (F.tells shelf.old) → Lists order.now (F.file shelf.old) result.kept result.events.items }
+    ensures events { IsTrue (F.tells shelf.old) → ListsEvents order.now (F.file shelf.old) result.kept result.events.items }
     ensures no_events { result.kept ≡ None → result.events.items ≡ [] }
     ensures words { result.status ≢ 2 }
     ensures silent { (result.status ≡ 7) ⊎ (result.status ≡ 9) ⊎ (result.status ≡ 11) → O.taken out.new ≡ O.taken out.old }
-    ensures unwritten { F.write_faults shelf.old < F.write_faults shelf.new → O.taken out.new ≡ O.taken out.old }
     ensures cut_off { IsTrue (F.tells shelf.old) → IsTrue (O.tells out.old) →
         CutsOff (AnswersOrder order.now (F.file shelf.old)) result.status (O.taken out.old) (O.taken out.new) }
 {
@@ -147,6 +152,7 @@ fn obey<F: Shelf, O: Sink>(alloc: Global, order: &Order, shelf: &mut F, out: &mu
             steps,
             cert,
             from,
+            leaf,
             workers,
             order,
         } => solve(
@@ -158,6 +164,7 @@ fn obey<F: Shelf, O: Sink>(alloc: Global, order: &Order, shelf: &mut F, out: &mu
             *steps,
             named(cert),
             named(from),
+            *leaf,
             *workers,
             *order,
         ),
@@ -178,6 +185,22 @@ fn obey<F: Shelf, O: Sink>(alloc: Global, order: &Order, shelf: &mut F, out: &mu
             detect(alloc, shelf, out, lp.as_str(), rows.as_str(), dec.as_str())
         }
         Order::Propose { lp, dec } => propose(alloc, shelf, out, lp.as_str(), dec.as_str()),
+        Order::Merge {
+            lp,
+            first,
+            second,
+            new,
+            dec,
+        } => merge(
+            alloc,
+            shelf,
+            out,
+            lp.as_str(),
+            first.as_str(),
+            second.as_str(),
+            new.as_str(),
+            named(dec),
+        ),
     }
 }
 
@@ -202,6 +225,8 @@ fn refuse_words<O: Sink>(alloc: Global, out: &mut O) -> Ended
     ensures partly { IsTrue (O.tells out.old) → result.status ≡ 8 →
         (count : ℕ) × (O.taken out.new ≡ O.taken out.old ++ take count words_refusal) }
     ensures silent { result.status ≡ 9 → O.taken out.new ≡ O.taken out.old }
+    ensures once { result.status ≢ 9 → O.puts out.new ≡ next_count (O.puts out.old) }
+    ensures never { result.status ≡ 9 → O.puts out.new ≡ O.puts out.old }
 {
     match words_text(alloc) {
         Ok(report) => print(alloc, out, &Reply { status: 2, report }, None),

@@ -129,9 +129,21 @@ fn put_refused(
             put(note, sentence_of(FROM, kind).unwrap_or(""))?;
             put(note, "\n")
         }
+        "leaf" => put_leaf(note, seen, number),
         "blocks" => put_blocks(note, seen, line),
         _ => Ok(()),
     }
+}
+
+// The note on a certificate to go on from that has no open leaf of a number.
+fn put_leaf(note: &mut Vec<u8>, seen: &Seen, number: &str) -> Result<(), AllocError> {
+    put_name(note, seen.name())?;
+    put(
+        note,
+        ": leaf: its lines that begin with `open` are fewer than ",
+    )?;
+    put(note, number)?;
+    put(note, "; they count from 1, in their order\n")
 }
 
 // FILE:LINE:COLUMN: KIND: with a space behind it; no place for line 0, and no column where none is known.

@@ -7,11 +7,12 @@ const KIT: &str = "rattle-kit-13f";
 
 // Each command with its words and options, and what it does.
 const COMMANDS: &str = "\
-solve LP [--dec DEC] [--steps N] [--cert CERT] [--from FILE] [--workers W] [--order SEED] @ a best point, and a certificate of it
+solve LP [--dec DEC] [--steps N] [--cert CERT] [--from FILE] [--leaf K] [--workers W] [--order SEED] @ a best point, and a certificate of it
 check LP CERT [--dec DEC] @ whether a certificate is valid
 show LP [--dec DEC] [--blocks] @ the blocks, and which are identical
 propose LP DEC @ writes a decomposition that it finds
 detect LP ROWS DEC @ writes the blocks beside the rows of a list
+merge LP A B NEW [--dec DEC] @ writes one certificate for two
 gen SEED SIZE LP DEC @ writes an assignment problem and its blocks
 demo SEED SIZE @ makes one in memory, solves it, checks that
 ";
@@ -22,6 +23,7 @@ const OPTIONS: &str = "\
 --steps @ N      stop after N steps, and keep a bound
 --cert @ CERT    write the certificate of the answer
 --from @ FILE    go on from the tree of this certificate
+--leaf @ K       work below the K-th open leaf of that certificate alone
 --workers @ W    search in the order of W workers, 1 to 64
 --order @ SEED   the seed of that order
 --blocks @       tell the rows and variables of each block
@@ -247,8 +249,39 @@ fn put_command_note(
             return put_line(note, usage);
         }
     }
-    put_missing(note, usage, words, &reach)?;
+    match misplaced_leaf(words) {
+        Some(why) => put(note, why)?,
+        None => put_missing(note, usage, words, &reach)?,
+    }
     put_line(note, usage)
+}
+
+// What is wrong with a leaf that is named, where it has no certificate or a crew beside it.
+fn misplaced_leaf(words: &[String]) -> Option<&'static str> {
+    if !has_option(words, "--leaf") {
+        None
+    } else if !has_option(words, "--from") {
+        Some(
+            "bprice: --leaf names an open leaf of the certificate behind --from, which is missing\n",
+        )
+    } else if has_option(words, "--workers") || has_option(words, "--order") {
+        Some("bprice: --leaf goes without --workers and --order: a crew works on the whole tree\n")
+    } else {
+        None
+    }
+}
+
+// Whether an option stands among words, before the word that ends options.
+fn has_option(words: &[String], option: &str) -> bool {
+    for word in words {
+        if word.as_str() == "--" {
+            return false;
+        }
+        if option_of(word.as_str()) == option {
+            return true;
+        }
+    }
+    false
 }
 
 // What is wrong with a word, behind those that were read; none where it goes.
@@ -378,6 +411,7 @@ fn place_of(usage: &'static str, number: usize) -> Option<&'static str> {
 fn range_of(name: &str) -> Option<(u64, u64)> {
     match name {
         "N" => Some((0, 1 << 60)),
+        "K" => Some((1, u64::MAX)),
         "W" => Some((1, 64)),
         "SEED" => Some((0, u64::MAX)),
         "SIZE" => Some((1, 1024)),

@@ -229,6 +229,8 @@ impl<O: Sink> Sink for WatchedSink<O> {
 
     ghost faults = { λ w. O.faults w.inside };
 
+    ghost puts = { λ w. O.puts w.inside };
+
     fn put(&mut self, bytes: &[u8]) -> Result<(), SinkFault> {
         let room = MOST_TOLD.saturating_sub(self.told.len());
         let count = bytes.len().min(room);

@@ -15,7 +15,7 @@ use Rattle.block_form.specs.declared.fault.BlockFault.TheVariants as block
 use Rattle.dec_find.specs.declared.fault.RowsKind.{RowsKind}
 use Rattle.dec_find.specs.declared.fault.RowsKind.TheVariants as rows
 use Rattle.dec_find.specs.declared.fault.RowsFault.TheVariants as rows_fault
-use Rattle.bp_report.specs.Report.{fault_line}
+use Rattle.bp_report.specs.Report.{count_line, fault_line}
 use Rattle.bp_report.specs.declared.refused.Refusal.{Refusal}
 use Rattle.bp_report.specs.declared.refused.Refusal.TheVariants.{Words, Lp, Dec, Cert, Blocks, Rows}
 
@@ -83,6 +83,10 @@ cert_refusal line kind = fault_line (codes "refused cert ") line (cert_kind_name
 -- the report on a certificate to go on from whose leaf of this line is too deep
 abbrev pub from_refusal : (line : ℕ) → List ℕ
 from_refusal line = fault_line (codes "refused from ") line (codes "depth")
+
+-- the report on a certificate to go on from that has no open leaf of this number
+abbrev pub leaf_refusal : (number : ℕ) → List ℕ
+leaf_refusal number = count_line (codes "refused leaf ") number
 
 -- the report on a list of master rows with a fault, or that leaves too many blocks
 abbrev pub rows_refusal : (line : ℕ) → RowsKind → List ℕ

@@ -12,11 +12,13 @@ use Rattle.bp_theory.specs.declared.CheckKind.{CheckKind}
 use Rattle.bp_theory.specs.declared.CheckKind.TheVariants as check
 use Rattle.bp_model.specs.Named.{NamedProgram}
 use Rattle.block_form.specs.Blocked.{BlockedProgram}
+use Rattle.search_laws.specs.Grove.{live_count}
 use Rattle.search_laws.specs.Spread.{block_at, class_at, class_blocks}
 use Rattle.block_class.specs.Classes.{Grouping}
 use Rattle.dec_find.specs.Text.{spaced}
 use Rattle.branch_tree.specs.declared.outcome.Outcome.{Outcome}
 use Rattle.branch_tree.specs.declared.outcome.Outcome.TheVariants as outcome
+use Rattle.cert_text.specs.Outcomes.{grove_of, claim_of}
 use Rattle.cert_check.specs.declared.judge.Judged.{Judged}
 use Rattle.cert_check.specs.declared.judge.Judged.TheVariants.{Accepted, Rejected}
 
@@ -130,6 +132,12 @@ rejected_report line kind = fault_line (codes "rejected ") line (check_kind_name
 abbrev pub check_report : Judged → List ℕ
 check_report (Accepted claim) = accepted_report claim
 check_report (Rejected line kind) = rejected_report line kind
+
+-- ---- merged certificates
+
+-- the report on a certificate that two were merged into: how many of its leaves are open, and the line of `check` on it
+abbrev pub merged_report : (maximises : Bool) → Outcome → List ℕ
+merged_report maximises o = count_line (codes "merged open ") (live_count (grove_of o).tree) ++ accepted_report (claim_of maximises o)
 
 -- ---- sizes
 

@@ -172,7 +172,7 @@ fn value(m: &Model, point: &[i64]) -> i128
 }
 
 // A cost as a value in the text's own sense.
-fn in_sense(maximises: bool, cost: &i64) -> i128
+pub fn in_sense(maximises: bool, cost: &i64) -> i128
     ensures { result ≡ in_sense maximises cost.now }
 {
     let cost = *cost as i128;

@@ -7,6 +7,7 @@ mod checked;
 mod demo;
 mod ended;
 mod lines;
+mod merged;
 mod refused;
 mod sizes;
 
@@ -14,8 +15,9 @@ pub use blocks::show_blocks_text;
 pub use checked::check_text;
 pub use demo::{DEMO_STEPS, demo_text};
 pub use ended::{budget_text, ended_text, solve_text};
+pub use merged::merged_text;
 pub use refused::{
-    Refusal, blocks_text, cert_text, dec_text, from_text, lp_text, refusal_text, rows_text,
-    words_text,
+    Refusal, blocks_text, cert_text, dec_text, from_text, leaf_text, lp_text, refusal_text,
+    rows_text, words_text,
 };
 pub use sizes::{detected_text, made_text, proposed_text};

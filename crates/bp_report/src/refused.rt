@@ -1,9 +1,9 @@
 // The reports on words and texts that are refused.
 ghost use Rattle.std.specs.Prelude.{◌≡◌, ◌++◌, IfOk, OnOk};
 ghost use Rattle.std.specs.Option.{option_map};
-ghost use Rattle.bp_report.specs.Refusals.{words_refusal, lp_kind_name, lp_refusal, dec_kind_name, dec_refusal, cert_kind_name, cert_refusal, from_refusal, rows_kind_name, rows_refusal, linking_line, var_place_line, blocks_refusal, HasNamed, CanName, refusal_report};
+ghost use Rattle.bp_report.specs.Refusals.{words_refusal, lp_kind_name, lp_refusal, dec_kind_name, dec_refusal, cert_kind_name, cert_refusal, from_refusal, leaf_refusal, rows_kind_name, rows_refusal, linking_line, var_place_line, blocks_refusal, HasNamed, CanName, refusal_report};
 
-use crate::lines::fault_text;
+use crate::lines::{fault_text, push_count_line};
 use block_form::BlockFault;
 use bp_model::Model;
 use cert_text::{CertFault, CertKind};
@@ -85,6 +85,15 @@ pub fn from_text(alloc: Global, line: u64) -> Result<Vec<u8>, AllocError>
     ensures { IfOk result (λ text. text.items ≡ from_refusal line) }
 {
     fault_text(alloc, b"refused from ", line, b"depth")
+}
+
+/// The report on a certificate to go on from that has no open leaf of this number.
+pub fn leaf_text(alloc: Global, number: u64) -> Result<Vec<u8>, AllocError>
+    ensures { IfOk result (λ text. text.items ≡ leaf_refusal number) }
+{
+    let mut text = Vec::new(alloc);
+    push_count_line(&mut text, b"refused leaf ", number)?;
+    Ok(text)
 }
 
 /// The report on a list of master rows whose first fault is of this kind and on this line, or that leaves too many blocks.

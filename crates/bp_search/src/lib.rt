@@ -2,6 +2,7 @@
 //! no leaf is live or the given steps are taken. The tree at the end is the certificate of what is claimed.
 #![tactic(auto)]
 
+mod below;
 mod ends;
 mod growth;
 mod kept;
@@ -12,6 +13,7 @@ ghost use Rattle.branch_tree.specs.Loads.{IsLoaded};
 ghost use Rattle.bp_search.specs.Ends.{EndsWithin, IsOutcome, last_step};
 
 use crate::steps::take_steps;
+pub use below::resume_below;
 use block_form::Blocked;
 use branch_tree::{Loaded, Outcome};
 pub use cert_load::{LoadFault, load};

@@ -5,6 +5,7 @@ ghost use Rattle.search_laws.specs.Grove.{live_count, certificate_tree};
 ghost use Rattle.branch_tree.specs.Groves.{IsLiveTurn};
 ghost use Rattle.column_hint.specs.Pools.{AreMadeFor};
 ghost use Rattle.bp_search.specs.Searches.{IsRunning};
+ghost use Rattle.bp_search.specs.Below.{IsAsBeside};
 
 use crate::growth::grow;
 use crate::kept::{Kept, cost_of, keep};
@@ -39,8 +40,8 @@ pub fn take_steps(
     Ok(())
 }
 
-// Evaluates a live leaf, shuts or forks it, and keeps the point that was found on the way.
-fn step(
+/// Evaluates a live leaf, shuts or forks it, and keeps the point that was found on the way.
+pub fn step(
     alloc: Global,
     b: &Blocked,
     grove: &mut Grove,
@@ -55,6 +56,7 @@ fn step(
     ensures running { OnOk result (IsRunning b.now grove.new best.new) }
     ensures made_for { AreMadeFor b.now pools.new }
     ensures one { OnOk result (steps (certificate_tree grove.new.tree) ≡ steps (certificate_tree grove.old.tree) + 1) }
+    ensures beside { OnOk result (IsAsBeside turn.now.path grove.old.tree grove.new.tree) }
 {
     let _ = b.blocks();
     let Verdict { point, next } = evaluate(alloc, b, turn, cost_of(best), pools)?;

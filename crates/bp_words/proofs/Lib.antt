@@ -2,3 +2,4 @@ pub mod Stated
 pub mod Line
 pub mod Presence
 pub mod Taken
+pub mod Refusal

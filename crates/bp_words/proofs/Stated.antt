@@ -1,12 +1,12 @@
 -- What the subcommand that was met states.
-use Rattle.std.proofs.Common.{◌≡◌, ℕ, ◌∷◌, arith, List, Option, Some, None, codes}
-use Rattle.std.specs.Prelude.{◌≤◌, Result, Ok, Err, IfOk, IfSome}
+use Rattle.std.proofs.Common.{◌≡◌, refl, subst, ℕ, ◌∷◌, arith, List, Option, Some, None, codes}
+use Rattle.std.specs.Prelude.{◌≤◌, Result, Ok, Err, IfOk, IfSome, IsSome}
 use Rattle.clap.specs.Words.{Row, Text, first_of}
 use Rattle.bp_words.specs.declared.order.Order.{Order}
 use Rattle.bp_words.specs.declared.order.WordFault.{WordFault}
-use Rattle.bp_words.specs.declared.order.Order.TheVariants.{Solve, Check, Show, Gen, Demo, Detect, Propose}
-use Rattle.bp_words.specs.CommandLine.{most_seed, most_size, most_steps, most_workers}
-use Rattle.bp_words.specs.Orders.{HasNumber, MayHaveNumber, HasValues, IsInRange, IsStated}
+use Rattle.bp_words.specs.declared.order.Order.TheVariants.{Solve, Check, Show, Gen, Demo, Detect, Propose, Merge}
+use Rattle.bp_words.specs.CommandLine.{most_leaf, most_seed, most_size, most_steps, most_workers}
+use Rattle.bp_words.specs.Orders.{HasNumber, MayHaveNumber, GoTogether, HasValues, IsInRange, IsStated}
 
 -- words that begin differently differ
 apart : (a b : ℕ) (xs ys : List ℕ) → (a ≡ b → ⊥) → a ∷ xs ≡ b ∷ ys → ⊥
@@ -24,33 +24,55 @@ pub record HasSeedAndSize (rows : List Row) : Type 0 where
 
 -- what `gen` and `demo` state has a seed and a size
 pub gen_has : (rows : List Row) (order : Order) → HasValues (codes "gen") rows order → HasSeedAndSize rows
-gen_has rows (Solve lp dec steps cert from workers order) has = absurd (apart 103 115 (codes "en") (codes "olve") (λ e. omega arith) has.0)
+gen_has rows (Solve lp dec steps cert from leaf workers order) has = absurd (apart 103 115 (codes "en") (codes "olve") (λ e. omega arith) has.0)
 gen_has rows (Check lp cert dec) has = absurd (apart 103 99 (codes "en") (codes "heck") (λ e. omega arith) has.0)
 gen_has rows (Show lp dec blocks) has = absurd (apart 103 115 (codes "en") (codes "how") (λ e. omega arith) has.0)
 gen_has rows (Gen seed size lp dec) has = record { seed = seed; size = size; seeds = has.1; sizes = has.2 }
 gen_has rows (Demo seed size) has = absurd (apart 103 100 (codes "en") (codes "emo") (λ e. omega arith) has.0)
 gen_has rows (Detect lp list dec) has = absurd (apart 103 100 (codes "en") (codes "etect") (λ e. omega arith) has.0)
 gen_has rows (Propose lp dec) has = absurd (apart 103 112 (codes "en") (codes "ropose") (λ e. omega arith) has.0)
+gen_has rows (Merge lp one other new dec) has = absurd (apart 103 109 (codes "en") (codes "erge") (λ e. omega arith) has.0)
 
 pub demo_has : (rows : List Row) (order : Order) → HasValues (codes "demo") rows order → HasSeedAndSize rows
-demo_has rows (Solve lp dec steps cert from workers order) has = absurd (apart 100 115 (codes "emo") (codes "olve") (λ e. omega arith) has.0)
+demo_has rows (Solve lp dec steps cert from leaf workers order) has = absurd (apart 100 115 (codes "emo") (codes "olve") (λ e. omega arith) has.0)
 demo_has rows (Check lp cert dec) has = absurd (apart 100 99 (codes "emo") (codes "heck") (λ e. omega arith) has.0)
 demo_has rows (Show lp dec blocks) has = absurd (apart 100 115 (codes "emo") (codes "how") (λ e. omega arith) has.0)
 demo_has rows (Gen seed size lp dec) has = absurd (apart 100 103 (codes "emo") (codes "en") (λ e. omega arith) has.0)
 demo_has rows (Demo seed size) has = record { seed = seed; size = size; seeds = has.1; sizes = has.2 }
 demo_has rows (Detect lp list dec) has = absurd (apart_third 109 116 (codes "o") (codes "ect") (λ e. omega arith) has.0)
 demo_has rows (Propose lp dec) has = absurd (apart 100 112 (codes "emo") (codes "ropose") (λ e. omega arith) has.0)
+demo_has rows (Merge lp one other new dec) has = absurd (apart 100 109 (codes "emo") (codes "erge") (λ e. omega arith) has.0)
 
 -- a number that may be given is in its range
 within : (given : Option Text) (low high : ℕ) (n : Option ℕ) → MayHaveNumber given low high n → IfSome n (λ k. (low ≤ k) × (k ≤ high))
 within given low high None has = tt
 within given low high (Some n) has = (has.2.least, has.2.most)
 
+-- a number is not there without its text
+none_without : (given : Option Text) (low high : ℕ) (n : Option ℕ) → given ≡ None → MayHaveNumber given low high n → n ≡ None
+none_without given low high None none has = refl
+none_without given low high (Some n) none has = let text = has.1 in absurd (cc)
+
+-- a leaf goes with a certificate to go on from, and without a crew
+together : (named start crew turns : Option Text) (leaf : Option ℕ) (from : Option Text) (workers order : Option ℕ) → MayHaveNumber named 1 most_leaf leaf
+    → start ≡ from → MayHaveNumber crew 1 most_workers workers → MayHaveNumber turns 0 most_seed order → GoTogether named start crew turns
+    → IfSome leaf (λ k. (1 ≤ k) × IsSome from × (workers ≡ None) × (order ≡ None))
+together named start crew turns None from workers order leaf_is from_is workers_is order_is placed = tt
+together named start crew turns (Some k) from workers order leaf_is from_is workers_is order_is placed =
+    let both : GoTogether (Some leaf_is.0) start crew turns = subst (λ (o : Option Text). GoTogether o start crew turns) leaf_is.1 placed in (
+      leaf_is.2.least,
+      subst (λ (o : Option Text). IsSome o) from_is both.0,
+      none_without crew 1 most_workers workers both.1 workers_is,
+      none_without turns 0 most_seed order both.2 order_is,
+    )
+
 -- the numbers of a stated order are in their ranges
 in_range : (met : Option (Text × List Row)) (order : Order) → IsStated met order → IsInRange order
-in_range met (Solve lp dec steps cert from workers order) stated = (
+in_range met (Solve lp dec steps cert from leaf workers order) stated = (
   at_most steps (within (first_of (codes "steps") stated.rows) 0 most_steps steps stated.values.3),
-  within (first_of (codes "workers") stated.rows) 1 most_workers workers stated.values.6,
+  within (first_of (codes "workers") stated.rows) 1 most_workers workers stated.values.7,
+  together (first_of (codes "leaf") stated.rows) (first_of (codes "from") stated.rows) (first_of (codes "workers") stated.rows)
+      (first_of (codes "order") stated.rows) leaf from workers order stated.values.6 stated.values.5 stated.values.7 stated.values.8 stated.values.9,
 ) where
   at_most : (n : Option ℕ) → IfSome n (λ k. (0 ≤ k) × (k ≤ most_steps)) → IfSome n (λ k. k ≤ most_steps)
   at_most None is = tt
@@ -61,6 +83,7 @@ in_range met (Gen seed size lp dec) stated = (stated.values.2.2.least, stated.va
 in_range met (Demo seed size) stated = (stated.values.2.2.least, stated.values.2.2.most)
 in_range met (Detect lp list dec) stated = tt
 in_range met (Propose lp dec) stated = tt
+in_range met (Merge lp one other new dec) stated = tt
 
 pub in_range_if_ok : (met : Option (Text × List Row)) (r : Result Order WordFault) → IfOk r (IsStated met) → IfOk r IsInRange
 in_range_if_ok met (Ok order) stated = in_range met order stated

@@ -1,11 +1,11 @@
--- Words that the command takes give an order.
-use Rattle.std.proofs.Common.{◌≡◌, inl, inr, refl, ℕ, Bool, true, false, List, [], Option, Some, None}
+-- Words that the command takes give an order, or misplace a leaf.
+use Rattle.std.proofs.Common.{◌≡◌, ◌⊎◌, inl, inr, refl, ⊎_elim, ℕ, ◌∷◌, Bool, true, false, List, [], Option, Some, None}
 use Rattle.std.specs.Prelude.{◌&&◌, ◌||◌, not, if◌then◌else◌, is_some, option_map, codes}
 use Rattle.std.specs.List.{AllByRecursion}
 use Rattle.std.specs.Option.{option_map_or}
 use Rattle.std.specs.Str.{bytes_eq}
 use Rattle.std.specs.Str.Parse.{digits_value, without_leading_plus}
-use Rattle.clap.specs.Kinds.{check_kinds}
+use Rattle.clap.specs.Kinds.{Kinds, check_kinds}
 use Rattle.clap.specs.ValueTests.{is_unsigned_in}
 use Rattle.clap.specs.Walk.{Text, Row, answers_to, finished, first_of, nothing_held, rows_after, stop_after, walk, walk_from}
 use Rattle.clap.specs.Simple.{App, Shape, argument_words, built, built_leaf, entered, inherited, label_of, marked_built, names_of, rows_at, subcommand_of, with_leaf_noted}
@@ -14,9 +14,9 @@ use Rattle.clap.specs.Faults.{check_fault, entered_fault, fault_of, level_fault,
 use Rattle.clap.specs.declared.builder.value_parser.ValueParser.TheVariants.{Unsigned}
 use Rattle.clap.proofs.ValueTestLemmas.{accepts-Accepts}
 use Rattle.bp_words.specs.declared.order.Order.{Order}
-use Rattle.bp_words.specs.declared.order.Order.TheVariants.{Solve, Check, Show, Gen, Demo, Detect, Propose}
-use Rattle.bp_words.specs.CommandLine.{command_line, solve_words, check_words, show_words, gen_words, demo_words, detect_words, propose_words, most_steps, most_seed, most_size, most_workers}
-use Rattle.bp_words.specs.Orders.{IsNumber, MayHaveNumber, is_set, IsStated}
+use Rattle.bp_words.specs.declared.order.Order.TheVariants.{Solve, Check, Show, Gen, Demo, Detect, Propose, Merge}
+use Rattle.bp_words.specs.CommandLine.{command_line, solve_words, check_words, show_words, gen_words, demo_words, detect_words, propose_words, merge_words, most_steps, most_leaf, most_seed, most_size, most_workers}
+use Rattle.bp_words.specs.Orders.{IsNumber, MayHaveNumber, is_set, GoTogether, IsLeafPlaced, IsStated, MisplacesLeaf, AreRefused}
 use Rattle.bp_words.proofs.Presence.{Checks, both_parts, full_level, given_has, first_good}
 
 -- the command and its subcommands as they are built
@@ -47,13 +47,17 @@ detect_level = level_of detect_words
 abbrev propose_level : Shape
 propose_level = level_of propose_words
 
+abbrev merge_level : Shape
+merge_level = level_of merge_words
+
 -- which values an argument may have, by its id
 abbrev good : Text → Text → Bool
 good id text = if bytes_eq id (codes "seed") then is_unsigned_in 0 most_seed text
     else (if bytes_eq id (codes "size") then is_unsigned_in 1 most_size text
     else (if bytes_eq id (codes "steps") then is_unsigned_in 0 most_steps text
+    else (if bytes_eq id (codes "leaf") then is_unsigned_in 1 most_leaf text
     else (if bytes_eq id (codes "workers") then is_unsigned_in 1 most_workers text
-    else (if bytes_eq id (codes "order") then is_unsigned_in 0 most_seed text else true))))
+    else (if bytes_eq id (codes "order") then is_unsigned_in 0 most_seed text else true)))))
 
 solve_checks : AllByRecursion (Checks good) solve_level.rules
 solve_checks = (
@@ -68,7 +72,10 @@ solve_checks = (
           record { wants = inl refl; plain = tt; passes = λ v e. refl },
           (
             record { wants = inl refl; plain = tt; passes = λ v e. e },
-            (record { wants = inl refl; plain = tt; passes = λ v e. e }, tt),
+            (
+              record { wants = inl refl; plain = tt; passes = λ v e. e },
+              (record { wants = inl refl; plain = tt; passes = λ v e. e }, tt),
+            ),
           ),
         ),
       ),
@@ -127,6 +134,21 @@ propose_checks = (
   (record { wants = inl refl; plain = tt; passes = λ v e. refl }, tt),
 )
 
+merge_checks : AllByRecursion (Checks good) merge_level.rules
+merge_checks = (
+  record { wants = inl refl; plain = tt; passes = λ v e. refl },
+  (
+    record { wants = inl refl; plain = tt; passes = λ v e. refl },
+    (
+      record { wants = inl refl; plain = tt; passes = λ v e. refl },
+      (
+        record { wants = inl refl; plain = tt; passes = λ v e. refl },
+        (record { wants = inl refl; plain = tt; passes = λ v e. refl }, tt),
+      ),
+    ),
+  ),
+)
+
 -- a subcommand is there
 has_subcommand : (has : Bool) → check_kinds (not has && false) (not has && true) false ≡ [] → has ≡ true
 has_subcommand true e = refl
@@ -170,24 +192,40 @@ number_stated low high None passes = (None, refl)
 number_stated low high (Some text) passes =
     (Some (digits_value 10 (without_leading_plus text)), (text, refl, number_meant low high text (passes text refl)))
 
+-- a leaf is where it may be named, or not
+placed : (leaf from workers order : Option Text) → GoTogether leaf from workers order ⊎ (GoTogether leaf from workers order → ⊥)
+placed None from workers order = inl tt
+placed (Some leaf) None workers order = inr (λ h. let e = h.0 in absurd (cc))
+placed (Some leaf) (Some from) (Some workers) order = inr (λ h. let e = h.1 in absurd (cc))
+placed (Some leaf) (Some from) None (Some order) = inr (λ h. let e = h.2 in absurd (cc))
+placed (Some leaf) (Some from) None None = inl (refl, refl, refl)
+
+-- a subcommand that was met states an order, or misplaces a leaf
+abbrev pub Gives : Option (Text × List Row) → Type 0
+Gives met = ((order : Order) × IsStated met order) ⊎ MisplacesLeaf met
+
 -- what each subcommand states
-solve_states : (words : List Text) → level_fault solve_level [] nothing_held words false [] ≡ []
-    → (order : Order) × IsStated (Some (rows_at solve_level words)) order
+solve_states : (words : List Text) → level_fault solve_level [] nothing_held words false [] ≡ [] → Gives (Some (rows_at solve_level words))
 solve_states words e =
     let rows : List Row = rows_after solve_level.rules [] words in
     let level = full_level good solve_level words solve_checks e in
     let lp = given_has good (codes "lp") rows (one_there (is_given (codes "lp") rows) level.1) level.0 in
     let steps = number_stated 0 most_steps (first_of (codes "steps") rows) (λ text is. first_good good (codes "steps") rows text level.0 is) in
+    let leaf = number_stated 1 most_leaf (first_of (codes "leaf") rows) (λ text is. first_good good (codes "leaf") rows text level.0 is) in
     let workers = number_stated 1 most_workers (first_of (codes "workers") rows) (λ text is. first_good good (codes "workers") rows text level.0 is) in
-    let order = number_stated 0 most_seed (first_of (codes "order") rows) (λ text is. first_good good (codes "order") rows text level.0 is) in (
-      Solve lp.0 (first_of (codes "dec") rows) steps.0 (first_of (codes "cert") rows) (first_of (codes "from") rows) workers.0 order.0,
+    let order = number_stated 0 most_seed (first_of (codes "order") rows) (λ text is. first_good good (codes "order") rows text level.0 is) in
+    ⊎_elim
+    (λ (well : IsLeafPlaced rows). inl (
+      Solve lp.0 (first_of (codes "dec") rows) steps.0 (first_of (codes "cert") rows) (first_of (codes "from") rows) leaf.0 workers.0 order.0,
       record {
         name = codes "solve";
         rows = rows;
         subcommand = refl;
-        values = (refl, lp.1, refl, steps.1, refl, refl, workers.1, order.1);
+        values = (refl, lp.1, refl, steps.1, refl, refl, leaf.1, workers.1, order.1, well);
       },
-    )
+    ))
+    (λ astray. inr (rows, refl, astray))
+    (placed (first_of (codes "leaf") rows) (first_of (codes "from") rows) (first_of (codes "workers") rows) (first_of (codes "order") rows))
 
 check_states : (words : List Text) → level_fault check_level [] nothing_held words false [] ≡ []
     → (order : Order) × IsStated (Some (rows_at check_level words)) order
@@ -302,35 +340,57 @@ propose_states words e =
       },
     )
 
--- the level that is met, by which subcommand's name answers
-abbrev met_level : (t u v w x y z : Bool) → Option Shape
-met_level t u v w x y z = if t then Some solve_level
-    else (if u then Some check_level else (if v then Some show_level else (if w then Some gen_level else (if x then Some demo_level else (if y then Some detect_level else (if z then Some propose_level else None))))))
+merge_states : (words : List Text) → level_fault merge_level [] nothing_held words false [] ≡ []
+    → (order : Order) × IsStated (Some (rows_at merge_level words)) order
+merge_states words e =
+    let rows : List Row = rows_after merge_level.rules [] words in
+    let level = full_level good merge_level words merge_checks e in
+    let all = four_there (is_given (codes "lp") rows) (is_given (codes "first") rows) (is_given (codes "second") rows) (is_given (codes "new") rows) level.1 in
+    let lp = given_has good (codes "lp") rows all.0 level.0 in
+    let one = given_has good (codes "first") rows all.1 level.0 in
+    let other = given_has good (codes "second") rows all.2 level.0 in
+    let new = given_has good (codes "new") rows all.3 level.0 in (
+      Merge lp.0 one.0 other.0 new.0 (first_of (codes "dec") rows),
+      record {
+        name = codes "merge";
+        rows = rows;
+        subcommand = refl;
+        values = (refl, lp.1, one.1, other.1, new.1, refl);
+      },
+    )
 
--- the subcommand that was met states an order
-met_states : (stop : Option (Text × List Text)) → entered_fault line stop ≡ [] → is_some (entered line stop) ≡ true
-    → (order : Order) × IsStated (entered line stop) order
+-- the level that is met, by which subcommand's name answers
+abbrev met_level : (t u v w x y z m : Bool) → Option Shape
+met_level t u v w x y z m = if t then Some solve_level
+    else (if u then Some check_level
+    else (if v then Some show_level
+    else (if w then Some gen_level
+    else (if x then Some demo_level else (if y then Some detect_level else (if z then Some propose_level else (if m then Some merge_level else None)))))))
+
+-- the subcommand that was met states an order, or misplaces a leaf
+met_states : (stop : Option (Text × List Text)) → entered_fault line stop ≡ [] → is_some (entered line stop) ≡ true → Gives (entered line stop)
 met_states None e has = absurd (cc)
 met_states (Some p) e has =
     pick (answers_to p.0 (label_of solve_level)) (answers_to p.0 (label_of check_level)) (answers_to p.0 (label_of show_level))
     (answers_to p.0 (label_of gen_level)) (answers_to p.0 (label_of demo_level)) (answers_to p.0 (label_of detect_level))
-    (answers_to p.0 (label_of propose_level)) e has
+    (answers_to p.0 (label_of propose_level)) (answers_to p.0 (label_of merge_level)) e has
   where
-    pick : (t u v w x y z : Bool)
-        → option_map_or (λ (s : Shape). level_fault s [] nothing_held p.1 false []) (met_level t u v w x y z) [] ≡ []
-        → is_some (option_map (λ (s : Shape). rows_at s p.1) (met_level t u v w x y z)) ≡ true
-        → (order : Order) × IsStated (option_map (λ (s : Shape). rows_at s p.1) (met_level t u v w x y z)) order
-    pick true u v w x y z e has = solve_states p.1 e
-    pick false true v w x y z e has = check_states p.1 e
-    pick false false true w x y z e has = show_states p.1 e
-    pick false false false true x y z e has = gen_states p.1 e
-    pick false false false false true y z e has = demo_states p.1 e
-    pick false false false false false true z e has = detect_states p.1 e
-    pick false false false false false false true e has = propose_states p.1 e
-    pick false false false false false false false e has = absurd (cc)
+    pick : (t u v w x y z m : Bool)
+        → option_map_or (λ (s : Shape). level_fault s [] nothing_held p.1 false []) (met_level t u v w x y z m) [] ≡ []
+        → is_some (option_map (λ (s : Shape). rows_at s p.1) (met_level t u v w x y z m)) ≡ true
+        → Gives (option_map (λ (s : Shape). rows_at s p.1) (met_level t u v w x y z m))
+    pick true u v w x y z m e has = solve_states p.1 e
+    pick false true v w x y z m e has = inl (check_states p.1 e)
+    pick false false true w x y z m e has = inl (show_states p.1 e)
+    pick false false false true x y z m e has = inl (gen_states p.1 e)
+    pick false false false false true y z m e has = inl (demo_states p.1 e)
+    pick false false false false false true z m e has = inl (detect_states p.1 e)
+    pick false false false false false false true m e has = inl (propose_states p.1 e)
+    pick false false false false false false false true e has = inl (merge_states p.1 e)
+    pick false false false false false false false false e has = absurd (cc)
 
--- words without fault give an order
-pub taken_gives : (words : List Text) → fault_of command_line words ≡ [] → (order : Order) × IsStated (subcommand_of command_line words) order
+-- words without fault give an order, or misplace a leaf
+taken_gives : (words : List Text) → fault_of command_line words ≡ [] → Gives (subcommand_of command_line words)
 taken_gives words e =
     let given : List Text = argument_words command_line words in
     let stop : Option (Text × List Text) = stop_after line.top.rules (names_of line) given in
@@ -340,3 +400,11 @@ taken_gives words e =
     let third = both_parts (settle_fault line.top.rules line.top.args_override_self end) _ second.1 in
     let fourth = both_parts _ (check_fault line.top (finished line.top.rules end) (is_some (entered line stop))) third.1 in
     met_states stop second.0 (has_subcommand (is_some (entered line stop)) fourth.1)
+
+-- words that give no order are refused
+pub refused_words : (words : List Text) → ((order : Order) → IsStated (subcommand_of command_line words) order → ⊥) → AreRefused words
+refused_words words none = by (fault_of command_line words) (λ e. e) (λ e. taken_gives words e)
+  where
+    by : (kinds : Kinds) → (fault_of command_line words ≡ [] → kinds ≡ []) → (kinds ≡ [] → Gives (subcommand_of command_line words)) → AreRefused words
+    by [] same gives = ⊎_elim (λ (one : (order : Order) × IsStated (subcommand_of command_line words) order). absurd (none one.0 one.1)) (λ astray. inr astray) (gives refl)
+    by (kind ∷ kinds) same gives = inl (λ empty. let bad = same empty in absurd (cc))

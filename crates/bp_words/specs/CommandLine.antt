@@ -27,9 +27,12 @@ from_option = record (new_rule (codes "from")) { long = Some (codes "from") }
 abbrev pub blocks_flag : Rule
 blocks_flag = record (new_rule (codes "blocks")) { long = Some (codes "blocks"); action = Some SetTrue }
 
--- the greatest number of steps, of a seed, of a size and of workers
+-- the greatest number of steps, of a leaf, of a seed, of a size and of workers
 abbrev pub most_steps : ℕ
 most_steps = 2 ^ 60
+
+abbrev pub most_leaf : ℕ
+most_leaf = 2 ^ 64 - 1
 
 abbrev pub most_seed : ℕ
 most_seed = 2 ^ 64 - 1
@@ -43,6 +46,10 @@ most_workers = 64
 -- the steps, behind `--steps`
 abbrev pub steps_option : Rule
 steps_option = record (new_rule (codes "steps")) { long = Some (codes "steps"); parser = Some (Unsigned 0 most_steps) }
+
+-- the number of an open leaf of the certificate to go on from, behind `--leaf`
+abbrev pub leaf_option : Rule
+leaf_option = record (new_rule (codes "leaf")) { long = Some (codes "leaf"); parser = Some (Unsigned 1 most_leaf) }
 
 -- how many workers there are and the seed of their order, behind `--workers` and `--order`
 abbrev pub workers_option : Rule
@@ -70,6 +77,16 @@ cert_word = record (new_rule (codes "cert")) { required = true }
 abbrev pub rows_word : Rule
 rows_word = record (new_rule (codes "rows")) { required = true }
 
+-- the certificates to merge, and the file for the merged one, by their places
+abbrev pub first_word : Rule
+first_word = record (new_rule (codes "first")) { required = true }
+
+abbrev pub second_word : Rule
+second_word = record (new_rule (codes "second")) { required = true }
+
+abbrev pub new_word : Rule
+new_word = record (new_rule (codes "new")) { required = true }
+
 -- `solve LP [--dec FILE] [--steps N]`
 abbrev pub search_words : Shape
 search_words = record (new_shape (codes "solve")) { rules = lp_word ∷ dec_option ∷ steps_option ∷ [] }
@@ -78,10 +95,10 @@ search_words = record (new_shape (codes "solve")) { rules = lp_word ∷ dec_opti
 abbrev pub kept_words : Shape
 kept_words = record (new_shape (codes "solve")) { rules = lp_word ∷ dec_option ∷ steps_option ∷ cert_option ∷ from_option ∷ [] }
 
--- `solve LP [--dec FILE] [--steps N] [--cert FILE] [--from CERT] [--workers W] [--order SEED]`
+-- `solve LP [--dec FILE] [--steps N] [--cert FILE] [--from CERT] [--leaf K] [--workers W] [--order SEED]`
 abbrev pub solve_words : Shape
 solve_words = record (new_shape (codes "solve")) {
-  rules = lp_word ∷ dec_option ∷ steps_option ∷ cert_option ∷ from_option ∷ workers_option ∷ order_option ∷ [];
+  rules = lp_word ∷ dec_option ∷ steps_option ∷ cert_option ∷ from_option ∷ leaf_option ∷ workers_option ∷ order_option ∷ [];
 }
 
 -- `check LP CERT [--dec FILE]`
@@ -108,6 +125,14 @@ detect_words = record (new_shape (codes "detect")) { rules = lp_word ∷ rows_wo
 abbrev pub propose_words : Shape
 propose_words = record (new_shape (codes "propose")) { rules = lp_word ∷ dec_word ∷ [] }
 
+-- `merge LP FIRST SECOND`
+abbrev pub both_words : Shape
+both_words = record (new_shape (codes "merge")) { rules = lp_word ∷ first_word ∷ second_word ∷ [] }
+
+-- `merge LP FIRST SECOND NEW [--dec FILE]`
+abbrev pub merge_words : Shape
+merge_words = record (new_shape (codes "merge")) { rules = lp_word ∷ first_word ∷ second_word ∷ new_word ∷ dec_option ∷ [] }
+
 -- the program itself
 abbrev pub program_words : Shape
 program_words = record (new_shape (codes "bprice")) {
@@ -129,7 +154,7 @@ making_line = record { top = record program_words { is_leaf = false }; subs = so
 abbrev pub command_line : App
 command_line = record {
   top = record program_words { is_leaf = false };
-  subs = solve_words ∷ check_words ∷ show_words ∷ gen_words ∷ demo_words ∷ detect_words ∷ propose_words ∷ [];
+  subs = solve_words ∷ check_words ∷ show_words ∷ gen_words ∷ demo_words ∷ detect_words ∷ propose_words ∷ merge_words ∷ [];
 }
 
 -- a command reads words by a shape, and has no argument that its subcommands take over

@@ -1,12 +1,12 @@
 -- What a command line orders.
-use Rattle.std.specs.Prelude.{◌≡◌, ℕ, ◌≤◌, Bool, false, List, [], Option, Some, None, IfSome, codes}
+use Rattle.std.specs.Prelude.{◌≡◌, ◌≢◌, ◌⊎◌, ℕ, ◌≤◌, Bool, false, List, [], Option, Some, None, IfSome, IsSome, codes}
 use Rattle.std.specs.Option.{option_map_or}
 use Rattle.std.specs.Str.{bytes_eq}
 use Rattle.std.specs.Str.Parse.{IsNumeral, digits_value, without_leading_plus}
 use Rattle.clap.specs.Words.{Row, Text, first_of, subcommand_of, fault_of}
-use Rattle.bp_words.specs.CommandLine.{command_line, most_steps, most_seed, most_size, most_workers}
+use Rattle.bp_words.specs.CommandLine.{command_line, most_steps, most_leaf, most_seed, most_size, most_workers}
 use Rattle.bp_words.specs.declared.order.Order.{Order}
-use Rattle.bp_words.specs.declared.order.Order.TheVariants.{Solve, Check, Show, Gen, Demo, Detect, Propose}
+use Rattle.bp_words.specs.declared.order.Order.TheVariants.{Solve, Check, Show, Gen, Demo, Detect, Propose, Merge}
 
 -- a text means a number from `low` to `high`: it is decimal digits, before which a plus may stand
 pub record IsNumber (text : Text) (low high n : ℕ) : Type 0 where
@@ -28,13 +28,24 @@ MayHaveNumber given low high (Some n) = HasNumber given low high n
 abbrev pub is_set : Option Text → Bool
 is_set given = option_map_or (λ text. bytes_eq text (codes "true")) given false
 
+-- a leaf is named only beside a certificate to go on from, and not beside workers or their order
+abbrev pub GoTogether : (leaf from workers order : Option Text) → Type 0
+GoTogether None from workers order = Unit {0}
+GoTogether (Some leaf) from workers order = IsSome from × (workers ≡ None) × (order ≡ None)
+
+-- the same of the rows of the subcommand
+abbrev pub IsLeafPlaced : List Row → Type 0
+IsLeafPlaced rows =
+    GoTogether (first_of (codes "leaf") rows) (first_of (codes "from") rows) (first_of (codes "workers") rows) (first_of (codes "order") rows)
+
 -- an order has the values that stand in the rows of the subcommand
 abbrev pub HasValues : Text → List Row → Order → Type 0
-HasValues name rows (Solve lp dec steps cert from workers order) =
+HasValues name rows (Solve lp dec steps cert from leaf workers order) =
     (name ≡ codes "solve") × (first_of (codes "lp") rows ≡ Some lp) × (first_of (codes "dec") rows ≡ dec)
     × MayHaveNumber (first_of (codes "steps") rows) 0 most_steps steps × (first_of (codes "cert") rows ≡ cert)
-    × (first_of (codes "from") rows ≡ from) × MayHaveNumber (first_of (codes "workers") rows) 1 most_workers workers
-    × MayHaveNumber (first_of (codes "order") rows) 0 most_seed order
+    × (first_of (codes "from") rows ≡ from) × MayHaveNumber (first_of (codes "leaf") rows) 1 most_leaf leaf
+    × MayHaveNumber (first_of (codes "workers") rows) 1 most_workers workers × MayHaveNumber (first_of (codes "order") rows) 0 most_seed order
+    × IsLeafPlaced rows
 HasValues name rows (Check lp cert dec) =
     (name ≡ codes "check") × (first_of (codes "lp") rows ≡ Some lp) × (first_of (codes "cert") rows ≡ Some cert)
     × (first_of (codes "dec") rows ≡ dec)
@@ -53,17 +64,22 @@ HasValues name rows (Detect lp list dec) =
     × (first_of (codes "dec") rows ≡ Some dec)
 HasValues name rows (Propose lp dec) =
     (name ≡ codes "propose") × (first_of (codes "lp") rows ≡ Some lp) × (first_of (codes "dec") rows ≡ Some dec)
+HasValues name rows (Merge lp one other new dec) =
+    (name ≡ codes "merge") × (first_of (codes "lp") rows ≡ Some lp) × (first_of (codes "first") rows ≡ Some one)
+    × (first_of (codes "second") rows ≡ Some other) × (first_of (codes "new") rows ≡ Some new) × (first_of (codes "dec") rows ≡ dec)
 
--- the numbers of an order are in their ranges
+-- the numbers of an order are in their ranges, and a leaf goes with a certificate to go on from and without a crew
 abbrev pub IsInRange : Order → Type 0
-IsInRange (Solve lp dec steps cert from workers order) =
+IsInRange (Solve lp dec steps cert from leaf workers order) =
     IfSome steps (λ n. n ≤ most_steps) × IfSome workers (λ n. (1 ≤ n) × (n ≤ most_workers))
+    × IfSome leaf (λ n. (1 ≤ n) × IsSome from × (workers ≡ None) × (order ≡ None))
 IsInRange (Check lp cert dec) = Unit {0}
 IsInRange (Show lp dec blocks) = Unit {0}
 IsInRange (Gen seed size lp dec) = (1 ≤ size) × (size ≤ most_size)
 IsInRange (Demo seed size) = (1 ≤ size) × (size ≤ most_size)
 IsInRange (Detect lp list dec) = Unit {0}
 IsInRange (Propose lp dec) = Unit {0}
+IsInRange (Merge lp one other new dec) = Unit {0}
 
 -- the subcommand that was met, with its rows, states an order
 pub record IsStated (met : Option (Text × List Row)) (order : Order) : Type 0 where
@@ -76,3 +92,11 @@ pub record IsStated (met : Option (Text × List Row)) (order : Order) : Type 0 w
 pub record IsOrderOf (words : List Text) (order : Order) : Type 0 where
   pub taken : fault_of command_line words ≡ []
   pub stated : IsStated (subcommand_of command_line words) order
+
+-- the subcommand that was met is `solve`, and a leaf is named without a certificate to go on from, or beside a crew
+abbrev pub MisplacesLeaf : Option (Text × List Row) → Type 0
+MisplacesLeaf met = (rows : List Row) × (met ≡ Some (codes "solve", rows)) × (IsLeafPlaced rows → ⊥)
+
+-- words are no command line: the command finds a fault in them, or they misplace a leaf
+abbrev pub AreRefused : List Text → Type 0
+AreRefused words = (fault_of command_line words ≢ []) ⊎ MisplacesLeaf (subcommand_of command_line words)

@@ -1,7 +1,7 @@
 // The command of the program, for the crate that reads words.
 ghost use Rattle.std.specs.Prelude.{◌≡◌, Some, true, false, codes, IfOk};
 ghost use Rattle.clap.specs.Words.{app_of, new_rule, rule_of};
-ghost use Rattle.bp_words.specs.CommandLine.{search_words, kept_words, solve_words, check_words, show_words, gen_words, demo_words, detect_words, propose_words, program_words, reading_line, making_line, command_line, IsShaped};
+ghost use Rattle.bp_words.specs.CommandLine.{search_words, kept_words, solve_words, check_words, show_words, gen_words, demo_words, detect_words, propose_words, both_words, merge_words, program_words, reading_line, making_line, command_line, IsShaped};
 
 use clap::builder::ValueParser;
 use clap::{Arg, ArgAction, Command};
@@ -13,6 +13,9 @@ pub const MOST_STEPS: u64 = 1 << 60;
 /// The greatest size.
 pub const MOST_SIZE: u64 = 1024;
 
+/// The greatest number of a leaf.
+pub const MOST_LEAF: u64 = u64::MAX;
+
 /// The greatest number of workers.
 pub const MOST_WORKERS: u64 = 64;
 
@@ -22,9 +25,11 @@ pub fn make_command<'a>(alloc: Global) -> Result<Command<'a>, AllocError>
 {
     let detect = detect_command(alloc)?;
     let propose = propose_command(alloc)?;
+    let merge = merge_command(alloc)?;
     making_command(alloc)?
         .subcommand(detect)?
-        .subcommand(propose)
+        .subcommand(propose)?
+        .subcommand(merge)
 }
 
 // The program with the subcommands that read texts and those that make them.
@@ -60,13 +65,14 @@ fn program<'a>(alloc: Global) -> Command<'a>
         .subcommand_required(true)
 }
 
-// `solve LP [--dec FILE] [--steps N] [--cert FILE] [--from CERT] [--workers W] [--order SEED]`
+// `solve LP [--dec FILE] [--steps N] [--cert FILE] [--from CERT] [--leaf K] [--workers W] [--order SEED]`
 fn solve_command<'a>(alloc: Global) -> Result<Command<'a>, AllocError>
     ensures { IfOk result (λ command. IsShaped command solve_words) }
 {
+    let leaf = number_option(alloc, "leaf", 1, MOST_LEAF);
     let workers = number_option(alloc, "workers", 1, MOST_WORKERS);
     let order = number_option(alloc, "order", 0, u64::MAX);
-    kept_command(alloc)?.arg(workers)?.arg(order)
+    kept_command(alloc)?.arg(leaf)?.arg(workers)?.arg(order)
 }
 
 // `solve LP [--dec FILE] [--steps N] [--cert FILE] [--from CERT]`
@@ -149,6 +155,28 @@ fn propose_command<'a>(alloc: Global) -> Result<Command<'a>, AllocError>
     let lp = file_word(alloc, "lp");
     let dec = file_word(alloc, "dec");
     Command::new(alloc, "propose").arg(lp)?.arg(dec)
+}
+
+// `merge LP FIRST SECOND NEW [--dec FILE]`
+fn merge_command<'a>(alloc: Global) -> Result<Command<'a>, AllocError>
+    ensures { IfOk result (λ command. IsShaped command merge_words) }
+{
+    let new = file_word(alloc, "new");
+    let dec = file_option(alloc, "dec");
+    both_command(alloc)?.arg(new)?.arg(dec)
+}
+
+// `merge LP FIRST SECOND`
+fn both_command<'a>(alloc: Global) -> Result<Command<'a>, AllocError>
+    ensures { IfOk result (λ command. IsShaped command both_words) }
+{
+    let lp = file_word(alloc, "lp");
+    let first = file_word(alloc, "first");
+    let second = file_word(alloc, "second");
+    Command::new(alloc, "merge")
+        .arg(lp)?
+        .arg(first)?
+        .arg(second)
 }
 
 // A number that must be given, by its place.

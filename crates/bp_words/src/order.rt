@@ -10,7 +10,8 @@ use thiserror::Error;
 #[derive(Drop)]
 pub enum Order {
     /// Solve the LP file by a decomposition, from the start or from where a certificate stopped, by a crew where workers or
-    /// their order are given, and write a certificate where a file is named for it.
+    /// their order are given, and write a certificate where a file is named for it. A leaf goes with a certificate to go on
+    /// from, and without a crew.
     Solve {
         /// The LP file.
         lp: Text,
@@ -22,6 +23,8 @@ pub enum Order {
         cert: Option<Text>,
         /// The file of the certificate to go on from, where there is one.
         from: Option<Text>,
+        /// The open leaf of that certificate below which alone to work, by its number from 1, where one is given.
+        leaf: Option<u64>,
         /// How many workers there are, 1 to 64, where a number is given.
         workers: Option<u32>,
         /// The seed of the order in which the workers have their turns, where one is given.
@@ -78,6 +81,19 @@ pub enum Order {
         lp: Text,
         /// The decomposition's file.
         dec: Text,
+    },
+    /// Merge two certificates of the LP file.
+    Merge {
+        /// The LP file.
+        lp: Text,
+        /// The first certificate's file.
+        first: Text,
+        /// The second certificate's file.
+        second: Text,
+        /// The file for the merged certificate.
+        new: Text,
+        /// The decomposition's file, where there is one.
+        dec: Option<Text>,
     },
 }
 

@@ -1,11 +1,11 @@
 // Reading the words.
-ghost use Rattle.std.specs.Prelude.{◌≡◌, ◌≢◌, ◌<◌, ◌^◌, ℕ, [], map, length, string_bytes, Ok, Err, None, Some, Option, option_map, codes, IfOk, IfErr, IfSome, IfNone};
+ghost use Rattle.std.specs.Prelude.{◌≡◌, ◌≢◌, ◌↔◌, ◌<◌, ◌^◌, ℕ, [], map, length, string_bytes, Ok, Err, None, Some, Option, option_map, codes, IfOk, IfErr, IfSome, IfNone, IsTrue};
 ghost use Rattle.clap.specs.Words.{app_of, fault_of, found_of, rows_of, first_of, kind_of, subcommand_rows_of};
 ghost use Rattle.bp_words.specs.CommandLine.{command_line};
-ghost use Rattle.bp_words.specs.Orders.{IsNumber, HasNumber, MayHaveNumber, is_set, HasValues, IsInRange, IsStated, IsOrderOf};
+ghost use Rattle.bp_words.specs.Orders.{IsNumber, HasNumber, MayHaveNumber, is_set, IsLeafPlaced, HasValues, IsInRange, IsStated, IsOrderOf, AreRefused};
 ghost use Rattle.bp_words.specs.declared.order.Order.{Order};
 
-use crate::command::{MOST_SIZE, MOST_STEPS, MOST_WORKERS, make_command};
+use crate::command::{MOST_LEAF, MOST_SIZE, MOST_STEPS, MOST_WORKERS, make_command};
 use crate::order::{Order, WordFault};
 use crate::text::Text;
 use clap::ArgMatches;
@@ -13,11 +13,12 @@ use clap::error::ErrorKind;
 use std::alloc::{AllocError, Global};
 
 /// The order that words give, the program's name first. They are refused exactly where the command finds a fault in
-/// them, as the crate that reads words states for such a command, and the files and numbers are those that it states.
+/// them, as the crate that reads words states for such a command, or where they name a leaf without a certificate to go on from
+/// or beside a crew; and the files and numbers are those that it states.
 pub fn read_words(alloc: Global, words: &[String]) -> Result<Order, WordFault>
     ensures order { IfOk result (IsOrderOf (map string_bytes words.now)) }
     ensures range { IfOk result IsInRange }
-    ensures refused { result ≡ Err WordFault.Refused → fault_of command_line (map string_bytes words.now) ≢ [] }
+    ensures refused { result ≡ Err WordFault.Refused → AreRefused (map string_bytes words.now) }
 {
     let command = make_command(alloc)?;
     let matches = match command.try_get_matches_from(words) {
@@ -54,6 +55,9 @@ fn stated_order(alloc: Global, matches: &ArgMatches) -> Result<Order, WordFault>
     if let Some(propose) = matches.subcommand_matches("propose") {
         return propose_order(alloc, propose);
     }
+    if let Some(merge) = matches.subcommand_matches("merge") {
+        return merge_order(alloc, merge);
+    }
     Err(WordFault::Refused)
 }
 
@@ -74,11 +78,15 @@ fn solve_order(alloc: Global, solve: &ArgMatches) -> Result<Order, WordFault>
     ensures refused { result ≡ Err WordFault.Refused →
         (order : Order) → HasValues (codes "solve") (rows_of (found_of solve.now)) order → ⊥ }
 {
+    if !is_leaf_placed(solve) {
+        return Err(WordFault::Refused);
+    }
     let lp = given(alloc, solve, "lp")?;
     let dec = optional(alloc, solve, "dec")?;
     let steps = optional_number(solve, "steps", 0, MOST_STEPS)?;
     let cert = optional(alloc, solve, "cert")?;
     let from = optional(alloc, solve, "from")?;
+    let leaf = optional_number(solve, "leaf", 1, MOST_LEAF)?;
     let workers = optional_count(solve, "workers", 1, MOST_WORKERS)?;
     let order = optional_number(solve, "order", 0, u64::MAX)?;
     Ok(Order::Solve {
@@ -87,9 +95,24 @@ fn solve_order(alloc: Global, solve: &ArgMatches) -> Result<Order, WordFault>
         steps,
         cert,
         from,
+        leaf,
         workers,
         order,
     })
+}
+
+// Whether a leaf is named only beside a certificate to go on from, and not beside a crew.
+fn is_leaf_placed(solve: &ArgMatches) -> bool
+    ensures { IsTrue result ↔ IsLeafPlaced (rows_of (found_of solve.now)) }
+{
+    match value_of(solve, "leaf") {
+        None => true,
+        Some(_) => {
+            value_of(solve, "from").is_some()
+                && value_of(solve, "workers").is_none()
+                && value_of(solve, "order").is_none()
+        }
+    }
 }
 
 // The order to check.
@@ -169,6 +192,26 @@ fn propose_order(alloc: Global, propose: &ArgMatches) -> Result<Order, WordFault
     let lp = given(alloc, propose, "lp")?;
     let dec = given(alloc, propose, "dec")?;
     Ok(Order::Propose { lp, dec })
+}
+
+// The order to merge certificates.
+fn merge_order(alloc: Global, merge: &ArgMatches) -> Result<Order, WordFault>
+    ensures order { IfOk result (HasValues (codes "merge") (rows_of (found_of merge.now))) }
+    ensures refused { result ≡ Err WordFault.Refused →
+        (order : Order) → HasValues (codes "merge") (rows_of (found_of merge.now)) order → ⊥ }
+{
+    let lp = given(alloc, merge, "lp")?;
+    let first = given(alloc, merge, "first")?;
+    let second = given(alloc, merge, "second")?;
+    let new = given(alloc, merge, "new")?;
+    let dec = optional(alloc, merge, "dec")?;
+    Ok(Order::Merge {
+        lp,
+        first,
+        second,
+        new,
+        dec,
+    })
 }
 
 // The number of an argument.

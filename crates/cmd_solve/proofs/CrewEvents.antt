@@ -3,6 +3,7 @@ use Rattle.std.proofs.Common.{◌≡◌, ◌≢◌, ◌⊎◌, inl, inr, refl, s
 use Rattle.bp_shelf.specs.Shelf.{Files}
 use Rattle.block_form.specs.Blocked.{BlockedProgram}
 use Rattle.search_laws.specs.declared.Event.{Event}
+use Rattle.search_laws.specs.declared.Side.{Side}
 use Rattle.branch_tree.specs.declared.loaded.Loaded.{Loaded}
 use Rattle.branch_tree.specs.declared.outcome.Outcome.{Outcome}
 use Rattle.bp_front.specs.Front.{FilesCome, blocked}
@@ -29,11 +30,11 @@ fresh_events files from steps crew b (Some outcome) events is has =
     (None, subst (λ (f : Option (List ℕ)). LoadsBy files f b None) (sym is) begun, has)
 
 -- the events of a search from a loaded tree
-pub ready_events : (files : Files) (from : Option (List ℕ)) (steps : Option ℕ) (crew : Option CrewOrder) (b : BlockedProgram) (loaded : Loaded) (kept : Option Outcome) (events : List Event)
-    → ComesFrom files from b loaded → HasEventsFrom b (Some loaded) steps crew kept events → EventsBy files from steps crew b kept events
-ready_events files from steps crew b loaded None events come has = has
-ready_events files from steps crew b loaded (Some outcome) events come has =
-    let begun : LoadsBy files (Some come.name) b (Some loaded) = (come.text, loaded, come.there, come.start, refl) in
+pub ready_events : (files : Files) (from : Option (List ℕ)) (steps : Option ℕ) (crew : Option CrewOrder) (b : BlockedProgram) (loaded : Loaded) (leaf : Option ℕ)
+    (below : Option (List Side)) (kept : Option Outcome) (events : List Event) → ComesFrom files from leaf b loaded below → HasEventsFrom b (Some loaded) steps crew kept events → EventsBy files from steps crew b kept events
+ready_events files from steps crew b loaded leaf below None events come has = has
+ready_events files from steps crew b loaded leaf below (Some outcome) events come has =
+    let begun : LoadsBy files (Some come.name) b (Some loaded) = (come.text, loaded, come.there, come.start.start, refl) in
     (Some loaded, subst (λ (f : Option (List ℕ)). LoadsBy files f b (Some loaded)) (sym come.named) begun, has)
 
 -- nothing is kept of a reply whose status is no fault of the sink

@@ -1,3 +1,5 @@
 pub mod Writable
+pub mod Told
 pub mod Starting
 pub mod CrewEvents
+pub mod Paths

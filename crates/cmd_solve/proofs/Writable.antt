@@ -29,8 +29,8 @@ use Rattle.cert_text.specs.Outcomes.{IsWritable}
 use Rattle.search_laws.specs.Outcomes.{read_off}
 use Rattle.bp_report.specs.Report.{CanTell}
 use Rattle.bp_front.specs.declared.ending.Reply.{Reply}
-use Rattle.cmd_solve.specs.Solves.{outcome_certificate, SolvesBlocked}
-use Rattle.cmd_solve.specs.Saves.{IsSolved}
+use Rattle.cmd_solve.specs.Solves.{outcome_certificate}
+use Rattle.cmd_solve.specs.Saves.{IsSolved, TellsOf}
 
 -- a number of a small span is small
 small_within : (s : Span) (v : ℤ) → HasSmallEnds s → IsWithin s v → IsSmall v
@@ -137,7 +137,6 @@ outcome_certified b most (Budget g (Some kept) bound) is =
     subst (λ (z : ℤ). IsCertified p b.dec (read_off (claim.Bound (in_sense p.maximises bound) (Some (in_sense p.maximises z))) (Some kept.0) [] g.tree)) (sym is.kept.1)
     is.searched.certified
 
--- the reply to an outcome of a search is what a program in blocks is answered
-pub solves : (b : BlockedProgram) (most : ℕ) (steps : Option ℕ) (o : Outcome) (reply : Reply) → EndsWithin b most o → IsSolved b steps o reply
-    → SolvesBlocked most steps (Some o) b reply.status reply.report.items
-solves b most steps o reply is solved = record { outcome = o; is_kept = refl; is_outcome = is; has_status = solved.ended; has_report = solved.told }
+-- the reply to an outcome is what is told of it
+pub tells : (b : BlockedProgram) (told : Option ℕ) (o : Outcome) (reply : Reply) → IsSolved b told o reply → TellsOf b told o (Some o) reply.status reply.report.items
+tells b told o reply solved = record { is_kept = refl; has_status = solved.ended; has_report = solved.told }

@@ -2,3 +2,4 @@ pub mod Starts
 pub mod Solves
 pub mod Saves
 pub mod Crews
+pub mod Leaves

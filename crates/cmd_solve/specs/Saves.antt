@@ -1,15 +1,25 @@
 -- What `solve` prints and writes for an outcome.
-use Rattle.std.specs.Prelude.{◌≡◌, ℕ, List, Option, Some, None}
+use Rattle.std.specs.Prelude.{◌≡◌, ℕ, ◌+◌, List, Option, Some, None}
 use Rattle.bp_shelf.specs.Shelf.{Files}
 use Rattle.block_form.specs.Blocked.{BlockedProgram}
 use Rattle.branch_tree.specs.declared.outcome.Outcome.{Outcome}
 use Rattle.branch_tree.specs.declared.loaded.Loaded.{Loaded}
-use Rattle.bp_search.specs.Ends.{EndsWithin, most_steps, last_step}
+use Rattle.bp_theory.specs.Trees.{steps}
+use Rattle.search_laws.specs.declared.Side.{Side}
+use Rattle.search_laws.specs.Grove.{GrowingTree, certificate_tree}
+use Rattle.bp_search.specs.Ends.{EndsWithin, most_steps}
+use Rattle.bp_search.specs.Below.{EndsBelow}
 use Rattle.bp_report.specs.Report.{solve_report}
-use Rattle.bp_front.specs.Front.{FilesCome, blocked}
+use Rattle.bp_front.specs.Front.{FilesCome, blocked, ends}
 use Rattle.bp_front.specs.declared.ending.Reply.{Reply}
-use Rattle.cmd_solve.specs.Starts.{IsStart, RefusesStart}
+use Rattle.cmd_solve.specs.Starts.{IsStartAt, RefusesStart}
 use Rattle.cmd_solve.specs.Solves.{IsSpelledOut, outcome_status}
+
+-- what is kept of an outcome, and printed for it: its status, and the report that tells so many steps
+pub record TellsOf (b : BlockedProgram) (told : Option ℕ) (outcome : Outcome) (kept : Option Outcome) (status : ℕ) (report : List ℕ) : Type 0 where
+  pub is_kept : kept ≡ Some outcome
+  pub has_status : status ≡ outcome_status outcome
+  pub has_report : report ≡ solve_report b.named (most_steps told) outcome
 
 -- the report on an outcome of a search of so many steps, with its status
 pub record IsSolved (b : BlockedProgram) (steps : Option ℕ) (outcome : Outcome) (reply : Reply) : Type 0 where
@@ -35,18 +45,34 @@ HasCertificate before lp dec cert now (Some outcome) = (b : BlockedProgram) × F
 abbrev pub LeavesBlocked : (most : ℕ) → Option (List ℕ) → Files → BlockedProgram → Type 0
 LeavesBlocked most cert files b = (outcome : Outcome) × EndsWithin b most outcome × IsSaved b outcome cert files
 
+-- the same of a search at a path of a tree and below it alone
+abbrev pub LeavesBelow : (start : GrowingTree) → (path : List Side) → (given : Option ℕ) → Option (List ℕ) → Files → BlockedProgram → Type 0
+LeavesBelow start path given cert files b = (outcome : Outcome) × EndsBelow b start path given outcome × IsSaved b outcome cert files
+
+-- the same of a search that goes on from a tree, everywhere in it or at a path and below it alone
+abbrev pub LeavesOn : (start : GrowingTree) → (below : Option (List Side)) → (given : Option ℕ) → Option (List ℕ) → Files → BlockedProgram → Type 0
+LeavesOn start None given cert files b = LeavesBlocked (steps (certificate_tree start) + most_steps given) cert files b
+LeavesOn start (Some path) given cert files b = LeavesBelow start path given cert files b
+
+-- the same of a search from a tree that was loaded, or from the start
+abbrev pub LeavesAt : Option Loaded → (below : Option (List Side)) → (given : Option ℕ) → Option (List ℕ) → Files → BlockedProgram → Type 0
+LeavesAt None below given cert files b = LeavesBlocked (most_steps given) cert files b
+LeavesAt (Some from) below given cert files b = LeavesOn from.grove.tree below given cert files b
+
 -- the same of a search that goes on from a named file; where the file is no start nothing is written
-pub data LeavesFrom (before : Files) (name : List ℕ) (steps : Option ℕ) (cert : Option (List ℕ)) (now : Files) (b : BlockedProgram) : Type 0 where
-  refused : (text : List ℕ) (status : ℕ) (report : List ℕ) → before name ≡ Some text → RefusesStart b text status report → now ≡ before
-      → LeavesFrom before name steps cert now b
-  went_on : (text : List ℕ) (from : Loaded) → before name ≡ Some text → IsStart b text from → LeavesBlocked (last_step from.grove steps) cert now b
-      → LeavesFrom before name steps cert now b
+pub data LeavesFrom (before : Files) (name : List ℕ) (leaf : Option ℕ) (given : Option ℕ) (cert : Option (List ℕ)) (now : Files) (b : BlockedProgram) : Type 0 where
+  refused : (text : List ℕ) (status : ℕ) (report : List ℕ) → before name ≡ Some text → RefusesStart b leaf text status report → now ≡ before
+      → LeavesFrom before name leaf given cert now b
+  went_on : (text : List ℕ) (from : Loaded) (below : Option (List Side)) → before name ≡ Some text → IsStartAt b leaf text from below
+      → LeavesOn from.grove.tree below given cert now b → LeavesFrom before name leaf given cert now b
 
 -- the same of a search from a named file or from the start
-abbrev pub LeavesBy : (before : Files) → (from : Option (List ℕ)) → (steps : Option ℕ) → (cert : Option (List ℕ)) → (now : Files) → BlockedProgram → Type 0
-LeavesBy before None steps cert now b = LeavesBlocked (most_steps steps) cert now b
-LeavesBy before (Some name) steps cert now b = LeavesFrom before name steps cert now b
+abbrev pub LeavesBy : (before : Files) → (from : Option (List ℕ)) → (leaf : Option ℕ) → (given : Option ℕ) → (cert : Option (List ℕ)) → (now : Files) → BlockedProgram → Type 0
+LeavesBy before None leaf given cert now b = LeavesBlocked (most_steps given) cert now b
+LeavesBy before (Some name) leaf given cert now b = LeavesFrom before name leaf given cert now b
 
--- the same of a program in blocks, where the files come to one
-abbrev pub LeavesCertificate : Files → (lp : List ℕ) → (dec : Option (List ℕ)) → (steps : Option ℕ) → (cert from : Option (List ℕ)) → Files → Type 0
-LeavesCertificate before lp dec steps cert from now = (b : BlockedProgram) → FilesCome before lp dec (blocked b) → LeavesBy before from steps cert now b
+-- What stands where the report on the files could not be put: where they are refused, every file is as before, and where they come
+-- to a program in blocks, what its search left.
+pub data LeavesCertificate (before : Files) (lp : List ℕ) (dec : Option (List ℕ)) (given : Option ℕ) (cert from : Option (List ℕ)) (leaf : Option ℕ) (now : Files) : Type 0 where
+  stopped : (status : ℕ) (report : List ℕ) → FilesCome before lp dec (ends status report) → now ≡ before → LeavesCertificate before lp dec given cert from leaf now
+  searched : (b : BlockedProgram) → FilesCome before lp dec (blocked b) → LeavesBy before from leaf given cert now b → LeavesCertificate before lp dec given cert from leaf now

@@ -1,14 +1,18 @@
 -- What `solve` answers.
-use Rattle.std.specs.Prelude.{◌≡◌, ℕ, List, [], Option, Some, None}
+use Rattle.std.specs.Prelude.{◌≡◌, ℕ, ◌+◌, List, [], Option, Some, None}
 use Rattle.bp_theory.specs.Program.{Program}
+use Rattle.bp_theory.specs.Trees.{steps}
 use Rattle.bp_theory.specs.Claims.{Certificate, IsCertified}
 use Rattle.bp_shelf.specs.Shelf.{Files}
 use Rattle.block_form.specs.Blocked.{BlockedProgram}
+use Rattle.search_laws.specs.declared.Side.{Side}
+use Rattle.search_laws.specs.Grove.{GrowingTree, certificate_tree}
 use Rattle.search_laws.specs.Outcomes.{read_off}
 use Rattle.branch_tree.specs.declared.outcome.Outcome.{Outcome}
 use Rattle.branch_tree.specs.declared.outcome.Outcome.TheVariants.{Optimal, Infeasible, Budget}
 use Rattle.branch_tree.specs.declared.loaded.Loaded.{Loaded}
-use Rattle.bp_search.specs.Ends.{EndsWithin, most_steps, last_step}
+use Rattle.bp_search.specs.Ends.{EndsWithin, most_steps}
+use Rattle.bp_search.specs.Below.{EndsBelow}
 use Rattle.cert_text.specs.Text.{One}
 use Rattle.cert_text.specs.Fault.{IsText}
 use Rattle.cert_text.specs.Written.{cert_of}
@@ -16,7 +20,7 @@ use Rattle.cert_text.specs.Programs.{frame_for}
 use Rattle.cert_text.specs.Outcomes.{grove_of, claim_of, point_of}
 use Rattle.bp_report.specs.Report.{solve_report}
 use Rattle.bp_front.specs.Answers.{AnswersFront}
-use Rattle.cmd_solve.specs.Starts.{IsStart, RefusesStart}
+use Rattle.cmd_solve.specs.Starts.{IsStartAt, RefusesStart}
 
 -- the status of an outcome: optimal, infeasible, or out of steps
 abbrev pub outcome_status : Outcome → ℕ
@@ -42,20 +46,40 @@ pub record SolvesBlocked (most : ℕ) (steps : Option ℕ) (kept : Option Outcom
   pub has_status : status ≡ outcome_status outcome
   pub has_report : report ≡ solve_report b.named (most_steps steps) outcome
 
+-- the same of a search that works only at a path of a tree and below it: the report tells the steps that were taken
+pub record SolvesBelow (start : GrowingTree) (path : List Side) (given : Option ℕ) (kept : Option Outcome) (b : BlockedProgram) (status : ℕ) (report : List ℕ) : Type 0 where
+  pub outcome : Outcome
+  pub is_kept : kept ≡ Some outcome
+  pub is_outcome : EndsBelow b start path given outcome
+  pub has_status : status ≡ outcome_status outcome
+  pub has_report : report ≡ solve_report b.named is_outcome.taken outcome
+
+-- what a program in blocks is answered by `solve` that goes on from a tree, with the given steps beside those of the tree: the
+-- outcome of a search of the whole tree, or of one at a path and below it alone
+abbrev pub SolvesOn : (start : GrowingTree) → (below : Option (List Side)) → (given : Option ℕ) → Option Outcome → BlockedProgram → (status : ℕ) → (report : List ℕ) → Type 0
+SolvesOn start None given kept b status report = SolvesBlocked (steps (certificate_tree start) + most_steps given) given kept b status report
+SolvesOn start (Some path) given kept b status report = SolvesBelow start path given kept b status report
+
 -- what a program in blocks is answered by `solve` that goes on from a named file: what `check` answers where the file isn't
--- there or has no valid certificate, the line of a leaf that is too deep, or else the outcome of a search that goes on from
--- what is loaded, with the given steps beside those of the loaded tree
-pub data SolvesFrom (files : Files) (name : List ℕ) (steps : Option ℕ) (kept : Option Outcome) (b : BlockedProgram) (status : ℕ) (report : List ℕ) : Type 0 where
-  missing : files name ≡ None → kept ≡ None → status ≡ 11 → report ≡ [] → SolvesFrom files name steps kept b status report
-  refused : (text : List ℕ) → files name ≡ Some text → kept ≡ None → RefusesStart b text status report → SolvesFrom files name steps kept b status report
-  went_on : (text : List ℕ) (from : Loaded) → files name ≡ Some text → IsStart b text from
-      → SolvesBlocked (last_step from.grove steps) steps kept b status report → SolvesFrom files name steps kept b status report
+-- there or has no valid certificate, the line of a leaf that is too deep, the number of an open leaf that isn't there, or else
+-- the outcome of a search that goes on from what is loaded, at and below the named leaf alone where one is named
+pub data SolvesFrom (files : Files) (name : List ℕ) (leaf : Option ℕ) (given : Option ℕ) (kept : Option Outcome) (b : BlockedProgram) (status : ℕ) (report : List ℕ) : Type 0 where
+  missing : files name ≡ None → kept ≡ None → status ≡ 11 → report ≡ [] → SolvesFrom files name leaf given kept b status report
+  refused : (text : List ℕ) → files name ≡ Some text → kept ≡ None → RefusesStart b leaf text status report
+      → SolvesFrom files name leaf given kept b status report
+  went_on : (text : List ℕ) (from : Loaded) (below : Option (List Side)) → files name ≡ Some text → IsStartAt b leaf text from below
+      → SolvesOn from.grove.tree below given kept b status report → SolvesFrom files name leaf given kept b status report
 
 -- what a program in blocks is answered by `solve`, from a named file or from the start
-abbrev pub SolvesBy : Files → (from : Option (List ℕ)) → (steps : Option ℕ) → Option Outcome → BlockedProgram → (status : ℕ) → (report : List ℕ) → Type 0
-SolvesBy files None steps kept b status report = SolvesBlocked (most_steps steps) steps kept b status report
-SolvesBy files (Some name) steps kept b status report = SolvesFrom files name steps kept b status report
+abbrev pub SolvesBy : Files → (from : Option (List ℕ)) → (leaf : Option ℕ) → (given : Option ℕ) → Option Outcome → BlockedProgram → (status : ℕ) → (report : List ℕ) → Type 0
+SolvesBy files None leaf given kept b status report = SolvesBlocked (most_steps given) given kept b status report
+SolvesBy files (Some name) leaf given kept b status report = SolvesFrom files name leaf given kept b status report
+
+-- what a program in blocks is answered by `solve` from a tree that was loaded, or from the start
+abbrev pub SolvesAt : Option Loaded → (below : Option (List Side)) → (given : Option ℕ) → Option Outcome → BlockedProgram → (status : ℕ) → (report : List ℕ) → Type 0
+SolvesAt None below given kept b status report = SolvesBlocked (most_steps given) given kept b status report
+SolvesAt (Some from) below given kept b status report = SolvesOn from.grove.tree below given kept b status report
 
 -- what `solve` answers; nothing is kept where it is stopped
-abbrev pub AnswersSolve : Files → (lp : List ℕ) → (dec : Option (List ℕ)) → (steps : Option ℕ) → (from : Option (List ℕ)) → Option Outcome → (status : ℕ) → (report : List ℕ) → Type 0
-AnswersSolve files lp dec steps from kept status report = AnswersFront files lp dec (kept ≡ None) (SolvesBy files from steps kept) status report
+abbrev pub AnswersSolve : Files → (lp : List ℕ) → (dec : Option (List ℕ)) → (steps : Option ℕ) → (from : Option (List ℕ)) → (leaf : Option ℕ) → Option Outcome → (status : ℕ) → (report : List ℕ) → Type 0
+AnswersSolve files lp dec steps from leaf kept status report = AnswersFront files lp dec (kept ≡ None) (SolvesBy files from leaf steps kept) status report

@@ -1,13 +1,18 @@
--- From where a search goes on.
-use Rattle.std.specs.Prelude.{◌≡◌, ◌⊎◌, ℕ, List, Option, Some, None}
+-- From where a search goes on, and where in its tree it works.
+use Rattle.std.specs.Prelude.{◌≡◌, ◌⊎◌, ℕ, ◌+◌, List, Option, Some, None}
+use Rattle.bp_theory.specs.Trees.{steps}
 use Rattle.bp_theory.specs.Claims.{Certificate, IsCertified}
 use Rattle.bp_theory.specs.Judgement.{IsFirstFault, HasItsPoint, named_value}
 use Rattle.bp_theory.specs.declared.CheckKind.{CheckKind}
 use Rattle.bp_shelf.specs.Shelf.{Files}
 use Rattle.block_form.specs.Blocked.{BlockedProgram}
+use Rattle.search_laws.specs.declared.Side.{Side}
+use Rattle.search_laws.specs.Grove.{GrowingTree, certificate_tree}
 use Rattle.branch_tree.specs.Loads.{IsLoaded}
 use Rattle.branch_tree.specs.declared.loaded.Loaded.{Loaded}
-use Rattle.bp_search.specs.Ends.{most_steps, last_step}
+use Rattle.branch_tree.specs.declared.outcome.Outcome.{Outcome}
+use Rattle.bp_search.specs.Ends.{EndsWithin, most_steps}
+use Rattle.bp_search.specs.Below.{EndsBelow}
 use Rattle.cert_load.specs.Loadings.{IsLoadedOf, IsTooDeep}
 use Rattle.cert_text.specs.Text.{One}
 use Rattle.cert_text.specs.Fault.{IsText}
@@ -18,7 +23,8 @@ use Rattle.cert_text.specs.declared.cert.Cert.{Cert}
 use Rattle.cert_text.specs.Programs.{frame_for}
 use Rattle.cert_text.specs.declared.fault.CertKind.{CertKind}
 use Rattle.bp_report.specs.Report.{rejected_report}
-use Rattle.bp_report.specs.Refusals.{cert_refusal, from_refusal}
+use Rattle.bp_report.specs.Refusals.{cert_refusal, from_refusal, leaf_refusal}
+use Rattle.cmd_solve.specs.Leaves.{open_path, IsWorkedOn}
 use Rattle.cmd_solve.specs.declared.start.Start.{Start}
 use Rattle.cmd_solve.specs.declared.start.Start.TheVariants.{Fresh, Ready, Refused}
 
@@ -30,44 +36,58 @@ pub record IsStart (b : BlockedProgram) (text : List ℕ) (from : Loaded) : Type
   pub valid : IsCertified b.named.program b.dec cert
   pub loaded : IsLoadedOf b cert from
 
--- what a text is refused for as a start: as `check` judges it, and where a leaf that would be live is too deep
-pub data RefusesStart (b : BlockedProgram) (text : List ℕ) (status : ℕ) (report : List ℕ) : Type 0 where
+-- the same, with where in the tree a search works
+pub record IsStartAt (b : BlockedProgram) (leaf : Option ℕ) (text : List ℕ) (from : Loaded) (below : Option (List Side)) : Type 0 where
+  pub start : IsStart b text from
+  pub worked_on : IsWorkedOn start.cert.tree leaf below
+
+-- what a text is refused for as a start: as `check` judges it, where a leaf that would be live is too deep, and where it has no
+-- open leaf of the number that is named
+pub data RefusesStart (b : BlockedProgram) (leaf : Option ℕ) (text : List ℕ) (status : ℕ) (report : List ℕ) : Type 0 where
   faulty : (line : ℕ) (kind : CertKind) → texts.IsFirstFault (frame_for b) text line kind
-      → status ≡ 3 → report ≡ cert_refusal line kind → RefusesStart b text status report
+      → status ≡ 3 → report ≡ cert_refusal line kind → RefusesStart b leaf text status report
   rejected : (cert : Certificate) (line : ℕ) (kind : CheckKind) → IsText (frame_for b) One (cert_of cert) text
       → HasItsPoint (named_value cert.claim) cert.point → IsFirstFault b.named.program b.dec cert line kind
-      → status ≡ 6 → report ≡ rejected_report line kind → RefusesStart b text status report
+      → status ≡ 6 → report ≡ rejected_report line kind → RefusesStart b leaf text status report
   too_deep : (cert : Certificate) (line : ℕ) → IsText (frame_for b) One (cert_of cert) text
       → HasItsPoint (named_value cert.claim) cert.point → IsCertified b.named.program b.dec cert → IsTooDeep b cert line
-      → status ≡ 3 → report ≡ from_refusal line → RefusesStart b text status report
+      → status ≡ 3 → report ≡ from_refusal line → RefusesStart b leaf text status report
+  no_leaf : (from : Loaded) (number : ℕ) (start : IsStart b text from) → leaf ≡ Some number → open_path start.cert.tree number ≡ None
+      → status ≡ 3 → report ≡ leaf_refusal number → RefusesStart b leaf text status report
 
 -- what a text is as a start
-abbrev pub StartsBy : BlockedProgram → List ℕ → Start → Type 0
-StartsBy b text Fresh = ⊥
-StartsBy b text (Ready from) = IsStart b text from
-StartsBy b text (Refused reply) = RefusesStart b text reply.status reply.report.items
+abbrev pub StartsBy : BlockedProgram → (leaf : Option ℕ) → List ℕ → Start → Type 0
+StartsBy b leaf text Fresh = ⊥
+StartsBy b leaf text (Ready from below) = IsStartAt b leaf text from below
+StartsBy b leaf text (Refused reply) = RefusesStart b leaf text reply.status reply.report.items
 
 -- what a certificate that was read is as a start, whatever text spells it
-abbrev pub StartsOf : BlockedProgram → Cert → Start → Type 0
-StartsOf b cert start = (text : List ℕ) → IsText (frame_for b) One (kept_cert cert) text → StartsBy b text start
+abbrev pub StartsOf : BlockedProgram → (leaf : Option ℕ) → Cert → Start → Type 0
+StartsOf b leaf cert start = (text : List ℕ) → IsText (frame_for b) One (kept_cert cert) text → StartsBy b leaf text start
 
 -- the start that a named file gives, or that of no file
-abbrev pub HasStart : Files → Option (List ℕ) → BlockedProgram → Start → Type 0
-HasStart files None b start = start ≡ Fresh
-HasStart files (Some name) b start = (text : List ℕ) × (files name ≡ Some text) × StartsBy b text start
+abbrev pub HasStart : Files → Option (List ℕ) → (leaf : Option ℕ) → BlockedProgram → Start → Type 0
+HasStart files None leaf b start = start ≡ Fresh
+HasStart files (Some name) leaf b start = (text : List ℕ) × (files name ≡ Some text) × StartsBy b leaf text start
 
 -- the named file of a start isn't there
 abbrev pub LacksStart : Files → Option (List ℕ) → Type 0
 LacksStart files None = ⊥
 LacksStart files (Some name) = files name ≡ None
 
--- a search may begin there, or what is printed has its status
-abbrev pub CanBegin : BlockedProgram → Start → Type 0
-CanBegin b Fresh = Unit {0}
-CanBegin b (Ready from) = IsLoaded b from
-CanBegin b (Refused reply) = (reply.status ≡ 3) ⊎ (reply.status ≡ 6)
+-- a search may begin there, everywhere in the tree where no leaf is named; or what is printed has its status
+abbrev pub CanBegin : BlockedProgram → (leaf : Option ℕ) → Start → Type 0
+CanBegin b leaf Fresh = Unit {0}
+CanBegin b leaf (Ready from below) = IsLoaded b from × (leaf ≡ None → below ≡ None)
+CanBegin b leaf (Refused reply) = (reply.status ≡ 3) ⊎ (reply.status ≡ 6)
 
--- the steps at which a search stops that goes on from a start
-abbrev pub stop_of : Option Loaded → Option ℕ → ℕ
-stop_of None given = most_steps given
-stop_of (Some from) given = last_step from.grove given
+-- how a search ends that goes on from a tree, everywhere in it or at a path and below it alone, and how many steps its report
+-- tells: the given ones, or those that were taken
+abbrev pub EndsOn : BlockedProgram → (start : GrowingTree) → (below : Option (List Side)) → (given : Option ℕ) → Outcome → (told : Option ℕ) → Type 0
+EndsOn b start None given outcome told = EndsWithin b (steps (certificate_tree start) + most_steps given) outcome × (told ≡ given)
+EndsOn b start (Some path) given outcome told = (ends : EndsBelow b start path given outcome) × (told ≡ Some ends.taken)
+
+-- the same of a search from a tree that was loaded, or from the start
+abbrev pub EndsAt : BlockedProgram → Option Loaded → (below : Option (List Side)) → (given : Option ℕ) → Outcome → (told : Option ℕ) → Type 0
+EndsAt b None below given outcome told = EndsWithin b (most_steps given) outcome × (told ≡ given)
+EndsAt b (Some from) below given outcome told = EndsOn b from.grove.tree below given outcome told

@@ -1,15 +1,16 @@
 // A search by a crew, where one is ordered.
-ghost use Rattle.std.specs.Prelude.{◌≡◌, ◌≤◌, ◌^◌, IfOk, IfSome, Some};
+ghost use Rattle.std.specs.Prelude.{◌≡◌, ◌≤◌, ◌^◌, IfOk, IfSome, None, Some};
 ghost use Rattle.branch_tree.specs.Loads.{IsLoaded};
-ghost use Rattle.bp_search.specs.Ends.{EndsWithin};
-ghost use Rattle.cmd_solve.specs.Starts.{stop_of};
+ghost use Rattle.bp_search.specs.Below.{steps_in};
+ghost use Rattle.cmd_solve.specs.Starts.{EndsAt, EndsOn};
 ghost use Rattle.cmd_solve.specs.Crews.{ordered_crew, IsSearchOf, events_with};
 
 use block_form::Blocked;
 use bp_crew::run_crew;
-use bp_search::{resume, search};
+use bp_search::{resume, resume_below, search};
+use bp_theory::Items;
 use branch_tree::{Loaded, Outcome};
-use search_laws::Event;
+use search_laws::{Event, Side};
 use std::alloc::{AllocError, Global};
 
 /// A crew as it is ordered: how many workers there are, and the seed of their order.
@@ -19,10 +20,11 @@ pub struct CrewOrder {
     pub order: u64,
 }
 
-/// How a search ended, and what the workers of a crew did in it.
+/// How a search ended, how many steps its report tells, and what the workers of a crew did in it.
 #[derive(Drop)]
 pub struct Searched {
     pub outcome: Outcome,
+    pub told: Option<u64>,
     pub events: Vec<Event>,
 }
 
@@ -39,25 +41,29 @@ pub fn crew_ordered(workers: Option<u32>, order: Option<u64>) -> Option<CrewOrde
     }
 }
 
-/// A search from a tree, or from the start, by a crew where one is ordered.
+/// A search from a tree, or from the start, by a crew where one is ordered. Where there is a path, it works at that path of the
+/// tree and below it alone.
 pub fn search_from(
     alloc: Global,
     b: &Blocked,
     from: Option<Loaded>,
+    below: Option<Items<Side>>,
     steps: Option<u64>,
     crew: Option<CrewOrder>,
 ) -> Result<Searched, AllocError>
     requires loaded { IfSome from (IsLoaded b.now) }
     requires few { IfSome steps (λ n. n ≤ 2 ^ 60) }
     requires some { IfSome crew (λ c. 1 ≤ c.workers) }
-    ensures ends { IfOk result (λ s. EndsWithin b.now (stop_of from steps) s.outcome) }
+    requires alone { IfSome below (λ _. crew ≡ None) }
+    ensures ends { IfOk result (λ s. EndsAt b.now from below steps s.outcome s.told) }
     ensures events { IfOk result (λ s. IsSearchOf b.now from steps crew s.outcome s.events.items) }
 {
     match crew {
         None => {
-            let outcome = search_alone(alloc, b, from, steps)?;
+            let (outcome, told) = search_alone(alloc, b, from, below, steps)?;
             Ok(Searched {
                 outcome,
+                told,
                 events: Vec::new(alloc),
             })
         }
@@ -65,20 +71,61 @@ pub fn search_from(
     }
 }
 
-// A search from a tree, or from the start, without a crew.
+// A search from a tree, or from the start, without a crew, and how many steps its report tells.
 fn search_alone(
     alloc: Global,
     b: &Blocked,
     from: Option<Loaded>,
+    below: Option<Items<Side>>,
     steps: Option<u64>,
-) -> Result<Outcome, AllocError>
+) -> Result<(Outcome, Option<u64>), AllocError>
     requires loaded { IfSome from (IsLoaded b.now) }
     requires few { IfSome steps (λ n. n ≤ 2 ^ 60) }
-    ensures { IfOk result (EndsWithin b.now (stop_of from steps)) }
+    ensures { IfOk result (λ r. EndsAt b.now from below steps r.0 r.1) }
 {
     match from {
-        None => search(alloc, b, steps),
-        Some(from) => resume(alloc, b, from, steps),
+        None => {
+            let outcome = search(alloc, b, steps)?;
+            Ok((outcome, steps))
+        }
+        Some(from) => search_on(alloc, b, from, below, steps),
+    }
+}
+
+// A search from a tree without a crew, and how many steps its report tells: the given ones, or at a path those that it took.
+fn search_on(
+    alloc: Global,
+    b: &Blocked,
+    from: Loaded,
+    below: Option<Items<Side>>,
+    steps: Option<u64>,
+) -> Result<(Outcome, Option<u64>), AllocError>
+    requires loaded { IsLoaded b.now from }
+    requires few { IfSome steps (λ n. n ≤ 2 ^ 60) }
+    ensures { IfOk result (λ r. EndsOn b.now from.grove.tree below steps r.0 r.1) }
+{
+    match below {
+        None => {
+            let outcome = resume(alloc, b, from, steps)?;
+            Ok((outcome, steps))
+        }
+        Some(path) => {
+            let before = from.grove.count();
+            let outcome = resume_below(alloc, b, from, path.as_slice(), steps)?;
+            let taken = steps_in(&outcome) - before;
+            Ok((outcome, Some(taken)))
+        }
+    }
+}
+
+// The steps of an outcome's tree.
+fn steps_in(outcome: &Outcome) -> u64
+    ensures { result ≡ steps_in outcome.now }
+{
+    match outcome {
+        Outcome::Optimal { grove, .. } => grove.count(),
+        Outcome::Infeasible { grove } => grove.count(),
+        Outcome::Budget { grove, .. } => grove.count(),
     }
 }
 
@@ -93,7 +140,7 @@ fn search_together(
     requires loaded { IfSome from (IsLoaded b.now) }
     requires few { IfSome steps (λ n. n ≤ 2 ^ 60) }
     requires some { 1 ≤ crew.workers }
-    ensures ends { IfOk result (λ s. EndsWithin b.now (stop_of from steps) s.outcome) }
+    ensures ends { IfOk result (λ s. EndsAt b.now from None steps s.outcome s.told) }
     ensures events { IfOk result (λ s. IsSearchOf b.now from steps (Some crew) s.outcome s.events.items) }
 {
     let _ = b.blocks();
@@ -101,11 +148,19 @@ fn search_together(
         None => {
             let start = Loaded::fresh(alloc, b)?;
             let (outcome, events) = run_crew(alloc, b, start, crew.workers, crew.order, steps)?;
-            Ok(Searched { outcome, events })
+            Ok(Searched {
+                outcome,
+                told: steps,
+                events,
+            })
         }
         Some(start) => {
             let (outcome, events) = run_crew(alloc, b, start, crew.workers, crew.order, steps)?;
-            Ok(Searched { outcome, events })
+            Ok(Searched {
+                outcome,
+                told: steps,
+                events,
+            })
         }
     }
 }

@@ -1,21 +1,22 @@
 //! The command `solve`: the best point of a program in blocks, or that it has none, or a bound where the steps ran out, from
-//! the start or from where a certificate stopped, with a certificate where a file is named for it.
+//! the start or from where a certificate stopped, there also below one open leaf alone, with a certificate where a file is named
+//! for it.
 #![tactic(auto)]
 
 mod crew;
+mod leaf;
 mod start;
 
 ghost use Rattle.std.specs.Prelude.{[], ◌<◌, ◌≡◌, ◌≢◌, ◌⊎◌, ◌≤◌, ◌^◌, IfOk, IfSome, IsOk, IsTrue, None, Some, IsErrOf, IfErr, ℕ};
 ghost use Rattle.std.specs.Option.{option_map};
 ghost use Rattle.branch_tree.specs.Loads.{IsLoaded};
-ghost use Rattle.bp_search.specs.Ends.{EndsWithin, most_steps};
+ghost use Rattle.bp_search.specs.Ends.{EndsWithin};
 ghost use Rattle.bp_shelf.specs.Shelf.{CountsFailed, OthersAsBefore, Writes};
 ghost use Rattle.bp_shelf.specs.declared.shelf.ShelfFault.TheVariants.{Missing, NoMemory};
-ghost use Rattle.bp_front.specs.Answers.{AnswersBy, IsOnly, CutsOff, HasCauses, FilesStand, IsUntouched};
-ghost use Rattle.cmd_solve.specs.Starts.{stop_of};
-ghost use Rattle.cmd_solve.specs.Solves.{AnswersSolve, SolvesBy, SolvesBlocked, outcome_status};
+ghost use Rattle.bp_front.specs.Answers.{AnswersBy, IsOnly, CutsOff, HasCauses, PutsReport, FailsToWrite, FilesStand, IsUntouched};
+ghost use Rattle.cmd_solve.specs.Solves.{AnswersSolve, SolvesBy, SolvesAt, outcome_status};
 ghost use Rattle.cmd_solve.specs.Crews.{HasEventsFrom, EventsBy, HasEvents};
-ghost use Rattle.cmd_solve.specs.Saves.{IsSolved, IsSaved, SavesBlocked, HasCertificate, LeavesBlocked, LeavesBy, LeavesCertificate};
+ghost use Rattle.cmd_solve.specs.Saves.{IsSolved, IsSaved, TellsOf, SavesBlocked, HasCertificate, LeavesAt, LeavesBy, LeavesCertificate};
 
 use crate::crew::{CrewOrder, Searched, crew_ordered, kept_events, search_from};
 use crate::start::{Start, begin};
@@ -24,13 +25,17 @@ use bp_front::{Ended, Halt, Reply, load, print, stopped, stopped_by};
 use bp_report::solve_text;
 use bp_search::MAX_STEPS;
 use bp_shelf::{Shelf, ShelfFault, Sink};
+use bp_theory::Items;
 use branch_tree::{Loaded, Outcome};
 use cert_text::write_cert;
+use search_laws::Side;
 use std::alloc::{AllocError, Global};
 
 /// Solves the model of a file, from the start or from where the certificate of a named file stopped, writes the certificate
 /// where a file is named for it, and prints the report. The certificate to go on from is read and judged before the search,
-/// so one file may be named for both. Where a number of workers or the seed of their order is given, a crew searches, whose events
+/// so one file may be named for both. Where the number of an open leaf of that certificate is given, from 1 in the order of its
+/// lines, the search works at that leaf and below it alone: it ends when the steps are taken or no leaf there is live, the
+/// certificate and the report are those of the whole tree, and `budget` tells the steps that were taken. Where a number of workers or the seed of their order is given, a crew searches, whose events
 /// are handed out beside the outcome. What is written is written before the report: where only the report could not be put,
 /// it stands whole.
 pub fn solve<F: Shelf, O: Sink>(
@@ -42,19 +47,22 @@ pub fn solve<F: Shelf, O: Sink>(
     steps: Option<u64>,
     cert: Option<&str>,
     from: Option<&str>,
+    leaf: Option<u64>,
     workers: Option<u32>,
     order: Option<u64>,
 ) -> Ended
     requires few { IfSome steps (λ n. n ≤ 2 ^ 60) }
     requires some { IfSome workers (λ w. 1 ≤ w) }
-    ensures answered { IsTrue (F.tells shelf.old) → IsTrue (O.tells out.old) →
-        AnswersBy (AnswersSolve (F.file shelf.old) lp.now (option_map (λ name. name.now) dec.entry) steps (option_map (λ name. name.now) from.entry) result.kept) result.status (O.taken out.old) (O.taken out.new) }
+    requires alone { IfSome leaf (λ _. (workers ≡ None) × (order ≡ None)) }
+    ensures answered { IsTrue (F.tells shelf.old) →
+        AnswersBy (AnswersSolve (F.file shelf.old) lp.now (option_map (λ name. name.now) dec.entry) steps (option_map (λ name. name.now) from.entry) leaf result.kept) result.status (O.tells out.old) (O.taken out.old) (O.taken out.new) }
     ensures exact { IsTrue (F.tells shelf.old) →
-        IsOnly (AnswersSolve (F.file shelf.old) lp.now (option_map (λ name. name.now) dec.entry) steps (option_map (λ name. name.now) from.entry) result.kept) result.status }
+        IsOnly (AnswersSolve (F.file shelf.old) lp.now (option_map (λ name. name.now) dec.entry) steps (option_map (λ name. name.now) from.entry) leaf result.kept) result.status }
     ensures saved { IsTrue (F.tells shelf.old) →
         HasCertificate (F.file shelf.old) lp.now (option_map (λ name. name.now) dec.entry) (option_map (λ name. name.now) cert.entry) (F.file shelf.new) result.kept }
-    ensures put_last { IsTrue (F.tells shelf.old) → O.faults out.old < O.faults out.new →
-        LeavesCertificate (F.file shelf.old) lp.now (option_map (λ name. name.now) dec.entry) steps (option_map (λ name. name.now) cert.entry) (option_map (λ name. name.now) from.entry) (F.file shelf.new) }
+    ensures puts { PutsReport result.status (O.puts out.old) (O.puts out.new) }
+    ensures failed { result.status ≡ 8 → FailsToWrite (IsTrue (F.tells shelf.old) → LeavesCertificate (F.file shelf.old) lp.now (option_map (λ name. name.now) dec.entry) steps (option_map (λ name. name.now) cert.entry) (option_map (λ name. name.now) from.entry) leaf (F.file shelf.new))
+        (F.write_faults shelf.old) (F.write_faults shelf.new) (O.faults out.old) (O.faults out.new) (O.puts out.old) (O.puts out.new) (O.taken out.old) (O.taken out.new) }
     ensures causes { HasCauses result.status (F.read_faults shelf.old) (F.read_faults shelf.new)
         (F.write_faults shelf.old) (F.write_faults shelf.new) (O.faults out.old) (O.faults out.new) }
     ensures kept { (result.kept ≡ None) ⊎ ((result.status ≡ 0) ⊎ (result.status ≡ 4) ⊎ (result.status ≡ 5)) }
@@ -65,14 +73,13 @@ pub fn solve<F: Shelf, O: Sink>(
     ensures files { IsTrue (F.tells shelf.old) → FilesStand (option_map (λ name. name.now) cert.entry) (F.file shelf.old) (F.file shelf.new) }
     ensures untouched { IsTrue (F.tells shelf.old) → IsUntouched result.status → F.file shelf.new ≡ F.file shelf.old }
     ensures silent { (result.status ≡ 7) ⊎ (result.status ≡ 9) ⊎ (result.status ≡ 11) → O.taken out.new ≡ O.taken out.old }
-    ensures unwritten { F.write_faults shelf.old < F.write_faults shelf.new → O.taken out.new ≡ O.taken out.old }
     ensures cut_off { IsTrue (F.tells shelf.old) → IsTrue (O.tells out.old) →
-        CutsOff (AnswersSolve (F.file shelf.old) lp.now (option_map (λ name. name.now) dec.entry) steps (option_map (λ name. name.now) from.entry)) result.status (O.taken out.old) (O.taken out.new) }
+        CutsOff (AnswersSolve (F.file shelf.old) lp.now (option_map (λ name. name.now) dec.entry) steps (option_map (λ name. name.now) from.entry) leaf) result.status (O.taken out.old) (O.taken out.new) }
 {
     match load(alloc, shelf, lp, dec) {
         Ok(b) => {
             let crew = crew_ordered(workers, order);
-            solve_blocks(alloc, shelf, out, &b, steps, cert, from, crew)
+            solve_blocks(alloc, shelf, out, &b, steps, cert, from, leaf, crew)
         }
         Err(Halt::Refused(report)) => print(alloc, out, &Reply { status: 3, report }, None),
         Err(Halt::Stopped(fault)) => stopped_by(alloc, fault),
@@ -88,16 +95,19 @@ fn solve_blocks<F: Shelf, O: Sink>(
     steps: Option<u64>,
     cert: Option<&str>,
     from: Option<&str>,
+    leaf: Option<u64>,
     crew: Option<CrewOrder>,
 ) -> Ended
     requires few { IfSome steps (λ n. n ≤ 2 ^ 60) }
     requires some { IfSome crew (λ c. 1 ≤ c.workers) }
-    ensures answered { IsTrue (F.tells shelf.old) → IsTrue (O.tells out.old) →
-        AnswersBy (SolvesBy (F.file shelf.old) (option_map (λ name. name.now) from.entry) steps result.kept b.now) result.status (O.taken out.old) (O.taken out.new) }
-    ensures exact { IsTrue (F.tells shelf.old) → IsOnly (SolvesBy (F.file shelf.old) (option_map (λ name. name.now) from.entry) steps result.kept b.now) result.status }
+    requires alone { IfSome leaf (λ _. crew ≡ None) }
+    ensures answered { IsTrue (F.tells shelf.old) →
+        AnswersBy (SolvesBy (F.file shelf.old) (option_map (λ name. name.now) from.entry) leaf steps result.kept b.now) result.status (O.tells out.old) (O.taken out.old) (O.taken out.new) }
+    ensures exact { IsTrue (F.tells shelf.old) → IsOnly (SolvesBy (F.file shelf.old) (option_map (λ name. name.now) from.entry) leaf steps result.kept b.now) result.status }
     ensures saved { IsTrue (F.tells shelf.old) → SavesBlocked b.now (option_map (λ name. name.now) cert.entry) (F.file shelf.new) result.kept }
-    ensures put_last { IsTrue (F.tells shelf.old) → O.faults out.old < O.faults out.new →
-        LeavesBy (F.file shelf.old) (option_map (λ name. name.now) from.entry) steps (option_map (λ name. name.now) cert.entry) (F.file shelf.new) b.now }
+    ensures puts { PutsReport result.status (O.puts out.old) (O.puts out.new) }
+    ensures failed { result.status ≡ 8 → FailsToWrite (IsTrue (F.tells shelf.old) → LeavesBy (F.file shelf.old) (option_map (λ name. name.now) from.entry) leaf steps (option_map (λ name. name.now) cert.entry) (F.file shelf.new) b.now)
+        (F.write_faults shelf.old) (F.write_faults shelf.new) (O.faults out.old) (O.faults out.new) (O.puts out.old) (O.puts out.new) (O.taken out.old) (O.taken out.new) }
     ensures causes { HasCauses result.status (F.read_faults shelf.old) (F.read_faults shelf.new)
         (F.write_faults shelf.old) (F.write_faults shelf.new) (O.faults out.old) (O.faults out.new) }
     ensures kept { (result.kept ≡ None) ⊎ ((result.status ≡ 0) ⊎ (result.status ≡ 4) ⊎ (result.status ≡ 5)) }
@@ -108,27 +118,29 @@ fn solve_blocks<F: Shelf, O: Sink>(
     ensures files { IsTrue (F.tells shelf.old) → FilesStand (option_map (λ name. name.now) cert.entry) (F.file shelf.old) (F.file shelf.new) }
     ensures untouched { IsTrue (F.tells shelf.old) → IsUntouched result.status → F.file shelf.new ≡ F.file shelf.old }
     ensures silent { (result.status ≡ 7) ⊎ (result.status ≡ 9) ⊎ (result.status ≡ 11) → O.taken out.new ≡ O.taken out.old }
-    ensures unwritten { F.write_faults shelf.old < F.write_faults shelf.new → O.taken out.new ≡ O.taken out.old }
     ensures cut_off { IsTrue (F.tells shelf.old) → IsTrue (O.tells out.old) →
-        CutsOff (λ kept. SolvesBy (F.file shelf.old) (option_map (λ name. name.now) from.entry) steps kept b.now) result.status (O.taken out.old) (O.taken out.new) }
+        CutsOff (λ kept. SolvesBy (F.file shelf.old) (option_map (λ name. name.now) from.entry) leaf steps kept b.now) result.status (O.taken out.old) (O.taken out.new) }
 {
     let _ = b.blocks();
-    match begin(alloc, shelf, b, from) {
-        Ok(Start::Fresh) => answer(alloc, shelf, out, b, None, steps, cert, crew),
-        Ok(Start::Ready(from)) => { answer(alloc, shelf, out, b, Some(from), steps, cert, crew) }
+    match begin(alloc, shelf, b, from, leaf) {
+        Ok(Start::Fresh) => answer(alloc, shelf, out, b, None, None, steps, cert, crew),
+        Ok(Start::Ready(from, below)) => {
+            answer(alloc, shelf, out, b, Some(from), below, steps, cert, crew)
+        }
         Ok(Start::Refused(reply)) => print(alloc, out, &reply, None),
         Err(fault) => stopped_by(alloc, fault),
     }
 }
 
-// Searches a program in blocks from a tree, or from the start, by a crew where one is ordered, writes the certificate where a
-// file is named for it, and prints the report.
+// Searches a program in blocks from a tree, or from the start, by a crew where one is ordered, or at a path of the tree and
+// below it alone where there is one; writes the certificate where a file is named for it, and prints the report.
 fn answer<F: Shelf, O: Sink>(
     alloc: Global,
     shelf: &mut F,
     out: &mut O,
     b: &Blocked,
     from: Option<Loaded>,
+    below: Option<Items<Side>>,
     steps: Option<u64>,
     cert: Option<&str>,
     crew: Option<CrewOrder>,
@@ -136,12 +148,13 @@ fn answer<F: Shelf, O: Sink>(
     requires loaded { IfSome from (IsLoaded b.now) }
     requires few { IfSome steps (λ n. n ≤ 2 ^ 60) }
     requires some { IfSome crew (λ c. 1 ≤ c.workers) }
-    ensures answered { IsTrue (O.tells out.old) →
-        AnswersBy (SolvesBlocked (stop_of from steps) steps result.kept b.now) result.status (O.taken out.old) (O.taken out.new) }
-    ensures exact { IsOnly (SolvesBlocked (stop_of from steps) steps result.kept b.now) result.status }
+    requires alone { IfSome below (λ _. crew ≡ None) }
+    ensures answered { AnswersBy (SolvesAt from below steps result.kept b.now) result.status (O.tells out.old) (O.taken out.old) (O.taken out.new) }
+    ensures exact { IsOnly (SolvesAt from below steps result.kept b.now) result.status }
     ensures saved { IsTrue (F.tells shelf.old) → SavesBlocked b.now (option_map (λ name. name.now) cert.entry) (F.file shelf.new) result.kept }
-    ensures put_last { IsTrue (F.tells shelf.old) → O.faults out.old < O.faults out.new →
-        LeavesBlocked (stop_of from steps) (option_map (λ name. name.now) cert.entry) (F.file shelf.new) b.now }
+    ensures puts { PutsReport result.status (O.puts out.old) (O.puts out.new) }
+    ensures failed { result.status ≡ 8 → FailsToWrite (IsTrue (F.tells shelf.old) → LeavesAt from below steps (option_map (λ name. name.now) cert.entry) (F.file shelf.new) b.now)
+        (F.write_faults shelf.old) (F.write_faults shelf.new) (O.faults out.old) (O.faults out.new) (O.puts out.old) (O.puts out.new) (O.taken out.old) (O.taken out.new) }
     ensures causes { HasCauses result.status (F.read_faults shelf.old) (F.read_faults shelf.new)
         (F.write_faults shelf.old) (F.write_faults shelf.new) (O.faults out.old) (O.faults out.new) }
     ensures kept { (result.kept ≡ None) ⊎ ((result.status ≡ 0) ⊎ (result.status ≡ 4) ⊎ (result.status ≡ 5)) }
@@ -150,14 +163,17 @@ fn answer<F: Shelf, O: Sink>(
     ensures files { IsTrue (F.tells shelf.old) → FilesStand (option_map (λ name. name.now) cert.entry) (F.file shelf.old) (F.file shelf.new) }
     ensures untouched { IsTrue (F.tells shelf.old) → result.status ≡ 9 → F.file shelf.new ≡ F.file shelf.old }
     ensures silent { result.status ≡ 9 → O.taken out.new ≡ O.taken out.old }
-    ensures unwritten { F.write_faults shelf.old < F.write_faults shelf.new → O.taken out.new ≡ O.taken out.old }
-    ensures cut_off { IsTrue (O.tells out.old) → CutsOff (λ kept. SolvesBlocked (stop_of from steps) steps kept b.now) result.status (O.taken out.old) (O.taken out.new) }
+    ensures cut_off { IsTrue (O.tells out.old) → CutsOff (λ kept. SolvesAt from below steps kept b.now) result.status (O.taken out.old) (O.taken out.new) }
 {
-    let Ok(searched) = search_from(alloc, b, from, steps, crew) else {
+    let Ok(searched) = search_from(alloc, b, from, below, steps, crew) else {
         return stopped(alloc, 9);
     };
-    let Searched { outcome, events } = searched;
-    let Ended { status, kept, .. } = tell(alloc, shelf, out, b, outcome, steps, cert);
+    let Searched {
+        outcome,
+        told,
+        events,
+    } = searched;
+    let Ended { status, kept, .. } = tell(alloc, shelf, out, b, outcome, told, cert);
     let events = kept_events(alloc, &kept, events);
     Ended {
         status,
@@ -166,23 +182,23 @@ fn answer<F: Shelf, O: Sink>(
     }
 }
 
-// Writes the certificate of an outcome, where a file is named for it, and prints the report.
+// Writes the certificate of an outcome, where a file is named for it, and prints the report, which tells so many steps.
 fn tell<F: Shelf, O: Sink>(
     alloc: Global,
     shelf: &mut F,
     out: &mut O,
     b: &Blocked,
     outcome: Outcome,
-    steps: Option<u64>,
+    told: Option<u64>,
     cert: Option<&str>,
 ) -> Ended
     requires { (most : ℕ) × EndsWithin b.now most outcome }
-    ensures answered { IsTrue (O.tells out.old) → (most : ℕ) → EndsWithin b.now most outcome →
-        AnswersBy (SolvesBlocked most steps result.kept b.now) result.status (O.taken out.old) (O.taken out.new) }
-    ensures exact { (most : ℕ) → IsOnly (SolvesBlocked most steps result.kept b.now) result.status }
+    ensures answered { AnswersBy (TellsOf b.now told outcome result.kept) result.status (O.tells out.old) (O.taken out.old) (O.taken out.new) }
+    ensures exact { IsOnly (TellsOf b.now told outcome result.kept) result.status }
     ensures saved { IsTrue (F.tells shelf.old) → SavesBlocked b.now (option_map (λ name. name.now) cert.entry) (F.file shelf.new) result.kept }
-    ensures put_last { IsTrue (F.tells shelf.old) → O.faults out.old < O.faults out.new → (most : ℕ) → EndsWithin b.now most outcome →
-        LeavesBlocked most (option_map (λ name. name.now) cert.entry) (F.file shelf.new) b.now }
+    ensures puts { PutsReport result.status (O.puts out.old) (O.puts out.new) }
+    ensures failed { result.status ≡ 8 → FailsToWrite (IsTrue (F.tells shelf.old) → IsSaved b.now outcome (option_map (λ name. name.now) cert.entry) (F.file shelf.new))
+        (F.write_faults shelf.old) (F.write_faults shelf.new) (O.faults out.old) (O.faults out.new) (O.puts out.old) (O.puts out.new) (O.taken out.old) (O.taken out.new) }
     ensures causes { HasCauses result.status (F.read_faults shelf.old) (F.read_faults shelf.new)
         (F.write_faults shelf.old) (F.write_faults shelf.new) (O.faults out.old) (O.faults out.new) }
     ensures kept { (result.kept ≡ None) ⊎ ((result.status ≡ 0) ⊎ (result.status ≡ 4) ⊎ (result.status ≡ 5)) }
@@ -191,11 +207,9 @@ fn tell<F: Shelf, O: Sink>(
     ensures files { IsTrue (F.tells shelf.old) → FilesStand (option_map (λ name. name.now) cert.entry) (F.file shelf.old) (F.file shelf.new) }
     ensures untouched { IsTrue (F.tells shelf.old) → result.status ≡ 9 → F.file shelf.new ≡ F.file shelf.old }
     ensures silent { result.status ≡ 9 → O.taken out.new ≡ O.taken out.old }
-    ensures unwritten { F.write_faults shelf.old < F.write_faults shelf.new → O.taken out.new ≡ O.taken out.old }
-    ensures cut_off { IsTrue (O.tells out.old) → (most : ℕ) → EndsWithin b.now most outcome →
-        CutsOff (λ kept. SolvesBlocked most steps kept b.now) result.status (O.taken out.old) (O.taken out.new) }
+    ensures cut_off { IsTrue (O.tells out.old) → CutsOff (TellsOf b.now told outcome) result.status (O.taken out.old) (O.taken out.new) }
 {
-    let Ok(reply) = reply_to(alloc, b, &outcome, steps) else {
+    let Ok(reply) = reply_to(alloc, b, &outcome, told) else {
         return stopped(alloc, 9);
     };
     match save(alloc, shelf, b, &outcome, cert) {
@@ -206,17 +220,17 @@ fn tell<F: Shelf, O: Sink>(
     }
 }
 
-// The report on an outcome of a search that was given so many steps, with its status.
+// The report on an outcome that tells so many steps, with its status.
 fn reply_to(
     alloc: Global,
     b: &Blocked,
     outcome: &Outcome,
-    steps: Option<u64>,
+    told: Option<u64>,
 ) -> Result<Reply, AllocError>
     requires { (most : ℕ) × EndsWithin b.now most outcome.now }
-    ensures { IfOk result (IsSolved b.now steps outcome.now) }
+    ensures { IfOk result (IsSolved b.now told outcome.now) }
 {
-    let report = solve_text(alloc, b, outcome, steps.unwrap_or(MAX_STEPS))?;
+    let report = solve_text(alloc, b, outcome, told.unwrap_or(MAX_STEPS))?;
     let status = status_of(outcome);
     Ok(Reply { status, report })
 }

@@ -1,4 +1,4 @@
-// From where a search goes on: the tree of a certificate's file, or the start.
+// From where a search goes on, and where in its tree it works: the tree of a certificate's file, or the start.
 ghost use Rattle.std.specs.Prelude.{◌≡◌, ◌⊎◌, IfOk, IsErrOf, IsTrue, Some};
 ghost use Rattle.std.specs.Option.{option_map};
 ghost use Rattle.bp_theory.specs.Claims.{IsCertified};
@@ -6,16 +6,20 @@ ghost use Rattle.bp_shelf.specs.Shelf.{CountsFailed};
 ghost use Rattle.bp_shelf.specs.declared.shelf.ShelfFault.TheVariants.{Missing};
 ghost use Rattle.cert_text.specs.Kept.{certificate_of};
 ghost use Rattle.cert_text.specs.Programs.{GoesWith};
+ghost use Rattle.cert_load.specs.Loadings.{IsLoadedOf};
 ghost use Rattle.cmd_solve.specs.Starts.{StartsBy, StartsOf, HasStart, LacksStart, CanBegin};
 
+use crate::leaf::open_path;
 use block_form::Blocked;
 use bp_front::{Reply, read_front};
-use bp_report::{cert_text, check_text, from_text};
+use bp_report::{cert_text, check_text, from_text, leaf_text};
 use bp_search::{LoadFault, load};
 use bp_shelf::{Shelf, ShelfFault};
+use bp_theory::Items;
 use branch_tree::Loaded;
 use cert_check::{Judged, check as judge};
 use cert_text::{Cert, CertFault, read_cert};
+use search_laws::Side;
 use std::alloc::{AllocError, Global};
 
 // A file is shorter than 2^62 bytes.
@@ -26,21 +30,23 @@ const MAX_FILE: usize = (1 << 62) - 1;
 pub enum Start {
     /// From the planted tree.
     Fresh,
-    /// From a tree that was loaded.
-    Ready(Loaded),
+    /// From a tree that was loaded, everywhere in it, or at a path and below it alone where there is one.
+    Ready(Loaded, Option<Items<Side>>),
     /// From nowhere: a file is no start, and this is printed for it.
     Refused(Reply),
 }
 
-/// The start that a named file gives, or the planted tree where none is named.
+/// The start that a named file gives, or the planted tree where none is named. Where the number of a leaf is given, the search
+/// is to work at that open leaf of the file's certificate and below it alone.
 pub fn begin<F: Shelf>(
     alloc: Global,
     shelf: &mut F,
     b: &Blocked,
     from: Option<&str>,
+    leaf: Option<u64>,
 ) -> Result<Start, ShelfFault>
-    ensures start { IsTrue (F.tells shelf.old) → IfOk result (HasStart (F.file shelf.old) (option_map (λ name. name.now) from.entry) b.now) }
-    ensures usable { IfOk result (CanBegin b.now) }
+    ensures start { IsTrue (F.tells shelf.old) → IfOk result (HasStart (F.file shelf.old) (option_map (λ name. name.now) from.entry) leaf b.now) }
+    ensures usable { IfOk result (CanBegin b.now leaf) }
     ensures missing { IsTrue (F.tells shelf.old) → IsErrOf result ShelfFault.Missing → LacksStart (F.file shelf.old) (option_map (λ name. name.now) from.entry) }
     ensures told { F.tells shelf.new ≡ F.tells shelf.old }
     ensures files { F.file shelf.new ≡ F.file shelf.old }
@@ -49,7 +55,7 @@ pub fn begin<F: Shelf>(
 {
     match from {
         None => Ok(Start::Fresh),
-        Some(name) => begin_from(alloc, shelf, b, name),
+        Some(name) => begin_from(alloc, shelf, b, name, leaf),
     }
 }
 
@@ -59,9 +65,10 @@ fn begin_from<F: Shelf>(
     shelf: &mut F,
     b: &Blocked,
     name: &str,
+    leaf: Option<u64>,
 ) -> Result<Start, ShelfFault>
-    ensures start { IsTrue (F.tells shelf.old) → IfOk result (HasStart (F.file shelf.old) (Some name.now) b.now) }
-    ensures usable { IfOk result (CanBegin b.now) }
+    ensures start { IsTrue (F.tells shelf.old) → IfOk result (HasStart (F.file shelf.old) (Some name.now) leaf b.now) }
+    ensures usable { IfOk result (CanBegin b.now leaf) }
     ensures missing { IsTrue (F.tells shelf.old) → IsErrOf result ShelfFault.Missing → LacksStart (F.file shelf.old) (Some name.now) }
     ensures told { F.tells shelf.new ≡ F.tells shelf.old }
     ensures files { F.file shelf.new ≡ F.file shelf.old }
@@ -69,16 +76,16 @@ fn begin_from<F: Shelf>(
     ensures writes { F.write_faults shelf.new ≡ F.write_faults shelf.old }
 {
     let text = read_front(alloc, shelf, name, MAX_FILE)?;
-    Ok(start_of(alloc, b, &text)?)
+    Ok(start_of(alloc, b, &text, leaf)?)
 }
 
 // The start that a text gives.
-fn start_of(alloc: Global, b: &Blocked, text: &[u8]) -> Result<Start, AllocError>
-    ensures start { IfOk result (StartsBy b.now text.now) }
-    ensures usable { IfOk result (CanBegin b.now) }
+fn start_of(alloc: Global, b: &Blocked, text: &[u8], leaf: Option<u64>) -> Result<Start, AllocError>
+    ensures start { IfOk result (StartsBy b.now leaf text.now) }
+    ensures usable { IfOk result (CanBegin b.now leaf) }
 {
     match read_cert(alloc, text, b) {
-        Ok(cert) => judged_start(alloc, b, &cert),
+        Ok(cert) => judged_start(alloc, b, &cert, leaf),
         Err(CertFault::At { line, kind }) => Ok(Start::Refused(Reply {
             status: 3,
             report: cert_text(alloc, line, kind)?,
@@ -88,14 +95,19 @@ fn start_of(alloc: Global, b: &Blocked, text: &[u8]) -> Result<Start, AllocError
 }
 
 // The start that a certificate gives that was read.
-fn judged_start(alloc: Global, b: &Blocked, cert: &Cert) -> Result<Start, AllocError>
+fn judged_start(
+    alloc: Global,
+    b: &Blocked,
+    cert: &Cert,
+    leaf: Option<u64>,
+) -> Result<Start, AllocError>
     requires { GoesWith b.now (certificate_of cert.now) }
-    ensures start { IfOk result (StartsOf b.now cert.now) }
-    ensures usable { IfOk result (CanBegin b.now) }
+    ensures start { IfOk result (StartsOf b.now leaf cert.now) }
+    ensures usable { IfOk result (CanBegin b.now leaf) }
 {
     let judged = judge(alloc, b, cert)?;
     match judged {
-        Judged::Accepted(_) => loaded_start(alloc, b, cert),
+        Judged::Accepted(_) => loaded_start(alloc, b, cert, leaf),
         Judged::Rejected { .. } => Ok(Start::Refused(Reply {
             status: 6,
             report: check_text(alloc, &judged)?,
@@ -104,18 +116,49 @@ fn judged_start(alloc: Global, b: &Blocked, cert: &Cert) -> Result<Start, AllocE
 }
 
 // The start that a valid certificate gives.
-fn loaded_start(alloc: Global, b: &Blocked, cert: &Cert) -> Result<Start, AllocError>
+fn loaded_start(
+    alloc: Global,
+    b: &Blocked,
+    cert: &Cert,
+    leaf: Option<u64>,
+) -> Result<Start, AllocError>
     requires goes_with { GoesWith b.now (certificate_of cert.now) }
     requires valid { IsCertified b.now.named.program b.now.dec (certificate_of cert.now) }
-    ensures start { IfOk result (StartsOf b.now cert.now) }
-    ensures usable { IfOk result (CanBegin b.now) }
+    ensures start { IfOk result (StartsOf b.now leaf cert.now) }
+    ensures usable { IfOk result (CanBegin b.now leaf) }
 {
     match load(alloc, b, cert) {
-        Ok(from) => Ok(Start::Ready(from)),
+        Ok(from) => placed_start(alloc, b, cert, from, leaf),
         Err(LoadFault::Deep(line)) => Ok(Start::Refused(Reply {
             status: 3,
             report: from_text(alloc, line)?,
         })),
         Err(LoadFault::NoMemory) => Err(AllocError),
+    }
+}
+
+// The start that a loaded certificate gives, by the number of an open leaf where one is given.
+fn placed_start(
+    alloc: Global,
+    b: &Blocked,
+    cert: &Cert,
+    from: Loaded,
+    leaf: Option<u64>,
+) -> Result<Start, AllocError>
+    requires valid { IsCertified b.now.named.program b.now.dec (certificate_of cert.now) }
+    requires loaded { IsLoadedOf b.now (certificate_of cert.now) from }
+    ensures start { IfOk result (StartsOf b.now leaf cert.now) }
+    ensures usable { IfOk result (CanBegin b.now leaf) }
+{
+    let _ = b.blocks();
+    match leaf {
+        None => Ok(Start::Ready(from, None)),
+        Some(number) => match open_path(alloc, cert.tree(), number)? {
+            Some(path) => Ok(Start::Ready(from, Some(path))),
+            None => Ok(Start::Refused(Reply {
+                status: 3,
+                report: leaf_text(alloc, number)?,
+            })),
+        },
     }
 }

@@ -7,11 +7,11 @@ use std::test::Fail;
 /// without letters. Other lines are headings.
 const LINES: &str = "\
 # Files, joined to their options and apart.
-solve a.lp - - - - - - @ solve a.lp
-solve a.lp - - c - - - @ solve --cert=c a.lp
-solve a.lp d - c - - - @ solve a.lp --cert c --dec d
-solve a.lp - - c c - - @ solve a.lp --from=c --cert c
-solve --cert - - - - - - @ solve -- --cert
+solve a.lp - - - - - - - @ solve a.lp
+solve a.lp - - c - - - - @ solve --cert=c a.lp
+solve a.lp d - c - - - - @ solve a.lp --cert c --dec d
+solve a.lp - - c c - - - @ solve a.lp --from=c --cert c
+solve --cert - - - - - - - @ solve -- --cert
 check a.lp c - @ check a.lp c
 check a.lp c d @ check --dec=d a.lp c
 show a.lp - - @ show a.lp
@@ -23,13 +23,17 @@ show --blocks - - @ show -- --blocks
 detect a.lp r d @ detect a.lp r d
 propose a.lp d @ propose a.lp d
 propose a.lp --dec @ propose a.lp -- --dec
+merge a.lp c d n - @ merge a.lp c d n
+merge a.lp c c c e @ merge a.lp c --dec e c c
 # Numbers.
-solve a.lp - 7 - - - - @ solve a.lp --steps 007
-solve a.lp - 1152921504606846976 - - - - @ solve --steps=1152921504606846976 a.lp
-solve a.lp - - - - 1 - @ solve a.lp --workers 1
-solve a.lp - - - - 64 0 @ solve a.lp --workers=64 --order=0
-solve a.lp - - - - - 18446744073709551615 @ solve --order 18446744073709551615 a.lp
-solve a.lp d 0 c f 3 19 @ solve a.lp --order 19 --workers +3 --from f --cert c --steps 0 --dec d
+solve a.lp - 7 - - - - - @ solve a.lp --steps 007
+solve a.lp - 1152921504606846976 - - - - - @ solve --steps=1152921504606846976 a.lp
+solve a.lp - - - - - 1 - @ solve a.lp --workers 1
+solve a.lp - - - - - 64 0 @ solve a.lp --workers=64 --order=0
+solve a.lp - - - - - - 18446744073709551615 @ solve --order 18446744073709551615 a.lp
+solve a.lp d 0 c f - 3 19 @ solve a.lp --order 19 --workers +3 --from f --cert c --steps 0 --dec d
+solve a.lp - - - f 1 - - @ solve a.lp --from f --leaf 1
+solve a.lp d 5 c f 18446744073709551615 - - @ solve --leaf=18446744073709551615 --from=f a.lp --steps 5 --dec d --cert c
 gen 0 1024 a.lp a.dec @ gen +0 1024 a.lp a.dec
 demo 18446744073709551615 1 @ demo 18446744073709551615 1
 refused @ solve a.lp --steps
@@ -46,6 +50,11 @@ refused @ solve a.lp --workers 3 --workers 3
 refused @ solve a.lp --order
 refused @ solve a.lp --order=18446744073709551616
 refused @ solve a.lp --order 1 --order=2
+refused @ solve a.lp --from f --leaf
+refused @ solve a.lp --from f --leaf 0
+refused @ solve a.lp --from f --leaf=-1
+refused @ solve a.lp --from f --leaf 18446744073709551616
+refused @ solve a.lp --from f --leaf 1 --leaf 2
 refused @ gen 1 0 a.lp a.dec
 refused @ gen 1 1025 a.lp a.dec
 refused @ gen 18446744073709551616 1 a.lp a.dec
@@ -62,6 +71,11 @@ refused @ solve a.lp --dec
 refused @ solve a.lp --dec=d --dec=e
 refused @ solve a.lp --from
 refused @ solve a.lp --from c --from c
+refused @ solve a.lp --leaf 1
+refused @ solve a.lp --cert f --leaf 1
+refused @ solve a.lp --from f --leaf 1 --workers 1
+refused @ solve a.lp --from f --leaf 1 --order 0
+refused @ check a.lp c --leaf 1
 refused @ solve a.lp --block=d
 refused @ solve a.lp --help
 refused @ --help
@@ -85,6 +99,9 @@ refused @ propose a.lp
 refused @ propose a.lp d e
 refused @ propose a.lp --dec d
 refused @ propose a.lp d --blocks
+refused @ merge a.lp c d
+refused @ merge a.lp c d n e
+refused @ merge a.lp c d n --cert e
 ";
 
 /// The words of a line, behind the program's name.
@@ -114,17 +131,18 @@ fn number_of(alloc: Global, number: Option<u64>) -> Result<String, AllocError> {
     }
 }
 
-/// An order to solve in short: the files, the steps, the workers and their order.
+/// An order to solve in short: the files, the steps, the leaf, the workers and their order.
 fn solve_line(
     alloc: Global,
     files: (&str, &str, &str, &str),
-    numbers: (Option<u64>, Option<u32>, Option<u64>),
+    numbers: (Option<u64>, Option<u64>, Option<u32>, Option<u64>),
 ) -> Result<String, AllocError> {
     let steps = number_of(alloc, numbers.0)?;
-    let workers = number_of(alloc, numbers.1.map(u64::from))?;
-    let order = number_of(alloc, numbers.2)?;
+    let leaf = number_of(alloc, numbers.1)?;
+    let workers = number_of(alloc, numbers.2.map(u64::from))?;
+    let order = number_of(alloc, numbers.3)?;
     let (lp, dec, cert, from) = files;
-    format!(in alloc; "solve {lp} {dec} {steps} {cert} {from} {workers} {order}")
+    format!(in alloc; "solve {lp} {dec} {steps} {cert} {from} {leaf} {workers} {order}")
 }
 
 /// An order in short.
@@ -136,11 +154,12 @@ fn order_line(alloc: Global, order: &Order) -> Result<String, AllocError> {
             steps,
             cert,
             from,
+            leaf,
             workers,
             order,
         } => {
             let files = (lp.as_str(), name_of(dec), name_of(cert), name_of(from));
-            solve_line(alloc, files, (*steps, *workers, *order))
+            solve_line(alloc, files, (*steps, *leaf, *workers, *order))
         }
         Order::Check { lp, cert, dec } => {
             format!(in alloc; "check {} {} {}", lp.as_str(), cert.as_str(), name_of(dec))
@@ -161,6 +180,21 @@ fn order_line(alloc: Global, order: &Order) -> Result<String, AllocError> {
         }
         Order::Propose { lp, dec } => {
             format!(in alloc; "propose {} {}", lp.as_str(), dec.as_str())
+        }
+        Order::Merge {
+            lp,
+            first,
+            second,
+            new,
+            dec,
+        } => {
+            let files = format!(in alloc;
+                "{} {} {}",
+                first.as_str(),
+                second.as_str(),
+                new.as_str()
+            )?;
+            format!(in alloc; "merge {} {files} {}", lp.as_str(), name_of(dec))
         }
     }
 }
@@ -195,7 +229,7 @@ fn wrong(alloc: Global) -> Result<(String, usize), AllocError> {
 fn each_line_gives_its_order_or_is_refused(rt: HostRuntime) -> Result<(), Fail> {
     let (wrong, count) = wrong(rt.alloc())?;
     assert_eq!(rt; wrong.as_str(), "");
-    assert_eq!(rt; count, 76);
+    assert_eq!(rt; count, 88);
     Ok(())
 }
 

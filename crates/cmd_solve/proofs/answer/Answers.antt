@@ -1,12 +1,39 @@
-use Rattle.std.proofs.Common.{sym, subst, List}
+use Rattle.std.proofs.Common.{sym, subst, refl, List}
 use Rattle.search_laws.specs.declared.Event.{Event}
-use Rattle.cmd_solve.specs.Starts.{stop_of}
+use Rattle.bp_front.proofs.Faults.{fails_as}
 use Rattle.cmd_solve.specs.Crews.{HasEventsFrom}
+use Rattle.std.specs.Option.{option_map}
 use Rattle.cmd_solve.proofs.CrewEvents.{kept_with}
+use Rattle.cmd_solve.proofs.Told.{within_at, answers_at, cut_at, only_at, leaves_at}
 use Rattle.cmd_solve.proofs.answer.Goals as goal
 
+pub tell-status-requires : goal.tell-status-requires
+tell-status-requires g c =
+    within_at c.args.b.now c.args.from c.args.below c.args.steps c.in-Ok.searched.outcome c.in-Ok.searched.told c.in-Ok.ensures.ends
+
+pub returns-clause-answered : goal.returns-clause-answered
+returns-clause-answered g c =
+    answers_at c.args.b.now c.args.from c.args.below c.args.steps c.in-Ok.searched.outcome c.in-Ok.searched.told c.tell-status.result.kept c.tell-status.result.status
+    (g.O.Sink.tells c.args.out.now) (g.O.Sink.taken c.args.out.now) (g.O.Sink.taken c.tell-status.new.out) c.in-Ok.ensures.ends c.tell-status.ensures.answered
+
 pub returns-clause-exact : goal.returns-clause-exact
-returns-clause-exact g c = c.tell-status.ensures.exact (stop_of c.args.from c.args.steps)
+returns-clause-exact g c =
+    only_at c.args.b.now c.args.from c.args.below c.args.steps c.in-Ok.searched.outcome c.in-Ok.searched.told c.tell-status.result.kept c.tell-status.result.status
+    c.tell-status.ensures.outcome c.tell-status.ensures.exact
+
+pub returns-clause-failed : goal.returns-clause-failed
+returns-clause-failed g c = λ is_fault.
+    fails_as (g.F.Shelf.write_faults c.args.shelf.now) (g.F.Shelf.write_faults c.args.shelf.now) (g.F.Shelf.write_faults c.tell-status.new.shelf)
+    (g.O.Sink.faults c.args.out.now) (g.O.Sink.faults c.tell-status.new.out) (g.O.Sink.puts c.args.out.now) (g.O.Sink.puts c.tell-status.new.out)
+    (g.O.Sink.taken c.args.out.now) (g.O.Sink.taken c.tell-status.new.out) refl
+    (λ stands told. leaves_at c.args.b.now c.args.from c.args.below c.args.steps c.in-Ok.searched.outcome c.in-Ok.searched.told
+    (option_map (λ name. name.now) c.args.cert) (g.F.Shelf.file c.tell-status.new.shelf) c.in-Ok.ensures.ends (stands told))
+    (c.tell-status.ensures.failed is_fault)
+
+pub returns-clause-cut_off : goal.returns-clause-cut_off
+returns-clause-cut_off g c = λ heard.
+    cut_at c.args.b.now c.args.from c.args.below c.args.steps c.in-Ok.searched.outcome c.in-Ok.searched.told c.tell-status.result.status
+    (g.O.Sink.taken c.args.out.now) (g.O.Sink.taken c.tell-status.new.out) c.in-Ok.ensures.ends (c.tell-status.ensures.cut_off heard)
 
 pub returns-clause-events : goal.returns-clause-events
 returns-clause-events g c =

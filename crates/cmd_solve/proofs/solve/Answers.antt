@@ -1,12 +1,12 @@
-use Rattle.std.proofs.Common.{◌≡◌, ◌∙◌, refl, sym, subst, None, Option, List, ℕ, Bool, IsTrue}
+use Rattle.std.proofs.Common.{◌≡◌, ◌∙◌, inr, refl, sym, subst, None, Option, List, ℕ, Bool, IsTrue}
 use Rattle.std.specs.Option.{option_map}
 use Rattle.bp_shelf.specs.Shelf.{Files}
 use Rattle.branch_tree.specs.declared.outcome.Outcome.{Outcome}
 use Rattle.bp_front.specs.Answers.{stopped, AnswersBy, IsOnly, CutsOff}
-use Rattle.bp_front.specs.Front.{blocked, ends}
-use Rattle.bp_front.proofs.OneFront.{one_front}
+use Rattle.bp_front.proofs.Faults.{fails_as}
 use Rattle.bp_front.proofs.Lifts.{lift_answers, lift_only, lift_cut, stop_only, fault_only, printed_status}
-use Rattle.cmd_solve.specs.Saves.{LeavesBy}
+use Rattle.cmd_solve.specs.Saves.{LeavesBy, searched}
+use Rattle.cmd_solve.specs.Saves as leaves
 use Rattle.cmd_solve.specs.Solves.{SolvesBy}
 use Rattle.cmd_solve.specs.declared.crew.CrewOrder.{CrewOrder}
 use Rattle.cmd_solve.specs.Crews.{ordered_crew, EventsBy}
@@ -14,15 +14,15 @@ use Rattle.cmd_solve.proofs.CrewEvents.{lift_events, none_of, printed_none}
 use Rattle.cmd_solve.proofs.solve.Goals as goal
 
 pub returns-in-Ok-clause-answered : goal.returns-in-Ok-clause-answered
-returns-in-Ok-clause-answered g c = λ told heard.
+returns-in-Ok-clause-answered g c = λ told.
     let files = g.F.Shelf.file c.args.shelf.now in
     let from : Option (List ℕ) = option_map (λ name. name.now) c.args.from in
     let still : IsTrue (g.F.Shelf.tells c.load.new.shelf) = subst (λ (t : Bool). IsTrue t) (sym c.in-Ok.ensures.told) told in
     lift_answers files c.args.lp.now (option_map (λ name. name.now) c.args.dec) (c.solve_blocks.result.kept ≡ None)
-    (SolvesBy files from c.args.steps c.solve_blocks.result.kept) c.in-Ok.b c.solve_blocks.result.status (g.O.Sink.taken c.args.out.now) (g.O.Sink.taken c.solve_blocks.new.out)
+    (SolvesBy files from c.args.leaf c.args.steps c.solve_blocks.result.kept) c.in-Ok.b c.solve_blocks.result.status (g.O.Sink.tells c.args.out.now) (g.O.Sink.taken c.args.out.now) (g.O.Sink.taken c.solve_blocks.new.out)
     (c.in-Ok.ensures.blocked told)
-    (subst (λ (fs : Files). AnswersBy (SolvesBy fs from c.args.steps c.solve_blocks.result.kept c.in-Ok.b) c.solve_blocks.result.status (g.O.Sink.taken c.args.out.now) (g.O.Sink.taken c.solve_blocks.new.out))
-    c.in-Ok.ensures.files (c.solve_blocks.ensures.answered still heard))
+    (subst (λ (fs : Files). AnswersBy (SolvesBy fs from c.args.leaf c.args.steps c.solve_blocks.result.kept c.in-Ok.b) c.solve_blocks.result.status (g.O.Sink.tells c.args.out.now) (g.O.Sink.taken c.args.out.now) (g.O.Sink.taken c.solve_blocks.new.out))
+    c.in-Ok.ensures.files (c.solve_blocks.ensures.answered still))
 
 pub returns-in-Ok-clause-exact : goal.returns-in-Ok-clause-exact
 returns-in-Ok-clause-exact g c = λ told.
@@ -30,8 +30,8 @@ returns-in-Ok-clause-exact g c = λ told.
     let from : Option (List ℕ) = option_map (λ name. name.now) c.args.from in
     let still : IsTrue (g.F.Shelf.tells c.load.new.shelf) = subst (λ (t : Bool). IsTrue t) (sym c.in-Ok.ensures.told) told in
     lift_only files c.args.lp.now (option_map (λ name. name.now) c.args.dec) (c.solve_blocks.result.kept ≡ None)
-    (SolvesBy files from c.args.steps c.solve_blocks.result.kept) c.in-Ok.b c.solve_blocks.result.status (c.in-Ok.ensures.blocked told)
-    (subst (λ (fs : Files). IsOnly (SolvesBy fs from c.args.steps c.solve_blocks.result.kept c.in-Ok.b) c.solve_blocks.result.status) c.in-Ok.ensures.files (c.solve_blocks.ensures.exact still))
+    (SolvesBy files from c.args.leaf c.args.steps c.solve_blocks.result.kept) c.in-Ok.b c.solve_blocks.result.status (c.in-Ok.ensures.blocked told)
+    (subst (λ (fs : Files). IsOnly (SolvesBy fs from c.args.leaf c.args.steps c.solve_blocks.result.kept c.in-Ok.b) c.solve_blocks.result.status) c.in-Ok.ensures.files (c.solve_blocks.ensures.exact still))
 
 pub returns-in-Ok-clause-cut_off : goal.returns-in-Ok-clause-cut_off
 returns-in-Ok-clause-cut_off g c = λ told heard.
@@ -39,9 +39,9 @@ returns-in-Ok-clause-cut_off g c = λ told heard.
     let from : Option (List ℕ) = option_map (λ name. name.now) c.args.from in
     let still : IsTrue (g.F.Shelf.tells c.load.new.shelf) = subst (λ (t : Bool). IsTrue t) (sym c.in-Ok.ensures.told) told in
     lift_cut files c.args.lp.now (option_map (λ name. name.now) c.args.dec) (λ kept. kept ≡ None)
-    (λ kept. SolvesBy files from c.args.steps kept) c.in-Ok.b c.solve_blocks.result.status (g.O.Sink.taken c.args.out.now) (g.O.Sink.taken c.solve_blocks.new.out)
+    (λ kept. SolvesBy files from c.args.leaf c.args.steps kept) c.in-Ok.b c.solve_blocks.result.status (g.O.Sink.taken c.args.out.now) (g.O.Sink.taken c.solve_blocks.new.out)
     (c.in-Ok.ensures.blocked told)
-    (subst (λ (fs : Files). CutsOff (λ (kept : Option Outcome). SolvesBy fs from c.args.steps kept c.in-Ok.b) c.solve_blocks.result.status (g.O.Sink.taken c.args.out.now) (g.O.Sink.taken c.solve_blocks.new.out))
+    (subst (λ (fs : Files). CutsOff (λ (kept : Option Outcome). SolvesBy fs from c.args.leaf c.args.steps kept c.in-Ok.b) c.solve_blocks.result.status (g.O.Sink.taken c.args.out.now) (g.O.Sink.taken c.solve_blocks.new.out))
     c.in-Ok.ensures.files (c.solve_blocks.ensures.cut_off still heard))
 
 pub returns-in-Err-Refused-clause-exact : goal.returns-in-Err-Refused-clause-exact
@@ -49,7 +49,7 @@ returns-in-Err-Refused-clause-exact g c = λ told.
     let files = g.F.Shelf.file c.args.shelf.now in
     let halts = c.in-Err-Refused.ensures.halted told in
     stop_only files c.args.lp.now (option_map (λ name. name.now) c.args.dec) (c.print.result.kept ≡ None)
-    (SolvesBy files (option_map (λ name. name.now) c.args.from) c.args.steps c.print.result.kept) c.print.result.status 3 c.in-Err-Refused.report.items
+    (SolvesBy files (option_map (λ name. name.now) c.args.from) c.args.leaf c.args.steps c.print.result.kept) c.print.result.status 3 c.in-Err-Refused.report.items
     (rw c.in-Err-Refused.field-0-is at halts) (printed_status c.print.result.status 3 c.print.ensures.status)
 
 pub returns-in-Err-Refused-clause-cut_off : goal.returns-in-Err-Refused-clause-cut_off
@@ -63,24 +63,30 @@ returns-in-Err-Stopped-clause-exact g c = λ told.
     let files = g.F.Shelf.file c.args.shelf.now in
     let halts = c.in-Err-Stopped.ensures.halted told in
     fault_only files c.args.lp.now (option_map (λ name. name.now) c.args.dec) (c.stopped_by.result.kept ≡ None)
-    (SolvesBy files (option_map (λ name. name.now) c.args.from) c.args.steps c.stopped_by.result.kept) c.stopped_by.result.status c.in-Err-Stopped.fault
+    (SolvesBy files (option_map (λ name. name.now) c.args.from) c.args.leaf c.args.steps c.stopped_by.result.kept) c.stopped_by.result.status c.in-Err-Stopped.fault
     (rw c.in-Err-Stopped.field-0-is at halts) (rw c.in-Err-Stopped.field-0-is at c.stopped_by.ensures.status)
 
-pub returns-in-Ok-clause-put_last : goal.returns-in-Ok-clause-put_last
-returns-in-Ok-clause-put_last g c = λ told rose other come.
+pub returns-in-Ok-clause-failed : goal.returns-in-Ok-clause-failed
+returns-in-Ok-clause-failed g c = λ is_fault.
     let from : Option (List ℕ) = option_map (λ name. name.now) c.args.from in
     let cert : Option (List ℕ) = option_map (λ name. name.now) c.args.cert in
-    subst (LeavesBy (g.F.Shelf.file c.args.shelf.now) from c.args.steps cert (g.F.Shelf.file c.solve_blocks.new.shelf))
-    (one_front (g.F.Shelf.file c.args.shelf.now) c.args.lp.now (option_map (λ name. name.now) c.args.dec) (blocked c.in-Ok.b) (blocked other)
-    (c.in-Ok.ensures.blocked told) come)
-    (subst (λ (fs : Files). LeavesBy fs from c.args.steps cert (g.F.Shelf.file c.solve_blocks.new.shelf) c.in-Ok.b) c.in-Ok.ensures.files
-    (c.solve_blocks.ensures.put_last (c.load.ensures.told ∙ told) rose))
+    fails_as (g.F.Shelf.write_faults c.args.shelf.now) (g.F.Shelf.write_faults c.load.new.shelf) (g.F.Shelf.write_faults c.solve_blocks.new.shelf)
+    (g.O.Sink.faults c.args.out.now) (g.O.Sink.faults c.solve_blocks.new.out) (g.O.Sink.puts c.args.out.now) (g.O.Sink.puts c.solve_blocks.new.out)
+    (g.O.Sink.taken c.args.out.now) (g.O.Sink.taken c.solve_blocks.new.out) c.in-Ok.ensures.writes
+    (λ stands told. searched c.in-Ok.b (c.in-Ok.ensures.blocked told)
+    (subst (λ (fs : Files). LeavesBy fs from c.args.leaf c.args.steps cert (g.F.Shelf.file c.solve_blocks.new.shelf) c.in-Ok.b) c.in-Ok.ensures.files
+    (stands (c.in-Ok.ensures.told ∙ told))))
+    (c.solve_blocks.ensures.failed is_fault)
 
-pub returns-in-Err-Refused-clause-put_last : goal.returns-in-Err-Refused-clause-put_last
-returns-in-Err-Refused-clause-put_last g c = λ told rose other come.
-    let halts = c.in-Err-Refused.ensures.halted told in
-    absurd (one_front (g.F.Shelf.file c.args.shelf.now) c.args.lp.now (option_map (λ name. name.now) c.args.dec) (blocked other)
-    (ends 3 c.in-Err-Refused.report.items) come (rw c.in-Err-Refused.field-0-is at halts))
+pub returns-in-Err-Refused-clause-failed : goal.returns-in-Err-Refused-clause-failed
+returns-in-Err-Refused-clause-failed g c = λ is_fault. inr (record {
+  rose = c.print.ensures.fault is_fault;
+  no_write = c.in-Err-Refused.ensures.writes;
+  once = c.print.ensures.once;
+  stands = λ told.
+      let halts = c.in-Err-Refused.ensures.halted told in
+      leaves.stopped 3 c.in-Err-Refused.report.items (rw c.in-Err-Refused.field-0-is at halts) c.in-Err-Refused.ensures.files;
+})
 
 pub returns-in-Ok-clause-events : goal.returns-in-Ok-clause-events
 returns-in-Ok-clause-events g c = λ told.
@@ -100,3 +106,6 @@ returns-in-Err-Refused-clause-events g c = λ told.
     c.print.result.kept c.print.result.events.items
     (printed_none c.print.result.status 3 c.print.result.kept c.print.ensures.status c.print.ensures.kept c.print.ensures.none_kept (λ e. absurd (cc)))
     c.print.ensures.events
+
+pub returns-in-Ok-clause-untouched : goal.returns-in-Ok-clause-untouched
+returns-in-Ok-clause-untouched g c = λ told untouched. c.solve_blocks.ensures.untouched (c.in-Ok.ensures.told ∙ told) untouched ∙ c.in-Ok.ensures.files

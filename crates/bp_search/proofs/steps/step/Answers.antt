@@ -1,6 +1,8 @@
 use Rattle.std.proofs.Common.{subst, sym, ◌<◌, ◌^◌}
 use Rattle.std.specs.Prelude.{IfSome, unsigned_abs, Option, ℤ}
 use Rattle.bp_search.proofs.Running.{turn_of, small_cost, can_grow, runs_on, one_step}
+use Rattle.bp_search.specs.Below.{IsAsBeside}
+use Rattle.bp_search.proofs.Beside.{grown_is}
 use Rattle.bp_search.proofs.steps.step.Goals as goal
 
 pub evaluate-requires-clause-turn : goal.evaluate-requires-clause-turn
@@ -24,3 +26,8 @@ returns-clause-running c =
 
 pub returns-clause-one : goal.returns-clause-one
 returns-clause-one c = one_step c.args.grove.now c.grow.new.grove c.args.turn.now c.in_ok-point.field-0.next c.requires.turn c.in_ok-grow.ensures.tree
+
+pub returns-clause-beside : goal.returns-clause-beside
+returns-clause-beside c =
+    subst (IsAsBeside c.args.turn.now.path c.args.grove.now.tree) (sym c.in_ok-grow.ensures.tree)
+    (grown_is c.args.grove.now.tree c.args.turn.now.path c.in_ok-point.field-0.next)

@@ -3,19 +3,25 @@ use Rattle.clap.specs.Words.{App, Row, Text, is_simple, subcommand_rows_of, subc
 use Rattle.bp_words.specs.CommandLine.{command_line}
 use Rattle.bp_words.specs.Orders.{IsStated}
 use Rattle.bp_words.proofs.Line.{line_is_simple}
+use Rattle.bp_words.proofs.Refusal.{error_refused}
 use Rattle.bp_words.proofs.Stated.{in_range_if_ok}
-use Rattle.bp_words.proofs.Taken.{taken_gives}
+use Rattle.bp_words.proofs.Taken.{refused_words}
 use Rattle.bp_words.proofs.read.read_words.Goals as goal
 
--- words without fault give an order, which the subcommand would state
+-- words that are not refused give an order, which the subcommand would state
 pub returns-clause-refused : goal.returns-clause-refused
-returns-clause-refused c = λ e taken.
+returns-clause-refused c = λ e.
     let words : List Text = map string_bytes c.args.words.now in
     let same : subcommand_rows_of c.in-Ok.matches ≡ subcommand_of command_line words =
     (c.in-Ok.ensures.matches (ap is_simple c.in_ok-command.ensures ∙ line_is_simple)).1
     ∙ ap (λ (a : App). subcommand_of a words) c.in_ok-command.ensures in
-    let gives = taken_gives words taken in
-    c.stated_order.ensures.refused e gives.0 (subst (λ (met : Option (Text × List Row)). IsStated met gives.0) (sym same) gives.1)
+    refused_words words
+    (λ order stated. c.stated_order.ensures.refused e order (subst (λ (met : Option (Text × List Row)). IsStated met order) (sym same) stated))
 
 pub returns-clause-range : goal.returns-clause-range
 returns-clause-range c = in_range_if_ok (subcommand_rows_of c.in-Ok.matches) c.stated_order.result c.stated_order.ensures.order
+
+-- and an error of the words refuses them
+pub returns-in-Err-clause-refused : goal.returns-in-Err-clause-refused
+returns-in-Err-clause-refused c = λ e.
+    error_refused _ (map string_bytes c.args.words.now) c.in-Err.error c.kind.result c.fault_of_kind.result c.in_ok-command.ensures c.in-Err.ensures.kinds c.kind.ensures c.fault_of_kind.ensures.refused e

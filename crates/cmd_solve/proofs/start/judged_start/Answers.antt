@@ -7,5 +7,5 @@ loaded_start-requires-clause-valid c =
 
 pub returns-in_ok-check_text-in-Rejected-clause-start : goal.returns-in_ok-check_text-in-Rejected-clause-start
 returns-in_ok-check_text-in-Rejected-clause-start c = λ text spelled.
-    start_rejected c.args.b.now c.args.cert.now c.in_ok-judged.judged c.in-Rejected.line c.in-Rejected.kind _ text c.in-Rejected.is
+    start_rejected c.args.b.now c.args.leaf c.args.cert.now c.in_ok-judged.judged c.in-Rejected.line c.in-Rejected.kind _ text c.in-Rejected.is
     c.in_ok-judged.ensures.judged c.in_ok-check_text-in-Rejected.ensures spelled

@@ -1,0 +1,19 @@
+use Rattle.std.proofs.Common.{◌-◌, ◌≤◌}
+use Rattle.bp_theory.specs.Trees.{steps}
+use Rattle.search_laws.specs.Grove.{certificate_tree}
+use Rattle.column_hint.specs.Pools.{AreMadeFor}
+use Rattle.bp_search.specs.Searches.{IsRunning}
+use Rattle.bp_search.specs.Below.{IsAsBeside}
+use Rattle.bp_search.proofs.below.take_steps_below.Given as goal
+
+abbrev pub invariant-loop-alloc : goal.invariant-loop-alloc
+invariant-loop-alloc l = record {
+  running : IsRunning l.b l.grove l.best;
+  more : steps (certificate_tree l.initial.grove.tree) ≤ steps (certificate_tree l.grove.tree);
+  few : steps (certificate_tree l.grove.tree) ≤ l.last;
+  beside : IsAsBeside l.below l.initial.grove.tree l.grove.tree;
+  made_for : AreMadeFor l.b l.pools;
+}
+
+abbrev pub decreases-loop-alloc : goal.decreases-loop-alloc
+decreases-loop-alloc l = l.last - steps (certificate_tree l.grove.tree)

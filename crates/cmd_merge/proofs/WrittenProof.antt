@@ -1,0 +1,75 @@
+-- The merged certificate of two loaded trees.
+use Rattle.std.proofs.Common.{◌≡◌, refl, sym, ap, subst, ◌∙◌, ℕ, ◌+◌, ◌<◌, ◌^◌, List, Option, Some, None, arith}
+use Rattle.std.proofs.Math.IntN.{ℤ}
+use Rattle.bp_theory.specs.Trees.{steps}
+use Rattle.block_form.specs.Blocked.{BlockedProgram, IsFormed}
+use Rattle.search_laws.specs.Grove.{GrowingTree, certificate_tree}
+use Rattle.search_laws.specs.GroveFacts.{IsSearch}
+use Rattle.branch_tree.specs.Groves.{GroveState}
+use Rattle.branch_tree.specs.Adopted.{point_in, IsSearchState}
+use Rattle.branch_tree.specs.declared.loaded.Loaded.{Loaded}
+use Rattle.branch_tree.specs.declared.outcome.Outcome.{Outcome}
+use Rattle.tree_merge.specs.Merges.{IsMergedOf}
+use Rattle.bp_search.specs.Ends.{EndsWithin, HasStopped, grove_in, point_of}
+use Rattle.bp_search.specs.Searches.{kept_point, as_pair, HasItsCost, IsRunning}
+use Rattle.bp_search.specs.declared.kept.Kept.{Kept}
+use Rattle.bp_theory.specs.Program.{Program, cost}
+use Rattle.cert_text.specs.Text.{One}
+use Rattle.cert_text.specs.Fault.{IsText}
+use Rattle.cert_text.specs.Written.{cert_of}
+use Rattle.cert_text.specs.Programs.{frame_for}
+use Rattle.bp_report.specs.Report.{merged_report}
+use Rattle.cmd_solve.specs.Solves.{outcome_certificate}
+use Rattle.cmd_solve.proofs.Writable.{outcome_certified}
+use Rattle.cmd_merge.specs.Opens.{IsOpened}
+use Rattle.cmd_merge.specs.Merges.{AnswersBoth, answer_of}
+use Rattle.cmd_merge.specs.declared.written.Merged.{Merged}
+use Rattle.cmd_merge.proofs.ClaimProof.{merged_claim}
+
+-- a kept point is that of the pair that it is kept of
+kept_is : (best : Option (List ℤ × ℤ)) (kept : Option Kept) → as_pair kept ≡ best → kept_point kept ≡ point_in best
+kept_is best None is = ap point_in is
+kept_is best (Some k) is = ap point_in is
+
+kept_costs : (p : Program) (kept : Option Kept) (best : Option (List ℤ × ℤ)) → as_pair kept ≡ best → (b : BlockedProgram) (g : GroveState) → b.named.program ≡ p → IsSearchState b g best
+    → HasItsCost p kept
+kept_costs p None best is b g same state = tt
+kept_costs p (Some k) best is b g same state =
+    let here : IsSearchState b g (Some (k.point, k.cost)) = subst (λ (o : Option (List ℤ × ℤ)). IsSearchState b g o) (sym is) state in
+    here.costs ∙ ap (λ (q : Program). cost q k.point) same
+
+-- a search may be concluded that has a loaded tree
+pub running : (b : BlockedProgram) (g : GroveState) (best : Option (List ℤ × ℤ)) (kept : Option Kept) → IsSearchState b g best → as_pair kept ≡ best → IsRunning b g kept
+running b g best kept state is = record {
+  standing = state.standing;
+  root = state.root;
+  search = subst (λ (x : Option (List ℤ)). IsSearch b.named.program b.blocking g.tree x) (sym (kept_is best kept is)) state.search;
+  costs = kept_costs b.named.program kept best is b g refl state;
+}
+
+-- it ends within its own steps
+pub own_steps : (t : GrowingTree) → HasStopped (steps (certificate_tree t)) t
+own_steps t = record { few = omega arith; spent = λ some. refl }
+
+pub few_together : (m n : ℕ) → m < 2 ^ 61 → n < 2 ^ 61 → m + n < 2 ^ 62
+few_together m n h g = omega (arith, h, g)
+
+pub both_answered : (b : BlockedProgram) (text more : List ℕ) (first second from : Loaded) (kept : Option Kept) (o : Outcome) (m : Merged) → IsFormed b → (one : IsOpened b text first)
+    → (other : IsOpened b more second) → IsMergedOf first second from → as_pair kept ≡ from.best
+    → ((most : ℕ) → HasStopped most from.grove.tree → EndsWithin b most o) → grove_in o ≡ from.grove → point_of o ≡ kept_point kept
+    → IsText (frame_for b) One (cert_of (outcome_certificate b.named.program o)) m.text.items → m.reply.report.items ≡ merged_report b.named.program.maximises o → m.reply.status ≡ 0
+    → AnswersBoth b one.cert other.cert first second (answer_of m)
+both_answered b text more first second from kept o m formed one other is kept_of ended grove point spelled told done =
+    let t : GrowingTree = from.grove.tree in
+    let ends : EndsWithin b (steps (certificate_tree t)) o = ended (steps (certificate_tree t)) (own_steps t) in
+    record {
+      from = from;
+      merged = is;
+      outcome = o;
+      grove = grove;
+      ended = ends;
+      claim = merged_claim b (steps (certificate_tree t)) text more first second from o formed one other is ends grove (point ∙ kept_is from.best kept kept_of);
+      text = m.text.items;
+      spelled = record { spelled = spelled; valid = outcome_certified b (steps (certificate_tree t)) o ends };
+      is = rw (done, told) refl;
+    }

@@ -1,0 +1,32 @@
+use Rattle.std.proofs.Common.{sym, subst, Bool, IsTrue}
+use Rattle.bp_shelf.specs.Shelf.{Files}
+use Rattle.cmd_merge.specs.Opens.{IsOpenedFile, RefusesFile}
+use Rattle.cmd_merge.specs.Merges.{MergesBlocked, first, second}
+use Rattle.cmd_merge.specs.Stops.{IsStop}
+use Rattle.cmd_merge.proofs.StopProof.{stop_is, both_merged}
+use Rattle.cmd_merge.proofs.merge_files.Goals as goal
+
+pub returns-in_err-one-clause-stopped : goal.returns-in_err-one-clause-stopped
+returns-in_err-one-clause-stopped g c = λ told.
+    let files = g.F.Shelf.file c.args.shelf.now in
+    stop_is (RefusesFile files c.args.b.now c.args.first.now) (MergesBlocked files c.args.b.now c.args.first.now c.args.second.now) c.in_err-one.field-0.0 c.from_residual.result
+    (λ a h. first a h) c.from_residual.ensures.1 (c.in_err-one.ensures.stopped told)
+
+pub returns-in_err-other-clause-stopped : goal.returns-in_err-other-clause-stopped
+returns-in_err-other-clause-stopped g c = λ told.
+    let files = g.F.Shelf.file c.args.shelf.now in
+    let still : IsTrue (g.F.Shelf.tells c.open_cert.new.shelf) = subst (λ (t : Bool). IsTrue t) (sym c.in_ok-one.ensures.told) told in
+    let x = c.in_ok-one.ensures.opened told in
+    stop_is (RefusesFile files c.args.b.now c.args.second.now) (MergesBlocked files c.args.b.now c.args.first.now c.args.second.now) c.in_err-other.field-0.0 c.from_residual-in_err-other.result
+    (λ a h. second x.text c.in_ok-one.one a x.there x.opened h) c.from_residual-in_err-other.ensures.1
+    (subst (λ (fs : Files). IsStop (RefusesFile fs c.args.b.now c.args.second.now) c.in_err-other.field-0.0) c.in_ok-one.ensures.files (c.in_err-other.ensures.stopped still))
+
+pub returns-clause-merged : goal.returns-clause-merged
+returns-clause-merged g c = λ told.
+    let files = g.F.Shelf.file c.args.shelf.now in
+    let still : IsTrue (g.F.Shelf.tells c.open_cert.new.shelf) = subst (λ (t : Bool). IsTrue t) (sym c.in_ok-one.ensures.told) told in
+    let x : IsOpenedFile files c.args.b.now c.args.first.now c.in_ok-one.one = c.in_ok-one.ensures.opened told in
+    let y : IsOpenedFile files c.args.b.now c.args.second.now c.in_ok-other.other =
+    subst (λ (fs : Files). IsOpenedFile fs c.args.b.now c.args.second.now c.in_ok-other.other) c.in_ok-one.ensures.files (c.in_ok-other.ensures.opened still) in
+    both_merged files c.args.b.now c.args.first.now c.args.second.now c.in_ok-one.one c.in_ok-other.other c.in_ok-written.field-0 x y
+    (c.in_ok-written.ensures.merged x.text y.text x.opened y.opened)

@@ -1,0 +1,24 @@
+use Rattle.std.proofs.Common.{refl}
+use Rattle.cmd_solve.proofs.Writable.{writable}
+use Rattle.bp_theory.specs.Trees.{steps}
+use Rattle.search_laws.specs.Grove.{certificate_tree}
+use Rattle.cmd_merge.proofs.WrittenProof.{running, own_steps, few_together, both_answered}
+use Rattle.cmd_merge.proofs.written.written.Goals as goal
+
+pub merge-requires-clause-few : goal.merge-requires-clause-few
+merge-requires-clause-few c = few_together _ _ c.requires.first.few c.requires.second.few
+
+pub conclude-outcome-requires : goal.conclude-outcome-requires
+conclude-outcome-requires c = running c.args.b.now c.in_ok-from.from.grove c.in_ok-from.from.best c.kept_from.result c.in_ok-from.ensures.loaded c.kept_from.ensures
+
+pub write_cert-requires : goal.write_cert-requires
+write_cert-requires c =
+    writable c.args.b.now c.blocks-2.ensures.formed (steps (certificate_tree c.in_ok-from.from.grove.tree)) c.conclude-outcome.result
+    (c.conclude-outcome.ensures.ends (steps (certificate_tree c.in_ok-from.from.grove.tree)) (own_steps c.in_ok-from.from.grove.tree))
+
+pub returns-clause-merged : goal.returns-clause-merged
+returns-clause-merged c = λ text more one other.
+    both_answered c.args.b.now text more c.args.first c.args.second c.in_ok-from.from c.kept_from.result c.conclude-outcome.result
+    (record { text = c.in_ok-text.text; reply = record { status = 0; report = c.in_ok-report.report } }) c.blocks-2.ensures.formed one other
+    c.in_ok-from.ensures.merged c.kept_from.ensures c.conclude-outcome.ensures.ends c.conclude-outcome.ensures.grove c.conclude-outcome.ensures.point
+    c.in_ok-text.ensures c.in_ok-report.ensures refl

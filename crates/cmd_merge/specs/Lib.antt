@@ -1,0 +1,5 @@
+pub mod Claims
+pub mod Opens
+pub mod Merges
+pub mod Stops
+pub mod Files

@@ -1,0 +1,44 @@
+// Two loaded trees merged, and the text and the report of the certificate.
+ghost use Rattle.std.specs.Prelude.{◌≡◌, ℕ, List, IfOk};
+ghost use Rattle.cmd_merge.specs.Merges.{AnswersBoth, answer_of};
+ghost use Rattle.cmd_merge.specs.Opens.{IsOpened, CanMerge};
+
+use block_form::Blocked;
+use bp_front::Reply;
+use bp_report::merged_text;
+use bp_search::{conclude, kept_from};
+use branch_tree::Loaded;
+use cert_text::write_cert;
+use std::alloc::{AllocError, Global};
+
+/// The text of a merged certificate, and the report on it.
+#[derive(Drop)]
+pub struct Merged {
+    pub text: Vec<u8>,
+    pub reply: Reply,
+}
+
+/// The merged certificate of two loaded trees.
+pub fn written(
+    alloc: Global,
+    b: &Blocked,
+    first: Loaded,
+    second: Loaded,
+) -> Result<Merged, AllocError>
+    requires first { CanMerge b.now first }
+    requires second { CanMerge b.now second }
+    ensures merged { IfOk result (λ m. (text more : List ℕ) → (one : IsOpened b.now text first) → (other : IsOpened b.now more second)
+        → AnswersBoth b.now one.cert other.cert first second (answer_of m)) }
+    ensures done { IfOk result (λ m. m.reply.status ≡ 0) }
+{
+    let _ = b.blocks();
+    let from = tree_merge::merge(alloc, b, first, second)?;
+    let Loaded { grove, best } = from;
+    let outcome = conclude(b, grove, kept_from(best));
+    let text = write_cert(alloc, b, &outcome)?;
+    let report = merged_text(alloc, b, &outcome)?;
+    Ok(Merged {
+        text,
+        reply: Reply { status: 0, report },
+    })
+}

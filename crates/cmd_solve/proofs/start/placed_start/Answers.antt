@@ -1,0 +1,28 @@
+use Rattle.std.proofs.Common.{◌≡◌, ◌∙◌, refl, sym, ap, subst, ℕ, List, Option, Some, None}
+use Rattle.bp_theory.specs.Trees.{Tree}
+use Rattle.search_laws.specs.declared.Side.{Side}
+use Rattle.cert_text.specs.Kept.{certificate_of}
+use Rattle.cert_text.specs.Sketch.{tree_of}
+use Rattle.cmd_solve.specs.Leaves.{open_path, IsWorkedOn}
+use Rattle.cmd_solve.specs.Starts.{RefusesStart}
+use Rattle.cmd_solve.proofs.Starting.{start_ready, start_without}
+use Rattle.cmd_solve.proofs.start.placed_start.Goals as goal
+
+-- a path that was sought and found is where a search works
+worked_at : (tree sought : Tree) (leaf : Option ℕ) (number : ℕ) (below : Option (List Side)) (path : List Side) → leaf ≡ Some number → sought ≡ tree
+    → below ≡ open_path sought number → below ≡ Some path → IsWorkedOn tree leaf (Some path)
+worked_at tree sought leaf number below path is same found some =
+    subst (λ (l : Option ℕ). IsWorkedOn tree l (Some path)) (sym is) (path, refl, ap (λ t. open_path t number) (sym same) ∙ sym found ∙ some)
+
+pub returns-in-Some-2-clause-start : goal.returns-in-Some-2-clause-start
+returns-in-Some-2-clause-start c =
+    start_ready c.args.b.now c.args.leaf c.args.cert.now c.args.from (Some c.in-Some-2.path) c.requires.valid c.requires.loaded
+    (worked_at (certificate_of c.args.cert.now).tree (tree_of c.tree.result.now) c.args.leaf c.in-Some.number c.in_ok-path-in-Some.field-0 c.in-Some-2.path
+    c.in-Some.is c.tree.ensures c.in_ok-path-in-Some.ensures c.in-Some-2.is)
+
+pub returns-in_ok-leaf_text-in-None-2-clause-start : goal.returns-in_ok-leaf_text-in-None-2-clause-start
+returns-in_ok-leaf_text-in-None-2-clause-start c = λ text spelled.
+    subst (λ (l : Option ℕ). RefusesStart c.args.b.now l text 3 c.in_ok-leaf_text-in-None-2.field-0.items) (sym c.in-Some.is)
+    (start_without c.args.b.now c.in-Some.number c.args.cert.now c.args.from c.in_ok-leaf_text-in-None-2.field-0.items text c.requires.valid c.requires.loaded
+    (ap (λ t. open_path t c.in-Some.number) (sym c.tree.ensures) ∙ sym c.in_ok-path-in-Some.ensures ∙ c.in-None-2.is)
+    c.in_ok-leaf_text-in-None-2.ensures spelled)

@@ -1,0 +1,7 @@
+pub mod TestFacts
+pub mod KeepProof
+pub mod NodeProof
+pub mod LostProof
+pub mod BoundProof
+pub mod CountProof
+pub mod LoadedProof

@@ -1,0 +1,4 @@
+pub mod Merging
+pub mod Opens
+pub mod Laws
+pub mod Merges

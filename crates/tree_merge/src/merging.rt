@@ -1,0 +1,75 @@
+// Two loaded trees made into one.
+ghost use Rattle.std.specs.Prelude.{◌≡◌, ◌+◌, ◌<◌, ◌^◌, IfOk};
+ghost use Rattle.search_laws.specs.Verdicts.{cheaper_cost};
+ghost use Rattle.branch_tree.specs.Groves.{made};
+ghost use Rattle.branch_tree.specs.Loads.{IsLoaded};
+ghost use Rattle.tree_merge.specs.Merges.{cost_in, cheaper_of, IsMergedOf};
+
+use crate::nodes::{join, less_of};
+use block_form::Blocked;
+use bp_theory::Items;
+use branch_tree::{Grove, Loaded};
+use std::alloc::{AllocError, Global};
+
+/// The two trees made into one, with the cheaper of their best points, the first's of equals. A shut leaf of either stands; a
+/// live leaf gives way to what the other tree has there, whose live leaves of less bound take its proof and bound; equal splits
+/// are merged part by part, and where the trees split a node differently the part of greater least bound stays whole. A live
+/// leaf whose bound is no less than the cheaper point's cost is shut. A search may go on from what is made.
+pub fn merge(
+    alloc: Global,
+    b: &Blocked,
+    first: Loaded,
+    second: Loaded,
+) -> Result<Loaded, AllocError>
+    requires first { IsLoaded b.now first }
+    requires second { IsLoaded b.now second }
+    requires few { made first.grove.tree + made second.grove.tree < 2 ^ 62 }
+    ensures merged { IfOk result (IsMergedOf first second) }
+    ensures loaded { IfOk result (IsLoaded b.now) }
+{
+    let _ = b.blocks();
+    let Loaded { grove: left, best } = first;
+    let Loaded {
+        grove: right,
+        best: other,
+    } = second;
+    let cost = less_of(&cost_in(&best), &cost_in(&other));
+    let tree = join(alloc, &cost, left.tree(), right.tree())?;
+    let grove = Grove::adopt(alloc, b, Box::into_inner(tree))?;
+    Ok(Loaded {
+        grove,
+        best: cheaper_of(best, other),
+    })
+}
+
+// The cost of a best point, where there is one.
+fn cost_in(best: &Option<(Items<i64>, i64)>) -> Option<i64>
+    ensures { result ≡ cost_in best.now }
+{
+    match best {
+        None => None,
+        Some(best) => Some(best.1),
+    }
+}
+
+// The cheaper of two best points, the first of equal ones.
+fn cheaper_of(
+    best: Option<(Items<i64>, i64)>,
+    other: Option<(Items<i64>, i64)>,
+) -> Option<(Items<i64>, i64)>
+    ensures { result ≡ cheaper_of best other }
+{
+    match best {
+        None => other,
+        Some(known) => match other {
+            None => Some(known),
+            Some(found) => {
+                if found.1 < known.1 {
+                    Some(found)
+                } else {
+                    Some(known)
+                }
+            }
+        },
+    }
+}
