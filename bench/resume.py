@@ -4,7 +4,8 @@ hundreds of steps: at once, and again stopped after each 50 steps. The certifica
 as many the stopped search took, how often it stopped, and seconds of both. It ends with status 1 where an answer or a check is wrong, or
 a search that was stopped took more than 1.3 times the steps.
 
-    bench/resume.py [SECONDS [STEPS]]      SECONDS: how long a call may take (60 where no number is given); STEPS: after how many to stop
+    bench/resume.py [SECONDS [STEPS [NAME..]]]   SECONDS: how long a call may take (60 where no number is given); STEPS: after how many to stop;
+                                                NAME: only models whose names begin so, `plain` among them
     BPRICE=program bench/resume.py
 """
 import os
@@ -14,14 +15,20 @@ import time
 
 sys.dont_write_bytecode = True
 sys.path.insert(0, os.path.dirname(os.path.realpath(__file__)))
+from models import SIZES  # noqa: E402
 from solve import BPRICE, models, run  # noqa: E402
 
-STEPS = int(sys.argv[2]) if len(sys.argv) > 2 else 50
+NUMBERS, NAMES = ([word for word in sys.argv[1:] if word.isdigit() == is_number] for is_number in (True, False))
+STEPS = int(NUMBERS[1]) if len(NUMBERS) > 1 else 50
 MOST = 1.3
 
 
 # Seeds and sizes of generated models that are solved without their decompositions.
 PLAIN = ((1, 6), (2, 7), (5, 6), (3, 12), (5, 8))
+
+
+def is_asked(name):
+    return not NAMES or any(name.startswith(begin) for begin in NAMES)
 
 
 def first(told):
@@ -60,6 +67,9 @@ def line(room, name, is_plain):
     if whole is None:
         print(f"| {name} | takes too long |", flush=True)
         return True
+    if not os.path.exists(once):
+        print(f"| {name} | {first(whole)} |", flush=True)
+        return first(whole).startswith("refused")
     begin = time.monotonic()
     answer, stops, wrong = stopped(lp, dec, parts)
     spent = time.monotonic() - begin
@@ -76,9 +86,11 @@ def line(room, name, is_plain):
 def main():
     print("| Model | Answer | Steps | In parts | Times | Stops | Seconds | In parts | |\n|---|---|---|---|---|---|---|---|---|", flush=True)
     with tempfile.TemporaryDirectory() as room:
-        right = [line(room, name, False) for name in models(room)]
+        right = [line(room, name, False) for name in models(room, [name for name in SIZES if is_asked(name)])]
         for seed, size in PLAIN:
             name = f"plain-{seed}-{size}"
+            if not is_asked(name):
+                continue
             run([BPRICE, "gen", str(seed), str(size), f"{room}/{name}.lp", f"{room}/{name}.dec"])
             right.append(line(room, name, True))
     sys.exit(0 if all(right) else 1)
