@@ -18,6 +18,7 @@ for pair in pytest:python3-pytest pulp:python3-pulp matplotlib:python3-matplotli
     "$python" -c "import ${pair%%:*}" 2>/dev/null || missing+=("${pair#*:}")
 done
 command -v dot >/dev/null || missing+=(graphviz)
+command -v parallel >/dev/null || missing+=(parallel)
 
 if [ "${#missing[@]}" -gt 0 ]; then
     if [ "$(id -u)" -eq 0 ] && command -v apt-get >/dev/null; then

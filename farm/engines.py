@@ -1,0 +1,194 @@
+"""The engines that run the processes of a farm: GNU parallel, here or over ssh, and Slurm. Each takes jobs and tells which of them have
+ended, well or not: whether one has done its work its new certificate tells. Everything is run in the farm's folder, and all names in
+jobs are of files there."""
+import getpass
+import pathlib
+import re
+import subprocess
+import time
+from typing import NamedTuple
+
+
+class Job(NamedTuple):
+    """Leaves that are handed out: the certificate to start from, their numbers, as in `9,4,2`, the steps, and the certificate to write."""
+
+    start: str
+    leaves: str
+    steps: int
+    new: str
+
+
+class Ended(NamedTuple):
+    """A job whose process has ended, and how long that took, where this is known."""
+
+    job: Job
+    seconds: float | None
+
+
+class EngineFault(Exception):
+    """The engine itself can't be run."""
+
+
+IDLE = Job("model.lp", "0", 0, "none")  # a job that does nothing
+
+
+class Parallel:
+    """One process of GNU parallel, which reads a line for each job and runs as many at a time as there are workers. It looks at its processes
+    only when a line comes in or while all its slots are taken, and runs none before it has a line for each slot; so lines of idle jobs are
+    sent where those of real ones do not suffice."""
+
+    AHEAD = 200  # at most so many jobs wait, and no more than are worked on: parallel reads lines as it needs them, from a pipe
+    SHORTEST, LONGEST = 0.5, 60.0  # seconds of a job
+    PULSE = 0.5  # seconds from one idle line to the next
+
+    def __init__(self, folder, workers, hosts, is_dry):
+        self.folder, self.workers, self.hosts, self.is_dry = folder, workers, hosts, is_dry
+        self.child, self.sent, self.count, self.pulse, self.place, self.has_logged = None, {}, 0, 0.0, 0, False
+        self.log, self.errors = folder / "logs" / "jobs", folder / "logs" / "parallel"
+
+    def command(self):
+        words = ["parallel", "--will-cite", "--ungroup", "--colsep", "\t", "--joblog", str(self.log)]
+        if self.hosts:
+            base = [word for name in ("bprice", "work", "model.lp", "model.dec") if (self.folder / name).exists() for word in ("--basefile", name)]
+            words += ["--sshlogin", ",".join(self.hosts), "--workdir", f".bprice-farm/{self.folder.name}", *base, "--transferfile", "{1}", "--return", "{4}", "--cleanup"]
+        else:
+            words += ["--jobs", str(self.workers)]
+        return [*words, "./work {1} {2} {3} {4}"]
+
+    def begin(self):
+        self.log.unlink(missing_ok=True)
+        with open(self.errors, "ab") as errors:
+            try:
+                self.child = subprocess.Popen(self.command(), cwd=self.folder, stdin=subprocess.PIPE, stdout=errors, stderr=errors, start_new_session=True)
+            except FileNotFoundError:
+                raise EngineFault("GNU parallel is not installed") from None
+        self.sent, self.count, self.place, self.has_logged = {}, 0, 0, False
+
+    def give(self, jobs):
+        if self.is_dry:
+            print("cd", self.folder, "&&", *(f"'{word}'" if re.search(r"[^\w/.,:@=-]", word) else word for word in self.command()), "<<END")
+            print(*("\t".join(map(str, job)) for job in jobs), "END", sep="\n")
+            return
+        if self.child is None:
+            self.begin()
+        self.send([*jobs, *[IDLE] * (self.workers - self.count - len(jobs))])
+
+    def send(self, jobs):
+        self.sent.update(enumerate(jobs, self.count + 1))
+        self.count += len(jobs)
+        self.pulse = time.monotonic()
+        try:
+            self.child.stdin.write("".join("\t".join(map(str, job)) + "\n" for job in jobs).encode())
+            self.child.stdin.flush()
+        except BrokenPipeError:
+            pass  # the next look at the child tells that it has ended
+
+    def ended(self):
+        """The jobs that have ended since the last call."""
+        if self.child is None:
+            return []
+        has_ended = self.child.poll() is not None
+        ends = [Ended(self.sent.pop(number), seconds) for number, seconds in self.logged()]
+        if has_ended:
+            if not self.has_logged:
+                raise EngineFault(f"GNU parallel ended with status {self.child.returncode} and has run no job: see {self.errors}")
+            ends += [Ended(job, None) for job in self.sent.values()]
+            self.stop()
+        elif len(self.sent) < self.workers and time.monotonic() - self.pulse > self.PULSE and any(job is not IDLE for job in self.sent.values()):
+            self.send([IDLE])
+        return [end for end in ends if end.job is not IDLE]
+
+    def logged(self):
+        """Of each line that parallel has added to its log: the number of the job and its seconds."""
+        if not self.log.exists():
+            return
+        with open(self.log, encoding="utf-8") as log:
+            log.seek(self.place)
+            lines = log.read()
+        lines = lines[:lines.rfind("\n") + 1]
+        self.place += len(lines.encode())
+        for line in lines.splitlines():
+            number, _, _, seconds = line.split("\t")[:4]
+            if number != "Seq":
+                self.has_logged = True
+                yield int(number), float(seconds)
+
+    def stop(self, is_done=False):
+        """Ends what runs. Where all is done, parallel first takes away what it has put on other machines."""
+        if self.child is None:
+            return
+        if not is_done:
+            self.child.terminate()
+        try:
+            self.child.communicate(timeout=30)
+        except subprocess.TimeoutExpired:
+            self.child.kill()
+            self.child.wait()
+        self.child = None
+
+
+class Slurm:
+    """Job arrays of Slurm, one for each time that leaves are handed out. The folder is one that all nodes share."""
+
+    AHEAD = 0  # none: what waits in Slurm's queue counts as worked on
+    SHORTEST, LONGEST = 30.0, 600.0
+    PULSE = 2.0  # seconds from one look at the queue to the next
+    LONGEST_ARRAY = 1000  # what Slurm takes in one array where nobody has said otherwise
+
+    def __init__(self, folder, workers, options, is_dry):
+        self.folder, self.workers, self.options, self.is_dry = folder, workers, options, is_dry
+        self.out, self.pulse = {}, 0.0
+        self.record = folder / "slurm"  # the arrays that may be in the queue
+        if self.record.exists() and not is_dry:
+            self.cancel(self.record.read_text(encoding="ascii").split())
+
+    def cancel(self, arrays):
+        if arrays:
+            subprocess.run(["scancel", *arrays], stdout=subprocess.DEVNULL, stderr=subprocess.DEVNULL, check=False)
+        self.record.unlink(missing_ok=True)
+
+    def give(self, jobs):
+        for first in range(0, len(jobs), self.LONGEST_ARRAY):
+            self.give_array(jobs[first:first + self.LONGEST_ARRAY])
+
+    def give_array(self, jobs):
+        names = pathlib.Path("lists", pathlib.Path(jobs[0].new).stem)
+        (self.folder / "lists").mkdir(exist_ok=True)
+        (self.folder / names).write_text("".join(" ".join(map(str, job)) + "\n" for job in jobs), encoding="ascii")
+        words = ["sbatch", "--parsable", "--job-name=bprice", f"--array=1-{len(jobs)}", f"--chdir={self.folder}",
+                 f"--output={self.folder}/logs/slurm-%A_%a", *self.options, "work", str(names)]
+        if self.is_dry:
+            print("cd", self.folder, "&&", *words)
+            print(f"# {names}:", *(self.folder / names).read_text(encoding="ascii").splitlines(), sep="\n# ")
+            return
+        try:
+            ran = subprocess.run(words, cwd=self.folder, capture_output=True, text=True, check=False)
+        except FileNotFoundError:
+            raise EngineFault("Slurm's sbatch is not installed") from None
+        if ran.returncode != 0:
+            raise EngineFault(f"sbatch ended with status {ran.returncode}: {ran.stderr.strip()}")
+        array = ran.stdout.strip().split(";")[0]
+        self.out.update({f"{array}_{number}": job for number, job in enumerate(jobs, 1)})
+        with open(self.record, "a", encoding="ascii") as record:
+            print(array, file=record)
+
+    def ended(self):
+        """The jobs that Slurm no longer has in its queue. Where it can't be asked, none."""
+        if not self.out or time.monotonic() - self.pulse < self.PULSE:
+            return []
+        self.pulse = time.monotonic()
+        ran = subprocess.run(["squeue", "--noheader", "--array", f"--user={getpass.getuser()}", "--format=%i"], capture_output=True, text=True, check=False)
+        if ran.returncode != 0:
+            return []
+        queued = set(ran.stdout.split())
+        return [Ended(self.out.pop(task), None) for task in list(self.out) if task not in queued]
+
+    def stop(self, is_done=False):
+        """Takes out of the queue what is in it."""
+        if not self.is_dry:
+            self.cancel([] if is_done else sorted({task.split("_")[0] for task in self.out}))
+
+
+def engine(name, folder, workers, hosts, options, is_dry):
+    folder = pathlib.Path(folder)
+    return Parallel(folder, workers, hosts, is_dry) if name == "parallel" else Slurm(folder, workers, options, is_dry)

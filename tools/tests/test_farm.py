@@ -1,0 +1,169 @@
+"""Tests of farm/run: one tree by several processes of this machine, that die, are ended, or bring back what is no certificate."""
+import os
+import re
+import shutil
+import signal
+import subprocess
+import sys
+import time
+
+import pytest
+
+from conftest import PROGRAM, TOP, load_tool, run
+
+RUN = TOP / "farm" / "run"
+CHECKER = load_tool(TOP / "tools" / "check_certificate.py")
+CREWS = load_tool(TOP / "bench" / "crews.py")
+pytestmark = pytest.mark.skipif(shutil.which("parallel") is None, reason="GNU parallel is not installed, which runs the farm's processes (Debian: parallel)")
+
+
+def drawn(folder, seed):
+    """A small model of a seed with its decomposition, which takes some hundred steps."""
+    lp, dec = folder / f"{seed}.lp", folder / f"{seed}.dec"
+    for name, text in zip((lp, dec), CREWS.Model(CREWS.Draws(seed)).texts()):
+        name.write_text(text, encoding="ascii")
+    return lp, dec
+
+
+@pytest.fixture(name="plan")
+def generated(tmp_path):
+    """Such a model, and the first line that `solve` must print of it."""
+    return drawn(tmp_path, 3)[0], "optimal 12"
+
+
+def words(*given, program=PROGRAM, steps=30):
+    return [sys.executable, RUN, *map(str, given), "--workers", "2", "--steps", str(steps), "--bprice", str(program)]
+
+
+def farm(*given, **options):
+    """What the farm prints, its status, and what it tells on standard error."""
+    ran = subprocess.run(words(*given, **options), capture_output=True, text=True, check=False, timeout=60)
+    return ran.stdout, ran.returncode, ran.stderr
+
+
+def accepted(folder, lp, dec=None):
+    """What both checkers say of the tree in a folder."""
+    cert = folder / "tree.cert"
+    told, status = run("check", lp, cert, *(["--dec", dec] if dec else []))
+    assert status == 0, told
+    assert CHECKER.check(lp.read_bytes(), cert.read_bytes(), dec.read_bytes() if dec else None) == told.strip()
+    return told.removeprefix("accepted ").strip()
+
+
+def worked(folder):
+    """How many certificates of workers were merged."""
+    return (folder / "log").read_text().count(" merged ")
+
+
+def stand_in(tmp_path, text):
+    """A program that does something else with leaves than the real one; `turn` is 0 at each third of them."""
+    program = tmp_path / "program"
+    program.write_text("""#!/usr/bin/env bash
+leaf=0
+if [[ " $* " == *" --leaf "* ]]; then
+    leaf=1
+    echo >>"$0.leaves"
+    turn=$(($(wc -l <"$0.leaves") % 3))
+fi
+""" + text.replace("PROGRAM", str(PROGRAM)))
+    program.chmod(0o755)
+    return program
+
+
+def test_two_workers_find_what_one_search_finds(plan, tmp_path):
+    lp, first = plan
+    told, status, _ = farm(lp, tmp_path / "dir")
+    assert (told.split("\n", 1)[0], status) == (first, 0)
+    assert accepted(tmp_path / "dir", lp) == first
+    assert worked(tmp_path / "dir") >= 2
+
+
+@pytest.mark.parametrize("seed, first, status", [(3, "optimal 12", 0), (112, "infeasible", 4)])
+def test_with_a_decomposition(tmp_path, seed, first, status):
+    lp, dec = drawn(tmp_path, seed)
+    told = farm(lp, dec, tmp_path / "dir")
+    assert (told[0].split("\n", 1)[0], told[1]) == (first, status)
+    assert accepted(tmp_path / "dir", lp, dec) == first
+    assert worked(tmp_path / "dir") >= 2
+
+
+def test_no_point(tmp_path):
+    lp, _ = drawn(tmp_path, 112)
+    assert farm(lp, "-", tmp_path / "dir")[:2] == ("infeasible\n", 4)
+    assert accepted(tmp_path / "dir", lp) == "infeasible"
+    assert worked(tmp_path / "dir") >= 2
+
+
+def test_workers_that_die_cost_their_steps_alone(plan, tmp_path):
+    lp, first = plan
+    dies = stand_in(tmp_path, 'if [ $leaf = 1 ] && [ $turn = 0 ]; then kill -9 $$; fi\nexec PROGRAM "$@"\n')
+    told, status, noise = farm(lp, tmp_path / "dir", program=dies)
+    assert (told.split("\n", 1)[0], status) == (first, 0), noise
+    assert accepted(tmp_path / "dir", lp) == first
+    assert (tmp_path / "dir" / "bprice.leaves").read_text().count("\n") >= 3
+
+
+def test_what_is_no_certificate_is_put_aside(plan, tmp_path):
+    lp, first = plan
+    lies = stand_in(tmp_path, 'if [ $leaf = 1 ] && [ $turn = 0 ]; then PROGRAM "$@"; for last; do :; done; sed -i "s/^claim.*/claim optimal 1/" "$last"; exit 0; fi\nexec PROGRAM "$@"\n')
+    told, status, noise = farm(lp, tmp_path / "dir", program=lies)
+    assert (told.split("\n", 1)[0], status) == (first, 0), noise
+    assert accepted(tmp_path / "dir", lp) == first
+    assert os.listdir(tmp_path / "dir" / "refused")
+
+
+def test_it_ends_where_all_workers_die(plan, tmp_path):
+    dies = stand_in(tmp_path, 'if [ $leaf = 1 ]; then exit 9; fi\nexec PROGRAM "$@"\n')
+    told, status, noise = farm(plan[0], tmp_path / "dir", program=dies)
+    assert (told, status) == ("", 1)
+    assert "come to nothing" in noise
+    assert accepted(tmp_path / "dir", plan[0]).startswith("bound")
+
+
+def test_the_time_is_over_and_it_goes_on(plan, tmp_path):
+    lp, first = plan
+    slow = stand_in(tmp_path, 'if [ $leaf = 1 ]; then sleep 0.5; fi\nexec PROGRAM "$@"\n')
+    told, status, _ = farm(lp, tmp_path / "dir", "--time", 1.5, program=slow)
+    assert status == 5
+    claim = accepted(tmp_path / "dir", lp)
+    assert claim.startswith("bound") and told.split("\n")[1] in claim
+    told, status, _ = farm(lp, tmp_path / "dir")
+    assert (told.split("\n", 1)[0], status) == (first, 0)
+    assert accepted(tmp_path / "dir", lp) == first
+
+
+@pytest.mark.parametrize("seconds", [0.5, 1.0])
+def test_a_driver_that_is_killed_is_taken_up_again(plan, tmp_path, seconds):
+    lp, first = plan
+    slow = stand_in(tmp_path, 'if [ $leaf = 1 ]; then sleep 0.2; fi\nexec PROGRAM "$@"\n')
+    with subprocess.Popen(words(lp, tmp_path / "dir", program=slow), stdout=subprocess.DEVNULL, stderr=subprocess.DEVNULL) as driver:
+        time.sleep(seconds)
+        driver.send_signal(signal.SIGKILL)
+    told, status, _ = farm(lp, tmp_path / "dir")
+    assert (told.split("\n", 1)[0], status) == (first, 0)
+    assert accepted(tmp_path / "dir", lp) == first
+
+
+def test_a_folder_is_for_one_model(plan, tmp_path):
+    lp, first = plan
+    assert farm(lp, tmp_path / "dir")[1] == 0
+    other, _ = drawn(tmp_path, 112)
+    told, status, noise = farm(other, tmp_path / "dir")
+    assert (told, status) == ("", 2) and "is another one" in noise
+    told, status, noise = farm(lp, lp.with_suffix(".dec"), tmp_path / "dir")
+    assert (told, status) == ("", 2) and "without a decomposition" in noise
+    assert accepted(tmp_path / "dir", lp) == first
+
+
+def test_texts_that_are_refused(tmp_path):
+    (tmp_path / "bad.lp").write_text("Minimize\nx\n")
+    assert farm(tmp_path / "bad.lp", tmp_path / "dir")[:2] == ("refused lp 3 no-end\n", 3)
+    assert farm(tmp_path / "gone.lp", tmp_path / "other")[:2] == ("", 11)
+
+
+def test_what_slurm_is_given(plan, tmp_path):
+    told, status, _ = farm(plan[0], tmp_path / "dir", "--engine", "slurm", "--sbatch=--partition=long", "--dry-run")
+    assert status == 0
+    assert re.search(r"sbatch --parsable .*--array=1-2 .*--partition=long work lists/", told)
+    assert len(re.findall(r"^# starts/\S+ \d+ 30 news/\S+\.cert$", told, flags=re.MULTILINE)) == 2
+    assert accepted(tmp_path / "dir", plan[0]).startswith("bound")
