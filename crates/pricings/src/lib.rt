@@ -1,12 +1,19 @@
 //! Tests of the pricers: tables, graphs of states and searches. They stand apart from the crates that they test, since a
-//! crate that has tests is proved twice.
+//! crate that has tests is proved twice. Their cases are entries of tables, and one function runs an entry, since tests are
+//! proved too.
 #![tactic(auto)]
 
 #[cfg(test)]
-mod graphs;
+mod ask;
 #[cfg(test)]
-mod knapsacks;
+mod drawn;
 #[cfg(test)]
-mod searches;
+mod known;
 #[cfg(test)]
-mod tables;
+mod packed;
+#[cfg(test)]
+mod problem;
+#[cfg(test)]
+mod small;
+#[cfg(test)]
+mod tried;

@@ -1,18 +1,19 @@
+// A knapsack with two limits, whose best filling a table gives.
+use crate::ask::{Found, Kind, ask};
+use crate::problem::{empty_lists, made};
 use block_form::Block;
 use bp_theory::{Items, Row, Sense, Span, Term};
-use pricing::{Cap, Priced, Pricer, is_form, is_priceable};
-use search_price::SearchPricer;
-use std::alloc::Global;
-use std::process::Abort;
+use pricing::{Cap, Priced};
+use std::alloc::{AllocError, Global};
 use std::test::Fail;
 
-/// How many items there are.
+// How many items there are.
 const ITEMS: u32 = 40;
 
-/// The greatest weight and the greatest volume.
+// The greatest weight and the greatest volume.
 const LIMITS: (i64, i64) = (170, 150);
 
-/// An item of a knapsack with two limits.
+// An item of a knapsack with two limits.
 #[derive(Clone, Copy)]
 struct Item {
     weight: i64,
@@ -20,7 +21,7 @@ struct Item {
     cost: i64,
 }
 
-/// The item of a number. Its cost is near to what it takes up, so that no item is far better than another.
+// The item of a number. Its cost is near to what it takes up, so that no item is far better than another.
 fn item_of(number: u32) -> Item {
     let k = i64::from(number);
     let weight = (k.wrapping_mul(29).wrapping_add(7) % 23).wrapping_add(5);
@@ -34,7 +35,7 @@ fn item_of(number: u32) -> Item {
     }
 }
 
-/// The row that keeps a sum of terms at most at a limit.
+// The row that keeps a sum of terms at most at a limit.
 fn at_most(terms: Items<Term>, limit: i64) -> Row {
     Row {
         sense: Sense::Le,
@@ -44,20 +45,12 @@ fn at_most(terms: Items<Term>, limit: i64) -> Row {
     }
 }
 
-/// The block of the items: a binary for each, and a row for each limit.
-fn knapsack(rt: &impl Abort, alloc: Global) -> Result<Block, Fail> {
-    let mut vars = Items::new(alloc);
-    let mut spans = Items::new(alloc);
-    let mut costs = Items::new(alloc);
-    let mut masters = Items::new(alloc);
+// The rows of both limits.
+fn limits(alloc: Global) -> Result<Items<Row>, AllocError> {
     let mut weights = Items::new(alloc);
     let mut volumes = Items::new(alloc);
     for number in 0..ITEMS {
         let item = item_of(number);
-        vars.push(number)?;
-        spans.push(Span { lo: 0, hi: 1 })?;
-        costs.push(item.cost)?;
-        masters.push(Items::new(alloc))?;
         weights.push(Term {
             var: number,
             coef: item.weight,
@@ -70,14 +63,28 @@ fn knapsack(rt: &impl Abort, alloc: Global) -> Result<Block, Fail> {
     let mut rows = Items::new(alloc);
     rows.push(at_most(weights, LIMITS.0))?;
     rows.push(at_most(volumes, LIMITS.1))?;
-    let many = ITEMS as usize;
-    assert!(rt;
-        vars.len() == many && spans.len() == many && costs.len() == many && masters.len() == many
-    );
-    Ok(Block::make(vars, spans, costs, masters, rows))
+    Ok(rows)
 }
 
-/// The number in a place of a table, 0 where there is none.
+// The block of the items: a binary for each, and a row for each limit.
+fn knapsack(alloc: Global) -> Result<Option<Block>, AllocError> {
+    let mut vars = Items::new(alloc);
+    let mut costs = Items::new(alloc);
+    for number in 0..ITEMS {
+        vars.push(number)?;
+        costs.push(item_of(number).cost)?;
+    }
+    let spans = Items::from_vec(binaries(alloc)?);
+    let masters = empty_lists(alloc, ITEMS as usize)?;
+    Ok(made(vars, spans, costs, masters, limits(alloc)?))
+}
+
+// The span of a binary for each item.
+fn binaries(alloc: Global) -> Result<Vec<Span>, AllocError> {
+    Vec::from_elem(alloc, Span { lo: 0, hi: 1 }, ITEMS as usize)
+}
+
+// The number in a place of a table, 0 where there is none.
 fn read(table: &[i64], place: i64) -> i64 {
     match usize::try_from(place) {
         Ok(index) => match table.get(index) {
@@ -88,7 +95,7 @@ fn read(table: &[i64], place: i64) -> i64 {
     }
 }
 
-/// Lowers the number in a place of a table.
+// Lowers the number in a place of a table.
 fn lower(table: &mut Vec<i64>, place: i64, number: i64) {
     if let Ok(index) = usize::try_from(place) {
         if index < table.len() && number < table[index] {
@@ -97,8 +104,8 @@ fn lower(table: &mut Vec<i64>, place: i64, number: i64) {
     }
 }
 
-/// The least cost within both limits, by a table of the least cost at each pair of limits.
-fn tabled(alloc: Global) -> Result<i64, Fail> {
+// The least cost within both limits, by a table of the least cost at each pair of limits.
+fn tabled(alloc: Global) -> Result<i64, AllocError> {
     let wide = LIMITS.1.wrapping_add(1);
     let cells = LIMITS.0.wrapping_add(1).wrapping_mul(wide);
     let mut table = Vec::new(alloc);
@@ -119,39 +126,38 @@ fn tabled(alloc: Global) -> Result<i64, Fail> {
     Ok(read(&table, cells.wrapping_sub(1)))
 }
 
-/// The answer for a block in a zone.
-fn priced(
-    rt: &impl Abort,
-    alloc: Global,
-    block: &Block,
-    zone: &[Span],
-    costs: &[i128],
-    cap: Cap,
-) -> Result<Priced, Fail> {
-    assert!(rt; is_form(block.rows(), block.spans()));
-    let mut pricer = SearchPricer::make(alloc, block)?;
-    assert!(rt; is_priceable(block.spans(), zone, costs));
-    Ok(pricer.price(block, zone, costs, cap))
-}
-
-/// The answer for the items under a cap.
-fn packed(rt: &impl Abort, alloc: Global, cap: Cap) -> Result<Priced, Fail> {
-    let block = knapsack(rt, alloc)?;
-    let zone = Vec::from_elem(alloc, Span { lo: 0, hi: 1 }, ITEMS as usize)?;
+// The answer of a search for the items under a cap.
+fn packed(alloc: Global, cap: u64) -> Result<Found, AllocError> {
+    let Some(block) = knapsack(alloc)? else {
+        return Ok(Found::Unfit);
+    };
+    let zone = binaries(alloc)?;
     let mut costs = Vec::new(alloc);
     for number in 0..ITEMS {
         costs.push(i128::from(item_of(number).cost))?;
     }
-    priced(rt, alloc, &block, zone.as_slice(), costs.as_slice(), cap)
+    ask(
+        alloc,
+        Kind::Search,
+        &block,
+        zone.as_slice(),
+        costs.as_slice(),
+        Cap::At(cap),
+    )
+}
+
+// Whether a search finds the table's least cost under a cap.
+fn is_least(alloc: Global, cap: u64) -> Result<bool, AllocError> {
+    let least = i128::from(tabled(alloc)?);
+    match packed(alloc, cap)? {
+        Found::Answer(Priced::Least(cost), _) => Ok(cost == least),
+        _ => Ok(false),
+    }
 }
 
 #[test]
 fn forty_binaries_in_two_rows(rt: HostRuntime) -> Result<(), Fail> {
-    let alloc = rt.alloc();
-    let least = tabled(alloc)?;
-    let answer = packed(&rt, alloc, Cap::At(1_048_576))?;
-    assert_eq!(rt; answer, Priced::Least(i128::from(least)));
-    let answer = packed(&rt, alloc, Cap::At(20_000))?;
-    assert_eq!(rt; answer, Priced::Least(i128::from(least)));
+    assert!(rt; is_least(rt.alloc(), 1_048_576)?);
+    assert!(rt; is_least(rt.alloc(), 20_000)?);
     Ok(())
 }

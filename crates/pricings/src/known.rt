@@ -1,0 +1,359 @@
+// Problems whose answers are known.
+use crate::ask::{Found, Kind, asked};
+use crate::problem::{Numbers, Problem, block_of, first_spans, line_of, spans_of};
+use bp_theory::Sense;
+use knap_price::parts;
+use pricing::{Cap, Priced};
+use search_price::prefixes;
+use std::alloc::{AllocError, Global};
+use std::test::Fail;
+
+/// A pricer, its cap, how many variables and rows of those given there are, the root, the rows, the zone, costs, and the
+/// answer.
+type Known = (
+    Kind,
+    Cap,
+    [usize; 2],
+    [[i64; 2]; 3],
+    [Numbers; 2],
+    [[i64; 2]; 3],
+    [i128; 3],
+    Found,
+);
+
+/// A row without terms, which all numbers meet: in place of one that is not there.
+const NONE: Numbers = ([0, 0, 0], Sense::Le, [0, 0]);
+
+/// Two numbers from 0 to 2, and such that only 0 and 1 or only 2, and 1 or 2, are left; three from 0 to 3; two up to a
+/// thousand millions; one up to 2^40 and two of at most 1.
+const WHOLE: [[i64; 2]; 3] = [[0, 2], [0, 2], [0, 0]];
+
+const LOW: [[i64; 2]; 3] = [[0, 1], [0, 2], [0, 0]];
+
+const HIGH: [[i64; 2]; 3] = [[2, 2], [1, 2], [0, 0]];
+
+const THREE: [[i64; 2]; 3] = [[0, 3], [0, 3], [0, 3]];
+
+const WIDE: [[i64; 2]; 3] = [[0, 1_000_000_000], [0, 1_000_000_000], [0, 0]];
+
+const FAR: [[i64; 2]; 3] = [[0, 1 << 40], [0, 1], [0, 1]];
+
+/// The row `3 a + 2 b` with a sense and sides.
+const BETWEEN: Numbers = ([3, 2, 0], Sense::In, [2, 4]);
+
+const SEVEN: Numbers = ([3, 2, 0], Sense::In, [7, 7]);
+
+const ONE: Numbers = ([3, 2, 0], Sense::In, [1, 1]);
+
+const SIX: Numbers = ([3, 2, 0], Sense::Le, [6, 6]);
+
+const FIVE: Numbers = ([3, 2, 0], Sense::Le, [5, 5]);
+
+const TEN: Numbers = ([3, 2, 0], Sense::Eq, [10, 10]);
+
+const AT_LEAST: Numbers = ([3, 2, 0], Sense::Ge, [7, 7]);
+
+/// The row `2 a + 4 b = 7`, which no numbers meet.
+const EVEN: Numbers = ([2, 4, 0], Sense::Eq, [7, 7]);
+
+/// Rows of three variables: 2 a + b + 3 c at most 7, a - b + c at least 1, a + b + c at most 2, and a at most 2^20 b.
+const ROOM: Numbers = ([2, 1, 3], Sense::Le, [0, 7]);
+
+const MORE: Numbers = ([1, -1, 1], Sense::Ge, [1, 0]);
+
+const SUM: Numbers = ([1, 1, 1], Sense::Le, [0, 2]);
+
+const STEEP: Numbers = ([1, -(1 << 20), 0], Sense::Le, [0, 0]);
+
+const NEVER: Cap = Cap::Never;
+
+const KNOWN: [Known; 21] = [
+    (
+        Kind::Table,
+        NEVER,
+        [2, 1],
+        WHOLE,
+        [BETWEEN, NONE],
+        WHOLE,
+        [5, 4, 0],
+        Found::Answer(Priced::Least(4), [0, 1, 0]),
+    ),
+    (
+        Kind::Table,
+        NEVER,
+        [2, 1],
+        WHOLE,
+        [SEVEN, NONE],
+        WHOLE,
+        [5, 4, 0],
+        Found::Answer(Priced::Least(13), [1, 2, 0]),
+    ),
+    (
+        Kind::Table,
+        NEVER,
+        [2, 1],
+        WHOLE,
+        [ONE, NONE],
+        WHOLE,
+        [5, 4, 0],
+        Found::Answer(Priced::Nothing, [0, 0, 0]),
+    ),
+    (
+        Kind::Table,
+        Cap::At(13),
+        [2, 1],
+        WHOLE,
+        [SIX, NONE],
+        WHOLE,
+        [-5, -4, 0],
+        Found::Answer(Priced::Least(-10), [2, 0, 0]),
+    ),
+    (
+        Kind::Table,
+        NEVER,
+        [2, 1],
+        WHOLE,
+        [SIX, NONE],
+        LOW,
+        [-5, -4, 0],
+        Found::Answer(Priced::Least(-9), [1, 1, 0]),
+    ),
+    (
+        Kind::Table,
+        NEVER,
+        [2, 1],
+        WHOLE,
+        [SIX, NONE],
+        HIGH,
+        [-5, -4, 0],
+        Found::Answer(Priced::Nothing, [0, 0, 0]),
+    ),
+    (
+        Kind::Table,
+        NEVER,
+        [2, 2],
+        WHOLE,
+        [SIX, FIVE],
+        WHOLE,
+        [-5, -4, 0],
+        Found::Declined,
+    ),
+    (
+        Kind::Table,
+        NEVER,
+        [2, 0],
+        WHOLE,
+        [NONE, NONE],
+        WHOLE,
+        [-5, -4, 0],
+        Found::Declined,
+    ),
+    (
+        Kind::Search,
+        NEVER,
+        [2, 1],
+        WHOLE,
+        [BETWEEN, NONE],
+        WHOLE,
+        [5, 4, 0],
+        Found::Answer(Priced::Least(4), [0, 1, 0]),
+    ),
+    (
+        Kind::Search,
+        NEVER,
+        [2, 1],
+        WHOLE,
+        [SEVEN, NONE],
+        WHOLE,
+        [5, 4, 0],
+        Found::Answer(Priced::Least(13), [1, 2, 0]),
+    ),
+    (
+        Kind::Search,
+        NEVER,
+        [2, 1],
+        WHOLE,
+        [ONE, NONE],
+        WHOLE,
+        [5, 4, 0],
+        Found::Answer(Priced::Nothing, [0, 0, 0]),
+    ),
+    (
+        Kind::Search,
+        Cap::At(13),
+        [2, 1],
+        WHOLE,
+        [SIX, NONE],
+        WHOLE,
+        [-5, -4, 0],
+        Found::Answer(Priced::Least(-10), [2, 0, 0]),
+    ),
+    (
+        Kind::Search,
+        NEVER,
+        [2, 1],
+        WHOLE,
+        [SIX, NONE],
+        LOW,
+        [-5, -4, 0],
+        Found::Answer(Priced::Least(-9), [1, 1, 0]),
+    ),
+    (
+        Kind::Search,
+        NEVER,
+        [2, 1],
+        WHOLE,
+        [SIX, NONE],
+        HIGH,
+        [-5, -4, 0],
+        Found::Answer(Priced::Nothing, [0, 0, 0]),
+    ),
+    (
+        Kind::Search,
+        NEVER,
+        [2, 1],
+        WHOLE,
+        [TEN, NONE],
+        WHOLE,
+        [5, 4, 0],
+        Found::Answer(Priced::Least(18), [2, 2, 0]),
+    ),
+    (
+        Kind::Search,
+        Cap::At(1),
+        [2, 1],
+        WHOLE,
+        [TEN, NONE],
+        WHOLE,
+        [5, 4, 0],
+        Found::Answer(Priced::Cut, [0, 0, 0]),
+    ),
+    (
+        Kind::Search,
+        Cap::At(100),
+        [2, 1],
+        WIDE,
+        [AT_LEAST, NONE],
+        WIDE,
+        [5, 4, 0],
+        Found::Answer(Priced::Least(13), [1, 2, 0]),
+    ),
+    (
+        Kind::Search,
+        Cap::At(1000),
+        [2, 1],
+        WIDE,
+        [EVEN, NONE],
+        WIDE,
+        [5, 4, 0],
+        Found::Answer(Priced::Cut, [0, 0, 0]),
+    ),
+    (
+        Kind::Graph,
+        Cap::At(0),
+        [3, 2],
+        THREE,
+        [ROOM, MORE],
+        THREE,
+        [-5, -4, -6],
+        Found::Answer(Priced::Least(-19), [3, 1, 0]),
+    ),
+    (
+        Kind::Graph,
+        Cap::At(0),
+        [3, 1],
+        THREE,
+        [SUM, NONE],
+        THREE,
+        [-(1 << 114), 1, 0],
+        Found::Answer(Priced::Least(-(1 << 115)), [2, 0, 0]),
+    ),
+    (
+        Kind::Graph,
+        Cap::At(0),
+        [3, 1],
+        FAR,
+        [STEEP, NONE],
+        FAR,
+        [0, 0, 0],
+        Found::Declined,
+    ),
+];
+
+// The problem of these numbers.
+fn problem_of(known: &Known) -> Problem {
+    Problem {
+        vars: known.2[0],
+        rows: known.2[1],
+        root: spans_of(&known.3),
+        lines: [line_of(&known.4[0]), line_of(&known.4[1]), line_of(&NONE)],
+        zone: spans_of(&known.5),
+        costs: known.6,
+    }
+}
+
+// Whether an answer is the wanted one; points count where there is a least cost.
+fn is_wanted(found: &Found, wanted: &Found) -> bool {
+    match (found, wanted) {
+        (Found::Answer(Priced::Nothing, _), Found::Answer(Priced::Nothing, _)) => true,
+        (Found::Answer(Priced::Cut, _), Found::Answer(Priced::Cut, _)) => true,
+        _ => found == wanted,
+    }
+}
+
+// The place of a problem with another answer than the wanted one.
+fn wrong(alloc: Global) -> Result<Option<usize>, AllocError> {
+    let mut wrong = None;
+    for place in 0..21 {
+        let known = KNOWN[place];
+        let found = asked(alloc, known.0, &problem_of(&known), known.1)?;
+        if !is_wanted(&found, &known.7) {
+            wrong = Some(place);
+        }
+    }
+    Ok(wrong)
+}
+
+#[test]
+fn each_problem_has_its_answer(rt: HostRuntime) -> Result<(), Fail> {
+    let wrong = wrong(rt.alloc())?;
+    assert_eq!(rt; wrong, None);
+    Ok(())
+}
+
+// How many beginnings of points the whole zone has.
+fn whole_prefixes(alloc: Global) -> Result<u128, AllocError> {
+    let problem = problem_of(&KNOWN[15]);
+    let zone = first_spans(&problem.zone, 2);
+    match block_of(alloc, &problem)? {
+        Some(block) if block.spans().len() == zone.len() => Ok(prefixes(&block, zone)),
+        _ => Ok(0),
+    }
+}
+
+#[test]
+fn prefixes_of_two_spans(rt: HostRuntime) -> Result<(), Fail> {
+    assert_eq!(rt; whole_prefixes(rt.alloc())?, 13);
+    Ok(())
+}
+
+/// Numbers with their parts.
+const PARTS: [(u64, [Option<u64>; 4]); 3] = [
+    (6, [Some(1), Some(2), Some(3), None]),
+    (7, [Some(1), Some(2), Some(4), None]),
+    (0, [None, None, None, None]),
+];
+
+#[test]
+fn the_parts_of_small_numbers(rt: HostRuntime) {
+    let mut wrong = None;
+    for row in 0..3 {
+        let mut found = parts(PARTS[row].0);
+        for place in 0..4 {
+            if found.next() != PARTS[row].1[place] {
+                wrong = Some((row, place));
+            }
+        }
+    }
+    assert_eq!(rt; wrong, None);
+}
