@@ -229,7 +229,7 @@ fn wrong(alloc: Global) -> Result<(String, usize), AllocError> {
 fn each_line_gives_its_order_or_is_refused(rt: HostRuntime) -> Result<(), Fail> {
     let (wrong, count) = wrong(rt.alloc())?;
     assert_eq!(rt; wrong.as_str(), "");
-    assert_eq!(rt; count, 88);
+    assert_eq!(rt; count, 93);
     Ok(())
 }
 
