@@ -5,7 +5,7 @@ certificate must be accepted by `check` and by tools/check_certificate.py. It pr
 counts, and ends with status 1 where one is wrong.
 
     bench/crews.py [MODELS]             so many models (1,000 where no number is given)
-    bench/crews.py --lines [MODELS]     what crates/crews must print, of the first models (48) of the same draws: no program is run
+    bench/crews.py --lines [MODELS]     the answers of the first models (48) alone, found by going over all points: no program is run
     BPRICE=program bench/crews.py       another program than ./bprice
 """
 import importlib.util
@@ -33,7 +33,7 @@ class Draws:
 
 
 class Model:
-    """A model of two or three blocks of two or three variables, as crates/crews draws it."""
+    """A model of two or three blocks of two or three variables."""
 
     def __init__(self, draws):
         self.blocks, self.width = 2 + draws.below(2), 2 + draws.below(2)
@@ -90,7 +90,7 @@ class Model:
 
 
 def printed(seed):
-    """The line of crates/crews for a seed."""
+    """The answers of a seed's model in a line."""
     draws = Draws(seed)
     model = Model(draws)
     workers, order, answer = 1 + seed % 5, draws.below(1_000_000), model.answer()
