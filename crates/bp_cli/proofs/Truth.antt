@@ -105,7 +105,7 @@ plain_files : (files : Files) (lp : List ℕ) (m : NamedProgram) (f : Front) →
 plain_files files lp m f has (missing_lp there) = let text = has.there in absurd (cc)
 plain_files files lp m f has (faulty_lp text line kind there fault) =
     let same : text ≡ has.text = one_text (files lp) text has.text there has.there in
-    absurd (lp_laws.model_or_fault has.text has.means.0 line kind has.means.1 (subst (λ (t : List ℕ). lp_text.HasFault t line kind) same fault))
+    absurd (lp_laws.model_or_fault has.text has.means.0 line kind has.means.1 (subst (λ (t : List ℕ). lp_text.HasLpTextFault t line kind) same fault))
   where
     one_text : (file : Option (List ℕ)) (t u : List ℕ) → file ≡ Some t → file ≡ Some u → t ≡ u
     one_text file t u a b = cc

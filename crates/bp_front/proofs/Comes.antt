@@ -11,7 +11,7 @@ use Rattle.block_form.specs.Checks.{HasBlockFault}
 use Rattle.block_form.specs.declared.fault.BlockFault.{BlockFault}
 use Rattle.block_form.specs.declared.fault.BlockFault.TheVariants.{Linking, VarPlace, NoMemory}
 use Rattle.lp_read.specs.Model.{Means}
-use Rattle.dec_read.specs.Reading.{Reads}
+use Rattle.dec_read.specs.Reading.{ReadsDecomposition}
 use Rattle.bp_report.specs.Refusals.{dec_refusal, HasNamed}
 use Rattle.bp_front.specs.Front.{Front, blocked, ends, BlocksCome, TextsCome, plain, missing, faulty, read, FilesCome, missing_lp, faulty_lp, read_lp, HasModel, HasDec}
 use Rattle.bp_front.specs.Halts.{ComesToHalt, TextsHalt, LpHalts, DecHalts, IsLpHalt, IsDecHalt, IsBlocksHalt}
@@ -102,17 +102,17 @@ pub dec_text_halted : {T : Type 0} (lp dec : List ℕ) (m : NamedProgram) (halt 
 dec_text_halted lp dec m halt (Ok b) is means h = tt
 dec_text_halted lp dec m halt (Err e) is means h = subst (λ (s : Halt). TextsHalt lp dec s) (sym is) (dec_text_comes lp dec m halt means h)
 
-text_comes : (lp dec : List ℕ) (m : NamedProgram) (d : Decomposition) (f : Front) → Means lp m → Reads dec m d → BlocksCome m d f → TextsCome lp dec f
+text_comes : (lp dec : List ℕ) (m : NamedProgram) (d : Decomposition) (f : Front) → Means lp m → ReadsDecomposition dec m d → BlocksCome m d f → TextsCome lp dec f
 text_comes lp dec m d f means reads come = λ files lp_file dec_file there also. read_lp lp m f there means (read dec_file dec d f also reads come)
 
 -- what a decomposition's blocks come to
 pub text_blocks_come : {T : Type 0} (lp dec : List ℕ) (m : NamedProgram) (d : Decomposition) (r : Result BlockedProgram T)
-    → Means lp m → Reads dec m d → IfOk r (λ b. BlocksCome m d (blocked b)) → IfOk r (λ b. TextsCome lp dec (blocked b))
+    → Means lp m → ReadsDecomposition dec m d → IfOk r (λ b. BlocksCome m d (blocked b)) → IfOk r (λ b. TextsCome lp dec (blocked b))
 text_blocks_come lp dec m d (Ok b) means reads come = text_comes lp dec m d (blocked b) means reads come
 text_blocks_come lp dec m d (Err e) means reads come = tt
 
 pub text_blocks_halted : {T : Type 0} (lp dec : List ℕ) (m : NamedProgram) (d : Decomposition) (r : Result T Halt)
-    → Means lp m → Reads dec m d → IfErr r (IsBlocksHalt m d) → IfErr r (TextsHalt lp dec)
+    → Means lp m → ReadsDecomposition dec m d → IfErr r (IsBlocksHalt m d) → IfErr r (TextsHalt lp dec)
 text_blocks_halted lp dec m d (Ok b) means reads halts = tt
 text_blocks_halted lp dec m d (Err (Refused report)) means reads halts = text_comes lp dec m d (ends 3 report.items) means reads halts
 text_blocks_halted lp dec m d (Err (Stopped fault)) means reads halts = halts

@@ -18,7 +18,7 @@ use Rattle.bp_shelf.specs.declared.shelf.ShelfFault.TheVariants.{Missing, Failed
 
 -- of two texts that are too long, the one has the faults of the other
 long_fault : (front all : List ℕ) (line : ℕ) (kind : LpKind) → 16777216 < length front → 16777216 < length all
-    → lp_text.HasFault front line kind → lp_text.HasFault all line kind
+    → lp_text.HasLpTextFault front line kind → lp_text.HasLpTextFault all line kind
 long_fault front all line kind far long (lp_text.too_long _ at_none is_limit) = lp_text.too_long long at_none is_limit
 long_fault front all line kind far long (lp_text.uncut short _) = absurd (omega arith)
 long_fault front all line kind far long (lp_text.at_token short _ _ _ _ _ _) = absurd (omega arith)
@@ -26,7 +26,7 @@ long_fault front all line kind far long (lp_text.unended short _ _ _ _ _ _) = ab
 long_fault front all line kind far long (lp_text.in_meaning short _ _ _ _ _ _ _) = absurd (omega arith)
 
 long_dec_fault : (front all : List ℕ) (m : NamedProgram) (line : ℕ) (kind : DecKind) → 16777216 < length front → 16777216 < length all
-    → dec_text.HasFault front m line kind → dec_text.HasFault all m line kind
+    → dec_text.HasDecTextFault front m line kind → dec_text.HasDecTextFault all m line kind
 long_dec_fault front all m line kind far long (dec_text.too_long _ at_none is_limit) = dec_text.too_long long at_none is_limit
 long_dec_fault front all m line kind far long (dec_text.at_token short _ _ _ _ _ _) = absurd (omega arith)
 long_dec_fault front all m line kind far long (dec_text.at_end short _ _ _) = absurd (omega arith)
@@ -50,27 +50,27 @@ whole_means all front m most above is_front means = go (front_or_long all front 
     go (inr far) = let short = means.1.size in let long = far.0 in absurd (omega arith)
 
 whole_fault : (all front : List ℕ) (line : ℕ) (kind : LpKind) (most : ℕ) → 16777216 < most → front ≡ take most all
-    → lp_text.HasFault front line kind → lp_text.HasFault all line kind
+    → lp_text.HasLpTextFault front line kind → lp_text.HasLpTextFault all line kind
 whole_fault all front line kind most above is_front fault = go (front_or_long all front most above is_front)
   where
-    go : (front ≡ all) ⊎ ((16777216 < length front) × (16777216 < length all)) → lp_text.HasFault all line kind
-    go (inl same) = subst (λ (t : List ℕ). lp_text.HasFault t line kind) same fault
+    go : (front ≡ all) ⊎ ((16777216 < length front) × (16777216 < length all)) → lp_text.HasLpTextFault all line kind
+    go (inl same) = subst (λ (t : List ℕ). lp_text.HasLpTextFault t line kind) same fault
     go (inr far) = long_fault front all line kind far.0 far.1 fault
 
 whole_reads : (all front : List ℕ) (m : NamedProgram) (d : Decomposition) (most : ℕ) → 16777216 < most → front ≡ take most all
-    → dec_text.Reads front m d → dec_text.Reads all m d
+    → dec_text.ReadsDecomposition front m d → dec_text.ReadsDecomposition all m d
 whole_reads all front m d most above is_front reads = go (front_or_long all front most above is_front)
   where
-    go : (front ≡ all) ⊎ ((16777216 < length front) × (16777216 < length all)) → dec_text.Reads all m d
-    go (inl same) = subst (λ (t : List ℕ). dec_text.Reads t m d) same reads
+    go : (front ≡ all) ⊎ ((16777216 < length front) × (16777216 < length all)) → dec_text.ReadsDecomposition all m d
+    go (inl same) = subst (λ (t : List ℕ). dec_text.ReadsDecomposition t m d) same reads
     go (inr far) = let short = reads.short in let long = far.0 in absurd (omega arith)
 
 whole_dec_fault : (all front : List ℕ) (m : NamedProgram) (line : ℕ) (kind : DecKind) (most : ℕ) → 16777216 < most → front ≡ take most all
-    → dec_text.HasFault front m line kind → dec_text.HasFault all m line kind
+    → dec_text.HasDecTextFault front m line kind → dec_text.HasDecTextFault all m line kind
 whole_dec_fault all front m line kind most above is_front fault = go (front_or_long all front most above is_front)
   where
-    go : (front ≡ all) ⊎ ((16777216 < length front) × (16777216 < length all)) → dec_text.HasFault all m line kind
-    go (inl same) = subst (λ (t : List ℕ). dec_text.HasFault t m line kind) same fault
+    go : (front ≡ all) ⊎ ((16777216 < length front) × (16777216 < length all)) → dec_text.HasDecTextFault all m line kind
+    go (inl same) = subst (λ (t : List ℕ). dec_text.HasDecTextFault t m line kind) same fault
     go (inr far) = long_dec_fault front all m line kind far.0 far.1 fault
 
 -- what is read of a model's file
@@ -107,7 +107,7 @@ halted_models file front (Err halt) most above there is_front halts = model_halt
 
 -- what is read of a named file of a decomposition
 dec_found : (files : Files) (m : NamedProgram) (name front : List ℕ) (file : Option (List ℕ)) (d : Decomposition) (most : ℕ) → 16777216 < most
-    → files name ≡ file → IsSome file → IfSome file (λ all. front ≡ take most all) → dec_text.Reads front m d → HasDec files m (Some name) d
+    → files name ≡ file → IsSome file → IfSome file (λ all. front ≡ take most all) → dec_text.ReadsDecomposition front m d → HasDec files m (Some name) d
 dec_found files m name front None d most above is there is_front reads = let none : ⊥ = cc in absurd none
 dec_found files m name front (Some all) d most above is there is_front reads = (all, is, whole_reads all front m d most above is_front reads)
 
@@ -121,7 +121,7 @@ dec_halts files m name front (Some all) (Stopped Failed) most above is there is_
 dec_halts files m name front (Some all) (Stopped NoMemory) most above is there is_front halts = tt
 
 pub decs : {T : Type 0} (files : Files) (m : NamedProgram) (name front : List ℕ) (r : Result Decomposition T) (most : ℕ) → 16777216 < most
-    → IsSome (files name) → IfSome (files name) (λ all. front ≡ take most all) → IfOk r (dec_text.Reads front m) → IfOk r (HasDec files m (Some name))
+    → IsSome (files name) → IfSome (files name) (λ all. front ≡ take most all) → IfOk r (dec_text.ReadsDecomposition front m) → IfOk r (HasDec files m (Some name))
 decs files m name front (Ok d) most above there is_front reads = dec_found files m name front (files name) d most above refl there is_front reads
 decs files m name front (Err e) most above there is_front reads = tt
 

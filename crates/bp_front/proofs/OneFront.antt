@@ -61,10 +61,10 @@ no_text : (file : Option (List ℕ)) (t : List ℕ) → file ≡ None → file �
 no_text file t a b = absurd (cc)
 
 -- a text of a decomposition means one, or has a fault, and not both
-one_meant : (text : List ℕ) (m : NamedProgram) (d e : Decomposition) → dec_text.Reads text m d → dec_text.Reads text m e → d ≡ e
+one_meant : (text : List ℕ) (m : NamedProgram) (d e : Decomposition) → dec_text.ReadsDecomposition text m d → dec_text.ReadsDecomposition text m e → d ≡ e
 one_meant text m d e a b = a.meant ∙ sym b.meant
 
-decided : (text : List ℕ) (m : NamedProgram) (d : Decomposition) (line : ℕ) (kind : DecKind) → dec_text.Reads text m d → dec_text.HasFault text m line kind → ⊥
+decided : (text : List ℕ) (m : NamedProgram) (d : Decomposition) (line : ℕ) (kind : DecKind) → dec_text.ReadsDecomposition text m d → dec_text.HasDecTextFault text m line kind → ⊥
 decided text m d line kind reads (dec_text.too_long long _ _) = let short = reads.short in omega arith
 decided text m d line kind reads (dec_text.at_token _ i token _ fault _ _) = let none = reads.faultless i in absurd (cc)
 decided text m d line kind reads (dec_text.at_end _ _ fault _) = let none = reads.ended in absurd (cc)
@@ -77,13 +77,13 @@ one_dec files m name f g (missing n a) (read _ text d _ b reads come) = absurd (
 one_dec files m name f g (faulty n text line kind a fault) (missing _ b) = absurd (no_text (files n) text b a)
 one_dec files m name f g (faulty n text line kind a fault) (faulty _ text' line' kind' b fault') = refl
 one_dec files m name f g (faulty n text line kind a fault) (read _ text' d _ b reads come) =
-    absurd (decided text' m d line kind reads (subst (λ (t : List ℕ). dec_text.HasFault t m line kind) (one_text (files n) text text' a b) fault))
+    absurd (decided text' m d line kind reads (subst (λ (t : List ℕ). dec_text.HasDecTextFault t m line kind) (one_text (files n) text text' a b) fault))
 one_dec files m name f g (read n text d _ a reads come) (missing _ b) = absurd (no_text (files n) text b a)
 one_dec files m name f g (read n text d _ a reads come) (faulty _ text' line kind b fault) =
-    absurd (decided text m d line kind reads (subst (λ (t : List ℕ). dec_text.HasFault t m line kind) (one_text (files n) text' text b a) fault))
+    absurd (decided text m d line kind reads (subst (λ (t : List ℕ). dec_text.HasDecTextFault t m line kind) (one_text (files n) text' text b a) fault))
 one_dec files m name f g (read n text d _ a reads come) (read _ text' d' _ b reads' come') =
     let same : text' ≡ text = one_text (files n) text' text b a in
-    let decs : d' ≡ d = one_meant text m d' d (subst (λ (t : List ℕ). dec_text.Reads t m d') same reads') reads in
+    let decs : d' ≡ d = one_meant text m d' d (subst (λ (t : List ℕ). dec_text.ReadsDecomposition t m d') same reads') reads in
     one_in_blocks m d f g come (subst (λ (e : Decomposition). BlocksCome m e g) decs come')
 
 -- files come to one front
@@ -94,10 +94,10 @@ one_front files name d f g (missing_lp a) (read_lp text m _ b means come) = absu
 one_front files name d f g (faulty_lp text line kind a fault) (missing_lp b) = absurd (no_text (files name) text b a)
 one_front files name d f g (faulty_lp text line kind a fault) (faulty_lp text' line' kind' b fault') = refl
 one_front files name d f g (faulty_lp text line kind a fault) (read_lp text' m _ b means come) =
-    absurd (lp_laws.model_or_fault text' means.0 line kind means.1 (subst (λ (t : List ℕ). lp_text.HasFault t line kind) (one_text (files name) text text' a b) fault))
+    absurd (lp_laws.model_or_fault text' means.0 line kind means.1 (subst (λ (t : List ℕ). lp_text.HasLpTextFault t line kind) (one_text (files name) text text' a b) fault))
 one_front files name d f g (read_lp text m _ a means come) (missing_lp b) = absurd (no_text (files name) text b a)
 one_front files name d f g (read_lp text m _ a means come) (faulty_lp text' line kind b fault) =
-    absurd (lp_laws.model_or_fault text means.0 line kind means.1 (subst (λ (t : List ℕ). lp_text.HasFault t line kind) (one_text (files name) text' text b a) fault))
+    absurd (lp_laws.model_or_fault text means.0 line kind means.1 (subst (λ (t : List ℕ). lp_text.HasLpTextFault t line kind) (one_text (files name) text' text b a) fault))
 one_front files name d f g (read_lp text m _ a means come) (read_lp text' n _ b means' come') =
     let same : text' ≡ text = one_text (files name) text' text b a in
     let programs : n ≡ m = one_program text n m (subst (λ (t : List ℕ). Means t n) same means') means in

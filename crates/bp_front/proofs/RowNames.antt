@@ -17,13 +17,13 @@ use Rattle.lp_token.specs.Cut.{in_comment, is_word_at, kind_at, IsToken, is_long
 use Rattle.lp_token.specs.Lexeme.{is_number, is_name, is_mark, is_name_byte, is_point}
 use Rattle.lp_token.specs.Word.{entry_of, section_of}
 use Rattle.lp_read.specs.Number.{is_whole, whole_value}
-use Rattle.lp_read.specs.Tree.{Name, Symbol, word, name, number, infinity, sign, comparison, colon, unfit, Tree, sites as sites_of, spelling}
+use Rattle.lp_read.specs.Tree.{Name, Symbol, word, name, number, infinity, sign, comparison, colon, unfit, SyntaxTree, sites as sites_of, spelling}
 use Rattle.lp_read.specs.declared.tree.Site.{Site}
 use Rattle.lp_read.specs.declared.tree.Site.TheVariants as sites
 use Rattle.lp_read.specs.Symbols.{greatest, infinite_from, number_symbol, name_symbol, mark_symbol, mark_symbols, word_symbol, symbol_of, symbols_from, symbols, stays_in_bounds}
 use Rattle.lp_read.specs.Roles.{Seen, seen, first_of_symbols, is_colon, label_of, row_of, names_from, row_names}
 use Rattle.lp_read.specs.Meaning.{tokens_of, model_of}
-use Rattle.lp_read.specs.Reading.{Reads, IsTextOf}
+use Rattle.lp_read.specs.Reading.{ReadsModel, IsTextOf}
 use Rattle.lp_read.specs.Model.{Means}
 use Rattle.bp_model.specs.Named.{NamedProgram, IsKept}
 use Rattle.dec_find.specs.Text.{IsRowName}
@@ -215,7 +215,7 @@ rows_good : (tokens : List Seen) → length (row_names tokens) ≤ 8192 → AllB
 unfolding row_names
 rows_good tokens few h = let count = names_count 1 (labels_of tokens) in names_good 1 (labels_of tokens) (omega (arith, few, count)) h
 
-tree_rows : (text : List ℕ) (tokens : List Tok) (tree : Tree) → Cut text tokens → IsTextOf text tokens tree → AllByRecursion IsGoodLabel (labels_of (tokens_of tree))
+tree_rows : (text : List ℕ) (tokens : List Tok) (tree : SyntaxTree) → Cut text tokens → IsTextOf text tokens tree → AllByRecursion IsGoodLabel (labels_of (tokens_of tree))
 unfolding Cut tokens_of symbols
 tree_rows text tokens tree cut is =
     good_labels (sites_of tree) (spelling tree) (subst (AllByRecursion IsGood) (sym is.spelled) (good_symbols false text tokens (good_tokens text 0 tokens cut)))

@@ -13,7 +13,7 @@ use Rattle.bp_theory.specs.declared.Sense.{Sense}
 use Rattle.bp_theory.specs.declared.Row.{Row}
 use Rattle.bp_theory.proofs.KeyLaws.{if_same, if_other}
 use Rattle.bp_model.specs.Named.{NamedProgram}
-use Rattle.lp_read.specs.Meaning.{Model, ModelRow}
+use Rattle.lp_read.specs.Meaning.{TextModel, ModelRow}
 use Rattle.lp_read.specs.Model.{HasCoefficients, IsRowOf, IsProgramOf, Means}
 use Rattle.lp_read.proofs.Readings.{one_model}
 
@@ -86,7 +86,7 @@ same_rows (m ∷ ms) (r ∷ rs) [] a b = absurd b
 same_rows (m ∷ ms) (r ∷ rs) (s ∷ ss) a b = same_list r s rs ss (same_row m r s a.0 b.0) (same_rows ms rs ss a.1 b.1)
 
 -- a meaning has one program
-same_program : (meant : Model) (m n : NamedProgram) → IsProgramOf meant m → IsProgramOf meant n → m ≡ n
+same_program : (meant : TextModel) (m n : NamedProgram) → IsProgramOf meant m → IsProgramOf meant n → m ≡ n
 same_program meant m n a b = program_parts
     m.program.spans n.program.spans m.program.rows n.program.rows m.program.costs n.program.costs
     m.program.constant n.program.constant m.program.maximises n.program.maximises m.names n.names m.row_names n.row_names
@@ -104,4 +104,4 @@ same_program meant m n a b = program_parts
 -- a text means one program
 pub one_program : (text : List ℕ) (m n : NamedProgram) → Means text m → Means text n → m ≡ n
 one_program text m n a b =
-    same_program a.0 m n a.2 (subst (λ (meant : Model). IsProgramOf meant n) (one_model text b.0 a.0 b.1 a.1) b.2)
+    same_program a.0 m n a.2 (subst (λ (meant : TextModel). IsProgramOf meant n) (one_model text b.0 a.0 b.1 a.1) b.2)

@@ -100,4 +100,4 @@ one_model file m n h g = one_program h.text m n h.means (subst (λ (t : List ℕ
 
 pub model_or_fault : (file : Option (List ℕ)) (m : NamedProgram) (report : List ℕ) → HasModel file m → HasLpFault file report → ⊥
 model_or_fault file m report h g =
-    lp_laws.model_or_fault h.text h.means.0 g.line g.kind h.means.1 (subst (λ (t : List ℕ). lp_text.HasFault t g.line g.kind) (one_text file g.text h.text g.there h.there) g.fault)
+    lp_laws.model_or_fault h.text h.means.0 g.line g.kind h.means.1 (subst (λ (t : List ℕ). lp_text.HasLpTextFault t g.line g.kind) (one_text file g.text h.text g.there h.there) g.fault)

@@ -31,15 +31,15 @@ pub data BlocksCome (m : NamedProgram) (d : Decomposition) : Front → Type 0 wh
 pub data DecComes (files : Files) (m : NamedProgram) : Option (List ℕ) → Front → Type 0 where
   plain : (f : Front) → BlocksCome m (plain_of m.program) f → DecComes files m None f
   missing : (name : List ℕ) → files name ≡ None → DecComes files m (Some name) (ends 11 [])
-  faulty : (name text : List ℕ) (line : ℕ) (kind : DecKind) → files name ≡ Some text → dec_text.HasFault text m line kind
+  faulty : (name text : List ℕ) (line : ℕ) (kind : DecKind) → files name ≡ Some text → dec_text.HasDecTextFault text m line kind
       → DecComes files m (Some name) (ends 3 (dec_refusal line kind))
-  read : (name text : List ℕ) (d : Decomposition) (f : Front) → files name ≡ Some text → dec_text.Reads text m d → BlocksCome m d f
+  read : (name text : List ℕ) (d : Decomposition) (f : Front) → files name ≡ Some text → dec_text.ReadsDecomposition text m d → BlocksCome m d f
       → DecComes files m (Some name) f
 
 -- what the files of a model and of its decomposition come to
 pub data FilesCome (files : Files) (lp : List ℕ) (dec_file : Option (List ℕ)) : Front → Type 0 where
   missing_lp : files lp ≡ None → FilesCome files lp dec_file (ends 11 [])
-  faulty_lp : (text : List ℕ) (line : ℕ) (kind : LpKind) → files lp ≡ Some text → lp_text.HasFault text line kind
+  faulty_lp : (text : List ℕ) (line : ℕ) (kind : LpKind) → files lp ≡ Some text → lp_text.HasLpTextFault text line kind
       → FilesCome files lp dec_file (ends 3 (lp_refusal line kind))
   read_lp : (text : List ℕ) (m : NamedProgram) (f : Front) → files lp ≡ Some text → Means text m → DecComes files m dec_file f
       → FilesCome files lp dec_file f
@@ -56,19 +56,19 @@ pub record HasLpFault (file : Option (List ℕ)) (report : List ℕ) : Type 0 wh
   pub line : ℕ
   pub kind : LpKind
   pub there : file ≡ Some text
-  pub fault : lp_text.HasFault text line kind
+  pub fault : lp_text.HasLpTextFault text line kind
   pub printed : report ≡ lp_refusal line kind
 
 -- the decomposition of a named file or, where none is named, the plain one
 abbrev pub HasDec : Files → NamedProgram → Option (List ℕ) → Decomposition → Type 0
 HasDec files m None d = d ≡ plain_of m.program
-HasDec files m (Some name) d = (text : List ℕ) × (files name ≡ Some text) × dec_text.Reads text m d
+HasDec files m (Some name) d = (text : List ℕ) × (files name ≡ Some text) × dec_text.ReadsDecomposition text m d
 
 -- the named file of a decomposition has a text with a first fault
 abbrev pub HasDecFault : Files → NamedProgram → Option (List ℕ) → List ℕ → Type 0
 HasDecFault files m None report = ⊥
 HasDecFault files m (Some name) report =
-    (text : List ℕ) × (line : ℕ) × (kind : DecKind) × (files name ≡ Some text) × dec_text.HasFault text m line kind × (report ≡ dec_refusal line kind)
+    (text : List ℕ) × (line : ℕ) × (kind : DecKind) × (files name ≡ Some text) × dec_text.HasDecTextFault text m line kind × (report ≡ dec_refusal line kind)
 
 -- the named file of a decomposition isn't there
 abbrev pub LacksDec : Files → Option (List ℕ) → Type 0

@@ -44,12 +44,12 @@ CountsHalted before now (Ok _) = now ≡ before
 
 -- a refusal for the first fault of an LP text, or want of memory
 abbrev pub IsLpHalt : List ℕ → Halt → Type 0
-IsLpHalt text (Refused report) = (line : ℕ) × (kind : LpKind) × lp_text.HasFault text line kind × (report.items ≡ lp_refusal line kind)
+IsLpHalt text (Refused report) = (line : ℕ) × (kind : LpKind) × lp_text.HasLpTextFault text line kind × (report.items ≡ lp_refusal line kind)
 IsLpHalt text (Stopped fault) = fault ≡ NoMemory
 
 -- a refusal for the first fault of a decomposition's text, or want of memory
 abbrev pub IsDecHalt : List ℕ → NamedProgram → Halt → Type 0
-IsDecHalt text m (Refused report) = (line : ℕ) × (kind : DecKind) × dec_text.HasFault text m line kind × (report.items ≡ dec_refusal line kind)
+IsDecHalt text m (Refused report) = (line : ℕ) × (kind : DecKind) × dec_text.HasDecTextFault text m line kind × (report.items ≡ dec_refusal line kind)
 IsDecHalt text m (Stopped fault) = fault ≡ NoMemory
 
 -- a refusal of a decomposition, or want of memory

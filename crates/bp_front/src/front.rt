@@ -7,7 +7,7 @@ ghost use Rattle.bp_model.specs.Named.{IsKept};
 ghost use Rattle.dec_find.specs.Text.{IsRowName};
 ghost use Rattle.bp_front.specs.Front.{FilesCome, BlocksCome, TextsCome, HasModel, HasDec, blocked, ends};
 ghost use Rattle.lp_read.specs.Model.{Means};
-ghost use Rattle.dec_read.specs.Reading.{Reads};
+ghost use Rattle.dec_read.specs.Reading.{ReadsDecomposition};
 ghost use Rattle.bp_front.specs.Halts.{ComesToHalt, TextsHalt, LpHalts, DecHalts, CountsHalted, IsLpHalt, IsDecHalt, IsBlocksHalt};
 ghost use Rattle.bp_front.specs.declared.front.Halt.TheVariants.{Refused, Stopped};
 ghost use Rattle.bp_shelf.specs.declared.shelf.ShelfFault.TheVariants.{NoMemory};
@@ -141,7 +141,7 @@ fn model_of(alloc: Global, text: &[u8]) -> Result<Model, Halt>
 
 // The decomposition that a text means, or its refusal.
 fn dec_of(alloc: Global, text: &[u8], model: &Model) -> Result<Dec, Halt>
-    ensures dec { IfOk result (Reads text.now model.now) }
+    ensures dec { IfOk result (ReadsDecomposition text.now model.now) }
     ensures places { IfOk result (λ dec. HasPlaces model.now.program dec) }
     ensures listed { IfOk result (λ dec. HasListed model.now.program dec) }
     ensures halted { IfErr result (IsDecHalt text.now model.now) }

@@ -18,7 +18,7 @@ use Rattle.bp_theory.specs.declared.CheckKind.TheVariants.{Split, Sign, Weak, Op
 use Rattle.bp_theory.proofs.ShrinkProof.{one_bound_lem}
 use Rattle.block_form.proofs.BlockLemmas.{part_zones}
 use Rattle.cert_check.specs.Judging.{ProofsFit, IsFirstBad, JudgesLines}
-use Rattle.cert_check.specs.declared.place.Place.{Place}
+use Rattle.cert_check.specs.declared.place.NodePlace.{NodePlace}
 use Rattle.cert_check.specs.declared.place.Rejection.{Rejection}
 
 -- ---- lists
@@ -302,13 +302,13 @@ pub fault_there : (p : Program) (b : Blocking) (claim : Claim) (line : Line) (fo
 fault_there p b claim line found kind is h = subst (λ (o : Option CheckKind). MatchOption o (Passes p b claim line) (HasFault p b claim line)) is h
 
 -- what judging lines answered, by cases
-pub lines_fault : (p : Program) (b : Blocking) (claim : Claim) (lines : List Line) (at : Place) (r : Result Place Rejection) (found : Rejection) → r ≡ Err found
+pub lines_fault : (p : Program) (b : Blocking) (claim : Claim) (lines : List Line) (at : NodePlace) (r : Result NodePlace Rejection) (found : Rejection) → r ≡ Err found
     → JudgesLines p b claim lines at r → IsFirstBad p b claim lines at.line found.line found.kind
-lines_fault p b claim lines at r found is h = subst (λ (x : Result Place Rejection). JudgesLines p b claim lines at x) is h
+lines_fault p b claim lines at r found is h = subst (λ (x : Result NodePlace Rejection). JudgesLines p b claim lines at x) is h
 
-pub lines_pass : (p : Program) (b : Blocking) (claim : Claim) (lines : List Line) (at : Place) (r : Result Place Rejection) (now : Place) → r ≡ Ok now
+pub lines_pass : (p : Program) (b : Blocking) (claim : Claim) (lines : List Line) (at : NodePlace) (r : Result NodePlace Rejection) (now : NodePlace) → r ≡ Ok now
     → JudgesLines p b claim lines at r → (now.zone ≡ at.zone) × (now.line ≡ at.line + length lines) × AllByRecursion (Passes p b claim) lines
-lines_pass p b claim lines at r now is h = subst (λ (x : Result Place Rejection). JudgesLines p b claim lines at x) is h
+lines_pass p b claim lines at r now is h = subst (λ (x : Result NodePlace Rejection). JudgesLines p b claim lines at x) is h
 
 -- ---- the same where a tree is known to be a split
 

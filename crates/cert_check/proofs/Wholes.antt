@@ -23,7 +23,7 @@ use Rattle.cert_text.specs.Programs.{GoesWith}
 use Rattle.cert_check.specs.declared.judge.Judged.{Judged}
 use Rattle.cert_check.specs.declared.judge.Judged.TheVariants.{Rejected}
 use Rattle.cert_check.specs.Judging.{ProofsFit, IsFirstBad, JudgesLines, JudgesPoint, IsJudged, IsTrueIfAccepted, verdict_of}
-use Rattle.cert_check.specs.declared.place.Place.{Place}
+use Rattle.cert_check.specs.declared.place.NodePlace.{NodePlace}
 use Rattle.cert_check.specs.declared.place.Rejection.{Rejection}
 use Rattle.cert_check.proofs.Lines.{both_all, second_all, proofs_fit}
 
@@ -168,7 +168,7 @@ pub rejected_is : (b : BlockedProgram) (cert : Certificate) (number : ℕ) (kind
 rejected_is b cert number kind j is fault = subst (λ (x : Judged). IsJudged b cert x × IsTrueIfAccepted b.named.program x) (sym is) (rejected b cert number kind fault, tt)
 
 -- by the lines of the tree, where the point's line passes
-pub judged_by : (b : BlockedProgram) → IsFormed b → (claim : Claim) (zs : List ℤ) (t : Tree) (place : Place) (r : Result Place Rejection) → place.zone ≡ b.named.program.spans
+pub judged_by : (b : BlockedProgram) → IsFormed b → (claim : Claim) (zs : List ℤ) (t : Tree) (place : NodePlace) (r : Result NodePlace Rejection) → place.zone ≡ b.named.program.spans
     → JudgesPoint b.named.program b.blocking claim (points_of claim zs) (Ok place.line) → JudgesLines b.named.program b.blocking claim (tree_lines t place.zone) place r
     → IsJudged b (certificate claim zs t) (verdict_of claim r) × IsTrueIfAccepted b.named.program (verdict_of claim r)
 judged_by b formed claim zs t place (Ok now) root point judged =

@@ -15,7 +15,7 @@ use Rattle.bp_model.specs.declared.points.Miss.TheVariants as misses
 use Rattle.block_form.specs.Blocked.{BlockedProgram}
 use Rattle.lagr_bound.specs.declared.bounded.Bounded.{Bounded}
 use Rattle.lagr_bound.specs.declared.bounded.Bounded.TheVariants as bounds
-use Rattle.cert_check.specs.declared.place.Place.{Place}
+use Rattle.cert_check.specs.declared.place.NodePlace.{NodePlace}
 use Rattle.cert_check.specs.declared.place.Rejection.{Rejection}
 use Rattle.cert_check.specs.declared.judge.Judged.{Judged}
 use Rattle.cert_check.specs.declared.judge.Judged.TheVariants.{Accepted, Rejected}
@@ -43,7 +43,7 @@ pub record IsFirstBad (p : Program) (b : Blocking) (claim : Claim) (lines : List
   pub numbered : number ≡ first + length before
 
 -- what judging lines from a place on answers: all pass, and the zone is that of before, or the first at fault
-abbrev pub JudgesLines : Program → Blocking → Claim → List Line → Place → Result Place Rejection → Type 0
+abbrev pub JudgesLines : Program → Blocking → Claim → List Line → NodePlace → Result NodePlace Rejection → Type 0
 JudgesLines p b claim lines at (Ok now) = (now.zone ≡ at.zone) × (now.line ≡ at.line + length lines) × AllByRecursion (Passes p b claim) lines
 JudgesLines p b claim lines at (Err found) = IsFirstBad p b claim lines at.line found.line found.kind
 
@@ -63,7 +63,7 @@ IsTrueIfAccepted p (Accepted claim) = IsTrueClaim p claim
 IsTrueIfAccepted p (Rejected line kind) = Unit {0}
 
 -- what a certificate is judged to be by its tree's lines
-abbrev pub verdict_of : Claim → Result Place Rejection → Judged
+abbrev pub verdict_of : Claim → Result NodePlace Rejection → Judged
 verdict_of claim (Ok place) = Accepted claim
 verdict_of claim (Err found) = Rejected found.line found.kind
 

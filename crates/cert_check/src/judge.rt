@@ -6,7 +6,7 @@ ghost use Rattle.cert_text.specs.Programs.{GoesWith};
 ghost use Rattle.cert_check.specs.Judging.{JudgesPoint, verdict_of, IsJudged, IsTrueIfAccepted};
 ghost use Rattle.cert_check.specs.declared.judge.Judged.TheVariants.{Rejected};
 
-use crate::place::{Place, Rejection};
+use crate::place::{NodePlace, Rejection};
 use crate::point::judge_point;
 use crate::tree::judge_tree;
 use block_form::{Blocked, Zone};
@@ -52,14 +52,14 @@ fn judge_nodes(alloc: Global, b: &Blocked, cert: &Cert, line: u64) -> Result<Jud
         b,
         &claim,
         &mut work,
-        Place { zone, line },
+        NodePlace { zone, line },
         cert.tree(),
     )?;
     Ok(verdict(&claim, &found))
 }
 
 // What a certificate is judged to be by its tree's lines.
-fn verdict(claim: &Claim, found: &Result<Place, Rejection>) -> Judged
+fn verdict(claim: &Claim, found: &Result<NodePlace, Rejection>) -> Judged
     ensures { result ≡ verdict_of claim.now found.now }
 {
     match found {

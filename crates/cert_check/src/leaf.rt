@@ -12,7 +12,7 @@ ghost use Rattle.lagr_bound.specs.Forms.{forms_in};
 ghost use Rattle.lagr_bound.specs.Works.{forms_of};
 ghost use Rattle.cert_check.specs.Judging.{JudgesLines};
 
-use crate::place::{Place, Rejection};
+use crate::place::{NodePlace, Rejection};
 use crate::price::bound_in;
 use block_form::{Blocked, Zone, signs_fit};
 use bp_theory::{CheckKind, Claim, Proof};
@@ -25,10 +25,10 @@ pub fn judge_leaf(
     b: &Blocked,
     claim: &Claim,
     work: &mut Option<Work>,
-    at: Place,
+    at: NodePlace,
     proof: &Proof,
     is_open: bool,
-) -> Result<Result<Place, Rejection>, AllocError>
+) -> Result<Result<NodePlace, Rejection>, AllocError>
     requires made_for { IfSome work.old (λ made. forms_of made ≡ forms_in b.now) }
     requires claim { IsSmallClaim claim.now }
     requires zone { IsZone b.now.named.program.spans at.zone }
@@ -43,7 +43,7 @@ pub fn judge_leaf(
             line: at.line,
             kind,
         })),
-        None => Ok(Ok(Place {
+        None => Ok(Ok(NodePlace {
             zone: at.zone,
             line: at.line + 1,
         })),

@@ -3,7 +3,7 @@ use bp_theory::CheckKind;
 
 /// Where a walk over a tree stands: the zone of a node, and the number of the line that comes next.
 #[derive(Drop)]
-pub struct Place {
+pub struct NodePlace {
     pub zone: Zone,
     pub line: u64,
 }

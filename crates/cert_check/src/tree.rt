@@ -10,7 +10,7 @@ ghost use Rattle.lagr_bound.specs.Works.{forms_of};
 ghost use Rattle.cert_check.specs.Judging.{ProofsFit, JudgesLines};
 
 use crate::leaf::judge_leaf;
-use crate::place::{Place, Rejection};
+use crate::place::{NodePlace, Rejection};
 use block_form::{Blocked, Zone};
 use bp_theory::{CheckKind, Claim, Span};
 use cert_text::Sketch;
@@ -23,9 +23,9 @@ pub fn judge_tree(
     b: &Blocked,
     claim: &Claim,
     work: &mut Option<Work>,
-    at: Place,
+    at: NodePlace,
     tree: &Sketch,
-) -> Result<Result<Place, Rejection>, AllocError>
+) -> Result<Result<NodePlace, Rejection>, AllocError>
     requires made_for { IfSome work.old (λ made. forms_of made ≡ forms_in b.now) }
     requires claim { IsSmallClaim claim.now }
     requires zone { IsZone b.now.named.program.spans at.zone }
@@ -88,40 +88,40 @@ fn is_within(span: &Span, at: &i64) -> bool
 }
 
 // The place of a split's low part, behind the split's line.
-fn to_low(at: Place, var: u32, split: &i64) -> Place
+fn to_low(at: NodePlace, var: u32, split: &i64) -> NodePlace
     requires sound { IsSoundSplit at.zone var split.now }
     requires few { at.line + 1 < 2 ^ 64 }
     ensures zone { result.zone ≡ low_part at.zone var split.now }
     ensures line { result.line ≡ at.line + 1 }
 {
-    Place {
+    NodePlace {
         zone: at.zone.into_low(var, split),
         line: at.line + 1,
     }
 }
 
 // The place of a split's high part, behind the lines of the low one.
-fn to_high(at: Place, var: u32, span: &Span, split: &i64) -> Place
+fn to_high(at: NodePlace, var: u32, span: &Span, split: &i64) -> NodePlace
     requires there { var < length at.zone }
     requires below { split.now <ℤ span.now.hi }
     ensures zone { result.zone ≡ slice_set at.zone var (record { lo = split.now +ℤ pos 1; hi = span.now.hi }) }
     ensures line { result.line ≡ at.line }
 {
     let part = high_span(span, split);
-    Place {
+    NodePlace {
         zone: at.zone.with_span(var, &part),
         line: at.line,
     }
 }
 
 // The place behind a split's lines, with the variable's span of before.
-fn back(at: Place, var: u32, span: &Span) -> Place
+fn back(at: NodePlace, var: u32, span: &Span) -> NodePlace
     requires there { var < length at.zone }
     requires proper { span.now.lo ≤ℤ span.now.hi }
     ensures zone { result.zone ≡ slice_set at.zone var span.now }
     ensures line { result.line ≡ at.line }
 {
-    Place {
+    NodePlace {
         zone: at.zone.with_span(var, span),
         line: at.line,
     }

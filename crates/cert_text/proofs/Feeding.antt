@@ -2,9 +2,9 @@
 use Rattle.std.proofs.Common.{◌≡◌, ℕ, ◌+◌, ◌^◌, ◌<◌, ◌≤◌, List, [], ◌∷◌, ◌++◌, length, take, Result, Ok, Err, refl, sym, ap, ◌∙◌, subst, arith, append_assoc, length-append, get_or}
 use Rattle.std.proofs.lemmas.List.{take_more}
 use Rattle.cert_text.specs.Text.{Kind}
-use Rattle.cert_text.specs.Fault.{IsSeenFault, IsFirstFault}
+use Rattle.cert_text.specs.Fault.{IsSeenFault, IsFirstCertFault}
 use Rattle.cert_text.specs.Frames.{frame_of}
-use Rattle.cert_text.specs.Standing.{StandsFor, Steps, Feeds, EndsTextAt, EndsWell, Reads}
+use Rattle.cert_text.specs.Standing.{StandsFor, Steps, Feeds, EndsTextAt, EndsWell, ReadsCertificate}
 use Rattle.cert_text.specs.declared.cert.Cert.{Cert as Kept}
 use Rattle.cert_text.specs.declared.fault.CertKind.TheVariants.{Syntax}
 use Rattle.cert_text.specs.declared.fault.CertFault.{CertFault}
@@ -44,12 +44,12 @@ fed_fault frame new text piece i byte (At line kind) less is steps =
     subst P (sym whole) (seen_faults_stay (frame_of frame) ((text ++ take i piece) ++ byte ∷ []) rest.0 line kind steps)
 
 -- a fault of the whole text
-pub read_fault : (frame : Frame) (new : Reader) (text : List ℕ) (e : CertFault) → Feeds frame new [] text (Err e) → Reads frame text (Err e)
+pub read_fault : (frame : Frame) (new : Reader) (text : List ℕ) (e : CertFault) → Feeds frame new [] text (Err e) → ReadsCertificate frame text (Err e)
 read_fault frame new text NoMemory feeds = tt
 read_fault frame new text (At line kind) feeds = seen_faults_are_first (frame_of frame) text line kind feeds
 
 -- a fault at the end
-pub end_fault : (frame : Frame) (new : Reader) (text : List ℕ) (line : ℕ) (kind : Kind) (result : Result (Unit {0}) CertFault) → result ≡ Err (At line kind) → IsFirstFault (frame_of frame) text line kind → EndsWell frame new text result
+pub end_fault : (frame : Frame) (new : Reader) (text : List ℕ) (line : ℕ) (kind : Kind) (result : Result (Unit {0}) CertFault) → result ≡ Err (At line kind) → IsFirstCertFault (frame_of frame) text line kind → EndsWell frame new text result
 end_fault frame new text line kind result is fault = let P : Result (Unit {0}) CertFault → Type 0 = λ r. EndsWell frame new text r in subst P (sym is) fault
 
 -- a fault of the number with which the text ends
@@ -58,6 +58,6 @@ number_fault frame new text NoMemory ends = tt
 number_fault frame new text (At line kind) ends = ends
 
 -- a fault that is there at the end
-pub finish_fault : (frame : Frame) (new : Reader) (text : List ℕ) (e : CertFault) → EndsWell frame new text (Err e) → Reads frame text (Err e)
+pub finish_fault : (frame : Frame) (new : Reader) (text : List ℕ) (e : CertFault) → EndsWell frame new text (Err e) → ReadsCertificate frame text (Err e)
 finish_fault frame new text NoMemory ends = tt
 finish_fault frame new text (At line kind) ends = ends

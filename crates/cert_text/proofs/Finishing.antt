@@ -6,7 +6,7 @@ use Rattle.std.specs.Ordering.{int_eq}
 use Rattle.cert_text.specs.Cert.{Proof, Tree, Shut, Open, Split, Cut, Cert, multiplier, with_pair, put, changed}
 use Rattle.cert_text.specs.Cert as texts
 use Rattle.cert_text.specs.Text.{Token, Words, LineEnd, One, cut_lines, text_of, may_name, leaf_line, tree_lines, kept_behind, claim_lines, tokens_of, meant, meant_proof, meant_tree}
-use Rattle.cert_text.specs.Fault.{AreClean, IsText, IsFirstFault, line_behind}
+use Rattle.cert_text.specs.Fault.{AreClean, IsText, IsFirstCertFault, line_behind}
 use Rattle.std.specs.Prelude.{unwrap_or}
 use Rattle.std.specs.Option.{option_map}
 use Rattle.bp_theory.specs.Judgement.{named_value}
@@ -170,10 +170,10 @@ over_spot frame d r n s.LastEnd is = absurd is
 over_spot frame d r n s.Over is = refl
 
 -- between two tokens of a text that isn't over
-pub cut_between : (frame : Frame) (r : Reader) (number : Bool) (text : List ℕ) (line : ℕ) → Between frame r number text → (r.spot ≡ s.Over → ⊥) → line ≡ r.line → IsFirstFault (frame_of frame) text line Syntax
+pub cut_between : (frame : Frame) (r : Reader) (number : Bool) (text : List ℕ) (line : ℕ) → Between frame r number text → (r.spot ≡ s.Over → ⊥) → line ≡ r.line → IsFirstCertFault (frame_of frame) text line Syntax
 cut_between frame r number text line between ended at_line =
-    let L : ℕ → Type 0 = λ l. IsFirstFault (frame_of frame) text l Syntax in
-    let P : List ℕ → Type 0 = λ t. IsFirstFault (frame_of frame) t (line_behind text) Syntax in
+    let L : ℕ → Type 0 = λ l. IsFirstCertFault (frame_of frame) text l Syntax in
+    let P : List ℕ → Type 0 = λ t. IsFirstCertFault (frame_of frame) t (line_behind text) Syntax in
     subst L (sym (at_line ∙ between.counts.line)) (subst P (append-nil text)
     (leaves_first (frame_of frame) (text ++ []) [] (line_behind text)
     (leaves_fresh (frame_of frame) (stage_of r between.count) number text [] [] between.reached (nothing number) (λ e. e) (λ v here. tt) (λ z of_sort. (tt, λ m is. tt)) (λ d o none. ended (over_spot (frame_of frame) d r between.count r.spot o)) (λ first begins. begins)))) where
@@ -182,7 +182,7 @@ cut_between frame r number text line between ended at_line =
       nothing false = tt
 
 -- within a word
-pub cut_word : (frame : Frame) (r : Reader) (text : List ℕ) (word : Word) (count line : ℕ) → StandsFor frame r text → r.part ≡ InWord word count → line ≡ r.line → IsFirstFault (frame_of frame) text line Syntax
+pub cut_word : (frame : Frame) (r : Reader) (text : List ℕ) (word : Word) (count line : ℕ) → StandsFor frame r text → r.part ≡ InWord word count → line ≡ r.line → IsFirstCertFault (frame_of frame) text line Syntax
 cut_word frame r text word count line stands is at_line =
     let Q : Part → Type 0 = λ p. IsPart (frame_of frame) (stage_of r stands.count) p text in
     let both = subst Q is stands.part in
@@ -190,20 +190,20 @@ cut_word frame r text word count line stands is at_line =
     let part : IsInWord (frame_of frame) (stage_of r stands.count) word count text = both.1 in
     let length_some : 0 < length (word_text word) = let less : count < length (word_text word) = part.within in omega arith in
     let bytes : text ≡ part.done ++ (take count (word_text word) ++ []) = part.bytes ∙ ap (λ (xs : List ℕ). part.done ++ xs) (sym (append-nil (take count (word_text word)))) in
-    let P : List ℕ → Type 0 = λ t. IsFirstFault (frame_of frame) t line Syntax in
-    let L : ℕ → Type 0 = λ l. IsFirstFault (frame_of frame) (part.done ++ (take count (word_text word) ++ [])) l Syntax in
+    let P : List ℕ → Type 0 = λ t. IsFirstCertFault (frame_of frame) t line Syntax in
+    let L : ℕ → Type 0 = λ l. IsFirstCertFault (frame_of frame) (part.done ++ (take count (word_text word) ++ [])) l Syntax in
     subst P (sym bytes) (subst L (sym (at_line ∙ stands.counts.line ∙ ap line_behind part.bytes))
     (leaves_first (frame_of frame) (part.done ++ (take count (word_text word) ++ [])) [] (line_behind (part.done ++ take count (word_text word)))
     (leaves_word (frame_of frame) (stage_of r stands.count) part.number part.done [] [] word count part.reached part.comes some part.within (stands_part part.number (word_text word) [] count some length_some part.stands) tt (λ e. e))))
 
 -- behind a minus
-pub cut_minus : (frame : Frame) (r : Reader) (text : List ℕ) (line : ℕ) → StandsFor frame r text → r.part ≡ Minus → line ≡ r.line → IsFirstFault (frame_of frame) text line Syntax
+pub cut_minus : (frame : Frame) (r : Reader) (text : List ℕ) (line : ℕ) → StandsFor frame r text → r.part ≡ Minus → line ≡ r.line → IsFirstCertFault (frame_of frame) text line Syntax
 cut_minus frame r text line stands is at_line =
     let Q : Part → Type 0 = λ p. IsPart (frame_of frame) (stage_of r stands.count) p text in
     let part : IsBehindMinus (frame_of frame) (stage_of r stands.count) text = subst Q is stands.part in
     let S : Sort → Type 0 = λ t. IsOfSort t (negsuc 0) in
-    let P : List ℕ → Type 0 = λ t. IsFirstFault (frame_of frame) t line Syntax in
-    let L : ℕ → Type 0 = λ l. IsFirstFault (frame_of frame) (part.done ++ 45 ∷ []) l Syntax in
+    let P : List ℕ → Type 0 = λ t. IsFirstCertFault (frame_of frame) t line Syntax in
+    let L : ℕ → Type 0 = λ l. IsFirstCertFault (frame_of frame) (part.done ++ 45 ∷ []) l Syntax in
     subst P (sym part.bytes) (subst L (sym (at_line ∙ stands.counts.line ∙ ap line_behind part.bytes))
     (leaves_first (frame_of frame) (part.done ++ 45 ∷ []) [] (line_behind (part.done ++ 45 ∷ []))
     (leaves_minus (frame_of frame) (stage_of r stands.count) part.done [] [] part.reached (subst S (sym part.of_sort) tt) tt (λ e. e))))

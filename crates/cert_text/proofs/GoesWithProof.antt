@@ -25,7 +25,7 @@ use Rattle.block_form.specs.Blocked.{BlockedProgram, IsFormed}
 use Rattle.cert_text.specs.Cert as texts
 use Rattle.cert_text.specs.Cert.{multiplier}
 use Rattle.cert_text.specs.Text.{Kind, Token, Words, LineEnd, text_of, first_kind, scale_fault, is_deep, is_past, row_fault, multiplier_fault, block_fault, may_name, pairs_behind, blocks_behind, picked_words, value_fault, claim_lines, cut_lines, leaf_line, tree_lines, kept_behind, tokens_of, meant, One, numeral, signed_numeral}
-use Rattle.cert_text.specs.Fault.{AreClean, IsText, IsFirstFault}
+use Rattle.cert_text.specs.Fault.{AreClean, IsText, IsFirstCertFault}
 use Rattle.cert_text.specs.Frames.{frame_of}
 use Rattle.cert_text.specs.Stages.{plain_of}
 use Rattle.cert_text.specs.Written.{in_text, written_pair, written_picked, written_proof, written_tree, written_claim, cert_of, certificate}
@@ -33,7 +33,7 @@ use Rattle.cert_text.specs.Sketch.{tree_of}
 use Rattle.cert_text.specs.Kept.{certificate_of, kept_cert}
 use Rattle.cert_text.specs.Plain.{proof_text, tree_text, claim_text, plain_text}
 use Rattle.cert_text.specs.Programs.{frame_by, frame_for, ReadsFor, IsSmall, IsSmallClaim, GoesWith}
-use Rattle.cert_text.specs.Standing.{Reads}
+use Rattle.cert_text.specs.Standing.{ReadsCertificate}
 use Rattle.cert_text.specs.declared.cert.Cert.{Cert as Kept}
 use Rattle.cert_text.specs.declared.frame.Frame.{Frame}
 use Rattle.cert_text.specs.declared.fault.CertFault.{CertFault}
@@ -299,10 +299,10 @@ pub goes_with_read : (b : BlockedProgram) → IsFormed b → (text : List ℕ) �
 goes_with_read b formed text short (Ok cert) h = goes_with b formed cert text short h
 goes_with_read b formed text short (Err e) h = tt
 
-pub read_by : (b : BlockedProgram) (frame : Frame) (text : List ℕ) (r : Result Kept CertFault) → frame_of frame ≡ frame_for b → Reads frame text r → ReadsFor b text r
+pub read_by : (b : BlockedProgram) (frame : Frame) (text : List ℕ) (r : Result Kept CertFault) → frame_of frame ≡ frame_for b → ReadsCertificate frame text r → ReadsFor b text r
 read_by b frame text (Ok cert) same h = subst (λ (f : texts.Frame). IsText f One (kept_cert cert) text) same h
 read_by b frame text (Err NoMemory) same h = tt
-read_by b frame text (Err (At line kind)) same h = subst (λ (f : texts.Frame). IsFirstFault f text line kind) same h
+read_by b frame text (Err (At line kind)) same h = subst (λ (f : texts.Frame). IsFirstCertFault f text line kind) same h
 
 pub frame_is : (frame : Frame) (variables : ℕ) (masters : List Bool) (blocks : ℕ) → frame.variables ≡ variables → frame.masters ≡ masters → frame.blocks ≡ blocks
     → frame_of frame ≡ frame_by variables masters blocks

@@ -3,7 +3,7 @@ use Rattle.std.proofs.Common.{◌≡◌, ℕ, Bool, true, false, List, [], ◌�
 use Rattle.std.proofs.lemmas.Grind.{flat_map-append}
 use Rattle.cert_text.specs.Cert.{Cert, Frame}
 use Rattle.cert_text.specs.Text.{Kind, Token, Words, Figure, LineEnd, One, Two, Three, numeral, signed_numeral, token_text, text_of, fault_of, tokens_of}
-use Rattle.cert_text.specs.Fault.{AreClean, EndsNumber, EndsToken, EndIsSeen, HasFaultyToken, HasNoFaultyToken, BeginsNumber, HasDeepNumber, HasNoDeepNumber, LeavesGrammar, IsFollowed, IsFirstFault, IsSeenFault, line_behind}
+use Rattle.cert_text.specs.Fault.{AreClean, EndsNumber, EndsToken, EndIsSeen, HasFaultyToken, HasNoFaultyToken, BeginsNumber, HasDeepNumber, HasNoDeepNumber, LeavesGrammar, IsFollowed, IsFirstCertFault, IsSeenFault, line_behind}
 use Rattle.cert_text.specs.declared.fault.CertKind.TheVariants.{Syntax}
 use Rattle.cert_text.specs.Words.{word_text, word_token}
 use Rattle.cert_text.specs.Stages.{Stage, words, after, line_fault, sort, IsOfSort, is_deep_stage, number_fault, behind_number, IsOf, Follows}
@@ -113,7 +113,7 @@ word_faulty frame stage number done rest word line kind r comes fault at_line =
 
 -- a faulty number is a first fault, and a seen one behind a byte
 pub number_faulty : (frame : Frame) (stage : Stage) (done rest : List ℕ) (z : ℤ) (line : ℕ) (kind : Kind) → Reached frame stage false done → IsOfSort (sort stage) z → number_fault frame stage z ≡ Some kind
-    → EndsNumber rest → line ≡ line_behind done → IsFirstFault frame (done ++ (signed_numeral z ++ rest)) line kind
+    → EndsNumber rest → line ≡ line_behind done → IsFirstCertFault frame (done ++ (signed_numeral z ++ rest)) line kind
 number_faulty frame stage done rest z line kind r of_sort fault ends at_line =
     inl (token_faulty frame stage (behind_number stage z) false done rest (Figure z (number_fault frame stage z)) line kind r fault (λ c ts. number_leads frame c stage z of_sort ts) ends at_line).0
 
@@ -236,7 +236,7 @@ abbrev pub LeavesAt : Frame → List ℕ → ℕ → List ℕ → List ℕ → T
 LeavesAt frame text line rest more = HasNoFaultyToken frame text × ((leaving : LeavesGrammar frame text line) × (leaving.rest ≡ rest)) × HasNoDeepNumber frame (text ++ more)
 
 -- the place where the text leaves the grammar is its first fault
-pub leaves_first : (frame : Frame) (text rest : List ℕ) (line : ℕ) → LeavesAt frame text line rest [] → IsFirstFault frame text line Syntax
+pub leaves_first : (frame : Frame) (text rest : List ℕ) (line : ℕ) → LeavesAt frame text line rest [] → IsFirstCertFault frame text line Syntax
 leaves_first frame text rest line m = inr (inr (refl, m.0, subst (λ (t : List ℕ). HasNoDeepNumber frame t) (append-nil text) m.2, m.1.0))
 
 -- and a seen one behind a byte

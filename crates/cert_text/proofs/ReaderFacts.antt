@@ -5,7 +5,7 @@ use Rattle.cert_text.specs.Sketch.{tree_of}
 use Rattle.cert_text.specs.Written.{in_text, written_tree}
 use Rattle.cert_text.specs.Stages.{Wait, Stage, behind, at_node}
 use Rattle.cert_text.specs.declared.sketch.Sketch.{Sketch}
-use Rattle.cert_text.specs.declared.reader.Place.{Place}
+use Rattle.cert_text.specs.declared.reader.SplitPlace.{SplitPlace}
 use Rattle.cert_text.specs.declared.reader.Pending.TheVariants.{Low, High}
 use Rattle.cert_text.specs.Readers.{wait_of, waits_on, waits_of}
 use Rattle.cert_text.specs.declared.reader.Pending.{Pending}
@@ -27,7 +27,7 @@ pub pushed : (new old : List Pending) (p : Pending) → new ≡ old ++ p ∷ [] 
 pushed new old p same = ap waits_of same ∙ waits_on-push old p []
 
 -- a whole tree becomes the low part of the nearest split
-pub low_done : (a : Claim) (old popped new : List Pending) (o : Pending) (p : Place) (tree : Sketch) (B : Stage) → old ≡ popped ++ o ∷ [] → o ≡ Low p → new ≡ popped ++ High p tree ∷ []
+pub low_done : (a : Claim) (old popped new : List Pending) (o : Pending) (p : SplitPlace) (tree : Sketch) (B : Stage) → old ≡ popped ++ o ∷ [] → o ≡ Low p → new ≡ popped ++ High p tree ∷ []
     → behind a (waits_of old) (written_tree (tree_of tree)) ≡ B → at_node a (waits_of new) ≡ B
 low_done a old popped new o p tree B was is now same =
     let t = written_tree (tree_of tree) in
@@ -35,7 +35,7 @@ low_done a old popped new o p tree B was is now same =
     ap (λ (ws : List Wait). at_node a ws) (pushed new popped (High p tree) now) ∙ sym (ap (λ (ws : List Wait). behind a ws t) before) ∙ same
 
 -- a whole tree becomes the high part of the nearest split
-pub high_done : (a : Claim) (old popped : List Pending) (o : Pending) (p : Place) (low tree joined : Sketch) (B : Stage) → old ≡ popped ++ o ∷ [] → o ≡ High p low
+pub high_done : (a : Claim) (old popped : List Pending) (o : Pending) (p : SplitPlace) (low tree joined : Sketch) (B : Stage) → old ≡ popped ++ o ∷ [] → o ≡ High p low
     → written_tree (tree_of joined) ≡ Split (in_text p.var) p.at (written_tree (tree_of low)) (written_tree (tree_of tree))
     → behind a (waits_of old) (written_tree (tree_of tree)) ≡ B → behind a (waits_of popped) (written_tree (tree_of joined)) ≡ B
 high_done a old popped o p low tree joined B was is both same =

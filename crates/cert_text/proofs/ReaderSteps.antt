@@ -3,7 +3,7 @@ use Rattle.std.proofs.Common.{◌≡◌, ◌≢◌, ℕ, zero, suc, ◌+◌, ◌
 use Rattle.std.proofs.lemmas.Bool.{true≢false, cases_lt}
 use Rattle.std.proofs.lemmas.Bool.Decides.{nat_tests}
 use Rattle.cert_text.specs.Text.{Kind, numeral, signed_numeral}
-use Rattle.cert_text.specs.Fault.{BeginsDigit, HasDeepNumber, IsSeenFault, IsFirstFault, line_behind}
+use Rattle.cert_text.specs.Fault.{BeginsDigit, HasDeepNumber, IsSeenFault, IsFirstCertFault, line_behind}
 use Rattle.cert_text.specs.Words.{word_begins}
 use Rattle.cert_text.specs.Spots.{spot_sort}
 use Rattle.cert_text.specs.Frames.{frame_of}
@@ -393,11 +393,11 @@ deep_minus_other frame r text byte line stands is other at_line =
     (λ more. deep_minus_leaves frame r text stands part (byte ∷ []) more (λ digit. other digit.0 digit.1))))
 
 -- the text ends behind the minus
-pub cut_deep_minus : (frame : Frame) (r : Reader) (text : List ℕ) (line : ℕ) → StandsFor frame r text → r.part ≡ DeepMinus → line ≡ r.line → IsFirstFault (frame_of frame) text line Syntax
+pub cut_deep_minus : (frame : Frame) (r : Reader) (text : List ℕ) (line : ℕ) → StandsFor frame r text → r.part ≡ DeepMinus → line ≡ r.line → IsFirstCertFault (frame_of frame) text line Syntax
 cut_deep_minus frame r text line stands is at_line =
     let part = deep_minus_part frame r text stands is in
-    let P : List ℕ → Type 0 = λ t. IsFirstFault (frame_of frame) t line Syntax in
-    let L : ℕ → Type 0 = λ l. IsFirstFault (frame_of frame) (part.done ++ 45 ∷ []) l Syntax in
+    let P : List ℕ → Type 0 = λ t. IsFirstCertFault (frame_of frame) t line Syntax in
+    let L : ℕ → Type 0 = λ l. IsFirstCertFault (frame_of frame) (part.done ++ 45 ∷ []) l Syntax in
     subst P (sym part.bytes) (subst L (sym (at_line ∙ stands.counts.line ∙ part.lines))
     (leaves_first (frame_of frame) (part.done ++ 45 ∷ []) (45 ∷ []) (line_behind part.done) (deep_minus_leaves frame r text stands part [] [] (λ digit. digit))))
 
@@ -587,14 +587,14 @@ number_at_fault frame old text negative value byte line kind small stands is fau
 
 -- a faulty number with which the text ends
 pub number_at_end : (frame : Frame) (old : Reader) (text : List ℕ) (negative : Bool) (value line : ℕ) (kind : Kind) → IsSmall (frame_of frame) → StandsFor frame old text → old.part ≡ Digits negative value
-    → ((n : ℕ) → number_fault (frame_of frame) (stage_of old n) (signed negative value) ≡ Some kind) → line ≡ old.line → IsFirstFault (frame_of frame) text line kind
+    → ((n : ℕ) → number_fault (frame_of frame) (stage_of old n) (signed negative value) ≡ Some kind) → line ≡ old.line → IsFirstCertFault (frame_of frame) text line kind
 number_at_end frame old text negative value line kind small stands is fault at_line =
     let part = number_part frame old text negative value stands is in
     let stage = stage_of old stands.count in
     let of_value = of_kept (sort stage) negative part.number value part.kept part.of_sort in
     let alike = kept_alike (frame_of frame) stage negative part.number value small part.of_sort of_value part.kept in
     let bytes : text ≡ part.done ++ (signed_numeral (signed negative part.number) ++ []) = part.bytes ∙ ap (λ (xs : List ℕ). part.done ++ xs) (sym (append-nil (signed_numeral (signed negative part.number)))) in
-    let P : List ℕ → Type 0 = λ t. IsFirstFault (frame_of frame) t line kind in
+    let P : List ℕ → Type 0 = λ t. IsFirstCertFault (frame_of frame) t line kind in
     subst P (sym bytes) (number_faulty (frame_of frame) stage part.done [] (signed negative part.number) line kind part.reached part.of_sort (alike.0 ∙ fault stands.count) tt (at_line ∙ stands.counts.line ∙ part.lines))
 
 -- a number of a natural sort has no sign

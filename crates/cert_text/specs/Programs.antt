@@ -9,7 +9,7 @@ use Rattle.bp_theory.specs.declared.Claim.TheVariants.{Optimal, Infeasible, Boun
 use Rattle.block_form.specs.Blocked.{BlockedProgram, IsFormed}
 use Rattle.cert_text.specs.Cert as texts
 use Rattle.cert_text.specs.Text.{One}
-use Rattle.cert_text.specs.Fault.{IsText, IsFirstFault}
+use Rattle.cert_text.specs.Fault.{IsText, IsFirstCertFault}
 use Rattle.cert_text.specs.Kept.{kept_cert}
 use Rattle.cert_text.specs.Plain.{plain_text}
 use Rattle.cert_text.specs.Written.{cert_of, certificate}
@@ -35,7 +35,7 @@ frame_for b = frame_by (length b.named.program.spans) (map is_none b.dec.places)
 abbrev pub ReadsFor : BlockedProgram → List ℕ → Result Kept CertFault → Type 0
 ReadsFor b text (Ok cert) = IsText (frame_for b) One (kept_cert cert) text
 ReadsFor b text (Err NoMemory) = Unit {0}
-ReadsFor b text (Err (At line kind)) = IsFirstFault (frame_for b) text line kind
+ReadsFor b text (Err (At line kind)) = IsFirstCertFault (frame_for b) text line kind
 
 -- a number of texts
 abbrev pub IsSmall : ℤ → Type 0

@@ -3,7 +3,7 @@ use Rattle.std.specs.Prelude.{◌≡◌, ◌⊎◌, ℕ, ◌+◌, ◌-◌, ◌*�
 use Rattle.cert_text.specs.Cert as texts
 use Rattle.cert_text.specs.Cert.{Cert}
 use Rattle.cert_text.specs.Text.{Token, text_of, signed_numeral, One}
-use Rattle.cert_text.specs.Fault.{AreClean, EndsNumber, EndsToken, line_behind, IsText, IsSeenFault, IsFirstFault}
+use Rattle.cert_text.specs.Fault.{AreClean, EndsNumber, EndsToken, line_behind, IsText, IsSeenFault, IsFirstCertFault}
 use Rattle.cert_text.specs.Words.{word_text}
 use Rattle.cert_text.specs.Signed.{signed}
 use Rattle.cert_text.specs.Frames.{frame_of}
@@ -148,19 +148,19 @@ EndsNumberAt frame new text byte (Err (At line kind)) = IsSeenFault (frame_of fr
 abbrev pub EndsTextAt : Frame → Reader → List ℕ → Result (Unit {0}) CertFault → Type 0
 EndsTextAt frame new text (Ok _) = Between frame new true text
 EndsTextAt frame new text (Err NoMemory) = Unit {0}
-EndsTextAt frame new text (Err (At line kind)) = IsFirstFault (frame_of frame) text line kind
+EndsTextAt frame new text (Err (At line kind)) = IsFirstCertFault (frame_of frame) text line kind
 
 -- what a reader does at the text's end
 abbrev pub EndsWell : Frame → Reader → List ℕ → Result (Unit {0}) CertFault → Type 0
 EndsWell frame new text (Ok _) = StandsFor frame new text × (new.part ≡ Fresh) × (new.spot ≡ Over)
 EndsWell frame new text (Err NoMemory) = Unit {0}
-EndsWell frame new text (Err (At line kind)) = IsFirstFault (frame_of frame) text line kind
+EndsWell frame new text (Err (At line kind)) = IsFirstCertFault (frame_of frame) text line kind
 
 -- what is read of a text
-abbrev pub Reads : Frame → List ℕ → Result Kept CertFault → Type 0
-Reads frame text (Ok cert) = IsText (frame_of frame) One (kept_cert cert) text
-Reads frame text (Err NoMemory) = Unit {0}
-Reads frame text (Err (At line kind)) = IsFirstFault (frame_of frame) text line kind
+abbrev pub ReadsCertificate : Frame → List ℕ → Result Kept CertFault → Type 0
+ReadsCertificate frame text (Ok cert) = IsText (frame_of frame) One (kept_cert cert) text
+ReadsCertificate frame text (Err NoMemory) = Unit {0}
+ReadsCertificate frame text (Err (At line kind)) = IsFirstCertFault (frame_of frame) text line kind
 
 -- a byte is a digit
 abbrev pub is_digit : ℕ → Bool

@@ -10,7 +10,7 @@ ghost use Rattle.cert_text.specs.Readers.{Keeps, stage_of, waits_of, TakesNatura
 ghost use Rattle.cert_text.specs.Frames.{frame_of};
 ghost use Rattle.cert_text.specs.Words.{word_text, word_begins, word_token};
 ghost use Rattle.cert_text.specs.Text.{fault_of};
-ghost use Rattle.cert_text.specs.Standing.{StandsFor, Between, InWordAt, MayStand, Comes, Steps, Feeds, EndsNumberAt, EndsTextAt, EndsWell, Reads, is_digit};
+ghost use Rattle.cert_text.specs.Standing.{StandsFor, Between, InWordAt, MayStand, Comes, Steps, Feeds, EndsNumberAt, EndsTextAt, EndsWell, ReadsCertificate, is_digit};
 ghost use Rattle.cert_text.specs.declared.reader.Part.TheVariants.{Digits, Minus, DeepMinus};
 ghost use Rattle.cert_text.specs.Spots.{spot_sort};
 ghost use Rattle.cert_text.specs.declared.spots.Spot.TheVariants.{Scale, Values, Pairs};
@@ -42,7 +42,7 @@ pub enum Part {
 
 // A variable, and the number behind which its span is split.
 #[derive(Clone, Copy)]
-pub struct Place {
+pub struct SplitPlace {
     var: u32,
     at: i64,
 }
@@ -50,8 +50,8 @@ pub struct Place {
 // A split above the tree that comes next: its low part is still to come, or there.
 #[derive(Drop)]
 pub enum Pending {
-    Low(Place),
-    High(Place, Sketch),
+    Low(SplitPlace),
+    High(SplitPlace, Sketch),
 }
 
 /// A reader of a certificate's text, which is fed in pieces.
@@ -71,12 +71,12 @@ pub struct Reader {
     row: u32,
     last: u64,
     left: u64,
-    place: Place,
+    place: SplitPlace,
     root: Sketch,
 }
 
 // A split of two trees.
-fn fork(alloc: Global, place: &Place, low: Sketch, high: Sketch) -> Result<Sketch, AllocError>
+fn fork(alloc: Global, place: &SplitPlace, low: Sketch, high: Sketch) -> Result<Sketch, AllocError>
     ensures { IfOk result (λ t. written_tree (tree_of t) ≡ Split (in_text place.now.var) place.now.at (written_tree (tree_of low)) (written_tree (tree_of high))) }
 {
     let low = Box::new(alloc, low)?;
@@ -662,7 +662,7 @@ impl Reader {
             row: 0,
             last: 0,
             left: 0,
-            place: Place { var: 0, at: 0 },
+            place: SplitPlace { var: 0, at: 0 },
             root: Sketch::Leaf(Proof {
                 scale: 0,
                 mults: Items::new(alloc),
@@ -707,7 +707,7 @@ impl Reader {
 
     /// The certificate that was read, where the text ends here.
     pub fn finish(self, alloc: Global, frame: &Frame) -> Result<Cert, CertFault>
-        ensures { (text : List ℕ) → length text < 2 ^ 64 → StandsFor frame.now self text → Reads frame.now text result }
+        ensures { (text : List ℕ) → length text < 2 ^ 64 → StandsFor frame.now self text → ReadsCertificate frame.now text result }
     {
         let mut reader = self;
         match reader.end_text(alloc, frame) {
@@ -724,7 +724,7 @@ impl Reader {
 /// Reads the text of a certificate: gives the certificate, or the first fault of the text by line
 /// and kind.
 pub fn read(alloc: Global, frame: &Frame, bytes: &[u8]) -> Result<Cert, CertFault>
-    ensures { Reads frame.now bytes.now result }
+    ensures { ReadsCertificate frame.now bytes.now result }
 {
     let _size = bytes.len();
     let mut reader = Reader::new(alloc);

@@ -24,7 +24,7 @@ no_text file t a b = absurd (cc)
 
 -- no text has a certificate and a fault
 read_or_faulty : (b : BlockedProgram) (text other : List ℕ) (c : Certificate) (line : ℕ) (kind : CertKind) → text ≡ other
-    → IsText (frame_for b) One (cert_of c) text → texts.IsFirstFault (frame_for b) other line kind → ⊥
+    → IsText (frame_for b) One (cert_of c) text → texts.IsFirstCertFault (frame_for b) other line kind → ⊥
 read_or_faulty b text other c line kind same spells fault =
     certificates_have_no_fault (frame_for b) One (cert_of c) other line kind (subst (λ (t : List ℕ). IsText (frame_for b) One (cert_of c) t) same spells) fault
 

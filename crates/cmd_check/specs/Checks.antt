@@ -19,7 +19,7 @@ use Rattle.bp_front.specs.Answers.{AnswersFront}
 -- is true
 pub data ChecksBlocked (files : Files) (cert : List ℕ) (b : BlockedProgram) (status : ℕ) (report : List ℕ) : Type 0 where
   missing : files cert ≡ None → status ≡ 11 → report ≡ [] → ChecksBlocked files cert b status report
-  faulty : (text : List ℕ) (line : ℕ) (kind : CertKind) → files cert ≡ Some text → texts.IsFirstFault (frame_for b) text line kind
+  faulty : (text : List ℕ) (line : ℕ) (kind : CertKind) → files cert ≡ Some text → texts.IsFirstCertFault (frame_for b) text line kind
       → status ≡ 3 → report ≡ cert_refusal line kind → ChecksBlocked files cert b status report
   accepted : (text : List ℕ) (c : Certificate) → files cert ≡ Some text → IsText (frame_for b) One (cert_of c) text
       → IsCertified b.named.program b.dec c → IsTrueClaim b.named.program c.claim

@@ -42,7 +42,7 @@ pub record CanMerge (b : BlockedProgram) (from : Loaded) : Type 0 where
 
 -- what a text is refused for: as `check` judges it, and where a leaf that would be live is too deep, as `solve --from` tells it
 pub data RefusesText (b : BlockedProgram) (text : List ℕ) (status : ℕ) (report : List ℕ) : Type 0 where
-  faulty : (line : ℕ) (kind : CertKind) → texts.IsFirstFault (frame_for b) text line kind
+  faulty : (line : ℕ) (kind : CertKind) → texts.IsFirstCertFault (frame_for b) text line kind
       → status ≡ 3 → report ≡ cert_refusal line kind → RefusesText b text status report
   rejected : (cert : Certificate) (line : ℕ) (kind : CheckKind) → IsText (frame_for b) One (cert_of cert) text
       → HasItsPoint (named_value cert.claim) cert.point → IsFirstFault b.named.program b.dec cert line kind

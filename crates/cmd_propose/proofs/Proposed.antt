@@ -5,7 +5,7 @@ use Rattle.bp_theory.specs.Program.{Program}
 use Rattle.bp_model.specs.Named.{NamedProgram, IsKept}
 use Rattle.bp_model.specs.Dec.{HasListed}
 use Rattle.bp_shelf.specs.Shelf.{Files}
-use Rattle.dec_read.specs.Reading.{Reads}
+use Rattle.dec_read.specs.Reading.{ReadsDecomposition}
 use Rattle.dec_find.specs.Text.{text_of}
 use Rattle.dec_find.proofs.FoundLemmas.{found_accepted}
 use Rattle.dec_guess.specs.Guess.{IsGuess}
@@ -41,15 +41,15 @@ proposes_as : (m : NamedProgram) (r report x text : List ℕ) → report ≡ r �
 proposes_as m r report x text a b come = rw (a, b) come
 
 -- a decomposition with its text, its program in blocks and the report on it
-pub model_proposes : (m : NamedProgram) (d : Decomposition) (b : BlockedProgram) (g : Grouping) (text report : List ℕ) → IsGuess m.program d → Reads text m d → text ≡ text_of m d
+pub model_proposes : (m : NamedProgram) (d : Decomposition) (b : BlockedProgram) (g : Grouping) (text report : List ℕ) → IsGuess m.program d → ReadsDecomposition text m d → text ≡ text_of m d
     → BlocksCome m d (blocked b) → AreSameClasses b.named.program.spans b.blocking g → report ≡ proposed_report b g
     → ModelProposes m (record { status = 0; report = report; text = Some text })
 model_proposes m d b g text report guess reads is come classes printed =
     proposes_as m (proposed_report b g) report (text_of m d) text printed is
-    (proposed d b g (record { guess = guess; read_back = subst (λ (t : List ℕ). Reads t m d) is reads; accepted = come; classes = classes }))
+    (proposed d b g (record { guess = guess; read_back = subst (λ (t : List ℕ). ReadsDecomposition t m d) is reads; accepted = come; classes = classes }))
 
 -- the same by what is said of its report
-pub reported_proposes : (m : NamedProgram) (d : Decomposition) (text report : List ℕ) → IsGuess m.program d → Reads text m d → text ≡ text_of m d → IsReported m d report
+pub reported_proposes : (m : NamedProgram) (d : Decomposition) (text report : List ℕ) → IsGuess m.program d → ReadsDecomposition text m d → text ≡ text_of m d → IsReported m d report
     → ModelProposes m (record { status = 0; report = report; text = Some text })
 reported_proposes m d text report guess reads is come =
     model_proposes m d come.formed come.told.root text report guess reads is come.accepted come.told.classes come.told.printed

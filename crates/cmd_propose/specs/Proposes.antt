@@ -3,7 +3,7 @@ use Rattle.std.specs.Prelude.{◌≡◌, ℕ, List, [], Some, None}
 use Rattle.bp_shelf.specs.Shelf.{Files}
 use Rattle.bp_theory.specs.Decomposition.{Decomposition}
 use Rattle.bp_model.specs.Named.{NamedProgram}
-use Rattle.dec_read.specs.Reading.{Reads}
+use Rattle.dec_read.specs.Reading.{ReadsDecomposition}
 use Rattle.dec_find.specs.Text.{text_of}
 use Rattle.dec_guess.specs.Guess.{IsGuess}
 use Rattle.block_form.specs.Blocked.{BlockedProgram}
@@ -17,7 +17,7 @@ use Rattle.cmd_propose.specs.declared.Proposal.{Proposal}
 -- some master rows, it is read back from its text, and its blocks are accepted.
 pub record IsProposed (m : NamedProgram) (d : Decomposition) (b : BlockedProgram) (g : Grouping) : Type 0 where
   pub guess : IsGuess m.program d
-  pub read_back : Reads (text_of m d) m d
+  pub read_back : ReadsDecomposition (text_of m d) m d
   pub accepted : BlocksCome m d (blocked b)
   pub classes : AreSameClasses b.named.program.spans b.blocking g
 

@@ -44,7 +44,7 @@ pub record IsStartAt (b : BlockedProgram) (leaf : Option ℕ) (text : List ℕ) 
 -- what a text is refused for as a start: as `check` judges it, where a leaf that would be live is too deep, and where it has no
 -- open leaf of the number that is named
 pub data RefusesStart (b : BlockedProgram) (leaf : Option ℕ) (text : List ℕ) (status : ℕ) (report : List ℕ) : Type 0 where
-  faulty : (line : ℕ) (kind : CertKind) → texts.IsFirstFault (frame_for b) text line kind
+  faulty : (line : ℕ) (kind : CertKind) → texts.IsFirstCertFault (frame_for b) text line kind
       → status ≡ 3 → report ≡ cert_refusal line kind → RefusesStart b leaf text status report
   rejected : (cert : Certificate) (line : ℕ) (kind : CheckKind) → IsText (frame_for b) One (cert_of cert) text
       → HasItsPoint (named_value cert.claim) cert.point → IsFirstFault b.named.program b.dec cert line kind

@@ -15,7 +15,7 @@ use Rattle.dec_read.specs.declared.words.Keyword.TheVariants.{Nblocks}
 use Rattle.dec_read.specs.Scan.{tokens_at}
 use Rattle.dec_read.specs.Parts.{Part, rows_listed, place_in, section_behind, has_come, refuses_unlisted, block_count, vars_listed, decomposition_of}
 use Rattle.dec_read.specs.Faults.{end_fault, lacks_row, awaits_number}
-use Rattle.dec_read.specs.Reading.{Reads}
+use Rattle.dec_read.specs.Reading.{ReadsDecomposition}
 use Rattle.dec_read.specs.declared.words.Section.TheVariants.{Rows}
 use Rattle.dec_read.specs.declared.words.Section.{Section}
 use Rattle.dec_read.specs.declared.fault.DecKind.{DecKind}
@@ -203,7 +203,7 @@ ended m e section counted lenient = sym (
     ∙ ap (λ (b : Bool). if b && lacks_row (rows_listed e) m.row_names then Some kinds.Unassigned else None) lenient
     )
 
-pub text_reads : (m : NamedProgram) (d : Decomposition) → IsWritable m d → d.listed ≡ [] → length (text_of m d) ≤ 16777216 → Reads (text_of m d) m d
+pub text_reads : (m : NamedProgram) (d : Decomposition) → IsWritable m d → d.listed ≡ [] → length (text_of m d) ≤ 16777216 → ReadsDecomposition (text_of m d) m d
 text_reads m d ok unlisted short =
     let walked = walk_text m d ok in
     let text = text_of m d in

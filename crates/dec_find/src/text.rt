@@ -2,7 +2,7 @@
 ghost use Rattle.std.specs.Prelude.{◌≡◌, ◌≤◌, ◌<◌, ◌++◌, ◌∷◌, [], ℕ, List, Option, IfOk, OnOk, All, length, decimal};
 ghost use Rattle.std.specs.List.{zip};
 ghost use Rattle.bp_theory.specs.Decomposition.{HasPlaces, IsPlace};
-ghost use Rattle.dec_read.specs.Reading.{Reads};
+ghost use Rattle.dec_read.specs.Reading.{ReadsDecomposition};
 ghost use Rattle.dec_find.specs.Text.{IsRowName, text_of, block_head, AreLines};
 
 use bp_model::{Dec, Model};
@@ -89,7 +89,7 @@ pub fn dec_text(alloc: Global, m: &Model, dec: &Dec) -> Result<Vec<u8>, AllocErr
     requires unlisted { dec.now.listed ≡ [] }
     requires names { All IsRowName m.now.row_names }
     ensures text { IfOk result (λ text. text.items ≡ text_of m.now dec.now) }
-    ensures read_back { IfOk result (λ text. Reads text.items m.now dec.now) }
+    ensures read_back { IfOk result (λ text. ReadsDecomposition text.items m.now dec.now) }
 {
     let _rows = m.rows();
     let lines = lines_of(alloc, m, dec)?;

@@ -13,7 +13,7 @@ use Rattle.dec_read.specs.Cut.{Token, tokens}
 use Rattle.dec_read.specs.Words.{has_bad_byte, keyword_of, number_of}
 use Rattle.dec_read.specs.Parts.{Part, keyword, number, row, variable, linking, stray, section_behind, has_come, block_count, refuses_unlisted, rows_listed, vars_listed, is_among, place_in, number_among, number_part, part_by, part_of, parts, parts_before, decomposition_of}
 use Rattle.dec_read.specs.Faults.{awaits_number, keyword_fault, block_fault, number_fault, variable_fault, part_fault, token_fault, fault_at}
-use Rattle.dec_read.specs.Reading.{Reads, parts_of}
+use Rattle.dec_read.specs.Reading.{ReadsDecomposition, parts_of}
 use Rattle.dec_read.specs.declared.words.Keyword.{Keyword}
 use Rattle.dec_read.specs.declared.words.Keyword.TheVariants.{Presolved, Nblocks, ConsDefaultMaster, Block, MasterConss, BlockVars, MasterVars, LinkingVars}
 use Rattle.dec_read.specs.declared.words.Section.{Section}
@@ -218,5 +218,5 @@ sound_placed m all kept s = record {
 }
 
 -- a text that is read lists known variables and places
-pub reads_placed : (text : List ℕ) (m : NamedProgram) (d : Decomposition) → IsKept m → Reads text m d → IsPlaced m d
+pub reads_placed : (text : List ℕ) (m : NamedProgram) (d : Decomposition) → IsKept m → ReadsDecomposition text m d → IsPlaced m d
 reads_placed text m d kept r = subst (IsPlaced m) (sym r.meant) (sound_placed m (parts_of text) kept (before_sound m (tokens text) r.faultless (length (tokens text)) (omega arith)))

@@ -9,7 +9,7 @@ use Rattle.dec_read.specs.Cut.{Token, tokens, tokens_from, split, is_line_feed, 
 use Rattle.dec_read.specs.Scan.{tokens_at}
 use Rattle.dec_read.specs.Parts.{Part, parts, part_of, parts_before, decomposition_of}
 use Rattle.dec_read.specs.Faults.{token_fault, fault_at, end_fault}
-use Rattle.dec_read.specs.Reading.{Reads, HasFault, at_token, at_end, parts_of}
+use Rattle.dec_read.specs.Reading.{ReadsDecomposition, HasDecTextFault, at_token, at_end, parts_of}
 use Rattle.dec_read.specs.State.{HasRead, StandsBefore, Keeps, Takes}
 use Rattle.dec_read.specs.declared.state.Reader.{Reader}
 use Rattle.dec_read.specs.declared.fault.DecKind.{DecKind}
@@ -68,7 +68,7 @@ read_more text m left rest earlier token h e none =
 
 -- the next token at fault is the first
 pub read_fault : (text : List ℕ) (m : NamedProgram) (left rest : List Token) (earlier : List Part) (token : Token) (kind : DecKind) → length text ≤ 16777216 → HasRead text m left earlier → left ≡ token ∷ rest
-    → token_fault m earlier token ≡ Some kind → HasFault text m token.line kind
+    → token_fault m earlier token ≡ Some kind → HasDecTextFault text m token.line kind
 read_fault text m left rest earlier token kind short h e fault =
     let next = next_is (tokens text) h.place token rest (sym e ∙ h.left_is) in
     at_token short h.place token next.0 (here m (tokens text) h.place token earlier next.0 h.earlier_is ∙ fault) h.faultless refl
@@ -88,7 +88,7 @@ read_all text m left earlier h e =
     (none, h.earlier_is ∙ ap (λ (xs : List Token). parts (reverse xs)) same)
 
 pub end_reads : (text : List ℕ) (m : NamedProgram) (left : List Token) (earlier : List Part) (d : Decomposition) → length text ≤ 16777216 → HasRead text m left earlier → left ≡ []
-    → None ≡ end_fault m earlier → d ≡ decomposition_of m earlier → Reads text m d
+    → None ≡ end_fault m earlier → d ≡ decomposition_of m earlier → ReadsDecomposition text m d
 end_reads text m left earlier d short h e ended meant =
     let all = read_all text m left earlier h e in
     record {
@@ -99,7 +99,7 @@ end_reads text m left earlier d short h e ended meant =
     }
 
 pub end_has_fault : (text : List ℕ) (m : NamedProgram) (left : List Token) (earlier : List Part) (kind : DecKind) → length text ≤ 16777216 → HasRead text m left earlier → left ≡ []
-    → Some kind ≡ end_fault m earlier → HasFault text m (end_line text) kind
+    → Some kind ≡ end_fault m earlier → HasDecTextFault text m (end_line text) kind
 end_has_fault text m left earlier kind short h e fault =
     let all = read_all text m left earlier h e in
     at_end short all.0 (ap (end_fault m) (sym all.1) ∙ sym fault) refl
@@ -113,7 +113,7 @@ stands_more text m reader new left rest token fault b e taken none =
 
 -- a token at fault
 pub stands_fault : (text : List ℕ) (m : NamedProgram) (reader new : Reader) (left rest : List Token) (token : Token) (fault : Option DecKind) (kind : DecKind) (b : StandsBefore text m reader left) → length text ≤ 16777216
-    → left ≡ token ∷ rest → Takes m new b.earlier token (Ok fault) → fault ≡ Some kind → HasFault text m token.line kind
+    → left ≡ token ∷ rest → Takes m new b.earlier token (Ok fault) → fault ≡ Some kind → HasDecTextFault text m token.line kind
 stands_fault text m reader new left rest token fault kind b short e taken is =
     let told = subst (λ (o : Option DecKind). Takes m new b.earlier token (Ok o)) is taken in
     read_fault text m left rest b.earlier token kind short b.has_read e told

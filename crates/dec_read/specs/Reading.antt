@@ -15,22 +15,22 @@ abbrev pub parts_of : List ℕ → List Part
 parts_of text = parts_before (tokens text) (length (tokens text))
 
 -- the decomposition that a text means: neither a token nor the end is at fault
-pub record Reads (text : List ℕ) (m : NamedProgram) (d : Decomposition) : Type 0 where
+pub record ReadsDecomposition (text : List ℕ) (m : NamedProgram) (d : Decomposition) : Type 0 where
   pub short : length text ≤ 16777216
   pub faultless : (i : ℕ) → fault_at m (tokens text) i ≡ None
   pub ended : end_fault m (parts_of text) ≡ None
   pub meant : d ≡ decomposition_of m (parts_of text)
 
 -- the first fault of a text: its length, else its first token at fault, else its end
-pub data HasFault (text : List ℕ) (m : NamedProgram) (line : ℕ) (kind : DecKind) : Type 0 where
-  too_long : 16777216 < length text → line ≡ 0 → kind ≡ Limit → HasFault text m line kind
+pub data HasDecTextFault (text : List ℕ) (m : NamedProgram) (line : ℕ) (kind : DecKind) : Type 0 where
+  too_long : 16777216 < length text → line ≡ 0 → kind ≡ Limit → HasDecTextFault text m line kind
   at_token : length text ≤ 16777216 → (i : ℕ) → (token : Token) → slice_get (tokens text) i ≡ Some token
       → fault_at m (tokens text) i ≡ Some kind → ((k : ℕ) → k < i → fault_at m (tokens text) k ≡ None)
-      → line ≡ token.line → HasFault text m line kind
+      → line ≡ token.line → HasDecTextFault text m line kind
   at_end : length text ≤ 16777216 → ((i : ℕ) → fault_at m (tokens text) i ≡ None)
-      → end_fault m (parts_of text) ≡ Some kind → line ≡ end_line text → HasFault text m line kind
+      → end_fault m (parts_of text) ≡ Some kind → line ≡ end_line text → HasDecTextFault text m line kind
 
 -- what an error of reading says
 abbrev pub IsFault : List ℕ → NamedProgram → DecFault → Type 0
-IsFault text m (At line kind) = HasFault text m line kind
+IsFault text m (At line kind) = HasDecTextFault text m line kind
 IsFault text m NoMemory = Unit {0}

@@ -14,7 +14,7 @@ ghost use Rattle.bp_theory.specs.Decomposition.{Decomposition, HasPlaces};
 ghost use Rattle.bp_model.specs.Dec.{HasListed};
 ghost use Rattle.bp_model.specs.Named.{NamedProgram};
 ghost use Rattle.dec_read.specs.declared.fault.DecKind.{DecKind};
-ghost use Rattle.dec_read.specs.Reading.{Reads, HasFault, IsFault};
+ghost use Rattle.dec_read.specs.Reading.{ReadsDecomposition, HasDecTextFault, IsFault};
 
 use bp_model::{Dec, Model};
 use cut::end_line;
@@ -29,30 +29,30 @@ const MOST_BYTES: usize = 16_777_216;
 
 /// A text means at most one decomposition of a model.
 pub fn one_decomposition()
-    ensures { (text : List ℕ) (m : NamedProgram) (d e : Decomposition) → Reads text m d → Reads text m e → d ≡ e }
+    ensures { (text : List ℕ) (m : NamedProgram) (d e : Decomposition) → ReadsDecomposition text m d → ReadsDecomposition text m e → d ≡ e }
 {}
 
 /// No text both means a decomposition and has a fault.
 pub fn decomposition_or_fault()
     ensures { (text : List ℕ) (m : NamedProgram) (d : Decomposition) (line : ℕ) (kind : DecKind)
-        → Reads text m d → HasFault text m line kind → ⊥ }
+        → ReadsDecomposition text m d → HasDecTextFault text m line kind → ⊥ }
 {}
 
 /// A text has at most one first fault.
 pub fn one_fault()
     ensures { (text : List ℕ) (m : NamedProgram) (k l : ℕ) (a b : DecKind)
-        → HasFault text m k a → HasFault text m l b → (k ≡ l) × (a ≡ b) }
+        → HasDecTextFault text m k a → HasDecTextFault text m l b → (k ≡ l) × (a ≡ b) }
 {}
 
 /// Each text means a decomposition of a model or has a first fault.
 pub fn decomposition_or_first_fault()
     ensures { (text : List ℕ) (m : NamedProgram)
-        → ((d : Decomposition) × Reads text m d) ⊎ ((line : ℕ) × (kind : DecKind) × HasFault text m line kind) }
+        → ((d : Decomposition) × ReadsDecomposition text m d) ⊎ ((line : ℕ) × (kind : DecKind) × HasDecTextFault text m line kind) }
 {}
 
 /// The decomposition of a model that a text means, or the text's first fault.
 pub fn read_dec(alloc: Global, bytes: &[u8], m: &Model) -> Result<Dec, DecFault>
-    ensures dec { IfOk result (λ d. Reads bytes.now m.now d) }
+    ensures dec { IfOk result (λ d. ReadsDecomposition bytes.now m.now d) }
     ensures blocks { IfOk result (λ d. d.blocks ≤ 4096) }
     ensures places { IfOk result (λ d. HasPlaces m.now.program d) }
     ensures listed { IfOk result (λ d. HasListed m.now.program d) }

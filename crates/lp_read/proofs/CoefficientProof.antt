@@ -15,7 +15,7 @@ use Rattle.bp_theory.specs.declared.Term.{Term}
 use Rattle.bp_model.specs.Parts.{IsTidied}
 use Rattle.lp_read.specs.Tree.{Name, Item, term, constant}
 use Rattle.lp_read.specs.Meaning as meaning
-use Rattle.lp_read.specs.Meaning.{signed, minimised, total, share_of, with_sign, activity}
+use Rattle.lp_read.specs.Meaning.{signed, minimised, total, share_of, with_sign, largest_activity}
 use Rattle.lp_read.specs.Model.{HasCoefficients}
 use Rattle.lp_read.specs.Numbered.{raw_terms}
 use Rattle.lp_read.proofs.NameNumbers.{same_number}
@@ -62,8 +62,8 @@ coefficient_missing (t ∷ terms) n v all l =
 pub has_coefficients : (names : List Name) (turned : Bool) (items : List Item) (sums : List Term) → IsDistinct bytes_eq names
     → AllByRecursion (IsKnownItem names) items → AllByRecursion (λ (t : Term). t.var < length names) (raw_terms names turned items)
     → IsTidied (raw_terms names turned items) sums
-    → HasCoefficients (map (λ n. minimised turned (meaning.coefficient items n)) names) sums
-unfolding meaning.coefficient
+    → HasCoefficients (map (λ n. minimised turned (meaning.item_coefficient items n)) names) sums
+unfolding meaning.item_coefficient
 has_coefficients names turned items sums distinct known below tidied = record {
   tidy = tidied.tidy;
   each = λ v. tidied.same v ∙ ⊎_elim
@@ -154,8 +154,8 @@ same_activity n (c ∷ coefficients) (s ∷ spans) (t ∷ terms) w long tidy eac
 
 -- the same from the first variable on
 pub activity_is : (beside : ℕ) (coefficients : List ℤ) (spans : List Span) (terms : List Term) → length coefficients ≡ length spans → HasCoefficients coefficients terms
-    → beside + sum_by (λ (t : Term). unsigned_abs t.coef * reach (span_at spans t.var)) terms ≡ activity beside coefficients spans
-unfolding activity
+    → beside + sum_by (λ (t : Term). unsigned_abs t.coef * reach (span_at spans t.var)) terms ≡ largest_activity beside coefficients spans
+unfolding largest_activity
 activity_is beside coefficients spans terms long h =
     ap (λ k. beside + k) (same_activity 0 coefficients spans terms (λ v. reach (span_at spans v)) long h.tidy
     (λ v. ap (coefficient terms) (zero-add v) ∙ h.each v) (λ k. ap (λ v. reach (span_at spans v)) (zero-add k)))

@@ -8,7 +8,7 @@ use Rattle.lp_read.specs.Tree as plain
 use Rattle.lp_read.specs.Tree.{Name, Sign, Symbol, word, name, number, infinity, sign, comparison, colon, unfit, Site, objective_first, objective_more, row_first, row_more, listed, other, Written, placed, headed, comparison_of, spelled_signs, spelled_signed, spelled_factor, spelled_term, spelled_item, spelled_value, spelled_sum, spelled_label, spelled_row, written_row, written_bound, written_part, written_objective, written_word, written, spelling, sites}
 use Rattle.lp_read.specs.Roles.{is_colon, counts_as_term}
 use Rattle.lp_read.specs.TreeIn.{name_in, term_in, item_in, sum_in, row_in, part_in, label_in, tree_in}
-use Rattle.lp_read.specs.declared.tree.Place.{Place}
+use Rattle.lp_read.specs.declared.tree.TextRange.{TextRange}
 use Rattle.lp_read.specs.declared.tree.Signed.{Signed}
 use Rattle.lp_read.specs.declared.tree.Term.{Term}
 use Rattle.lp_read.specs.declared.tree.Item.{Item}
@@ -189,7 +189,7 @@ first_item text next (items.Constant c) rest apart =
     number_front (λ ss. 0 + counted next (placed objective_more rest) ≤ counted next (headed objective_first objective_more ss)) c rest
     (λ s xs. omega (arith, behind_counted next objective_first objective_more s xs rest))
 
-objective_counted : (text : List ℕ) (next : Option Symbol) (label : Option Place) (o : Option (Sum Item)) → is_colon next ≡ false
+objective_counted : (text : List ℕ) (next : Option Symbol) (label : Option TextRange) (o : Option (Sum Item)) → is_colon next ≡ false
     → objective_count o ≤ counted next (headed objective_first objective_more (spelled_label (label_in text label) ++ objective_symbols (option_map (sum_in (item_in text)) o)))
 objective_counted text next label None apart = omega arith
 objective_counted text next None (Some e) apart =

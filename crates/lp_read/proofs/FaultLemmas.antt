@@ -11,11 +11,11 @@ use Rattle.bp_theory.specs.Digits.{span_bits, zone_bits}
 use Rattle.bp_theory.specs.declared.Span.{Span}
 use Rattle.lp_token.specs.declared.LpKind.{LpKind}
 use Rattle.lp_token.specs.declared.LpKind.TheVariants.{Limit}
-use Rattle.lp_read.specs.Tree.{Name, Tree}
+use Rattle.lp_read.specs.Tree.{Name, SyntaxTree}
 use Rattle.lp_read.specs.Roles.{firsts, variables}
 use Rattle.lp_read.specs.Meaning.{ends, span_of, tokens_of}
 use Rattle.lp_read.specs.Reading.{ends_fault, bounds_fault, variable_fault, digits_fault, place_of, first_found, first_past, or_else}
-use Rattle.lp_read.specs.Numbered.{ends_in, is_listed_in, fault_in, stated_at, table_of, unsaid, IsFirstFault, IsFirstPast}
+use Rattle.lp_read.specs.Numbered.{ends_in, is_listed_in, fault_in, stated_at, table_of, unsaid, IsFirstBoundsFault, IsFirstPast}
 use Rattle.lp_read.specs.declared.meaning.bounds.Stated.{Stated}
 use Rattle.lp_read.proofs.TableLemmas.{StandsFor, HasNames, table_says, length-table}
 
@@ -52,7 +52,7 @@ unfolding IsDistinct
 distinct_firsts [] = tt
 distinct_firsts (n ∷ names) = (apart_kept n (firsts names), distinct_kept (λ m. not (bytes_eq n m)) (firsts names) (distinct_firsts names))
 
-pub variables_distinct : (t : Tree) → IsDistinct bytes_eq (variables (tokens_of t))
+pub variables_distinct : (t : SyntaxTree) → IsDistinct bytes_eq (variables (tokens_of t))
 unfolding variables
 variables_distinct t = distinct_firsts _
 
@@ -93,11 +93,11 @@ past_some w limit so_far (n ∷ names) (suc v) l before past =
     ∙ past_some w limit (so_far + w n) names v (omega arith) low high
 
 -- what a table says of a tree's variables
-pub record Tells (t : Tree) (table : List Stated) : Type 0 where
+pub record Tells (t : SyntaxTree) (table : List Stated) : Type 0 where
   pub long : length table ≡ length (variables (tokens_of t))
   pub each : (v : ℕ) → v < length table → StandsFor t (get_or (variables (tokens_of t)) v []) (stated_at table v)
 
-pub table_tells : (t : Tree) → AllByRecursion (HasNames (variables (tokens_of t))) t.parts → Tells t (table_of (variables (tokens_of t)) t.parts)
+pub table_tells : (t : SyntaxTree) → AllByRecursion (HasNames (variables (tokens_of t))) t.parts → Tells t (table_of (variables (tokens_of t)) t.parts)
 table_tells t there =
     let names : List Name = variables (tokens_of t) in
     record {
@@ -105,12 +105,12 @@ table_tells t there =
       each = λ v l. table_says names t v (variables_distinct t) (omega (arith, l, length-table names t.parts)) there;
     }
 
-fault_is : (t : Tree) (n : Name) (s : Stated) → StandsFor t n s → fault_in s ≡ bounds_fault t n
+fault_is : (t : SyntaxTree) (n : Name) (s : Stated) → StandsFor t n s → fault_in s ≡ bounds_fault t n
 unfolding bounds_fault
 fault_is t n s h = ap (λ e. ends_fault e (is_listed_in s)) h.ends ∙ ap (ends_fault (ends t n)) h.lists
 
 -- the spans in a table
-pub spans_are : (t : Tree) (table : List Stated) → Tells t table
+pub spans_are : (t : SyntaxTree) (table : List Stated) → Tells t table
     → map (λ s. span_of (ends_in s)) table ≡ map (λ n. span_of (ends t n)) (variables (tokens_of t))
 spans_are t table h =
     let names : List Name = variables (tokens_of t) in
@@ -123,7 +123,7 @@ spans_are t table h =
     ∙ sym (get_or-map (λ n. span_of (ends t n)) names k [] d (omega (arith, inside, h.long))))
 
 -- no variable at fault
-pub no_variable : (t : Tree) (table : List Stated) → Tells t table → All (λ s. fault_in s ≡ None) table → variable_fault t ≡ None
+pub no_variable : (t : SyntaxTree) (table : List Stated) → Tells t table → All (λ s. fault_in s ≡ None) table → variable_fault t ≡ None
 unfolding variable_fault
 no_variable t table h sound =
     found_none _ (variables (tokens_of t)) (λ k l.
@@ -133,7 +133,7 @@ no_variable t table h sound =
     ap (λ o. elim o [ None ↦ None | Some kind ↦ Some (place_of (get_or (variables (tokens_of t)) k []) (tokens_of t), kind) ]) here)
 
 -- the first variable at fault
-pub first_variable : (t : Tree) (table : List Stated) (v : ℕ) (kind : LpKind) → Tells t table → IsFirstFault table v kind
+pub first_variable : (t : SyntaxTree) (table : List Stated) (v : ℕ) (kind : LpKind) → Tells t table → IsFirstBoundsFault table v kind
     → variable_fault t ≡ Some (place_of (get_or (variables (tokens_of t)) v []) (tokens_of t), kind)
 unfolding variable_fault
 first_variable t table v kind h first =
@@ -146,14 +146,14 @@ first_variable t table v kind h first =
     (sym (fault_at k (omega (arith, l, first.there))) ∙ first.first k l))
 
 -- binary digits of a tree's spans
-bits_of_names : (t : Tree) (spans : List Span) (i : ℕ) → spans ≡ map (λ n. span_of (ends t n)) (variables (tokens_of t))
+bits_of_names : (t : SyntaxTree) (spans : List Span) (i : ℕ) → spans ≡ map (λ n. span_of (ends t n)) (variables (tokens_of t))
     → zone_bits (take i spans) ≡ sum_by (λ n. span_bits (span_of (ends t n))) (take i (variables (tokens_of t)))
 bits_of_names t spans i e =
     ap (λ ss. zone_bits (take i ss)) e
     ∙ ap zone_bits (take-map (λ n. span_of (ends t n)) i (variables (tokens_of t)))
     ∙ fold-map (λ a s. a + span_bits s) (λ n. span_of (ends t n)) 0 (take i (variables (tokens_of t)))
 
-pub few_digits : (t : Tree) (spans : List Span) → spans ≡ map (λ n. span_of (ends t n)) (variables (tokens_of t)) → zone_bits spans ≤ 8192 → digits_fault t ≡ None
+pub few_digits : (t : SyntaxTree) (spans : List Span) → spans ≡ map (λ n. span_of (ends t n)) (variables (tokens_of t)) → zone_bits spans ≤ 8192 → digits_fault t ≡ None
 unfolding digits_fault
 few_digits t spans e l =
     let whole : zone_bits spans ≡ sum_by (λ n. span_bits (span_of (ends t n))) (variables (tokens_of t)) =
@@ -161,7 +161,7 @@ few_digits t spans e l =
     ap (λ o. elim o [ None ↦ None | Some n ↦ Some (place_of n (tokens_of t), Limit) ])
     (past_none (λ n. span_bits (span_of (ends t n))) 8192 0 (variables (tokens_of t)) (omega (arith, whole, l)))
 
-pub many_digits : (t : Tree) (spans : List Span) (v : ℕ) → spans ≡ map (λ n. span_of (ends t n)) (variables (tokens_of t)) → IsFirstPast spans v
+pub many_digits : (t : SyntaxTree) (spans : List Span) (v : ℕ) → spans ≡ map (λ n. span_of (ends t n)) (variables (tokens_of t)) → IsFirstPast spans v
     → digits_fault t ≡ Some (place_of (get_or (variables (tokens_of t)) v []) (tokens_of t), Limit)
 unfolding digits_fault
 many_digits t spans v e past =

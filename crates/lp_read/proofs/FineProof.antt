@@ -14,7 +14,7 @@ use Rattle.lp_token.specs.declared.Section.TheVariants as sections
 use Rattle.lp_token.specs.declared.LpKind.TheVariants.{RowTwice, Limit, Feature, TooLarge, NotWhole}
 use Rattle.lp_token.specs.Word.{entry_of, section_of}
 use Rattle.lp_read.specs.Number.{is_whole, whole_value}
-use Rattle.lp_read.specs.Tree.{Name, Symbol, word, name, number, infinity, unfit, Written, written, spelling, sites, Tree}
+use Rattle.lp_read.specs.Tree.{Name, Symbol, word, name, number, infinity, unfit, Written, written, spelling, sites, SyntaxTree}
 use Rattle.lp_read.specs.Symbols.{greatest, infinite_from, number_symbol, name_symbol, mark_symbols, mark_symbol, word_symbol, symbol_of, stays_in_bounds, symbols_from, symbols}
 use Rattle.lp_read.specs.Roles.{Seen, firsts, has_twice, variables, row_names, term_count, is_over_limit, role_fault}
 use Rattle.lp_read.specs.Meaning.{tokens_of}
@@ -137,16 +137,16 @@ within_limits tokens h =
     by false false false false e = (refl, refl, refl)
 
 -- the variables of a tree's text are the firsts of what it names
-pub variables_are : (t : Tree) → variables (tokens_of t) ≡ firsts (named None (written t))
+pub variables_are : (t : SyntaxTree) → variables (tokens_of t) ≡ firsts (named None (written t))
 unfolding variables tokens_of sites spelling
 variables_are t = ap firsts (seen_named (written t))
 
-pub terms_are : (t : Tree) → term_count (tokens_of t) ≡ counted None (written t)
+pub terms_are : (t : SyntaxTree) → term_count (tokens_of t) ≡ counted None (written t)
 unfolding term_count tokens_of sites spelling
 terms_are t = seen_counted (written t)
 
 -- a text's tree is in order
-pub fine_text : (text : List ℕ) (tokens : List Tok) (t : Tree) (names : List Name) → IsTextOf text tokens t → names ≡ variables (tokens_of t)
+pub fine_text : (text : List ℕ) (tokens : List Tok) (t : SyntaxTree) (names : List Name) → IsTextOf text tokens t → names ≡ variables (tokens_of t)
     → Fine names None (written t)
 unfolding spelling symbols
 fine_text text tokens t names h e = record {

@@ -10,7 +10,7 @@ use Rattle.lp_read.specs.Tree.{Name, Sign, Symbol, word, name, number, infinity,
 use Rattle.lp_read.specs.Roles.{is_colon}
 use Rattle.lp_read.specs.TreeIn.{name_in, term_in, item_in, sum_in, row_in, bound_in, part_in, label_in, tree_in}
 use Rattle.lp_read.specs.Fit.{IsKnown, IsSmall, IsFitTerm, IsFitItem, IsFitSum, IsFitRow, IsFitValue, IsFitBound, IsFitPart, IsFitTree}
-use Rattle.lp_read.specs.declared.tree.Place.{Place}
+use Rattle.lp_read.specs.declared.tree.TextRange.{TextRange}
 use Rattle.lp_read.specs.declared.tree.Signed.{Signed}
 use Rattle.lp_read.specs.declared.tree.Term.{Term}
 use Rattle.lp_read.specs.declared.tree.Item.{Item}
@@ -221,7 +221,7 @@ fit_items text names next more h = (
   omega (arith, h.few, more_counted (λ i. spelled_item (item_in text i)) item_weight next objective_more (λ i n. item_counted text i n) more),
 )
 
-fit_objective : (text : List ℕ) (names : List Name) (next : Option Symbol) (label : Option Place) (objective : Option (Sum Item)) → is_colon next ≡ false
+fit_objective : (text : List ℕ) (names : List Name) (next : Option Symbol) (label : Option TextRange) (objective : Option (Sum Item)) → is_colon next ≡ false
     → Fine names next (headed objective_first objective_more (spelled_label (label_in text label) ++ objective_symbols (option_map (sum_in (item_in text)) objective)))
     → MatchOption objective (Unit {0}) (IsFitSum (IsFitItem text names)) × (objective_size objective ≤ 65536)
 fit_objective text names next label None apart h = (tt, omega arith)
@@ -281,7 +281,7 @@ fit_bound text names next (bounds.Free n w) h =
     let rest : List Written = placed other (name (name_in text w) ∷ []) in
     fit_name names (follow next rest) listed (name_in text n) list_plain (fine_left names next here rest h)
 
-fit_list : (text : List ℕ) (names : List Name) (next : Option Symbol) (ns : List Place) → Fine names next (placed listed (map name (map (name_in text) ns))) → AllByRecursion (IsKnown text names) ns
+fit_list : (text : List ℕ) (names : List Name) (next : Option Symbol) (ns : List TextRange) → Fine names next (placed listed (map name (map (name_in text) ns))) → AllByRecursion (IsKnown text names) ns
 fit_list text names next [] h = tt
 fit_list text names next (n ∷ ns) h =
     let rest : List Symbol = map name (map (name_in text) ns) in (

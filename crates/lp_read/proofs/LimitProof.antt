@@ -114,7 +114,7 @@ value_of_end (whole z) h = h
 value_of_end below h = omega arith
 value_of_end above h = omega arith
 
-ends_small : (t : plain.Tree) (n : Name) → AreSmall (flat_map part_statements t.parts) → HasSmallEnds (span_of (ends t n))
+ends_small : (t : plain.SyntaxTree) (n : Name) → AreSmall (flat_map part_statements t.parts) → HasSmallEnds (span_of (ends t n))
 unfolding ends stated_ends
 ends_small t n h =
     let said : List Statement = flat_map part_statements t.parts in

@@ -26,7 +26,7 @@ use Rattle.lp_read.specs.Tree.{Name, Sign, Item, term, constant}
 use Rattle.lp_read.specs.TreeIn.{term_in, item_in, sum_in, row_in, tree_in}
 use Rattle.lp_read.specs.Symbols.{greatest}
 use Rattle.lp_read.specs.Roles.{variables}
-use Rattle.lp_read.specs.Meaning.{ends, span_of, tokens_of, as_items, items_of, objective_items, minimised, with_sign, coefficient, row_meaning, model_row, model_of, Model, ModelRow, activity, row_activity}
+use Rattle.lp_read.specs.Meaning.{ends, span_of, tokens_of, as_items, items_of, objective_items, minimised, with_sign, item_coefficient, row_meaning, model_row, model_of, TextModel, ModelRow, largest_activity, row_activity}
 use Rattle.lp_read.specs.Reading.{IsTextOf, greatest_size, first_found, or_else, row_places, activity_fault, digits_fault, meaning_fault}
 use Rattle.lp_read.specs.Numbered.{raw_row}
 use Rattle.lp_read.specs.PartsOf.{ArePartsOf, AreVariablesSound, IsRefused, IsModelOf}
@@ -118,7 +118,7 @@ makes_program text tokens t p m h are made =
     }
 
 -- how much a program's sums may come to is what its meaning's may
-cost_same : (meant : Model) (m : NamedProgram) → length meant.costs ≡ length meant.spans → IsProgramOf meant m → cost_limit m.program ≡ activity (unsigned_abs meant.constant) meant.costs meant.spans
+cost_same : (meant : TextModel) (m : NamedProgram) → length meant.costs ≡ length meant.spans → IsProgramOf meant m → cost_limit m.program ≡ largest_activity (unsigned_abs meant.constant) meant.costs meant.spans
 cost_same meant m long h =
     ap (λ z. unsigned_abs z + sum_by (λ (t : theory.Term). unsigned_abs t.coef * reach (span_at m.program.spans t.var)) m.program.costs) h.constant
     ∙ ap (λ ss. unsigned_abs meant.constant + sum_by (λ (t : theory.Term). unsigned_abs t.coef * reach (span_at ss t.var)) m.program.costs) h.spans
@@ -172,12 +172,12 @@ row_large spans p (j ∷ places) (r ∷ rs) (m ∷ made) (suc i) d e same long h
     ∙ row_large spans p places rs made i d e (omega arith) long.1 h.1 (omega arith) large (λ k b. before (suc k) (omega arith))
 
 -- the lists of a tree's model have one number for each variable
-long_costs : (t : plain.Tree) → length (model_of t).costs ≡ length (model_of t).spans
+long_costs : (t : plain.SyntaxTree) → length (model_of t).costs ≡ length (model_of t).spans
 unfolding model_of
 long_costs t =
-    length-map (variables (tokens_of t)) (λ n. minimised t.maximises (coefficient (objective_items t) n)) ∙ sym (length-map (variables (tokens_of t)) (λ n. span_of (ends t n)))
+    length-map (variables (tokens_of t)) (λ n. minimised t.maximises (item_coefficient (objective_items t) n)) ∙ sym (length-map (variables (tokens_of t)) (λ n. span_of (ends t n)))
 
-long_rows : (t : plain.Tree) → AllByRecursion (λ (r : ModelRow). length r.coefficients ≡ length (model_of t).spans) (model_of t).rows
+long_rows : (t : plain.SyntaxTree) → AllByRecursion (λ (r : ModelRow). length r.coefficients ≡ length (model_of t).spans) (model_of t).rows
 unfolding model_of
 long_rows t = each t.rows
   where
@@ -185,39 +185,39 @@ long_rows t = each t.rows
         (map (λ r. model_row (variables (tokens_of t)) (row_meaning r)) rs)
     each [] = tt
     each (r ∷ rs) = (
-      length-map (variables (tokens_of t)) (coefficient (row_meaning r).items) ∙ sym (length-map (variables (tokens_of t)) (λ n. span_of (ends t n))),
+      length-map (variables (tokens_of t)) (item_coefficient (row_meaning r).items) ∙ sym (length-map (variables (tokens_of t)) (λ n. span_of (ends t n))),
       each rs,
     )
 
-length-model_rows : (t : plain.Tree) → length (model_of t).rows ≡ length t.rows
+length-model_rows : (t : plain.SyntaxTree) → length (model_of t).rows ≡ length t.rows
 unfolding model_of
 length-model_rows t = length-map t.rows (λ r. model_row (variables (tokens_of t)) (row_meaning r))
 
 -- no sum of a tree is too large
-pub no_activity : (t : plain.Tree) (m : NamedProgram) → AreVariablesSound t → IsProgramOf (model_of t) m → cost_limit m.program < 2 ^ 62 → All (KeepsActivity m.program) m.program.rows
+pub no_activity : (t : plain.SyntaxTree) (m : NamedProgram) → AreVariablesSound t → IsProgramOf (model_of t) m → cost_limit m.program < 2 ^ 62 → All (KeepsActivity m.program) m.program.rows
     → meaning_fault t ≡ None
 unfolding meaning_fault activity_fault
 no_activity t m sound h costs keeps =
     ap (λ o. or_else o (or_else (digits_fault t) (activity_fault t))) sound.variables
     ∙ ap (λ o. or_else o (activity_fault t)) sound.digits
     ∙ ap (λ o. or_else o (first_found (row_fault (model_of t).spans) (zip (row_places 0 (tokens_of t)) (model_of t).rows)))
-    (small_enough 0 (activity (unsigned_abs (model_of t).constant) (model_of t).costs (model_of t).spans)
+    (small_enough 0 (largest_activity (unsigned_abs (model_of t).constant) (model_of t).costs (model_of t).spans)
     (subst (λ a. a < 2 ^ 62) (cost_same (model_of t) m (long_costs t) h) costs))
     ∙ rows_small (model_of t).spans m.program (row_places 0 (tokens_of t)) (model_of t).rows m.program.rows h.spans (long_rows t) h.rows
     (recursion_from_All (KeepsActivity m.program) m.program.rows keeps)
 
 -- the objective's sum is too large
-pub objective_activity : (t : plain.Tree) (m : NamedProgram) → AreVariablesSound t → IsProgramOf (model_of t) m → 2 ^ 62 ≤ cost_limit m.program → meaning_fault t ≡ Some (0, Activity)
+pub objective_activity : (t : plain.SyntaxTree) (m : NamedProgram) → AreVariablesSound t → IsProgramOf (model_of t) m → 2 ^ 62 ≤ cost_limit m.program → meaning_fault t ≡ Some (0, Activity)
 unfolding meaning_fault activity_fault
 objective_activity t m sound h costs =
     ap (λ o. or_else o (or_else (digits_fault t) (activity_fault t))) sound.variables
     ∙ ap (λ o. or_else o (activity_fault t)) sound.digits
     ∙ ap (λ o. or_else o (first_found (row_fault (model_of t).spans) (zip (row_places 0 (tokens_of t)) (model_of t).rows)))
-    (too_large 0 (activity (unsigned_abs (model_of t).constant) (model_of t).costs (model_of t).spans)
+    (too_large 0 (largest_activity (unsigned_abs (model_of t).constant) (model_of t).costs (model_of t).spans)
     (subst (λ a. 2 ^ 62 ≤ a) (cost_same (model_of t) m (long_costs t) h) costs))
 
 -- a row's sum is too large
-pub row_activity_fault : (t : plain.Tree) (m : NamedProgram) (i : ℕ) → AreVariablesSound t → IsProgramOf (model_of t) m → cost_limit m.program < 2 ^ 62 → IsFirstLarge m.program i
+pub row_activity_fault : (t : plain.SyntaxTree) (m : NamedProgram) (i : ℕ) → AreVariablesSound t → IsProgramOf (model_of t) m → cost_limit m.program < 2 ^ 62 → IsFirstLarge m.program i
     → meaning_fault t ≡ Some (get_or (row_places 0 (tokens_of t)) i 0, Activity)
 unfolding meaning_fault activity_fault
 row_activity_fault t m i sound h costs first =
@@ -225,7 +225,7 @@ row_activity_fault t m i sound h costs first =
     ap (λ o. or_else o (or_else (digits_fault t) (activity_fault t))) sound.variables
     ∙ ap (λ o. or_else o (activity_fault t)) sound.digits
     ∙ ap (λ o. or_else o (first_found (row_fault (model_of t).spans) (zip (row_places 0 (tokens_of t)) (model_of t).rows)))
-    (small_enough 0 (activity (unsigned_abs (model_of t).constant) (model_of t).costs (model_of t).spans)
+    (small_enough 0 (largest_activity (unsigned_abs (model_of t).constant) (model_of t).costs (model_of t).spans)
     (subst (λ a. a < 2 ^ 62) (cost_same (model_of t) m (long_costs t) h) costs))
     ∙ row_large (model_of t).spans m.program (row_places 0 (tokens_of t)) (model_of t).rows m.program.rows i d h.spans
     (length-row_places t ∙ sym (length-model_rows t)) (long_rows t) h.rows first.there
@@ -253,7 +253,7 @@ model_made text tokens t p m h are sound made kept =
     record { sound = no_activity (tree_in text t) m sound program kept.cost_activity kept.row_activity; program = program }
 
 -- a text means the model of its tree
-pub means_text : (text : List ℕ) (tokens : List Tok) (t : plain.Tree) (m : NamedProgram) → length text ≤ greatest_size → Cut text tokens → IsTextOf text tokens t
+pub means_text : (text : List ℕ) (tokens : List Tok) (t : plain.SyntaxTree) (m : NamedProgram) → length text ≤ greatest_size → Cut text tokens → IsTextOf text tokens t
     → IsModelOf t m → Means text m
 means_text text tokens t m size cut h is = (
   model_of t,

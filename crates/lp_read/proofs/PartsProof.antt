@@ -27,7 +27,7 @@ use Rattle.lp_read.specs.Fit.{IsKnown, IsFitTerm, IsFitItem, IsFitSum, IsFitRow,
 use Rattle.lp_read.specs.declared.meaning.MeaningFault.{MeaningFault}
 use Rattle.lp_read.specs.declared.meaning.MeaningFault.TheVariants.{At, Sums, NoMemory}
 use Rattle.lp_read.specs.declared.meaning.bounds.Stated.{Stated}
-use Rattle.lp_read.specs.declared.tree.Place.{Place}
+use Rattle.lp_read.specs.declared.tree.TextRange.{TextRange}
 use Rattle.lp_read.specs.declared.tree.Term.{Term}
 use Rattle.lp_read.specs.declared.tree.Item.{Item}
 use Rattle.lp_read.specs.declared.tree.Item.TheVariants as items
@@ -77,7 +77,7 @@ bounds_named : (text : List ℕ) (names : List Name) (bs : List Bound) → AllBy
 bounds_named text names [] h = tt
 bounds_named text names (b ∷ bs) h = (bound_named text names b h.0, bounds_named text names bs h.1)
 
-list_named : (text : List ℕ) (names : List Name) (ns : List Place) → AllByRecursion (IsKnown text names) ns → AllByRecursion (Contains names) (map (name_in text) ns)
+list_named : (text : List ℕ) (names : List Name) (ns : List TextRange) → AllByRecursion (IsKnown text names) ns → AllByRecursion (Contains names) (map (name_in text) ns)
 list_named text names [] h = tt
 list_named text names (n ∷ ns) h = (h.0, list_named text names ns h.1)
 
@@ -103,29 +103,29 @@ text_tells text tokens t names table h e made =
     subst (Tells (tree_in text t)) (sym (made ∙ ap (λ ns. table_of ns (map (part_in text) t.parts)) e)) (table_tells (tree_in text t) own)
 
 -- a fault of variables is the tree's first
-variable_first : (t : plain.Tree) (f : ℕ × LpKind) → variable_fault t ≡ Some f → meaning_fault t ≡ Some f
+variable_first : (t : plain.SyntaxTree) (f : ℕ × LpKind) → variable_fault t ≡ Some f → meaning_fault t ≡ Some f
 unfolding meaning_fault
 variable_first t f e = ap (λ o. or_else o (or_else (digits_fault t) (activity_fault t))) e
 
-digits_first : (t : plain.Tree) (f : ℕ × LpKind) → variable_fault t ≡ None → digits_fault t ≡ Some f → meaning_fault t ≡ Some f
+digits_first : (t : plain.SyntaxTree) (f : ℕ × LpKind) → variable_fault t ≡ None → digits_fault t ≡ Some f → meaning_fault t ≡ Some f
 unfolding meaning_fault
 digits_first t f none e = ap (λ o. or_else o (or_else (digits_fault t) (activity_fault t))) none ∙ ap (λ o. or_else o (activity_fault t)) e
 
 -- what a table's first fault is for the tree
-pub refused : (t : plain.Tree) (table : List Stated) (fault : MeaningFault) → Tells t table → IsFaultOfTable table fault → IsRefused t fault
+pub refused : (t : plain.SyntaxTree) (table : List Stated) (fault : MeaningFault) → Tells t table → IsFaultOfTable table fault → IsRefused t fault
 refused t table (At v kind) h first = (omega (arith, first.there, h.long), variable_first t _ (first_variable t table v kind h first))
 refused t table (Sums row) h first = absurd first
 refused t table NoMemory h first = tt
 
 -- what is too many digits for the tree
-pub refused_past : (t : plain.Tree) (table : List Stated) (spans : List Span) (v : ℕ) → Tells t table → All (λ s. fault_in s ≡ None) table
+pub refused_past : (t : plain.SyntaxTree) (table : List Stated) (spans : List Span) (v : ℕ) → Tells t table → All (λ s. fault_in s ≡ None) table
     → spans ≡ map (λ s. span_of (ends_in s)) table → IsFirstPast spans v → IsRefused t (At v Limit)
 refused_past t table spans v h sound e past = (
   omega (arith, past.there, ap length e, length-map table (λ s. span_of (ends_in s)), h.long),
   digits_first t _ (no_variable t table h sound) (many_digits t spans v (e ∙ spans_are t table h) past),
 )
 
-pub variables_sound : (t : plain.Tree) (table : List Stated) (spans : List Span) → Tells t table → All (λ s. fault_in s ≡ None) table
+pub variables_sound : (t : plain.SyntaxTree) (table : List Stated) (spans : List Span) → Tells t table → All (λ s. fault_in s ≡ None) table
     → spans ≡ map (λ s. span_of (ends_in s)) table → zone_bits spans ≤ 8192 → AreVariablesSound t
 variables_sound t table spans h sound e few = record {
   variables = no_variable t table h sound;

@@ -18,7 +18,7 @@ use Rattle.lp_read.specs.declared.notes.ParseFault.{ParseFault}
 use Rattle.lp_read.specs.declared.notes.ParseFault.TheVariants.{At, NoEnd, NoMemory}
 use Rattle.lp_read.specs.declared.parse.State.{State}
 use Rattle.lp_read.specs.declared.parse.Parsed.{Parsed}
-use Rattle.lp_read.specs.Tree.{Symbol, Site, Tree, Written, IsText, spelling, sites}
+use Rattle.lp_read.specs.Tree.{Symbol, Site, SyntaxTree, Written, IsText, spelling, sites}
 use Rattle.lp_read.specs.TreeIn.{symbol_in, next_in, tree_in}
 use Rattle.lp_read.specs.StageIn.{stage_in}
 use Rattle.lp_read.specs.Parser.{Stage, start, done, step, Leads}
@@ -147,21 +147,21 @@ read_whole text all n state p l m h e f =
     }
 
 -- the word `end` leads to the end
-ends : (x z : Stage) (ws : List Written) → Leads x ws z → is_ended (map (λ w. w.symbol) ws) ≡ true → (t : Tree) × (z ≡ done t)
+ends : (x z : Stage) (ws : List Written) → Leads x ws z → is_ended (map (λ w. w.symbol) ws) ≡ true → (t : SyntaxTree) × (z ≡ done t)
 ends x z [] l h = absurd cc
 ends x z (w ∷ ws) l h = elim (or_cases (is_end_word w.symbol) (is_ended (map (λ w. w.symbol) ws)) h) [
   | inr k ↦ ends l.0 z ws l.2 k
   | inl k ↦ here (end_done x (w.site, l.0) (ap (step x) (sym (is_end w.symbol k)) ∙ l.1))
 ]
   where
-    here : (t : Tree) × (l.0 ≡ done t) → (t : Tree) × (z ≡ done t)
+    here : (t : SyntaxTree) × (l.0 ≡ done t) → (t : SyntaxTree) × (z ≡ done t)
     here t =
         let none : ws ≡ [] = past_end t.0 ws z (subst (λ y. Leads y ws z) t.1 l.2) in
         let same : l.0 ≡ z = subst (λ us. Leads l.0 us z) none l.2 in
         (t.0, sym same ∙ t.1)
 
 -- a stage that is none of the end
-not_done : (text : List ℕ) (s : stages.Stage) (t : Tree) → ((tree : trees.Tree) → s ≡ variants.Done tree → ⊥) → stage_in text s ≡ done t → ⊥
+not_done : (text : List ℕ) (s : stages.Stage) (t : SyntaxTree) → ((tree : trees.Tree) → s ≡ variants.Done tree → ⊥) → stage_in text s ≡ done t → ⊥
 not_done text variants.Start t h e = cc
 not_done text (variants.Objective b objectives.Word) t h e = cc
 not_done text (variants.Objective b (objectives.Name n)) t h e = cc
@@ -202,7 +202,7 @@ read_unended text all n state l m h e =
     go : (is_ended all ≡ true) ⊎ (is_ended all ≡ false) → map (λ w. w.symbol) h.0 ≡ all → is_ended all ≡ false
     go (inr f) whole = f
     go (inl f) whole =
-        let t : (t : Tree) × (stage_in text state.stage ≡ done t) = ends start (stage_in text state.stage) h.0 h.1.read.leads (ap is_ended whole ∙ f) in
+        let t : (t : SyntaxTree) × (stage_in text state.stage ≡ done t) = ends start (stage_in text state.stage) h.0 h.1.read.leads (ap is_ended whole ∙ f) in
         absurd (not_done text state.stage t.0 e t.1)
 
 -- the first of what stands from a place on

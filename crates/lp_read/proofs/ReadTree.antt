@@ -12,12 +12,12 @@ use Rattle.lp_read.specs.declared.parse.Parsed.{Parsed}
 use Rattle.lp_read.specs.declared.notes.ParseFault.TheVariants as stops
 use Rattle.lp_read.specs.declared.meaning.MeaningFault.{MeaningFault}
 use Rattle.lp_read.specs.declared.meaning.MeaningFault.TheVariants as refusals
-use Rattle.lp_read.specs.Tree.{Name, Symbol, Tree}
+use Rattle.lp_read.specs.Tree.{Name, Symbol, SyntaxTree}
 use Rattle.lp_read.specs.TreeIn.{tree_in}
 use Rattle.lp_read.specs.Symbols.{symbols}
 use Rattle.lp_read.specs.Roles.{variables}
 use Rattle.lp_read.specs.Meaning.{model_of, tokens_of}
-use Rattle.lp_read.specs.Reading.{AreSound, StandsAt, is_ended, place_of, row_places, greatest_size, line_of, IsTextOf, HasFault, too_long, uncut, at_token, unended, in_meaning}
+use Rattle.lp_read.specs.Reading.{AreSound, StandsAt, is_ended, place_of, row_places, greatest_size, line_of, IsTextOf, HasLpTextFault, too_long, uncut, at_token, unended, in_meaning}
 use Rattle.lp_read.specs.Parsing.{IsParsed, IsParseFault}
 use Rattle.lp_read.specs.PartsOf.{IsModelOf, IsRefused}
 use Rattle.lp_read.specs.Model.{Means, IsFaultOf}
@@ -39,35 +39,35 @@ place_mapped f (n ∷ names) (suc number) l = place_mapped f names number (omega
 
 -- a fault of a variable
 pub variable_refused : (text : List ℕ) (tokens : List Tok) (p : Parsed) (number line place : ℕ) (kind : LpKind) → length text ≤ greatest_size → Cut text tokens → IsParsed text (symbols text tokens) p
-    → IsRefused (tree_in text p.tree) (refusals.At number kind) → place ≡ slice_index_or p.notes.first_tokens number 0 → line ≡ line_of tokens place → HasFault text line kind
+    → IsRefused (tree_in text p.tree) (refusals.At number kind) → place ≡ slice_index_or p.notes.first_tokens number 0 → line ≡ line_of tokens place → HasLpTextFault text line kind
 variable_refused text tokens p number line place kind size cut h r e l =
-    let t : Tree = tree_in text p.tree in
+    let t : SyntaxTree = tree_in text p.tree in
     let same : place ≡ place_of (slice_index_or (variables (tokens_of t)) number []) (tokens_of t)
     = e ∙ ap (λ (xs : List ℕ). slice_index_or xs number 0) h.notes.first_tokens ∙ place_mapped (λ n. place_of n (tokens_of t)) (variables (tokens_of t)) number r.0 in
     in_meaning size tokens cut t (text_of text tokens p h) (place_of (slice_index_or (variables (tokens_of t)) number []) (tokens_of t)) r.1 (l ∙ ap (line_of tokens) same)
 
 -- a fault of the objective's sums
 pub objective_refused : (text : List ℕ) (tokens : List Tok) (p : Parsed) (line : ℕ) → length text ≤ greatest_size → Cut text tokens → IsParsed text (symbols text tokens) p
-    → IsRefused (tree_in text p.tree) (refusals.Sums None) → line ≡ line_of tokens 0 → HasFault text line Activity
+    → IsRefused (tree_in text p.tree) (refusals.Sums None) → line ≡ line_of tokens 0 → HasLpTextFault text line Activity
 objective_refused text tokens p line size cut h r l = in_meaning size tokens cut (tree_in text p.tree) (text_of text tokens p h) 0 r l
 
 -- a fault of a row's sums
 pub row_refused : (text : List ℕ) (tokens : List Tok) (p : Parsed) (row line place : ℕ) → length text ≤ greatest_size → Cut text tokens → IsParsed text (symbols text tokens) p
-    → IsRefused (tree_in text p.tree) (refusals.Sums (Some row)) → place ≡ slice_index_or p.notes.row_tokens row 0 → line ≡ line_of tokens place → HasFault text line Activity
+    → IsRefused (tree_in text p.tree) (refusals.Sums (Some row)) → place ≡ slice_index_or p.notes.row_tokens row 0 → line ≡ line_of tokens place → HasLpTextFault text line Activity
 row_refused text tokens p row line place size cut h r e l =
-    let t : Tree = tree_in text p.tree in
+    let t : SyntaxTree = tree_in text p.tree in
     let same : place ≡ slice_index_or (row_places 0 (tokens_of t)) row 0 = e ∙ ap (λ (xs : List ℕ). slice_index_or xs row 0) h.notes.row_tokens in
     in_meaning size tokens cut t (text_of text tokens p h) (slice_index_or (row_places 0 (tokens_of t)) row 0) r.1 (l ∙ ap (line_of tokens) same)
 
 -- a fault of a token
 pub token_refused : (text : List ℕ) (tokens : List Tok) (all : List Symbol) (i line : ℕ) (kind : LpKind) → length text ≤ greatest_size → Cut text tokens → all ≡ symbols text tokens
-    → IsParseFault all (stops.At i kind) → line ≡ line_of tokens i → HasFault text line kind
+    → IsParseFault all (stops.At i kind) → line ≡ line_of tokens i → HasLpTextFault text line kind
 token_refused text tokens all i line kind size cut e h l =
     at_token size tokens cut i (subst (λ (x : List Symbol). AreSound x i) e h.0) (subst (λ (x : List Symbol). StandsAt x i kind) e h.1) l
 
 -- no word `end`
 pub end_refused : (text : List ℕ) (tokens : List Tok) (all : List Symbol) (line : ℕ) → length text ≤ greatest_size → Cut text tokens → all ≡ symbols text tokens
-    → IsParseFault all stops.NoEnd → line ≡ line_at text (length text) → HasFault text line NoEnd
+    → IsParseFault all stops.NoEnd → line ≡ line_at text (length text) → HasLpTextFault text line NoEnd
 unfolding symbols
 end_refused text tokens all line size cut e h l =
     let count : length all ≡ length tokens = ap length e ∙ symbols-length text tokens false in
@@ -79,9 +79,9 @@ cut_refused text (faults.At line kind) size h = uncut size h
 cut_refused text faults.NoMemory size h = tt
 
 -- a text that is too long
-pub long_refused : (text : List ℕ) → greatest_size < length text → HasFault text 0 Limit
+pub long_refused : (text : List ℕ) → greatest_size < length text → HasLpTextFault text 0 Limit
 long_refused text l = too_long l refl refl
 
 -- a refusal for sums, by its parts
-pub refusal : (t : Tree) (f : MeaningFault) (o q : Option ℕ) → f ≡ refusals.Sums o → o ≡ q → IsRefused t f → IsRefused t (refusals.Sums q)
+pub refusal : (t : SyntaxTree) (f : MeaningFault) (o q : Option ℕ) → f ≡ refusals.Sums o → o ≡ q → IsRefused t f → IsRefused t (refusals.Sums q)
 refusal t f o q e d h = subst (λ (x : Option ℕ). IsRefused t (refusals.Sums x)) d (subst (IsRefused t) e h)

@@ -1,7 +1,7 @@
 -- As many rows are seen as a tree has.
 use Rattle.std.proofs.Common.{◌≡◌, ◌∙◌, refl, ap, ℕ, suc, ◌+◌, List, [], ◌∷◌, ◌++◌, map, length, Option, Some, None, arith}
 use Rattle.std.specs.Prelude.{filter_map, flat_map}
-use Rattle.lp_read.specs.Tree.{Name, Symbol, name, number, sign, Sign, Site, objective_first, objective_more, row_first, row_more, listed, other, Written, placed, headed, Signed, Term, Row, expression_first, number_first, ranged, Bound, value_first, name_first, between, free, Part, bounds, generals, binaries, spelled_signs, spelled_factor, spelled_term, spelled_sum, spelled_signed, spelled_label, spelled_row, spelled_value, spelled_item, comparison, comparison_of, written_row, written_bound, written_part, written_objective, written_word, written, spelling, sites, Tree}
+use Rattle.lp_read.specs.Tree.{Name, Symbol, name, number, sign, Sign, Site, objective_first, objective_more, row_first, row_more, listed, other, Written, placed, headed, Signed, Term, Row, expression_first, number_first, ranged, Bound, value_first, name_first, between, free, Part, bounds, generals, binaries, spelled_signs, spelled_factor, spelled_term, spelled_sum, spelled_signed, spelled_label, spelled_row, spelled_value, spelled_item, comparison, comparison_of, written_row, written_bound, written_part, written_objective, written_word, written, spelling, sites, SyntaxTree}
 use Rattle.std.specs.List.{cons_option}
 use Rattle.lp_token.specs.declared.Section.TheVariants as sections
 use Rattle.lp_read.specs.Roles.{Seen, seen, first_of_symbols, row_of, names_from, row_names}
@@ -95,7 +95,7 @@ heads_part (bounds bs) = omega (arith, heads_each written_bound heads_bound bs)
 heads_part (generals ns) = omega (arith, heads_placed listed (map name ns) refl)
 heads_part (binaries ns) = omega (arith, heads_placed listed (map name ns) refl)
 
-heads_tree : (t : Tree) → heads (written t) ≡ length t.rows
+heads_tree : (t : SyntaxTree) → heads (written t) ≡ length t.rows
 unfolding written
 heads_tree t =
     let rs : List Written = flat_map written_row t.rows in
@@ -150,11 +150,11 @@ length-names_from k (None ∷ labels) = ap suc (length-names_from (k + 1) labels
 length-names_from k (Some n ∷ labels) = ap suc (length-names_from (k + 1) labels)
 
 -- as many names as rows
-pub length-row_names : (t : Tree) → length (row_names (tokens_of t)) ≡ length t.rows
+pub length-row_names : (t : SyntaxTree) → length (row_names (tokens_of t)) ≡ length t.rows
 unfolding row_names tokens_of sites spelling
 length-row_names t = length-names_from 1 _ ∙ seen_rows (written t) ∙ heads_tree t
 
 -- and as many places
-pub length-row_places : (t : Tree) → length (row_places 0 (tokens_of t)) ≡ length t.rows
+pub length-row_places : (t : SyntaxTree) → length (row_places 0 (tokens_of t)) ≡ length t.rows
 unfolding tokens_of sites spelling
 length-row_places t = places_seen 0 (written t) ∙ heads_tree t

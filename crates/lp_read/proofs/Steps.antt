@@ -2,7 +2,7 @@
 use Rattle.std.specs.Prelude.{◌≡◌, ℕ, Bool, List, [], Option, None, refl}
 use Rattle.lp_read.specs.declared.symbol.Symbol.{Symbol}
 use Rattle.lp_read.specs.declared.symbol.Symbol.TheVariants as symbols
-use Rattle.lp_read.specs.declared.tree.Place.{Place}
+use Rattle.lp_read.specs.declared.tree.TextRange.{TextRange}
 use Rattle.lp_read.specs.Tree.{Name, Sign, Item, term, constant, Sum, Signed, Comparison, Term, number_first, value_first, Value}
 use Rattle.lp_token.specs.declared.Section.{Section}
 use Rattle.lp_read.specs.TreeIn.{symbol_in}
@@ -20,7 +20,7 @@ no_label text b n symbols.Colon h = absurd (h refl)
 no_label text b n (symbols.Unfit kind) h = refl
 
 -- no name behind a number of an objective
-pub is_constant : (text : List ℕ) (b : Bool) (label : Option Name) (o : Open Item) (k : ℕ) (s : Symbol) → ((m : Place) → s ≡ symbols.Name m → ⊥) → from_o_number b label o k (symbol_in text s) ≡ from_o_sum b label (put o (λ signs. constant (signed_by k signs))) (symbol_in text s)
+pub is_constant : (text : List ℕ) (b : Bool) (label : Option Name) (o : Open Item) (k : ℕ) (s : Symbol) → ((m : TextRange) → s ≡ symbols.Name m → ⊥) → from_o_number b label o k (symbol_in text s) ≡ from_o_sum b label (put o (λ signs. constant (signed_by k signs))) (symbol_in text s)
 is_constant text b label o k (symbols.Word w) h = refl
 is_constant text b label o k (symbols.Name m) h = absurd (h m refl)
 is_constant text b label o k (symbols.Number n) h = refl
@@ -53,7 +53,7 @@ next_row text f label v c sum symbols.Colon h g = refl
 next_row text f label v c sum (symbols.Unfit kind) h g = refl
 
 -- neither a name nor a word at a bound
-pub first_value : (text : List ℕ) (w : Within) (s : Symbol) → ((m : Place) → s ≡ symbols.Name m → ⊥) → ((x : Section) → s ≡ symbols.Word x → ⊥) → from_p_bounds w (symbol_in text s) ≡ from_b_signs w [] (symbol_in text s)
+pub first_value : (text : List ℕ) (w : Within) (s : Symbol) → ((m : TextRange) → s ≡ symbols.Name m → ⊥) → ((x : Section) → s ≡ symbols.Word x → ⊥) → from_p_bounds w (symbol_in text s) ≡ from_b_signs w [] (symbol_in text s)
 first_value text w (symbols.Word x) h g = absurd (g x refl)
 first_value text w (symbols.Name m) h g = absurd (h m refl)
 first_value text w (symbols.Number n) h g = refl

@@ -10,7 +10,7 @@ use Rattle.lp_token.specs.Lexeme.{is_number, is_name, is_mark}
 use Rattle.lp_token.specs.Cut.{in_comment, is_word_at, kind_at, IsToken, is_end, CutFrom, Cut}
 use Rattle.lp_read.specs.declared.symbol.Symbol.{Symbol}
 use Rattle.lp_read.specs.declared.symbol.Symbol.TheVariants as symbols
-use Rattle.lp_read.specs.declared.tree.Place.{Place}
+use Rattle.lp_read.specs.declared.tree.TextRange.{TextRange}
 use Rattle.lp_read.specs.Symbols.{symbol_of, stays_in_bounds, symbols_from, symbols}
 use Rattle.lp_read.specs.TreeIn.{symbol_in, IsNamed, IsNameOf, IsNameAt, IsNoName}
 
@@ -25,7 +25,7 @@ no_name t symbols.Colon h = tt
 no_name t (symbols.Unfit kind) h = tt
 
 pub name_of : (t : Tok) (s : Symbol) → t.kind ≡ kinds.Name → IsNameAt (record { from = t.from; to = t.to }) s → IsNameOf t s
-name_of t (symbols.Name place) k h = (k, ap (λ (p : Place). p.from) h, ap (λ (p : Place). p.to) h)
+name_of t (symbols.Name place) k h = (k, ap (λ (p : TextRange). p.from) h, ap (λ (p : TextRange). p.to) h)
 name_of t (symbols.Word w) k h = tt
 name_of t (symbols.Number n) k h = tt
 name_of t symbols.Infinity k h = tt

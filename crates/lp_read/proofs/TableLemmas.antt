@@ -6,7 +6,7 @@ use Rattle.std.specs.List.{IsDistinct, AllByRecursion}
 use Rattle.std.proofs.lemmas.Bool.{eqb-true, eqb-false}
 use Rattle.std.proofs.lemmas.List.{length-replicate, get_or-replicate}
 use Rattle.std.proofs.lemmas.List.Folds.{list_any-append}
-use Rattle.lp_read.specs.Tree.{Name, Bound, Part, bounds, generals, binaries, Tree}
+use Rattle.lp_read.specs.Tree.{Name, Bound, Part, bounds, generals, binaries, SyntaxTree}
 use Rattle.lp_read.specs.Meaning.{Extended, whole, above, Side, lower, upper, Statement, statements, part_statements, general_names, binary_names, is_on, last_said, has_name, Ends, greater, lesser, stated_ends, ends, is_listed}
 use Rattle.lp_read.specs.Numbered.{number_in, unsaid, with_value, with_general, with_binary, stated_at, say, say_bound, list_general, list_binary, say_part, table_of, ends_in, is_listed_in}
 use Rattle.lp_read.specs.declared.meaning.bounds.Stated.{Stated}
@@ -195,11 +195,11 @@ or_none true = refl
 or_none false = refl
 
 -- a variable's bounds and lists stand at its number
-pub record StandsFor (t : Tree) (n : Name) (s : Stated) : Type 0 where
+pub record StandsFor (t : SyntaxTree) (n : Name) (s : Stated) : Type 0 where
   pub ends : ends_in s ≡ ends t n
   pub lists : is_listed_in s ≡ is_listed t n
 
-pub table_says : (names : List Name) (t : Tree) (v : ℕ) → IsDistinct bytes_eq names → v < length names → AllByRecursion (HasNames names) t.parts
+pub table_says : (names : List Name) (t : SyntaxTree) (v : ℕ) → IsDistinct bytes_eq names → v < length names → AllByRecursion (HasNames names) t.parts
     → StandsFor t (get_or names v []) (stated_at (table_of names t.parts) v)
 unfolding table_of ends stated_ends is_listed
 table_says names t v distinct l there =

@@ -1,6 +1,6 @@
 -- A tree that was read: its numbers are those of texts, and its names are in the list of variables.
 use Rattle.std.specs.Prelude.{ℕ, ◌<◌, ◌^◌, List, MatchOption, All, Contains}
-use Rattle.lp_read.specs.declared.tree.Place.{Place}
+use Rattle.lp_read.specs.declared.tree.TextRange.{TextRange}
 use Rattle.lp_read.specs.declared.tree.Signed.{Signed}
 use Rattle.lp_read.specs.declared.tree.Term.{Term}
 use Rattle.lp_read.specs.declared.tree.Item.{Item}
@@ -19,7 +19,7 @@ use Rattle.lp_read.specs.Tree.{Name}
 use Rattle.lp_read.specs.TreeIn.{name_in}
 
 -- the name at a place is in a list
-abbrev pub IsKnown : List ℕ → List Name → Place → Type 0
+abbrev pub IsKnown : List ℕ → List Name → TextRange → Type 0
 IsKnown text names place = Contains names (name_in text place)
 
 abbrev pub IsSmall : Signed → Type 0

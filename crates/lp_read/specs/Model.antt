@@ -6,8 +6,8 @@ use Rattle.bp_theory.specs.Decomposition.{IsTidyFrom}
 use Rattle.bp_theory.specs.declared.Term.{Term}
 use Rattle.bp_theory.specs.declared.Row.{Row}
 use Rattle.bp_model.specs.Named.{NamedProgram}
-use Rattle.lp_read.specs.Meaning.{Model, ModelRow}
-use Rattle.lp_read.specs.Reading.{Reads, HasFault}
+use Rattle.lp_read.specs.Meaning.{TextModel, ModelRow}
+use Rattle.lp_read.specs.Reading.{ReadsModel, HasLpTextFault}
 use Rattle.lp_token.specs.declared.fault.LpFault.{LpFault}
 use Rattle.lp_token.specs.declared.fault.LpFault.TheVariants.{At, NoMemory}
 
@@ -24,7 +24,7 @@ pub record IsRowOf (meant : ModelRow) (row : Row) : Type 0 where
   pub terms : HasCoefficients meant.coefficients row.terms
 
 -- a named program is a meaning's
-pub record IsProgramOf (meant : Model) (m : NamedProgram) : Type 0 where
+pub record IsProgramOf (meant : TextModel) (m : NamedProgram) : Type 0 where
   pub names : m.names ≡ meant.names
   pub spans : m.program.spans ≡ meant.spans
   pub row_names : m.row_names ≡ meant.row_names
@@ -35,9 +35,9 @@ pub record IsProgramOf (meant : Model) (m : NamedProgram) : Type 0 where
 
 -- a text means a named program
 abbrev pub Means : List ℕ → NamedProgram → Type 0
-Means text m = (meant : Model) × Reads text meant × IsProgramOf meant m
+Means text m = (meant : TextModel) × ReadsModel text meant × IsProgramOf meant m
 
 -- the fault that a text is refused for is its first one, or want of memory
 abbrev pub IsFaultOf : List ℕ → LpFault → Type 0
-IsFaultOf text (At line kind) = HasFault text line kind
+IsFaultOf text (At line kind) = HasLpTextFault text line kind
 IsFaultOf text NoMemory = Unit {0}

@@ -95,7 +95,7 @@ abbrev pub fault_in : Stated → Option LpKind
 fault_in s = ends_fault (ends_in s) (is_listed_in s)
 
 -- the first variable at fault
-pub record IsFirstFault (table : List Stated) (number : ℕ) (kind : LpKind) : Type 0 where
+pub record IsFirstBoundsFault (table : List Stated) (number : ℕ) (kind : LpKind) : Type 0 where
   pub there : number < length table
   pub fault : fault_in (stated_at table number) ≡ Some kind
   pub first : (k : ℕ) → k < number → fault_in (stated_at table k) ≡ None

@@ -1,7 +1,7 @@
 -- The syntax that a reader keeps, as that of its text: each place is the name that stands there.
 use Rattle.std.specs.Prelude.{◌≡◌, ℕ, List, map, Option, slice_range, IsTrue}
 use Rattle.std.specs.Option.{option_map}
-use Rattle.lp_read.specs.declared.tree.Place.{Place}
+use Rattle.lp_read.specs.declared.tree.TextRange.{TextRange}
 use Rattle.lp_read.specs.declared.tree.Term.{Term}
 use Rattle.lp_read.specs.declared.tree.Item.{Item}
 use Rattle.lp_read.specs.declared.tree.Item.TheVariants as items
@@ -22,10 +22,10 @@ use Rattle.lp_read.specs.Tree as plain
 use Rattle.lp_read.specs.Tree.{Name}
 
 -- the name at a place
-abbrev pub name_in : List ℕ → Place → Name
+abbrev pub name_in : List ℕ → TextRange → Name
 name_in text place = slice_range text place.from place.to
 
-abbrev pub label_in : List ℕ → Option Place → Option Name
+abbrev pub label_in : List ℕ → Option TextRange → Option Name
 label_in text label = option_map (name_in text) label
 
 abbrev pub term_in : List ℕ → Term → plain.Term
@@ -55,7 +55,7 @@ part_in text (parts.Generals ns) = plain.generals (map (name_in text) ns)
 part_in text (parts.Binaries ns) = plain.binaries (map (name_in text) ns)
 
 -- the tree of a text
-abbrev pub tree_in : List ℕ → Tree → plain.Tree
+abbrev pub tree_in : List ℕ → Tree → plain.SyntaxTree
 tree_in text t = record {
   maximises = t.maximises;
   label = label_in text t.label;
@@ -89,7 +89,7 @@ abbrev pub IsNameOf : Tok → Symbol → Type 0
 IsNameOf token (symbols.Name place) = (token.kind ≡ kinds.Name) × (place.from ≡ token.from) × (place.to ≡ token.to)
 IsNameOf token _ = Unit {0}
 
-abbrev pub IsNameAt : Place → Symbol → Type 0
+abbrev pub IsNameAt : TextRange → Symbol → Type 0
 IsNameAt place (symbols.Name found) = found ≡ place
 IsNameAt place _ = Unit {0}
 

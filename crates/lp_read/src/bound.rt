@@ -8,7 +8,9 @@ ghost use Rattle.lp_read.specs.Parser.{step as specs_step, from_b_signs, from_p_
 use crate::row::direction_of;
 use crate::stage::{BoundStage, Stage, Step, Within, behind_part};
 use crate::symbol::Symbol;
-use crate::tree::{Bound, Comparison, Direction, Part, Place, Sign, Signed, Site, Value, bytes_at};
+use crate::tree::{
+    Bound, Comparison, Direction, Part, Sign, Signed, Site, TextRange, Value, bytes_at,
+};
 use bp_theory::Items;
 use std::alloc::{AllocError, Global};
 
@@ -125,7 +127,7 @@ fn second_bound(
     alloc: Global,
     within: Within,
     value: Value,
-    name: Place,
+    name: TextRange,
     direction: Option<Direction>,
 ) -> Option<(Site, Stage)>
     ensures { (text : List ℕ) → step_in text result ≡ specs_second_bound (within_in text within) value (name_in text name) direction }
@@ -145,7 +147,7 @@ fn from_half(
     within: Within,
     value: Value,
     comparison: Comparison,
-    name: Place,
+    name: TextRange,
     symbol: Symbol,
 ) -> Step
     ensures { (text : List ℕ) → IfOk result (λ r. step_in text r ≡ from_b_half (within_in text within) value comparison (name_in text name) (symbol_in text symbol)) }
@@ -170,7 +172,7 @@ fn from_between(
     within: Within,
     value: Value,
     direction: Direction,
-    name: Place,
+    name: TextRange,
     signs: Items<Sign>,
     symbol: Symbol,
 ) -> Step
@@ -201,7 +203,7 @@ fn is_free(name: &[u8]) -> bool
 }
 
 /// A name behind a bound's first name, by whether it is the word `free`.
-fn free_word(within: Within, name: Place, word: Place, free: bool) -> Step
+fn free_word(within: Within, name: TextRange, word: TextRange, free: bool) -> Step
     ensures { (text : List ℕ) → IfOk result (λ r. step_in text r ≡ specs_free_word (within_in text within) (name_in text name) (name_in text word) free) }
 {
     if free {
@@ -213,7 +215,7 @@ fn free_word(within: Within, name: Place, word: Place, free: bool) -> Step
 }
 
 /// A symbol behind a bound's first name.
-fn from_name(alloc: Global, bytes: &[u8], within: Within, name: Place, symbol: Symbol) -> Step
+fn from_name(alloc: Global, bytes: &[u8], within: Within, name: TextRange, symbol: Symbol) -> Step
     ensures { IfOk result (λ r. step_in bytes.now r ≡ from_b_name (within_in bytes.now within) (name_in bytes.now name) (symbol_in bytes.now symbol)) }
 {
     match symbol {
@@ -232,7 +234,7 @@ fn from_name(alloc: Global, bytes: &[u8], within: Within, name: Place, symbol: S
 /// A symbol behind a name and a comparison.
 fn from_named(
     within: Within,
-    name: Place,
+    name: TextRange,
     comparison: Comparison,
     signs: Items<Sign>,
     symbol: Symbol,

@@ -6,14 +6,14 @@ ghost use Rattle.lp_token.specs.Lexeme.{is_name};
 ghost use Rattle.lp_read.specs.Tree as plain;
 ghost use Rattle.lp_read.specs.Tree.{row_first, listed};
 ghost use Rattle.lp_read.specs.TreeIn.{IsNamed, symbol_in, next_in, name_in, label_in};
-ghost use Rattle.lp_read.specs.Roles.{label_of, is_colon as specs_is_colon, is_name as specs_is_name, variable_of as specs_variable_of, counts_as_term as specs_counts_as_term, row_of as specs_row_of};
+ghost use Rattle.lp_read.specs.Roles.{label_of, is_colon as specs_is_colon, is_name_symbol as specs_is_name, variable_of as specs_variable_of, counts_as_term as specs_counts_as_term, row_of as specs_row_of};
 ghost use Rattle.lp_read.specs.Noted.{seen_in, with_name, with_token, names_with, tokens_with, row_name, rows_with, row_tokens_with, is_repeated, terms_with, with_rows, with_variables, noted, is_repeated_in, are_too_many, HaveRoom, HaveRoomForVariables, IsTwice, IsRowFault, IsRoleFault};
 ghost use Rattle.lp_read.specs.declared.symbol.Symbol.TheVariants as symbols;
 ghost use Rattle.lp_read.specs.Meaning.{has_name};
 ghost use Rattle.lp_read.specs.declared.notes.ParseFault.TheVariants.{At, NoMemory};
 
 use crate::symbol::Symbol;
-use crate::tree::{Place, Site, name_at};
+use crate::tree::{Site, TextRange, name_at};
 use bp_model::{MAX_ROWS, MAX_TERMS, MAX_VARS, Names};
 use bp_theory::Items;
 use lp_token::LpKind;
@@ -82,7 +82,7 @@ fn is_name_next(next: Option<Symbol>) -> bool
 }
 
 /// The variable that a name names where a label may stand.
-fn unless_label(symbol: Symbol, next: Option<Symbol>) -> Option<Place>
+fn unless_label(symbol: Symbol, next: Option<Symbol>) -> Option<TextRange>
     ensures same { (text : List ℕ) → label_in text result ≡ specs_variable_of row_first (symbol_in text symbol) (next_in text next) }
     ensures named { IfSome result (λ name. symbol ≡ symbols.Name name) }
 {
@@ -93,7 +93,7 @@ fn unless_label(symbol: Symbol, next: Option<Symbol>) -> Option<Place>
 }
 
 /// The name that a symbol is.
-fn name_of(symbol: Symbol) -> Option<Place>
+fn name_of(symbol: Symbol) -> Option<TextRange>
     ensures same { (text : List ℕ) (next : Option plain.Symbol) → label_in text result ≡ specs_variable_of listed (symbol_in text symbol) next }
     ensures named { IfSome result (λ name. symbol ≡ symbols.Name name) }
 {
@@ -104,7 +104,7 @@ fn name_of(symbol: Symbol) -> Option<Place>
 }
 
 /// The variable that a symbol names.
-fn variable_of(site: Site, symbol: Symbol, next: Option<Symbol>) -> Option<Place>
+fn variable_of(site: Site, symbol: Symbol, next: Option<Symbol>) -> Option<TextRange>
     ensures same { (text : List ℕ) → label_in text result ≡ specs_variable_of site (symbol_in text symbol) (next_in text next) }
     ensures named { IfSome result (λ name. symbol ≡ symbols.Name name) }
 {
@@ -134,7 +134,7 @@ fn counts_as_term(site: Site, symbol: Symbol, next: Option<Symbol>) -> bool
 }
 
 /// The label of a row's first symbol.
-fn row_label(symbol: Symbol, next: Option<Symbol>) -> Option<Place>
+fn row_label(symbol: Symbol, next: Option<Symbol>) -> Option<TextRange>
     ensures same { (text : List ℕ) → label_in text result ≡ label_of row_first (symbol_in text symbol) (next_in text next) }
     ensures named { IfSome result (λ name. symbol ≡ symbols.Name name) }
 {
@@ -170,7 +170,7 @@ fn add_labelled_row(
     bytes: &[u8],
     notes: Notes,
     at: usize,
-    label: Option<Place>,
+    label: Option<TextRange>,
 ) -> Result<Notes, ParseFault>
     requires room { HaveRoom notes }
     requires named { ForSome label (λ place. IsTrue (is_name (name_in bytes.now place))) }

@@ -7,7 +7,7 @@ ghost use Rattle.lp_read.specs.Tree.{term, constant};
 
 use crate::stage::{Front, Gap, ObjectiveStage, RowStage, Stage, Step, lone, longer, more_sign};
 use crate::symbol::Symbol;
-use crate::tree::{Item, Place, Sign, Signed, Site, Sum, Term};
+use crate::tree::{Item, Sign, Signed, Site, Sum, Term, TextRange};
 use bp_theory::Items;
 use lp_token::Section;
 use std::alloc::{AllocError, Global};
@@ -74,7 +74,7 @@ fn from_word(alloc: Global, maximises: bool, symbol: Symbol) -> Step
 }
 
 /// A symbol behind an objective's first name.
-fn from_name(alloc: Global, maximises: bool, name: Place, symbol: Symbol) -> Step
+fn from_name(alloc: Global, maximises: bool, name: TextRange, symbol: Symbol) -> Step
     ensures { (text : List ℕ) → IfOk result (λ r. step_in text r ≡ from_o_name maximises (name_in text name) (symbol_in text symbol)) }
 {
     let signs = Items::new(alloc);
@@ -110,7 +110,7 @@ fn from_name(alloc: Global, maximises: bool, name: Place, symbol: Symbol) -> Ste
 fn from_open(
     alloc: Global,
     maximises: bool,
-    label: Option<Place>,
+    label: Option<TextRange>,
     gap: Gap<Item>,
     symbol: Symbol,
 ) -> Step
@@ -130,7 +130,7 @@ fn from_open(
 fn from_number(
     alloc: Global,
     maximises: bool,
-    label: Option<Place>,
+    label: Option<TextRange>,
     gap: Gap<Item>,
     size: u64,
     symbol: Symbol,
@@ -156,7 +156,7 @@ fn from_number(
 fn from_sum(
     alloc: Global,
     maximises: bool,
-    label: Option<Place>,
+    label: Option<TextRange>,
     sum: Sum<Item>,
     symbol: Symbol,
 ) -> Option<(Site, Stage)>
@@ -182,7 +182,7 @@ fn from_sum(
 fn open_word(
     alloc: Global,
     maximises: bool,
-    label: Option<Place>,
+    label: Option<TextRange>,
     gap: Gap<Item>,
     section: Section,
 ) -> Option<(Site, Stage)>
@@ -200,7 +200,7 @@ fn open_word(
 fn rows_word(
     alloc: Global,
     maximises: bool,
-    label: Option<Place>,
+    label: Option<TextRange>,
     objective: Option<Sum<Item>>,
     section: Section,
 ) -> Option<(Site, Stage)>
@@ -225,7 +225,7 @@ fn put_item(
     alloc: Global,
     gap: Gap<Item>,
     factor: Option<u64>,
-    variable: Place,
+    variable: TextRange,
 ) -> Result<Sum<Item>, AllocError>
     ensures { (text : List ℕ) → IfOk result (λ r. item_sum_in text r ≡ put (gap_in (item_in text) gap) (λ signs. term (named factor (name_in text variable) signs))) }
 {

@@ -10,7 +10,7 @@ use crate::stage::{
     Front, Gap, RowStage, Stage, Step, from_word, lone, longer, more_sign, put_term, with_row,
 };
 use crate::symbol::Symbol;
-use crate::tree::{Comparison, Direction, Place, Row, Sign, Signed, Site, Sum, Term};
+use crate::tree::{Comparison, Direction, Row, Sign, Signed, Site, Sum, Term, TextRange};
 use bp_theory::Items;
 use std::alloc::{AllocError, Global};
 
@@ -78,7 +78,7 @@ fn begun(front: Front, stage: RowStage) -> Option<(Site, Stage)>
 }
 
 /// A symbol behind a row's first name.
-fn from_name(alloc: Global, front: Front, name: Place, symbol: Symbol) -> Step
+fn from_name(alloc: Global, front: Front, name: TextRange, symbol: Symbol) -> Step
     ensures { (text : List ℕ) → IfOk result (λ r. step_in text r ≡ from_r_name (front_in text front) (name_in text name) (symbol_in text symbol)) }
 {
     let signs = Items::new(alloc);
@@ -102,7 +102,7 @@ fn from_name(alloc: Global, front: Front, name: Place, symbol: Symbol) -> Step
 fn from_signs(
     alloc: Global,
     front: Front,
-    label: Option<Place>,
+    label: Option<TextRange>,
     signs: Items<Sign>,
     symbol: Symbol,
 ) -> Step
@@ -135,7 +135,7 @@ fn from_signs(
 fn from_number(
     alloc: Global,
     front: Front,
-    label: Option<Place>,
+    label: Option<TextRange>,
     signs: Items<Sign>,
     size: u64,
     symbol: Symbol,
@@ -169,7 +169,7 @@ fn from_number(
 /// A symbol where a further term may stand.
 fn from_open(
     front: Front,
-    label: Option<Place>,
+    label: Option<TextRange>,
     sum: Sum<Term>,
     first: Sign,
     signs: Items<Sign>,
@@ -204,7 +204,7 @@ fn from_open(
 /// A symbol behind a further term's number.
 fn from_factor(
     front: Front,
-    label: Option<Place>,
+    label: Option<TextRange>,
     sum: Sum<Term>,
     first: Sign,
     signs: Items<Sign>,
@@ -234,7 +234,7 @@ fn from_factor(
 fn from_sum(
     alloc: Global,
     front: Front,
-    label: Option<Place>,
+    label: Option<TextRange>,
     sum: Sum<Term>,
     symbol: Symbol,
 ) -> Option<(Site, Stage)>
@@ -252,7 +252,7 @@ fn from_sum(
 /// A symbol behind a row's comparison.
 fn from_compared(
     front: Front,
-    label: Option<Place>,
+    label: Option<TextRange>,
     sum: Sum<Term>,
     comparison: Comparison,
     signs: Items<Sign>,
@@ -284,7 +284,7 @@ fn from_compared(
 fn from_number_open(
     alloc: Global,
     front: Front,
-    label: Option<Place>,
+    label: Option<TextRange>,
     side: Signed,
     comparison: Comparison,
     gap: Gap<Term>,
@@ -310,7 +310,7 @@ fn from_number_open(
 fn from_number_factor(
     alloc: Global,
     front: Front,
-    label: Option<Place>,
+    label: Option<TextRange>,
     side: Signed,
     comparison: Comparison,
     gap: Gap<Term>,
@@ -346,7 +346,7 @@ pub fn direction_of(first: Comparison, second: Comparison) -> Option<Direction>
 fn second_row(
     alloc: Global,
     front: Front,
-    label: Option<Place>,
+    label: Option<TextRange>,
     side: Signed,
     sum: Sum<Term>,
     direction: Option<Direction>,
@@ -366,7 +366,7 @@ fn second_row(
 fn from_number_sum(
     alloc: Global,
     front: Front,
-    label: Option<Place>,
+    label: Option<TextRange>,
     side: Signed,
     comparison: Comparison,
     sum: Sum<Term>,
@@ -403,7 +403,7 @@ fn from_number_sum(
 /// A symbol behind the second comparison of a row.
 fn from_number_compared(
     front: Front,
-    label: Option<Place>,
+    label: Option<TextRange>,
     side: Signed,
     direction: Direction,
     sum: Sum<Term>,

@@ -6,7 +6,7 @@ ghost use Rattle.lp_read.specs.Parser.{put, named, with_row as specs_with_row, f
 
 use crate::symbol::Symbol;
 use crate::tree::{
-    Bound, Comparison, Direction, Item, Part, Place, Row, Sign, Signed, Site, Sum, Term, Tree,
+    Bound, Comparison, Direction, Item, Part, Row, Sign, Signed, Site, Sum, Term, TextRange, Tree,
     Value,
 };
 use bp_theory::Items;
@@ -24,7 +24,7 @@ pub struct Gap<A> {
 #[derive(Drop)]
 pub struct Front {
     pub maximises: bool,
-    pub label: Option<Place>,
+    pub label: Option<TextRange>,
     pub objective: Option<Sum<Item>>,
     pub rows: Items<Row>,
 }
@@ -41,27 +41,27 @@ pub struct Within {
 #[derive(Drop)]
 pub enum ObjectiveStage {
     Word,
-    Name(Place),
-    Open(Option<Place>, Gap<Item>),
-    Number(Option<Place>, Gap<Item>, u64),
-    Sum(Option<Place>, Sum<Item>),
+    Name(TextRange),
+    Open(Option<TextRange>, Gap<Item>),
+    Number(Option<TextRange>, Gap<Item>, u64),
+    Sum(Option<TextRange>, Sum<Item>),
 }
 
 /// Inside a row.
 #[derive(Drop)]
 pub enum RowStage {
     Start,
-    Name(Place),
-    Signs(Option<Place>, Items<Sign>),
-    Number(Option<Place>, Items<Sign>, u64),
-    Open(Option<Place>, Sum<Term>, Sign, Items<Sign>),
-    Factor(Option<Place>, Sum<Term>, Sign, Items<Sign>, u64),
-    Sum(Option<Place>, Sum<Term>),
-    Compared(Option<Place>, Sum<Term>, Comparison, Items<Sign>),
-    NumberOpen(Option<Place>, Signed, Comparison, Gap<Term>),
-    NumberFactor(Option<Place>, Signed, Comparison, Gap<Term>, u64),
-    NumberSum(Option<Place>, Signed, Comparison, Sum<Term>),
-    NumberCompared(Option<Place>, Signed, Direction, Sum<Term>, Items<Sign>),
+    Name(TextRange),
+    Signs(Option<TextRange>, Items<Sign>),
+    Number(Option<TextRange>, Items<Sign>, u64),
+    Open(Option<TextRange>, Sum<Term>, Sign, Items<Sign>),
+    Factor(Option<TextRange>, Sum<Term>, Sign, Items<Sign>, u64),
+    Sum(Option<TextRange>, Sum<Term>),
+    Compared(Option<TextRange>, Sum<Term>, Comparison, Items<Sign>),
+    NumberOpen(Option<TextRange>, Signed, Comparison, Gap<Term>),
+    NumberFactor(Option<TextRange>, Signed, Comparison, Gap<Term>, u64),
+    NumberSum(Option<TextRange>, Signed, Comparison, Sum<Term>),
+    NumberCompared(Option<TextRange>, Signed, Direction, Sum<Term>, Items<Sign>),
 }
 
 /// Inside a statement of a bounds section.
@@ -71,10 +71,10 @@ pub enum BoundStage {
     Signs(Items<Sign>),
     Value(Value),
     Compared(Value, Comparison),
-    Half(Value, Comparison, Place),
-    Between(Value, Direction, Place, Items<Sign>),
-    Name(Place),
-    Named(Place, Comparison, Items<Sign>),
+    Half(Value, Comparison, TextRange),
+    Between(Value, Direction, TextRange, Items<Sign>),
+    Name(TextRange),
+    Named(TextRange, Comparison, Items<Sign>),
 }
 
 /// What is read so far.
@@ -83,8 +83,8 @@ pub enum Stage {
     Start,
     Objective(bool, ObjectiveStage),
     Row(Front, RowStage),
-    Generals(Front, Items<Part>, Items<Place>),
-    Binaries(Front, Items<Part>, Items<Place>),
+    Generals(Front, Items<Part>, Items<TextRange>),
+    Binaries(Front, Items<Part>, Items<TextRange>),
     Bounds(Within, BoundStage),
     Done(Tree),
 }
@@ -150,7 +150,7 @@ pub fn put_term(
     alloc: Global,
     gap: Gap<Term>,
     factor: Option<u64>,
-    variable: Place,
+    variable: TextRange,
 ) -> Result<Sum<Term>, AllocError>
     ensures { (text : List ℕ) → IfOk result (λ r. term_sum_in text r ≡ put (gap_in (term_in text) gap) (named factor (name_in text variable))) }
 {

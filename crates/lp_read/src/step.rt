@@ -9,7 +9,7 @@ use crate::objective::{from_objective, from_start};
 use crate::row::from_row;
 use crate::stage::{Front, Stage, Step, behind_part};
 use crate::symbol::Symbol;
-use crate::tree::{Part, Place, Site};
+use crate::tree::{Part, Site, TextRange};
 use bp_theory::Items;
 use std::alloc::Global;
 
@@ -33,7 +33,7 @@ fn from_generals(
     alloc: Global,
     front: Front,
     parts: Items<Part>,
-    names: Items<Place>,
+    names: Items<TextRange>,
     symbol: Symbol,
 ) -> Step
     ensures { (text : List ℕ) → IfOk result (λ r. step_in text r ≡ from_p_generals (front_in text front) (map (part_in text) parts) (map (name_in text) names) (symbol_in text symbol)) }
@@ -54,7 +54,7 @@ fn from_binaries(
     alloc: Global,
     front: Front,
     parts: Items<Part>,
-    names: Items<Place>,
+    names: Items<TextRange>,
     symbol: Symbol,
 ) -> Step
     ensures { (text : List ℕ) → IfOk result (λ r. step_in text r ≡ from_p_binaries (front_in text front) (map (part_in text) parts) (map (name_in text) names) (symbol_in text symbol)) }

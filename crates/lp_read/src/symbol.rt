@@ -6,7 +6,7 @@ ghost use Rattle.lp_read.specs.Symbols.{symbols, symbol_of as specs_symbol_of, n
 ghost use Rattle.lp_read.specs.TreeIn.{IsNamed, IsNameOf, IsNameAt, IsNoName, symbol_in, name_in};
 
 use crate::number::{Worth, worth_of};
-use crate::tree::{Comparison, Place, Sign, bytes_at};
+use crate::tree::{Comparison, Sign, TextRange, bytes_at};
 use lp_token::{LpKind, Section, Tok, TokKind, section_of};
 use std::alloc::{AllocError, Global};
 
@@ -14,7 +14,7 @@ use std::alloc::{AllocError, Global};
 #[derive(Clone, Copy, Debug, PartialEq, Eq)]
 pub enum Symbol {
     Word(Section),
-    Name(Place),
+    Name(TextRange),
     Number(u64),
     Infinity,
     Sign(Sign),
@@ -52,7 +52,7 @@ fn is_infinity_word(name: &[u8]) -> bool
 
 /// The symbol of a name, by whether it stands in a bounds section.
 #[tactic(auto, unfolding(crate::specs::Symbols::name_symbol))]
-fn name_symbol(bytes: &[u8], place: Place, in_bounds: bool) -> Symbol
+fn name_symbol(bytes: &[u8], place: TextRange, in_bounds: bool) -> Symbol
     ensures named { IsNameAt place result }
     ensures same { symbol_in bytes.now result ≡ specs_name_symbol in_bounds (name_in bytes.now place) }
 {
@@ -98,7 +98,7 @@ fn symbol_of(bytes: &[u8], token: &Tok, in_bounds: bool) -> Symbol
     ensures same { symbol_in bytes.now result ≡ specs_symbol_of in_bounds token.now.kind (slice_range bytes.now token.now.from token.now.to) }
     ensures named { IsNameOf token.now result }
 {
-    let place = Place {
+    let place = TextRange {
         from: token.from,
         to: token.to,
     };

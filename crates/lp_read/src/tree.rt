@@ -7,7 +7,7 @@ use bp_theory::Items;
 
 /// A slice of the text.
 #[derive(Clone, Copy, Debug, PartialEq, Eq)]
-pub struct Place {
+pub struct TextRange {
     pub from: usize,
     pub to: usize,
 }
@@ -46,7 +46,7 @@ pub struct Signed {
 pub struct Term {
     pub signs: Items<Sign>,
     pub factor: Option<u64>,
-    pub variable: Place,
+    pub variable: TextRange,
 }
 
 /// What an objective adds up: terms and constants.
@@ -66,9 +66,9 @@ pub struct Sum<A> {
 /// A row of a text: its label, and its sides and its sum in the order in which they are written.
 #[derive(Drop)]
 pub enum Row {
-    ExpressionFirst(Option<Place>, Sum<Term>, Comparison, Signed),
-    NumberFirst(Option<Place>, Signed, Comparison, Sum<Term>),
-    Ranged(Option<Place>, Signed, Direction, Sum<Term>, Signed),
+    ExpressionFirst(Option<TextRange>, Sum<Term>, Comparison, Signed),
+    NumberFirst(Option<TextRange>, Signed, Comparison, Sum<Term>),
+    Ranged(Option<TextRange>, Signed, Direction, Sum<Term>, Signed),
 }
 
 /// A value of a bound: a number, or signs and a word for an infinity.
@@ -81,25 +81,25 @@ pub enum Value {
 /// A statement of a bounds section. A free name has the word behind it.
 #[derive(Drop)]
 pub enum Bound {
-    ValueFirst(Value, Comparison, Place),
-    NameFirst(Place, Comparison, Value),
-    Between(Value, Direction, Place, Value),
-    Free(Place, Place),
+    ValueFirst(Value, Comparison, TextRange),
+    NameFirst(TextRange, Comparison, Value),
+    Between(Value, Direction, TextRange, Value),
+    Free(TextRange, TextRange),
 }
 
 /// A section behind the rows.
 #[derive(Drop)]
 pub enum Part {
     Bounds(Items<Bound>),
-    Generals(Items<Place>),
-    Binaries(Items<Place>),
+    Generals(Items<TextRange>),
+    Binaries(Items<TextRange>),
 }
 
 /// A text.
 #[derive(Drop)]
 pub struct Tree {
     pub maximises: bool,
-    pub label: Option<Place>,
+    pub label: Option<TextRange>,
     pub objective: Option<Sum<Item>>,
     pub rows: Items<Row>,
     pub parts: Items<Part>,
@@ -118,7 +118,7 @@ pub enum Site {
 }
 
 /// The bytes at a place.
-pub fn bytes_at(text: &[u8], place: Place) -> &[u8]
+pub fn bytes_at(text: &[u8], place: TextRange) -> &[u8]
     ensures { result.now ≡ name_in text.now place }
 {
     let to = place.to.min(text.len());
@@ -127,7 +127,7 @@ pub fn bytes_at(text: &[u8], place: Place) -> &[u8]
 }
 
 /// The name at a place.
-pub fn name_at(text: &[u8], place: Place) -> &str
+pub fn name_at(text: &[u8], place: TextRange) -> &str
     requires { IsTrue (is_name (name_in text.now place)) }
     ensures { result.now ≡ name_in text.now place }
 {

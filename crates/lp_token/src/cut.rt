@@ -3,7 +3,7 @@ ghost use Rattle.std.specs.Prelude.{◌≡◌, ◌+◌, ◌-◌, ◌^◌, ◌≤
 ghost use Rattle.std.specs.List.{list_all};
 ghost use Rattle.lp_token.specs.Lexeme.{begins, is_name_byte as specs_is_name_byte};
 ghost use Rattle.lp_token.specs.Word.{is_space};
-ghost use Rattle.lp_token.specs.Scan.{IsPlace, is_tab_or_space, ends_word, BreaksHere};
+ghost use Rattle.lp_token.specs.Scan.{IsPosition, is_tab_or_space, ends_word, BreaksHere};
 ghost use Rattle.lp_token.specs.Cut.{Cut, IsCutFault, IsGap, IsSlice, IsToken, in_comment, is_blank, is_white, is_line_feed, goes_on, kind_at, colon_follows as specs_colon_follows, is_long as specs_is_long, is_end as specs_is_end, section_at as specs_section_at};
 
 use crate::word::{is_space_byte, section_of};
@@ -15,7 +15,7 @@ const LONGEST_NAME: usize = 255;
 
 /// A place in a text: its line, and whether nothing but white space stands before it there.
 #[derive(Clone, Copy)]
-struct Place {
+struct Position {
     at: usize,
     line: u32,
     fresh: bool,
@@ -51,11 +51,11 @@ fn fresh_behind(fresh: bool, b: u8) -> bool
 }
 
 /// The first place from a place on that is no white space and in no comment, or the text's end.
-fn skip_blanks(bytes: &[u8], from: Place) -> Place
+fn skip_blanks(bytes: &[u8], from: Position) -> Position
     requires size { length bytes.now ≤ 2 ^ 24 }
-    requires place { IsPlace bytes.now from }
+    requires place { IsPosition bytes.now from }
     requires clear { IsFalse (in_comment bytes.now from.at) }
-    ensures place { IsPlace bytes.now result }
+    ensures place { IsPosition bytes.now result }
     ensures gap { IsGap bytes.now from.at result.at }
     ensures seen { result.at < length bytes.now → IsFalse (is_blank bytes.now result.at) }
     ensures clear { result.at < length bytes.now → IsFalse (in_comment bytes.now result.at) }
@@ -68,14 +68,14 @@ fn skip_blanks(bytes: &[u8], from: Place) -> Place
         let b = bytes[at];
         let next = is_comment_byte(comment, b);
         if !next && !is_white_byte(b) {
-            return Place { at, line, fresh };
+            return Position { at, line, fresh };
         }
         comment = next;
         line = line_behind(line, b);
         fresh = fresh_behind(fresh, b);
         at += 1;
     }
-    Place { at, line, fresh }
+    Position { at, line, fresh }
 }
 
 /// Where the spaces end that stand at a place.
@@ -149,9 +149,9 @@ fn word_end(bytes: &[u8], from: usize) -> Option<usize>
 }
 
 /// The kind and the end of the longest token at a place, if one stands there.
-fn token_end(bytes: &[u8], place: Place) -> Option<(TokKind, usize)>
+fn token_end(bytes: &[u8], place: Position) -> Option<(TokKind, usize)>
     requires inside { place.at < length bytes.now }
-    requires place { IsPlace bytes.now place }
+    requires place { IsPosition bytes.now place }
     requires clear { IsFalse (in_comment bytes.now place.at) }
     ensures found { IfSome result (λ t. (t.1 ≤ length bytes.now) × (kind_at bytes.now place.at t.1 ≡ Some t.0)) }
     ensures longest { IfSome result (λ t. (to : ℕ) → to ≤ length bytes.now → IsSome (kind_at bytes.now place.at to) → to ≤ t.1) }
@@ -178,9 +178,9 @@ fn is_long(token: &Tok) -> bool
 }
 
 /// The token at a place, or its fault.
-fn next_token(bytes: &[u8], place: Place) -> Result<Tok, LpFault>
+fn next_token(bytes: &[u8], place: Position) -> Result<Tok, LpFault>
     requires inside { place.at < length bytes.now }
-    requires place { IsPlace bytes.now place }
+    requires place { IsPosition bytes.now place }
     requires seen { IsFalse (is_blank bytes.now place.at) }
     requires clear { IsFalse (in_comment bytes.now place.at) }
     ensures token { IfOk result (λ token. (token.from ≡ place.at) × IsToken bytes.now token × IsFalse (specs_is_long token)) }
@@ -243,7 +243,7 @@ pub fn tokens(alloc: Global, bytes: &[u8]) -> Result<Vec<Tok>, LpFault>
     ensures fault { IfErr result (IsCutFault bytes.now) }
 {
     let mut found = Vec::new(alloc);
-    let mut place = Place {
+    let mut place = Position {
         at: 0,
         line: 1,
         fresh: true,
@@ -258,7 +258,7 @@ pub fn tokens(alloc: Global, bytes: &[u8]) -> Result<Vec<Tok>, LpFault>
         if is_end(bytes, &token) {
             return Ok(found);
         }
-        place = Place {
+        place = Position {
             at: token.to,
             line: here.line,
             fresh: false,

@@ -1,5 +1,5 @@
 use Rattle.std.proofs.Common.{◌≤◌, ℕ, length, [], arith, sym, subst}
-use Rattle.dec_read.specs.Reading.{HasFault}
+use Rattle.dec_read.specs.Reading.{HasDecTextFault}
 use Rattle.dec_read.specs.Scan.{tokens_at, token_in}
 use Rattle.dec_read.proofs.ReadLemmas.{read_none, stands_more, stands_fault, end_reads, end_has_fault}
 use Rattle.dec_read.proofs.PlaceLemmas.{reads_placed}
@@ -32,7 +32,7 @@ pub returns-in-Some-fault_at_end-clause-fault : goal.returns-in-Some-fault_at_en
 returns-in-Some-fault_at_end-clause-fault c =
     let before = c.loop-word.invariant.before in
     let text = c.args.bytes.now in
-    subst (λ (n : ℕ). HasFault text c.args.m.now n c.in-Some-fault_at_end.kind) (sym c.end_line.ensures)
+    subst (λ (n : ℕ). HasDecTextFault text c.args.m.now n c.in-Some-fault_at_end.kind) (sym c.end_line.ensures)
     (end_has_fault text c.args.m.now (tokens_at text c.loop-word.cursor) before.earlier c.in-Some-fault_at_end.kind (omega arith) before.has_read c.in_default.ensures (c.in-Some-fault_at_end.ensures before.earlier before.keeps))
 
 pub returns-clause-dec : goal.returns-clause-dec

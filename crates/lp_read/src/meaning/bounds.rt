@@ -8,7 +8,7 @@ ghost use Rattle.lp_read.specs.Numbered.{say_at, say_bound, list_general, list_b
 
 use crate::meaning::extended::Extended;
 use crate::meaning::number::{is_negative_run, number_of, signed_number};
-use crate::tree::{Bound, Comparison, Direction, Part, Place, Value};
+use crate::tree::{Bound, Comparison, Direction, Part, TextRange, Value};
 use bp_model::Names;
 use std::alloc::{AllocError, Global};
 
@@ -161,7 +161,7 @@ fn note_bounds(text: &[u8], names: &Names, table: &mut Vec<Stated>, bounds: &[Bo
 }
 
 // Lists names under generals.
-fn note_generals(text: &[u8], names: &Names, table: &mut Vec<Stated>, listed: &[Place])
+fn note_generals(text: &[u8], names: &Names, table: &mut Vec<Stated>, listed: &[TextRange])
     requires fit { All (IsKnown text.now names.now) listed.now }
     requires all { vec_len table.old ≡ length names.now }
     ensures items { table.new.items ≡ fold (λ t n. list_general names.now t (name_in text.now n)) table.old.items listed.now }
@@ -176,7 +176,7 @@ fn note_generals(text: &[u8], names: &Names, table: &mut Vec<Stated>, listed: &[
 }
 
 // Lists names under binaries.
-fn note_binaries(text: &[u8], names: &Names, table: &mut Vec<Stated>, listed: &[Place])
+fn note_binaries(text: &[u8], names: &Names, table: &mut Vec<Stated>, listed: &[TextRange])
     requires fit { All (IsKnown text.now names.now) listed.now }
     requires all { vec_len table.old ≡ length names.now }
     ensures items { table.new.items ≡ fold (λ t n. list_binary names.now t (name_in text.now n)) table.old.items listed.now }

@@ -5,7 +5,7 @@ ghost use Rattle.lp_read.specs.Fit.{IsKnown};
 ghost use Rattle.lp_read.specs.Numbered.{is_minus, is_negative, number_in};
 ghost use Rattle.lp_read.specs.TreeIn.{name_in};
 
-use crate::tree::{Place, Sign, bytes_at};
+use crate::tree::{Sign, TextRange, bytes_at};
 use bp_model::Names;
 
 /// Whether a sign is minus.
@@ -44,7 +44,7 @@ pub fn signed_number(turned: bool, signs: &[Sign], size: u64) -> i64
 }
 
 /// The number of the name at a place.
-pub fn number_of(text: &[u8], names: &Names, place: &Place) -> u32
+pub fn number_of(text: &[u8], names: &Names, place: &TextRange) -> u32
     requires { IsKnown text.now names.now place.now }
     ensures number { result ≡ number_in names.now (name_in text.now place.now) }
     ensures there { result < length names.now }

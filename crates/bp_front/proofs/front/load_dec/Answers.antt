@@ -1,6 +1,6 @@
 use Rattle.std.proofs.Common.{refl, lit<, subst, sym, List, ℕ, Option, Bor, IfOk, IfErr}
 use Rattle.std.specs.Option.{option_map}
-use Rattle.dec_read.specs.Reading.{Reads}
+use Rattle.dec_read.specs.Reading.{ReadsDecomposition}
 use Rattle.bp_front.specs.Front.{HasDec}
 use Rattle.bp_front.specs.Halts.{IsDecHalt, DecHalts}
 use Rattle.bp_front.proofs.Fronts.{decs, halted_decs}
@@ -12,7 +12,7 @@ returns-in_ok-text-in-Some-clause-dec g c = λ told.
     subst (λ (o : Option (Bor (List ℕ))). IfOk c.dec_of.result (HasDec files c.args.model.now (option_map (λ name. name.now) o))) (sym c.in-Some.is)
     (decs files c.args.model.now c.in-Some.name.now c.in_ok-text-in-Some.text.items c.dec_of.result 16777217 (lit< tt)
     (c.in_ok-text-in-Some.ensures.found told refl (lit< tt)) (c.in_ok-text-in-Some.ensures.bytes told)
-    (subst (λ (t : List ℕ). IfOk c.dec_of.result (Reads t c.args.model.now)) c.deref.ensures.value c.dec_of.ensures.dec))
+    (subst (λ (t : List ℕ). IfOk c.dec_of.result (ReadsDecomposition t c.args.model.now)) c.deref.ensures.value c.dec_of.ensures.dec))
 
 pub returns-in_ok-text-in-Some-clause-halted : goal.returns-in_ok-text-in-Some-clause-halted
 returns-in_ok-text-in-Some-clause-halted g c = λ told.

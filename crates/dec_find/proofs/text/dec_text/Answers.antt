@@ -2,7 +2,7 @@ use Rattle.std.proofs.Common.{◌≡◌, ◌≤◌, ◌<◌, ℕ, List, [], ◌�
 use Rattle.std.specs.Prelude.{codes, decimal}
 use Rattle.std.specs.List.{flat_map}
 use Rattle.std.proofs.lemmas.List.{take_all}
-use Rattle.dec_read.specs.Reading.{Reads}
+use Rattle.dec_read.specs.Reading.{ReadsDecomposition}
 use Rattle.dec_find.specs.Text.{text_of}
 use Rattle.dec_find.proofs.TextLemmas.{lines_text, text_reads, writable}
 use Rattle.dec_find.proofs.LengthLemmas.{text_short}
@@ -30,5 +30,5 @@ returns-clause-read_back c =
     let m = c.args.m.now in
     let d = c.args.dec.now in
     let few : d.blocks ≤ 4096 = omega (arith, c.blocks-2.ensures.few, c.blocks-2.ensures.blocks) in
-    subst (λ (t : List ℕ). Reads t m d) (sym (returns-clause-text c))
+    subst (λ (t : List ℕ). ReadsDecomposition t m d) (sym (returns-clause-text c))
     (text_reads m d (writable m d c.rows-rows.ensures.kept c.requires.places c.requires.names few) c.requires.unlisted (text_short m d c.rows-rows.ensures.kept c.requires.names few))
