@@ -8,6 +8,7 @@ use Rattle.bp_theory.specs.declared.Claim.{Claim}
 use Rattle.bp_theory.specs.declared.Claim.TheVariants.{Optimal, Infeasible, Bound}
 use Rattle.block_form.specs.Blocked.{BlockedProgram, IsFormed}
 use Rattle.cert_text.specs.Cert as texts
+use Rattle.cert_text.specs.Limits.{greatest_depth}
 use Rattle.cert_text.specs.Text.{One}
 use Rattle.cert_text.specs.Fault.{IsText, IsFirstCertFault}
 use Rattle.cert_text.specs.Kept.{kept_cert}
@@ -53,7 +54,7 @@ IsSmallClaim (Bound b (Some v)) = IsSmall b × IsSmall v
 pub record GoesWith (b : BlockedProgram) (cert : Certificate) : Type 0 where
   pub claim : IsSmallClaim cert.claim
   pub fits : All (λ leaf. Fits b.blocking leaf.proof) (leaves cert.tree b.named.program.spans)
-  pub shallow : depth cert.tree ≤ 8256
+  pub shallow : depth cert.tree ≤ greatest_depth
   pub lines : 3 + length (judged_lines b.named.program b.dec cert) ≤ 2 ^ 62
 
 -- so many numbers of texts
@@ -68,7 +69,7 @@ pub record CanWrite (b : BlockedProgram) (cert : Certificate) : Type 0 where
   pub point : IfSome cert.point (IsSmallPoint (length b.named.program.spans))
   pub splits : HasSoundSplits cert.tree b.named.program.spans
   pub fits : All (λ leaf. Fits b.blocking leaf.proof) (leaves cert.tree b.named.program.spans)
-  pub shallow : depth cert.tree ≤ 8256
+  pub shallow : depth cert.tree ≤ greatest_depth
 
 -- a certificate within the limits has its text, without a fault
 abbrev pub LimitsSuffice : Type 0
