@@ -45,6 +45,7 @@ impl Crew {
     ghost use Rattle.search_laws.specs.Crew.{takes, reports, drops, free_count};
     ghost use Rattle.search_laws.specs.Grove.{live_count, certificate_tree};
     ghost use Rattle.branch_tree.specs.Loads.{IsLoaded};
+    ghost use Rattle.cert_text.specs.Outcomes.{IsWritable};
     ghost use Rattle.bp_search.specs.Ends.{EndsWithin, HasStopped, grove_in, point_of};
     ghost use Rattle.bp_search.specs.Searches.{kept_point};
     ghost use Rattle.bp_crew.specs.Draws.{draw_of};
@@ -214,6 +215,7 @@ impl Crew {
     pub fn conclude(self, b: &Blocked) -> (Outcome, Vec<Event>)
         requires { IsCrewOf b.now self }
         ensures ends { (most : ℕ) → HasStopped most self.grove.tree → EndsWithin b.now most result.0 }
+        ensures writable { IsWritable b.now result.0 }
         ensures grove { grove_in result.0 ≡ self.grove }
         ensures point { point_of result.0 ≡ kept_point self.best }
         ensures events { result.1.items ≡ self.events }

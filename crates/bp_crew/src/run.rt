@@ -4,6 +4,7 @@ ghost use Rattle.bp_theory.specs.Trees.{steps};
 ghost use Rattle.search_laws.specs.Grove.{live_count, certificate_tree};
 ghost use Rattle.column_hint.specs.Pools.{AreMadeFor};
 ghost use Rattle.branch_tree.specs.Loads.{IsLoaded};
+ghost use Rattle.cert_text.specs.Outcomes.{IsWritable};
 ghost use Rattle.bp_search.specs.Ends.{EndsWithin, last_step};
 ghost use Rattle.bp_crew.specs.declared.hand.Hand.{Hand};
 ghost use Rattle.bp_crew.specs.States.{IsCrewOf, IsRight, hand_of};
@@ -34,6 +35,7 @@ pub fn run_crew(
     requires some { 1 ≤ workers }
     requires few { IfSome steps (λ n. n ≤ 2 ^ 60) }
     ensures ends { IfOk result (λ r. EndsWithin b.now (last_step from.grove steps) r.0) }
+    ensures writable { IfOk result (λ r. IsWritable b.now r.0) }
     ensures run { IfOk result (λ r. IsCrewRun b.now from workers order (last_step from.grove steps) r.0 r.1.items) }
 {
     let most = from.grove.count() + steps.unwrap_or(MAX_STEPS);

@@ -1,3 +1,4 @@
 pub mod Running
 pub mod Final
 pub mod Beside
+pub mod Writable

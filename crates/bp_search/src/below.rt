@@ -4,6 +4,7 @@ ghost use Rattle.bp_theory.specs.Trees.{steps};
 ghost use Rattle.search_laws.specs.Grove.{certificate_tree};
 ghost use Rattle.branch_tree.specs.Loads.{IsLoaded};
 ghost use Rattle.branch_tree.specs.Groves.{NoneLiveBelow};
+ghost use Rattle.cert_text.specs.Outcomes.{IsWritable};
 ghost use Rattle.bp_search.specs.Searches.{IsRunning};
 ghost use Rattle.bp_search.specs.Below.{EndsBelow, IsAsBeside};
 
@@ -30,7 +31,8 @@ pub fn resume_below(
 ) -> Result<Outcome, AllocError>
     requires loaded { IsLoaded b.now from }
     requires few { IfSome steps (λ n. n ≤ 2 ^ 60) }
-    ensures { IfOk result (EndsBelow b.now from.grove.tree below.now steps) }
+    ensures ends { IfOk result (EndsBelow b.now from.grove.tree below.now steps) }
+    ensures writable { IfOk result (IsWritable b.now) }
 {
     let Loaded { mut grove, best } = from;
     let mut best = kept_from(best);

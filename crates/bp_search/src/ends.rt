@@ -3,6 +3,7 @@ ghost use Rattle.std.specs.Prelude.{◌≡◌, ℕ, ◌<◌, ◌++◌, option_to
 ghost use Rattle.std.specs.Int.{int_min};
 ghost use Rattle.search_laws.specs.Grove.{live_count, live_bounds};
 ghost use Rattle.search_laws.specs.GroveFacts.{IsLeastOf};
+ghost use Rattle.cert_text.specs.Outcomes.{IsWritable};
 ghost use Rattle.bp_search.specs.Ends.{ended, IsStopped, HasStopped, EndsWithin, grove_in, point_of};
 ghost use Rattle.bp_search.specs.Searches.{kept_point, kept_cost, as_pair, IsRunning};
 ghost use Rattle.branch_tree.specs.declared.outcome.Outcome.TheVariants.{Budget};
@@ -15,6 +16,7 @@ use branch_tree::{Grove, Outcome};
 pub fn conclude(b: &Blocked, grove: Grove, best: Option<Kept>) -> Outcome
     requires { IsRunning b.now grove best }
     ensures ends { (most : ℕ) → HasStopped most grove.tree → EndsWithin b.now most result }
+    ensures writable { IsWritable b.now result }
     ensures grove { grove_in result ≡ grove }
     ensures point { point_of result ≡ kept_point best }
 {

@@ -10,6 +10,7 @@ mod steps;
 
 ghost use Rattle.std.specs.Prelude.{◌≤◌, ◌^◌, IfOk, IfSome};
 ghost use Rattle.branch_tree.specs.Loads.{IsLoaded};
+ghost use Rattle.cert_text.specs.Outcomes.{IsWritable};
 ghost use Rattle.bp_search.specs.Ends.{EndsWithin, IsOutcome, last_step};
 
 use crate::steps::take_steps;
@@ -27,12 +28,14 @@ pub const MAX_STEPS: u64 = 1 << 60;
 
 /// Searches for a best point. A step shuts or forks one leaf, and a leaf is taken only while fewer than the given steps
 /// have been taken. The outcome is `Optimal` or `Infeasible` exactly where no leaf is live, the first where a point is
-/// kept, and `Budget` exactly where all steps are taken and a leaf is live. The only error is want of memory.
+/// kept, and `Budget` exactly where all steps are taken and a leaf is live. Each outcome may be written as a certificate. The
+/// only error is want of memory.
 ///
 /// Vanderbeck, Branching in branch-and-price: a generic scheme; Desaulniers, Desrosiers and Solomon, Column generation.
 pub fn search(alloc: Global, b: &Blocked, steps: Option<u64>) -> Result<Outcome, AllocError>
     requires { IfSome steps (λ n. n ≤ 2 ^ 60) }
-    ensures { IfOk result (IsOutcome b.now steps) }
+    ensures ends { IfOk result (IsOutcome b.now steps) }
+    ensures writable { IfOk result (IsWritable b.now) }
 {
     let start = Loaded::fresh(alloc, b)?;
     resume(alloc, b, start, steps)
@@ -48,7 +51,8 @@ pub fn resume(
 ) -> Result<Outcome, AllocError>
     requires loaded { IsLoaded b.now from }
     requires few { IfSome steps (λ n. n ≤ 2 ^ 60) }
-    ensures { IfOk result (EndsWithin b.now (last_step from.grove steps)) }
+    ensures ends { IfOk result (EndsWithin b.now (last_step from.grove steps)) }
+    ensures writable { IfOk result (IsWritable b.now) }
 {
     let Loaded { mut grove, best } = from;
     let mut best = kept_from(best);

@@ -4,6 +4,7 @@
 ghost use Rattle.std.specs.Prelude.{◌≡◌, ◌⊎◌, ◌≤◌, [], ℕ, IfOk, IfErr, IsTrue, None, Some};
 ghost use Rattle.bp_search.specs.Ends.{IsOutcome};
 ghost use Rattle.cert_text.specs.Kept.{certificate_of};
+ghost use Rattle.cert_text.specs.Outcomes.{IsWritable};
 ghost use Rattle.cert_text.specs.Programs.{GoesWith};
 ghost use Rattle.bp_front.specs.Answers.{AnswersBy, IsOnly, CutsOff, HasCauses, PutsReport, IsUnput};
 ghost use Rattle.cmd_solve.specs.Solves.{outcome_certificate};
@@ -66,7 +67,8 @@ fn summary(
     b: &Blocked,
     outcome: &Outcome,
 ) -> Result<Reply, AllocError>
-    requires { IsOutcome b.now (Some 2000) outcome.now }
+    requires ends { IsOutcome b.now (Some 2000) outcome.now }
+    requires writable { IsWritable b.now outcome.now }
     ensures { IfOk result (IsSummary seed size b.now outcome.now) }
 {
     let cert = certificate(alloc, b, outcome)?;
@@ -78,7 +80,8 @@ fn summary(
 
 // The certificate of an outcome, as it is read from its text. The text has no fault, so that only memory can be wanting.
 fn certificate(alloc: Global, b: &Blocked, outcome: &Outcome) -> Result<Cert, AllocError>
-    requires { IsOutcome b.now (Some 2000) outcome.now }
+    requires ends { IsOutcome b.now (Some 2000) outcome.now }
+    requires writable { IsWritable b.now outcome.now }
     ensures same { IfOk result (λ cert. certificate_of cert ≡ outcome_certificate b.now.named.program outcome.now) }
     ensures goes_with { IfOk result (λ cert. GoesWith b.now (certificate_of cert)) }
 {

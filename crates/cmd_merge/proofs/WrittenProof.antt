@@ -20,7 +20,7 @@ use Rattle.cert_text.specs.Written.{cert_of}
 use Rattle.cert_text.specs.Programs.{frame_for}
 use Rattle.bp_report.specs.Report.{merged_report}
 use Rattle.cmd_solve.specs.Solves.{outcome_certificate}
-use Rattle.cmd_solve.proofs.Writable.{outcome_certified}
+use Rattle.cmd_solve.proofs.Outcomes.{outcome_certified}
 use Rattle.cmd_merge.specs.Opens.{IsOpened}
 use Rattle.cmd_merge.specs.Merges.{AnswersBoth, answer_of}
 use Rattle.cmd_merge.specs.declared.written.Merged.{Merged}
@@ -48,7 +48,7 @@ running b g best kept state is = record {
 }
 
 -- it ends within its own steps
-pub own_steps : (t : GrowingTree) → HasStopped (steps (certificate_tree t)) t
+own_steps : (t : GrowingTree) → HasStopped (steps (certificate_tree t)) t
 own_steps t = record { few = omega arith; spent = λ some. refl }
 
 pub few_together : (m n : ℕ) → m < 2 ^ 61 → n < 2 ^ 61 → m + n < 2 ^ 62

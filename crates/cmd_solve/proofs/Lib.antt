@@ -1,4 +1,4 @@
-pub mod Writable
+pub mod Outcomes
 pub mod Told
 pub mod Starting
 pub mod CrewEvents

@@ -1,6 +1,7 @@
 // A search by a crew, where one is ordered.
 ghost use Rattle.std.specs.Prelude.{◌≡◌, ◌≤◌, ◌^◌, IfOk, IfSome, None, Some};
 ghost use Rattle.branch_tree.specs.Loads.{IsLoaded};
+ghost use Rattle.cert_text.specs.Outcomes.{IsWritable};
 ghost use Rattle.bp_search.specs.Below.{steps_in};
 ghost use Rattle.cmd_solve.specs.Starts.{EndsAt, EndsOn};
 ghost use Rattle.cmd_solve.specs.Crews.{ordered_crew, IsSearchOf, events_with};
@@ -56,6 +57,7 @@ pub fn search_from(
     requires some { IfSome crew (λ c. 1 ≤ c.workers) }
     requires alone { IfSome below (λ _. crew ≡ None) }
     ensures ends { IfOk result (λ s. EndsAt b.now from below steps s.outcome s.told) }
+    ensures writable { IfOk result (λ s. IsWritable b.now s.outcome) }
     ensures events { IfOk result (λ s. IsSearchOf b.now from steps crew s.outcome s.events.items) }
 {
     match crew {
@@ -81,7 +83,8 @@ fn search_alone(
 ) -> Result<(Outcome, Option<u64>), AllocError>
     requires loaded { IfSome from (IsLoaded b.now) }
     requires few { IfSome steps (λ n. n ≤ 2 ^ 60) }
-    ensures { IfOk result (λ r. EndsAt b.now from below steps r.0 r.1) }
+    ensures ends { IfOk result (λ r. EndsAt b.now from below steps r.0 r.1) }
+    ensures writable { IfOk result (λ r. IsWritable b.now r.0) }
 {
     match from {
         None => {
@@ -102,7 +105,8 @@ fn search_on(
 ) -> Result<(Outcome, Option<u64>), AllocError>
     requires loaded { IsLoaded b.now from }
     requires few { IfSome steps (λ n. n ≤ 2 ^ 60) }
-    ensures { IfOk result (λ r. EndsOn b.now from.grove.tree below steps r.0 r.1) }
+    ensures ends { IfOk result (λ r. EndsOn b.now from.grove.tree below steps r.0 r.1) }
+    ensures writable { IfOk result (λ r. IsWritable b.now r.0) }
 {
     match below {
         None => {
@@ -141,6 +145,7 @@ fn search_together(
     requires few { IfSome steps (λ n. n ≤ 2 ^ 60) }
     requires some { 1 ≤ crew.workers }
     ensures ends { IfOk result (λ s. EndsAt b.now from None steps s.outcome s.told) }
+    ensures writable { IfOk result (λ s. IsWritable b.now s.outcome) }
     ensures events { IfOk result (λ s. IsSearchOf b.now from steps (Some crew) s.outcome s.events.items) }
 {
     let _ = b.blocks();

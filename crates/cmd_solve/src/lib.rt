@@ -10,6 +10,7 @@ mod start;
 ghost use Rattle.std.specs.Prelude.{[], ◌<◌, ◌≡◌, ◌≢◌, ◌⊎◌, ◌≤◌, ◌^◌, IfOk, IfSome, IsOk, IsTrue, None, Some, IsErrOf, IfErr, ℕ};
 ghost use Rattle.std.specs.Option.{option_map};
 ghost use Rattle.branch_tree.specs.Loads.{IsLoaded};
+ghost use Rattle.cert_text.specs.Outcomes.{IsWritable};
 ghost use Rattle.bp_search.specs.Ends.{EndsWithin};
 ghost use Rattle.bp_shelf.specs.Shelf.{CountsFailed, OthersAsBefore, Writes};
 ghost use Rattle.bp_shelf.specs.declared.shelf.ShelfFault.TheVariants.{Missing, NoMemory};
@@ -192,7 +193,8 @@ fn tell<F: Shelf, O: Sink>(
     told: Option<u64>,
     cert: Option<&str>,
 ) -> Ended
-    requires { (most : ℕ) × EndsWithin b.now most outcome }
+    requires ends { (most : ℕ) × EndsWithin b.now most outcome }
+    requires writable { IsWritable b.now outcome }
     ensures answered { AnswersBy (TellsOf b.now told outcome result.kept) result.status (O.tells out.old) (O.taken out.old) (O.taken out.new) }
     ensures exact { IsOnly (TellsOf b.now told outcome result.kept) result.status }
     ensures saved { IsTrue (F.tells shelf.old) → SavesBlocked b.now (option_map (λ name. name.now) cert.entry) (F.file shelf.new) result.kept }
@@ -254,7 +256,8 @@ fn save<F: Shelf>(
     outcome: &Outcome,
     cert: Option<&str>,
 ) -> Result<(), ShelfFault>
-    requires { (most : ℕ) × EndsWithin b.now most outcome.now }
+    requires ends { (most : ℕ) × EndsWithin b.now most outcome.now }
+    requires writable { IsWritable b.now outcome.now }
     ensures saved { IsTrue (F.tells shelf.old) → IsOk result → IsSaved b.now outcome.now (option_map (λ name. name.now) cert.entry) (F.file shelf.new) }
     ensures files { IsTrue (F.tells shelf.old) → FilesStand (option_map (λ name. name.now) cert.entry) (F.file shelf.old) (F.file shelf.new) }
     ensures untouched { IsTrue (F.tells shelf.old) → IsErrOf result ShelfFault.NoMemory → F.file shelf.new ≡ F.file shelf.old }

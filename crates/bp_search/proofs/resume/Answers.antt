@@ -8,8 +8,8 @@ pub take_steps-requires-clause-running : goal.take_steps-requires-clause-running
 take_steps-requires-clause-running c =
     running_of c.args.b.now c.args.from.grove c.kept_from-best.result c.args.from.best c.requires.loaded c.kept_from-best.ensures
 
-pub returns : goal.returns
-returns c =
+pub returns-clause-ends : goal.returns-clause-ends
+returns-clause-ends c =
     c.conclude.ensures.ends (last_step c.args.from.grove c.args.steps) (record {
       few = omega (arith, c.in_ok-take_steps.ensures.few, c.count.ensures.count, c.unwrap_or.ensures, most_is c.args.steps);
       spent = λ some. omega (arith, c.in_ok-take_steps.ensures.spent some, c.count.ensures.count, c.unwrap_or.ensures, most_is c.args.steps);

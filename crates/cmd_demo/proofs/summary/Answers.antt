@@ -5,4 +5,4 @@ use Rattle.cmd_demo.proofs.summary.Goals as goal
 pub returns : goal.returns
 returns c =
     demos c.args.seed c.args.size c.args.b.now c.args.outcome.now (certificate_of c.in_ok-cert.cert) c.in_ok-judged.judged c.status_of-status.result c.in_ok-report.report.items
-    c.requires c.in_ok-cert.ensures.same c.in_ok-judged.ensures.judged c.status_of-status.ensures c.in_ok-report.ensures
+    c.requires.ends c.in_ok-cert.ensures.same c.in_ok-judged.ensures.judged c.status_of-status.ensures c.in_ok-report.ensures

@@ -7,8 +7,8 @@ use Rattle.cmd_solve.proofs.CrewEvents.{kept_with}
 use Rattle.cmd_solve.proofs.Told.{within_at, answers_at, cut_at, only_at, leaves_at}
 use Rattle.cmd_solve.proofs.answer.Goals as goal
 
-pub tell-status-requires : goal.tell-status-requires
-tell-status-requires g c =
+pub tell-status-requires-clause-ends : goal.tell-status-requires-clause-ends
+tell-status-requires-clause-ends g c =
     within_at c.args.b.now c.args.from c.args.below c.args.steps c.in-Ok.searched.outcome c.in-Ok.searched.told c.in-Ok.ensures.ends
 
 pub returns-clause-answered : goal.returns-clause-answered

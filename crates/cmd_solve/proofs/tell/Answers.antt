@@ -1,5 +1,5 @@
 use Rattle.std.proofs.Common.{sym, Some, append-nil}
-use Rattle.cmd_solve.proofs.Writable.{tells}
+use Rattle.cmd_solve.proofs.Outcomes.{tells}
 use Rattle.cmd_solve.proofs.tell.Goals as goal
 
 pub returns-in-Ok-save-clause-cut_off : goal.returns-in-Ok-save-clause-cut_off

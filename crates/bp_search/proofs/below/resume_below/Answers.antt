@@ -11,8 +11,8 @@ pub take_steps_below-requires-clause-running : goal.take_steps_below-requires-cl
 take_steps_below-requires-clause-running c =
     running_of c.args.b.now c.args.from.grove c.kept_from-best.result c.args.from.best c.requires.loaded c.kept_from-best.ensures
 
-pub returns : goal.returns
-returns c =
+pub returns-clause-ends : goal.returns-clause-ends
+returns-clause-ends c =
     let last : c.count.result + c.unwrap_or.result ≡ steps (certificate_tree c.args.from.grove.tree) + most_steps c.args.steps =
     omega (arith, c.count.ensures.count, c.unwrap_or.ensures, most_is c.args.steps) in
     ends_below c.args.b.now c.args.from.grove.tree c.args.below.now c.args.steps c.take_steps_below.new.grove c.conclude.result c.conclude.ensures.ends

@@ -1,8 +1,5 @@
 use Rattle.std.proofs.Common.{refl}
-use Rattle.cmd_solve.proofs.Writable.{writable}
-use Rattle.bp_theory.specs.Trees.{steps}
-use Rattle.search_laws.specs.Grove.{certificate_tree}
-use Rattle.cmd_merge.proofs.WrittenProof.{running, own_steps, few_together, both_answered}
+use Rattle.cmd_merge.proofs.WrittenProof.{running, few_together, both_answered}
 use Rattle.cmd_merge.proofs.written.written.Goals as goal
 
 pub merge-requires-clause-few : goal.merge-requires-clause-few
@@ -10,11 +7,6 @@ merge-requires-clause-few c = few_together _ _ c.requires.first.few c.requires.s
 
 pub conclude-outcome-requires : goal.conclude-outcome-requires
 conclude-outcome-requires c = running c.args.b.now c.in_ok-from.from.grove c.in_ok-from.from.best c.kept_from.result c.in_ok-from.ensures.loaded c.kept_from.ensures
-
-pub write_cert-requires : goal.write_cert-requires
-write_cert-requires c =
-    writable c.args.b.now c.blocks-2.ensures.formed (steps (certificate_tree c.in_ok-from.from.grove.tree)) c.conclude-outcome.result
-    (c.conclude-outcome.ensures.ends (steps (certificate_tree c.in_ok-from.from.grove.tree)) (own_steps c.in_ok-from.from.grove.tree))
 
 pub returns-clause-merged : goal.returns-clause-merged
 returns-clause-merged c = λ text more one other.

@@ -1,21 +1,19 @@
 -- The outcome of a search may be written as a certificate.
-use Rattle.std.proofs.Common.{◌≡◌, refl, sym, subst, ℕ, List, [], ◌∷◌, ◌++◌, length, Option, Some, None, arith}
+use Rattle.std.proofs.Common.{◌≡◌, refl, sym, subst, ℕ, ◌<◌, List, [], ◌∷◌, ◌++◌, length, Option, Some, None, arith}
 use Rattle.std.proofs.Math.IntN.{ℤ}
 use Rattle.std.specs.Prelude.{IfSome, option_to_list}
 use Rattle.std.specs.List.{AllByRecursion}
 use Rattle.std.proofs.lemmas.Int.{ints}
 use Rattle.std.proofs.lemmas.List.Elements.{recursion_from_All, All-from_recursion, All-contains}
-use Rattle.bp_theory.specs.Program.{Program, IsFeasible, IsInside, IsWithin, cost, in_sense}
-use Rattle.bp_theory.specs.Trees.{low_part, high_part}
-use Rattle.bp_theory.specs.Claims.{IsCertified}
-use Rattle.bp_theory.specs.declared.Claim.TheVariants as claim
+use Rattle.bp_theory.specs.Program.{IsFeasible, IsInside, IsWithin, cost}
+use Rattle.bp_theory.specs.Trees.{steps, low_part, high_part}
 use Rattle.bp_theory.specs.Blocking.{Blocking}
 use Rattle.bp_theory.specs.declared.Span.{Span}
 use Rattle.bp_theory.proofs.ZipLaws.{AllZip-length}
 use Rattle.bp_model.specs.Named.{HasSmallEnds}
 use Rattle.bp_model.proofs.PointLemmas.{cost_small}
 use Rattle.block_form.specs.Blocked.{BlockedProgram, IsFormed}
-use Rattle.search_laws.specs.Grove.{GrowingTree, live, shut, fork, leaves_below, live_bounds}
+use Rattle.search_laws.specs.Grove.{GrowingTree, live, shut, fork, leaves_below, live_count, live_bounds, certificate_tree}
 use Rattle.search_laws.specs.GroveFacts.{IsSearch, IsGrove, IsKept, IsRemainingBound, best_cost}
 use Rattle.search_laws.specs.declared.Side.{Side}
 use Rattle.search_laws.specs.declared.Side.TheVariants.{Low, High}
@@ -23,14 +21,12 @@ use Rattle.search_laws.proofs.Places.{recursion_parts, recursion-append}
 use Rattle.branch_tree.specs.Groves.{GroveState, IsGroveOf}
 use Rattle.branch_tree.specs.declared.outcome.Outcome.{Outcome}
 use Rattle.branch_tree.specs.declared.outcome.Outcome.TheVariants.{Optimal, Infeasible, Budget}
-use Rattle.bp_search.specs.Ends.{EndsWithin}
 use Rattle.cert_text.specs.Programs.{IsSmall, IsSmallPoint}
 use Rattle.cert_text.specs.Outcomes.{IsWritable}
-use Rattle.search_laws.specs.Outcomes.{read_off}
-use Rattle.bp_report.specs.Report.{CanTell}
-use Rattle.bp_front.specs.declared.ending.Reply.{Reply}
-use Rattle.cmd_solve.specs.Solves.{outcome_certificate}
-use Rattle.cmd_solve.specs.Saves.{IsSolved, TellsOf}
+use Rattle.bp_search.specs.declared.kept.Kept.{Kept}
+use Rattle.bp_search.specs.Searches.{IsRunning}
+use Rattle.bp_search.specs.Ends.{EndsWithin, ended, IsStopped}
+use Rattle.bp_search.proofs.Final.{ends, stops}
 
 -- a number of a small span is small
 small_within : (s : Span) (v : ℤ) → HasSmallEnds s → IsWithin s v → IsSmall v
@@ -91,7 +87,7 @@ grove_of_program b g best root search = record {
 }
 
 -- an outcome of a search may be written
-pub writable : (b : BlockedProgram) → IsFormed b → (most : ℕ) (o : Outcome) → EndsWithin b most o → IsWritable b o
+writable : (b : BlockedProgram) → IsFormed b → (most : ℕ) (o : Outcome) → EndsWithin b most o → IsWritable b o
 writable b formed most (Optimal g point value) is = record {
   grove = grove_of_program b g (Some point) is.searched.root is.searched.search;
   numbers = subst IsSmall (sym is.is_cost) (small_cost b point formed is.searched.search.feasible);
@@ -116,27 +112,14 @@ writable b formed most (Budget g (Some kept) bound) is = record {
   point = small_point b kept.0 formed is.kept.0;
 }
 
--- an outcome of a search can be told
-pub tellable : (b : BlockedProgram) (most : ℕ) (o : Outcome) → EndsWithin b most o → CanTell b.named o
-tellable b most (Optimal g point value) is = is.searched.search.feasible.inside
-tellable b most (Infeasible g) is = tt
-tellable b most (Budget g None bound) is = λ x there. absurd (cc)
-tellable b most (Budget g (Some kept) bound) is = λ x there.
-    let same : kept ≡ x = cc in
-    subst (λ (k : List ℤ × ℤ). IsInside b.named.program.spans k.0) same is.kept.0.inside
+-- where no leaf is live
+pub ended_writable : (b : BlockedProgram) (g : GroveState) (best : Option Kept) → IsFormed b → IsRunning b g best → live_count g.tree ≡ 0
+    → IsWritable b (ended g best)
+ended_writable b g best formed run none =
+    writable b formed (steps (certificate_tree g.tree)) (ended g best) (ends b (steps (certificate_tree g.tree)) g best formed run none (omega arith))
 
--- the certificate of an outcome of a search is valid
-pub outcome_certified : (b : BlockedProgram) (most : ℕ) (o : Outcome) → EndsWithin b most o → IsCertified b.named.program b.dec (outcome_certificate b.named.program o)
-outcome_certified b most (Optimal g point value) is =
-    let p : Program = b.named.program in
-    subst (λ (z : ℤ). IsCertified p b.dec (read_off (claim.Optimal (in_sense p.maximises z)) (Some point) [] g.tree)) (sym is.is_cost) is.searched.certified
-outcome_certified b most (Infeasible g) is = is.searched.certified
-outcome_certified b most (Budget g None bound) is = is.searched.certified
-outcome_certified b most (Budget g (Some kept) bound) is =
-    let p : Program = b.named.program in
-    subst (λ (z : ℤ). IsCertified p b.dec (read_off (claim.Bound (in_sense p.maximises bound) (Some (in_sense p.maximises z))) (Some kept.0) [] g.tree)) (sym is.kept.1)
-    is.searched.certified
-
--- the reply to an outcome is what is told of it
-pub tells : (b : BlockedProgram) (told : Option ℕ) (o : Outcome) (reply : Reply) → IsSolved b told o reply → TellsOf b told o (Some o) reply.status reply.report.items
-tells b told o reply solved = record { is_kept = refl; has_status = solved.ended; has_report = solved.told }
+-- where a leaf is live
+pub stopped_writable : (b : BlockedProgram) (g : GroveState) (best : Option Kept) (outcome : Outcome) → IsFormed b → IsRunning b g best
+    → 0 < live_count g.tree → IsStopped g best outcome → IsWritable b outcome
+stopped_writable b g best outcome formed run some stop =
+    writable b formed (steps (certificate_tree g.tree)) outcome (stops b (steps (certificate_tree g.tree)) g best outcome formed run some refl stop)
