@@ -4,9 +4,10 @@ workers whose turns are drawn; both must answer the best value, which is found h
 certificate must be accepted by `check` and by tools/check_certificate.py. It prints a line for each case that is wrong and one with the
 counts, and ends with status 1 where one is wrong.
 
-    bench/crews.py [MODELS]             so many models (1,000 where no number is given)
-    bench/crews.py --lines [MODELS]     the answers of the first models (48) alone, found by going over all points: no program is run
-    BPRICE=program bench/crews.py       another program than ./bprice
+    bench/crews.py [MODELS]              so many models (1,000 where no number is given)
+    bench/crews.py --script [MODELS]     a script for crates/worked with so many of them (48): crates/worked/data/crews.txt
+    bench/crews.py --expected [MODELS]   what this script must answer, found by going over all points: no program is run
+    BPRICE=program bench/crews.py        another program than ./bprice
 """
 import importlib.util
 import itertools
@@ -61,43 +62,94 @@ class Model:
         lines = [self.sense, "obj:" + terms(itertools.chain(*self.costs), flat), "Subject To"]
         lines += [f"{terms(itertools.chain(*coefs), flat)} {mark} {side}" for coefs, mark, side in self.rows]
         lines += [f"b{k}:{terms(coefs, names)} <= {side}" for k, (names, (coefs, side)) in enumerate(zip(self.names, self.capacities))]
-        bounds = [f"{low} <= {name} <= {high}" for name, (low, high) in zip(flat, itertools.chain(*self.spans))]
+        bounds = [" ".join(f"{low} <= {name} <= {high}" for name, (low, high) in zip(names, spans)) for names, spans in zip(self.names, self.spans)]
         dec = [f"NBLOCKS {self.blocks}", *(f"BLOCK {k + 1} b{k}" for k in range(self.blocks))]
-        return "\n".join([*lines, "Bounds", *bounds, "Generals", *flat, "End"]) + "\n", "\n".join(dec) + "\n"
+        return "\n".join([*lines, "Bounds", *bounds, "Generals", " ".join(flat), "End"]) + "\n", "\n".join(dec) + "\n"
 
     def points_of(self, block):
-        """Of each point of a block that its row allows: its part of the value, and of each row over all."""
+        """Of each point of a block that its row allows: its numbers, its part of the value, and of each row over all."""
         coefs, side = self.capacities[block]
         for point in itertools.product(*(range(low, high + 1) for low, high in self.spans[block])):
             def total(numbers, point=point):
                 return sum(number * x for number, x in zip(numbers, point))
             if total(coefs) <= side:
-                yield total(self.costs[block]), tuple(total(row[block]) for row, _, _ in self.rows)
+                yield point, total(self.costs[block]), tuple(total(row[block]) for row, _, _ in self.rows)
 
-    def answer(self):
-        """What `solve` must answer: the best value over all points, block by block by the sums of the rows over all."""
-        better = max if self.sense == "Maximize" else min
-        best = {(0,) * len(self.rows): 0}
+    def best(self):
+        """The best value over all points, how many points have it, and one of them; None where there is no point. It goes over all points
+        of a block, and keeps of those with the same sums in the rows over all what is best so far."""
+        sign = 1 if self.sense == "Maximize" else -1
+        best = {(0,) * len(self.rows): (0, 1, ())}
         for block in range(self.blocks):
             following = {}
-            for (sums, value), (part, added) in itertools.product(best.items(), list(self.points_of(block))):
-                key = tuple(map(sum, zip(sums, added)))
-                following[key] = better(following.get(key, value + part), value + part)
+            for (sums, (value, count, begun)), (point, part, added) in itertools.product(best.items(), list(self.points_of(block))):
+                key, new = tuple(map(sum, zip(sums, added))), value + part
+                known, others, kept = following.get(key, (new, 0, begun + point))
+                if new == known:
+                    following[key] = new, others + count, kept
+                elif sign * new > sign * known:
+                    following[key] = new, count, begun + point
             best = following
-        values = [value for sums, value in best.items()
-                  if all(total >= side and (total == side or mark == ">=") for total, (_, mark, side) in zip(sums, self.rows))]
-        return f"optimal {better(values)}" if values else "infeasible"
+        ends = [found for sums, found in best.items()
+                if all(total >= side and (total == side or mark == ">=") for total, (_, mark, side) in zip(sums, self.rows))]
+        if not ends:
+            return None
+        value = sign * max(sign * value for value, _, _ in ends)
+        return value, sum(count for it, count, _ in ends if it == value), next(point for it, _, point in ends if it == value)
+
+    def answer(self):
+        """The first line that `solve` must print."""
+        best = self.best()
+        return "infeasible" if best is None else f"optimal {best[0]}"
 
 
-def printed(seed):
-    """The answers of a seed's model in a line."""
-    draws = Draws(seed)
-    model = Model(draws)
-    workers, order, answer = 1 + seed % 5, draws.below(1_000_000), model.answer()
-    dec = " --dec m.dec" if seed % 2 else ""
-    told = f"{4 if answer == 'infeasible' else 0} {answer}"
-    return "; ".join([f"model {seed}", f"solve m.lp{dec}: {told}",
-                      f"solve m.lp{dec} --workers {workers} --order {order} --cert m.cert: {told}", f"check m.lp m.cert{dec}: 0 accepted {answer}"])
+class Scene:
+    """A model of a script, with its decomposition or without, and the commands over it. It has one best point alone or no point at all, so
+    that each report is known."""
+
+    def __init__(self, model, best, draws, has_dec, title):
+        self.texts = dict(list(zip(("m.lp", "m.dec"), model.texts()))[:1 + has_dec])
+        dec = " --dec m.dec" if has_dec else ""
+        self.heading = f"# {title}, {'with' if has_dec else 'without'} its blocks: {'no point' if best is None else 'one best point'}"
+        answer = "infeasible" if best is None else f"optimal {best[0]}"
+        point = [] if best is None else [f"{name} {x}" for name, x in zip(itertools.chain(*model.names), best[2])]
+        solved, checked = [answer, *point, f"status {4 if best is None else 0}"], [f"accepted {answer}", "status 0"]
+        self.runs = [(f"solve m.lp{dec}", solved)]
+        for workers in range(1, 6):
+            self.runs.append((f"solve m.lp{dec} --workers {workers} --order {draws.below(2**31)} --cert c", solved))
+            self.runs.append((f"check m.lp c{dec}", checked))
+
+    def script(self):
+        return ["", self.heading, *(f"file {name}\n{text}." for name, text in self.texts.items()), *(f"run {command}" for command, _ in self.runs)]
+
+    def expected(self):
+        return [self.heading, *(line for command, report in self.runs for line in [f"> {command}", *report])]
+
+
+def scenes(many):
+    """So many models, in the order of their seeds: each third one has no point, each second one its decomposition."""
+    seed = 0
+    for number in range(many):
+        while True:
+            draws = Draws(seed)
+            model = Model(draws)
+            best, seed = model.best(), seed + 1
+            if best is None if number % 3 == 2 else best is not None and best[1] == 1:
+                yield Scene(model, best, draws, number % 2 == 1, f"model {seed - 1}")
+                break
+
+
+TITLE = "# small random models, drawn by bench/crews.py --script: each is solved at once, and by crews of one to five workers"
+
+
+def script(many):
+    """A script over so many models."""
+    return "\n".join([TITLE, *(line for scene in scenes(many) for line in scene.script())]) + "\n"
+
+
+def expected(many):
+    """What this script must answer."""
+    return "\n".join([TITLE, *(line for scene in scenes(many) for line in scene.expected())]) + "\n"
 
 
 def checker():
@@ -163,10 +215,11 @@ class Trial:
 
 
 def main():
-    numbers = [int(word) for word in sys.argv[1:] if word != "--lines"]
-    if "--lines" in sys.argv[1:]:
-        print("\n".join(printed(seed) for seed in range(*numbers or [48])))
-        return
+    numbers = [int(word) for word in sys.argv[1:] if not word.startswith("--")]
+    for option, text in (("--script", script), ("--expected", expected)):
+        if option in sys.argv[1:]:
+            sys.stdout.write(text(*numbers or [48]))
+            return
     with tempfile.TemporaryDirectory() as room:
         trial = Trial(room)
         for seed in range(*numbers or [1000]):
