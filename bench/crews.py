@@ -77,18 +77,19 @@ class Model:
 
     def best(self):
         """The best value over all points, how many points have it, and one of them; None where there is no point. It goes over all points
-        of a block, and keeps of those with the same sums in the rows over all what is best so far."""
+        of a block, and keeps of those with the same sums in the two rows over all what is best so far."""
         sign = 1 if self.sense == "Maximize" else -1
-        best = {(0,) * len(self.rows): (0, 1, ())}
+        best = {(0, 0): (0, 1, ())}
         for block in range(self.blocks):
-            following = {}
-            for (sums, (value, count, begun)), (point, part, added) in itertools.product(best.items(), list(self.points_of(block))):
-                key, new = tuple(map(sum, zip(sums, added))), value + part
-                known, others, kept = following.get(key, (new, 0, begun + point))
-                if new == known:
-                    following[key] = new, others + count, kept
-                elif sign * new > sign * known:
-                    following[key] = new, count, begun + point
+            following, points = {}, list(self.points_of(block))
+            for (one, other), (value, count, begun) in best.items():
+                for point, part, (first, second) in points:
+                    key, new = (one + first, other + second), value + part
+                    known, others, kept = following.get(key, (new, 0, begun + point))
+                    if new == known:
+                        following[key] = new, others + count, kept
+                    elif sign * new > sign * known:
+                        following[key] = new, count, begun + point
             best = following
         ends = [found for sums, found in best.items()
                 if all(total >= side and (total == side or mark == ">=") for total, (_, mark, side) in zip(sums, self.rows))]
@@ -142,14 +143,14 @@ def scenes(many):
 TITLE = "# small random models, drawn by bench/crews.py --script: each is solved at once, and by crews of one to five workers"
 
 
-def script(many):
-    """A script over so many models."""
-    return "\n".join([TITLE, *(line for scene in scenes(many) for line in scene.script())]) + "\n"
+def script(drawn):
+    """A script over some models."""
+    return "\n".join([TITLE, *(line for scene in drawn for line in scene.script())]) + "\n"
 
 
-def expected(many):
+def expected(drawn):
     """What this script must answer."""
-    return "\n".join([TITLE, *(line for scene in scenes(many) for line in scene.expected())]) + "\n"
+    return "\n".join([TITLE, *(line for scene in drawn for line in scene.expected())]) + "\n"
 
 
 def checker():
@@ -218,7 +219,7 @@ def main():
     numbers = [int(word) for word in sys.argv[1:] if not word.startswith("--")]
     for option, text in (("--script", script), ("--expected", expected)):
         if option in sys.argv[1:]:
-            sys.stdout.write(text(*numbers or [48]))
+            sys.stdout.write(text(scenes(*numbers or [48])))
             return
     with tempfile.TemporaryDirectory() as room:
         trial = Trial(room)
