@@ -1,13 +1,12 @@
 -- Laws of the coefficients of each variable, and of what variables can add up to.
-use Rattle.std.proofs.Common.{◌≡◌, refl, sym, ap, subst, ◌∙◌, ℕ, zero, suc, ◌+◌, ◌<◌, ◌≤◌, List, [], ◌∷◌, ◌++◌, map, reverse, length, get_or, set, take, drop, arith, inl, inr, drop-cons}
+use Rattle.std.proofs.Common.{◌≡◌, refl, sym, ap, subst, ◌∙◌, ℕ, zero, suc, ◌+◌, ◌<◌, ◌≤◌, List, [], ◌∷◌, ◌++◌, map, length, get_or, set, take, drop, arith, inl, inr, drop-cons}
 use Rattle.std.proofs.Math.IntN.{ℤ, pos, ◌+ℤ◌, ◌*ℤ◌}
-use Rattle.std.specs.Prelude.{◌≤ℤ◌, ◌==◌, if◌then◌else◌, ◌⊎◌, All}
+use Rattle.std.specs.Prelude.{◌≤ℤ◌, ◌==◌, if◌then◌else◌, ◌⊎◌}
 use Rattle.std.specs.List.{range_with_len}
 use Rattle.std.proofs.lemmas.Int.{ints}
 use Rattle.std.proofs.lemmas.Bool.{cases_lt, cases_eq}
 use Rattle.std.proofs.lemmas.List.FromFn.{get_or-map-range_with_len, length-range_with_len}
-use Rattle.std.proofs.lemmas.List.{get_or-set_same, get_or-set_other, get_or_default, ext_get_or, length-map, reverse-append}
-use Rattle.std.proofs.Math.ListN.{drop_of_length-le}
+use Rattle.std.proofs.lemmas.List.{get_or-set_same, get_or-set_other, get_or_default, ext_get_or, length-map}
 use Rattle.std.proofs.lemmas.List.Elements.{recursion_from_All}
 use Rattle.bp_theory.specs.Sums.{dot}
 use Rattle.bp_theory.specs.Program.{span_at, coefficient, activity, value_at, IsWithin}
@@ -19,12 +18,11 @@ use Rattle.bp_theory.specs.declared.Row.{Row}
 use Rattle.bp_theory.specs.declared.Sense.TheVariants.{Le}
 use Rattle.bp_theory.proofs.SumLaws.{sum_of_more, dot-map-map}
 use Rattle.bp_theory.proofs.KeyLaws.{if_same, if_other, sum_of-by_key}
-use Rattle.bp_theory.proofs.ZipLaws.{AllZip-length}
 use Rattle.pricing.specs.Ends.{top_cost}
 use Rattle.pricing.proofs.EndLaws.{end_cost-le, top_cost-ge}
 use Rattle.state_price.specs.Windows.{coef_of}
-use Rattle.state_price.specs.Columns.{AreCoefs, AreDense, IsColumn, AreWidened}
-use Rattle.state_price.specs.Layers.{spans_in, row_sum, AreHulls, AreLayers, AreLayersOf}
+use Rattle.state_price.specs.Columns.{AreCoefs, AreDense, AreWidened}
+use Rattle.state_price.specs.Layers.{row_sum, AreHulls}
 use Rattle.state_price.specs.declared.layers.Layer.{Layer}
 
 -- a loop's step: one term more
@@ -140,66 +138,6 @@ dense_more rows count i dense now coefs terms row there is many more same new ha
         subst (λ (cs : List ℤ). AreCoefs (get_or rows k d).terms count cs) (sym (ap (λ n. get_or (dense ++ (coefs ∷ [])) n []) last ∙ new_at dense coefs []))
         (subst (λ (ts : List Term). AreCoefs ts count coefs)
         (same ∙ ap (λ (r : Row). r.terms) (is ∙ get_or_default rows i row d there ∙ ap (λ n. get_or rows n d) (sym at))) new)
-
--- the layers so far, from the last one to one behind a place
-pub record IsSoFar (rows : ℕ) (spans : List Span) (dense : List (List ℤ)) (v : ℕ) (layers : List Layer) (hulls : List Span) : Type 0 where
-  pub spans_are : spans_in (reverse layers) ≡ drop v spans
-  pub layered : AreLayers rows (reverse layers)
-  pub each : length hulls ≡ rows
-  pub are_hulls : AreHulls (reverse layers) hulls
-  pub sums : (row : ℕ) → row < rows → (ys : List ℤ) → row_sum (reverse layers) row ys ≡ dot (drop v (get_or dense row [])) ys
-
-pub so_far_none : (rows : ℕ) (spans : List Span) (dense : List (List ℤ)) (n : ℕ) (hulls : List Span) → length spans ≤ n
-    → ((row : ℕ) → row < rows → length (get_or dense row []) ≤ n) → length hulls ≡ rows
-    → ((row : ℕ) → row < length hulls → span_at hulls row ≡ record { lo = pos 0; hi = pos 0 }) → IsSoFar rows spans dense n [] hulls
-so_far_none rows spans dense n hulls many wide each zeros = record {
-  spans_are = sym (drop_of_length-le spans many);
-  layered = tt;
-  each = each;
-  are_hulls = hulls_none hulls zeros;
-  sums = λ row l ys. ap (λ (cs : List ℤ). dot cs ys) (sym (drop_of_length-le (get_or dense row []) (wide row l)));
-}
-
-pub so_far_more : (rows : ℕ) (spans : List Span) (dense : List (List ℤ)) (v : ℕ) (layers now : List Layer) (hulls wider : List Span) (column : List ℤ) (s : Span)
-    → v < length spans → length dense ≡ rows → ((row : ℕ) → row < rows → v < length (get_or dense row []))
-    → s ≡ get_or spans v (record { lo = pos 0; hi = pos 0 }) → IsColumn dense v column → AreWidened hulls column s wider
-    → now ≡ layers ++ (record { span = s; column = column; hulls = hulls } ∷ [])
-    → IsSoFar rows spans dense (v + 1) layers hulls → IsSoFar rows spans dense v now wider
-so_far_more rows spans dense v layers now hulls wider column s there many wide is col w pushed h =
-    subst (λ (ls : List Layer). IsSoFar rows spans dense v ls wider) (sym pushed) (record {
-      spans_are = ap (λ (ls : List Layer). spans_in ls) front ∙ spans_front;
-      layered = subst (AreLayers rows) (sym front) (record { column = col.each ∙ many; hulls = h.each }, h.are_hulls, h.layered);
-      each = w.each ∙ h.each;
-      are_hulls = subst (λ (ls : List Layer). AreHulls ls wider) (sym front) (hulls_more (record { span = s; column = column; hulls = hulls }) (reverse layers) hulls wider h.are_hulls w);
-      sums = λ row l ys. ap (λ (ls : List Layer). row_sum ls row ys) front
-          ∙ sums_more (record { span = s; column = column; hulls = hulls }) (reverse layers) row v (get_or dense row []) (wide row l)
-          (col.coefs_are row (omega (arith, l, many))) (h.sums row l) ys;
-    })
-  where
-    front : reverse (layers ++ (record { span = s; column = column; hulls = hulls } ∷ [])) ≡ record { span = s; column = column; hulls = hulls } ∷ reverse layers
-    front = reverse-append layers (record { span = s; column = column; hulls = hulls } ∷ [])
-
-    one : v + 1 ≡ suc v
-    one = omega arith
-
-    spans_front : s ∷ spans_in (reverse layers) ≡ drop v spans
-    spans_front =
-        ap (λ (ss : List Span). s ∷ ss) (h.spans_are ∙ ap (λ n. drop n spans) one)
-        ∙ ap (λ (x : Span). x ∷ drop (suc v) spans) is
-        ∙ sym (drop-cons spans v (record { lo = pos 0; hi = pos 0 }) there)
-
-pub so_far_all : (rows : List Row) (spans : List Span) (dense : List (List ℤ)) (v : ℕ) (layers now : List Layer) (hulls : List Span) → v ≡ 0
-    → now ≡ reverse layers → AreDense rows (length spans) dense → All (λ (row : Row). HasVariablesBelow (length spans) row.terms) rows
-    → IsSoFar (length rows) spans dense v layers hulls → AreLayersOf rows spans now hulls
-so_far_all rows spans dense v layers now hulls start turned d below h =
-    subst (λ (ls : List Layer). AreLayersOf rows spans ls hulls) (sym turned) (record {
-      spans_are = h.spans_are ∙ ap (λ n. drop n spans) start;
-      layered = h.layered;
-      each = h.each;
-      are_hulls = h.are_hulls;
-      sums = λ row e ys l inside. h.sums row l ys ∙ ap (λ n. dot (drop n (get_or dense row [])) ys) start
-          ∙ coefs_activity (get_or rows row e).terms (length spans) (get_or dense row []) ys (d.each row e l) (AllZip-length IsWithin spans ys inside) (below row e l);
-    })
 
 pub longer : {X : Type 0} (xs : List X) (x : X) → length (xs ++ (x ∷ [])) ≡ length xs + 1
 longer [] x = omega arith

@@ -7,10 +7,10 @@ use Rattle.std.proofs.lemmas.Bool.{cases_lt}
 use Rattle.bp_theory.specs.Program.{IsWithin}
 use Rattle.bp_theory.specs.Classes.{width}
 use Rattle.bp_theory.specs.declared.Span.{Span}
-use Rattle.state_price.specs.Windows.{IsMoved, IsLost, IsFound, IsGrown}
+use Rattle.state_price.specs.Windows.{IsFound, IsGrown}
 use Rattle.state_price.specs.Layers.{IsShaped}
 use Rattle.state_price.specs.Graphs.{arc_at, Leads}
-use Rattle.state_price.specs.Expansions.{state_at, HaveRows, IsStateOf, IsSound, IsServed, IsBuilt, IsExpanded}
+use Rattle.state_price.specs.Expansions.{state_at, HaveRows, IsStateOf, IsLeft, IsGone, IsSound, IsServed, IsBuilt, IsExpanded}
 use Rattle.state_price.specs.declared.graph.Arc.{Arc}
 use Rattle.state_price.specs.declared.layers.Layer.{Layer}
 
@@ -46,10 +46,10 @@ served_more layer states arcs arc i y (inr (j, leads)) =
 up_to : (y end : ℤ) → y <ℤ (end +ℤ pos 1) → (y <ℤ end) ⊎ (y ≡ end)
 up_to y end l = by_lt_z y end (λ less. inl less) (λ more. inr (omega (arith, ints)))
 
--- a lost number
-pub built_lost : (layer : Layer) (states : List (List Span)) (from : ℕ) (y : ℤ) (next : List (List Span)) (arcs : List Arc)
-    → IsLost layer.column layer.hulls (state_at states from) y → IsBuilt layer states from y next arcs → IsBuilt layer states from (y +ℤ pos 1) next arcs
-built_lost layer states from y next arcs lost b = record {
+-- a number that leaves nothing
+pub built_gone : (layer : Layer) (states : List (List Span)) (from : ℕ) (y : ℤ) (next : List (List Span)) (arcs : List Arc)
+    → IsGone layer (state_at states from) y → IsBuilt layer states from y next arcs → IsBuilt layer states from (y +ℤ pos 1) next arcs
+built_gone layer states from y next arcs gone b = record {
   sound = b.sound;
   before = b.before;
   rows = b.rows;
@@ -58,7 +58,7 @@ built_lost layer states from y next arcs lost b = record {
   where
     by : (z : ℤ) → IsWithin layer.span z → (z <ℤ y) ⊎ (z ≡ y) → IsServed layer states arcs from z
     by z within (inl less) = b.here z within less
-    by z within (inr same) = inl (subst (IsLost layer.column layer.hulls (state_at states from)) (sym same) lost)
+    by z within (inr same) = inl (subst (IsGone layer (state_at states from)) (sym same) gone)
 
 -- states keep their numbers in a grown list
 kept_at : (before now : List (List Span)) (state : List Span) (k : ℕ) → IsGrown before state now → k < length before → state_at now k ≡ state_at before k
@@ -87,13 +87,13 @@ kept_rows rows before now state (inr more) each have = subst (HaveRows rows) (sy
 -- a number that leads to a state
 pub built_moved : (layer : Layer) (states : List (List Span)) (from : ℕ) (y : ℤ) (next now : List (List Span)) (arcs : List Arc) (moved : List Span) (to : ℕ) (arc : Arc)
     → from < length states → IsWithin layer.span y → length layer.column ≡ length (state_at states from)
-    → IsMoved layer.column layer.hulls (state_at states from) y moved → IsFound now moved to → IsGrown next moved now
+    → IsLeft layer (state_at states from) y moved → IsFound now moved to → IsGrown next moved now
     → arc ≡ record { from = from; to = to; label = record { lo = y; hi = y } }
     → IsBuilt layer states from y next arcs → IsBuilt layer states from (y +ℤ pos 1) now (arcs ++ (arc ∷ []))
 built_moved layer states from y next now arcs moved to arc there within shaped m found grown is b = record {
   sound = sound;
   before = λ i z less inside. served_more layer states arcs arc i z (b.before i z less inside);
-  rows = kept_rows (length layer.column) next now moved grown (m.each ∙ sym shaped) b.rows;
+  rows = kept_rows (length layer.column) next now moved grown ((m.joins.each ∙ m.moves.each) ∙ sym shaped) b.rows;
   here = λ z inside less. by z inside (up_to z y less);
 }
   where
@@ -111,8 +111,8 @@ built_moved layer states from y next now arcs moved to arc there within shaped m
       from = there;
       to = found.there;
       within = λ z h. subst (IsWithin layer.span) (sym (one y z h.above h.below)) within;
-      moves = λ z h. subst (λ v. IsMoved layer.column layer.hulls (state_at states from) v (state_at now to)) (sym (one y z h.above h.below))
-          (subst (IsMoved layer.column layer.hulls (state_at states from) y) (sym found.same) m);
+      moves = λ z h. subst (λ v. IsLeft layer (state_at states from) v (state_at now to)) (sym (one y z h.above h.below))
+          (subst (IsLeft layer (state_at states from) y) (sym found.same) m);
     }
 
     sound : (j : ℕ) → j < length (arcs ++ (arc ∷ [])) → IsSound layer states now (arc_at (arcs ++ (arc ∷ [])) j)
@@ -122,7 +122,7 @@ built_moved layer states from y next now arcs moved to arc there within shaped m
           from = s.from;
           to = omega (arith, s.to, kept_many next now moved grown);
           within = s.within;
-          moves = λ z h. subst (IsMoved layer.column layer.hulls (state_at states (arc_at arcs j).from) z) (sym (kept_at next now moved (arc_at arcs j).to grown s.to)) (s.moves z h);
+          moves = λ z h. subst (IsLeft layer (state_at states (arc_at arcs j).from) z) (sym (kept_at next now moved (arc_at arcs j).to grown s.to)) (s.moves z h);
         }))
         (λ above. let at : j ≡ length arcs = omega (arith, l, above, longer arcs arc) in
         subst (λ n. IsSound layer states now (arc_at (arcs ++ (arc ∷ [])) n)) (sym at) (subst (IsSound layer states now) (sym last) last_sound))
@@ -183,24 +183,18 @@ built_all layer states next arcs from all b = record {
   served = λ i y l within. b.before i y (omega (arith, l, all)) within;
 }
 
--- the same of a column, hulls and a state that were read
-pub read_lost : (layer : Layer) (states : List (List Span)) (from : ℕ) (y : ℤ) (next : List (List Span)) (arcs : List Arc) (column : List ℤ) (hulls state : List Span)
-    → column ≡ layer.column → hulls ≡ layer.hulls → IsStateOf states from state
-    → IsLost column hulls state y → IsBuilt layer states from y next arcs → IsBuilt layer states from (y +ℤ pos 1) next arcs
-read_lost layer states from y next arcs column hulls state a b at lost built =
-    built_lost layer states from y next arcs
-    (subst (λ (s : List Span). IsLost layer.column layer.hulls s y) (sym at.same)
-    (subst (λ (h : List Span). IsLost layer.column h state y) b
-    (subst (λ (k : List ℤ). IsLost k hulls state y) a lost))) built
+-- the same of a state that was read
+pub read_gone : (layer : Layer) (states : List (List Span)) (from : ℕ) (y : ℤ) (next : List (List Span)) (arcs : List Arc) (state : List Span)
+    → IsStateOf states from state → IsGone layer state y → IsBuilt layer states from y next arcs → IsBuilt layer states from (y +ℤ pos 1) next arcs
+read_gone layer states from y next arcs state at gone built =
+    built_gone layer states from y next arcs (subst (λ (s : List Span). IsGone layer s y) (sym at.same) gone) built
 
-pub read_moved : (layer : Layer) (states : List (List Span)) (from : ℕ) (y : ℤ) (next now : List (List Span)) (arcs : List Arc) (column : List ℤ) (hulls state moved : List Span) (to : ℕ) (arc : Arc)
-    → column ≡ layer.column → hulls ≡ layer.hulls → IsStateOf states from state → IsWithin layer.span y → IsShaped (length state) layer
-    → IsMoved column hulls state y moved → IsFound now moved to → IsGrown next moved now
+pub read_left : (layer : Layer) (states : List (List Span)) (from : ℕ) (y : ℤ) (next now : List (List Span)) (arcs : List Arc) (state left : List Span) (to : ℕ) (arc : Arc)
+    → IsStateOf states from state → IsWithin layer.span y → IsShaped (length state) layer
+    → IsLeft layer state y left → IsFound now left to → IsGrown next left now
     → arc ≡ record { from = from; to = to; label = record { lo = y; hi = y } }
     → IsBuilt layer states from y next arcs → IsBuilt layer states from (y +ℤ pos 1) now (arcs ++ (arc ∷ []))
-read_moved layer states from y next now arcs column hulls state moved to arc a b at within shaped m found grown is built =
-    built_moved layer states from y next now arcs moved to arc at.there within (shaped.column ∙ ap (λ (s : List Span). length s) (sym at.same))
-    (subst (λ (s : List Span). IsMoved layer.column layer.hulls s y moved) (sym at.same)
-    (subst (λ (h : List Span). IsMoved layer.column h state y moved) b
-    (subst (λ (k : List ℤ). IsMoved k hulls state y moved) a m)))
+read_left layer states from y next now arcs state left to arc at within shaped m found grown is built =
+    built_moved layer states from y next now arcs left to arc at.there within (shaped.column ∙ ap (λ (s : List Span). length s) (sym at.same))
+    (subst (λ (s : List Span). IsLeft layer s y left) (sym at.same) m)
     found grown is built

@@ -6,37 +6,46 @@ use Rattle.std.specs.List.{AllByRecursion}
 use Rattle.std.proofs.lemmas.List.{get_or_default}
 use Rattle.std.proofs.lemmas.List.Elements.{recursion_from_All, All-from_recursion}
 use Rattle.bp_theory.specs.declared.Span.{Span}
-use Rattle.state_price.specs.Windows.{IsMoved}
-use Rattle.state_price.specs.Layers.{IsCompletion, AreHulls, IsShaped, AreLayers}
+use Rattle.state_price.specs.Windows.{AreAlike}
+use Rattle.state_price.specs.Layers.{row_sum, IsCompletion, AreHulls, AreTwins, IsShaped, AreLayers}
 use Rattle.state_price.specs.Graphs.{arc_at, IsWay, IsArcSafe, IsStepSafe, IsSafe}
-use Rattle.state_price.specs.Expansions.{state_at, HaveRows, IsServed, IsExpanded, IsRight, AreRight, IsEndState}
+use Rattle.state_price.specs.Expansions.{state_at, HaveRows, IsLeft, IsServed, IsExpanded, IsRight, AreRight, IsEndState}
 use Rattle.state_price.specs.declared.graph.Arc.{Arc}
 use Rattle.state_price.specs.declared.layers.Layer.{Layer}
 use Rattle.state_price.proofs.WindowLaws.{completes_moved, moved_completes, lost_completes_nothing}
 
 -- a layer in front of a graph that is right for the states behind it
 pub expanded_right : (l : Layer) (ls : List Layer) (states next : List (List Span)) (arcs : List Arc) (steps : List (List Arc))
-    → ((i : ℕ) → i < length states → length l.hulls ≡ length (state_at states i)) → AreHulls ls l.hulls
+    → ((i : ℕ) → i < length states → length l.hulls ≡ length (state_at states i)) → AreHulls ls l.hulls → AreTwins ls l.twins
     → IsExpanded l states next arcs → AreRight ls next steps → AreRight (l ∷ ls) states (arcs ∷ steps)
-expanded_right l ls states next arcs steps each hulls x right i there = record { sound = sound; complete = complete }
+expanded_right l ls states next arcs steps each hulls twins x right i there = record { sound = sound; complete = complete }
   where
+    alike : (ys : List ℤ) → AreAlike l.twins (λ row. row_sum ls row ys)
+    alike ys row lt = twins.same row ys lt
+
     sound : (ys : List ℤ) → IsWay (arcs ∷ steps) i ys → IsCompletion (l ∷ ls) (state_at states i) ys
     sound [] way = absurd way
     sound (y ∷ ys) (j, leads, way) =
+        let left : IsLeft l (state_at states (arc_at arcs j).from) y (state_at next (arc_at arcs j).to) = (x.sound j leads.there).moves y leads.within in
+        let rest : IsCompletion ls (state_at next (arc_at arcs j).to) ys = (right (arc_at arcs j).to (x.sound j leads.there).to).sound ys way in
         subst (λ k. IsCompletion (l ∷ ls) (state_at states k) (y ∷ ys)) leads.from
-        (moved_completes l ls (state_at states (arc_at arcs j).from) (state_at next (arc_at arcs j).to) y ys
-        ((x.sound j leads.there).within y leads.within) ((x.sound j leads.there).moves y leads.within)
-        ((right (arc_at arcs j).to (x.sound j leads.there).to).sound ys way))
+        (moved_completes l ls (state_at states (arc_at arcs j).from) left.moved y ys
+        ((x.sound j leads.there).within y leads.within) left.moves
+        (record { inside = rest.inside; meets = left.joins.back (λ row. row_sum ls row ys) (alike ys) rest.meets }))
 
     by : (y : ℤ) (ys : List ℤ) → IsCompletion (l ∷ ls) (state_at states i) (y ∷ ys) → IsServed l states arcs i y → IsWay (arcs ∷ steps) i (y ∷ ys)
-    by y ys h (inl lost) = absurd (lost_completes_nothing l ls (state_at states i) y ys (each i there) hulls lost h)
-    by y ys h (inr (j, leads)) = (
-      j,
-      leads,
-      (right (arc_at arcs j).to (x.sound j leads.there).to).complete ys
-          (completes_moved l ls (state_at states i) (state_at next (arc_at arcs j).to) y ys (each i there) hulls
-          (subst (λ k. IsMoved l.column l.hulls (state_at states k) y (state_at next (arc_at arcs j).to)) leads.from ((x.sound j leads.there).moves y leads.within)) h),
-    )
+    by y ys h (inl (inl lost)) = absurd (lost_completes_nothing l ls (state_at states i) y ys (each i there) hulls lost h)
+    by y ys h (inl (inr (moved, moves, void))) =
+        absurd (void (λ row. row_sum ls row ys) (alike ys) (completes_moved l ls (state_at states i) moved y ys (each i there) hulls moves h).meets)
+    by y ys h (inr (j, leads)) =
+        let left : IsLeft l (state_at states i) y (state_at next (arc_at arcs j).to) =
+        subst (λ k. IsLeft l (state_at states k) y (state_at next (arc_at arcs j).to)) leads.from ((x.sound j leads.there).moves y leads.within) in
+        let moved : IsCompletion ls left.moved ys = completes_moved l ls (state_at states i) left.moved y ys (each i there) hulls left.moves h in (
+          j,
+          leads,
+          (right (arc_at arcs j).to (x.sound j leads.there).to).complete ys
+              (record { inside = moved.inside; meets = left.joins.onto (λ row. row_sum ls row ys) (alike ys) moved.meets }),
+        )
 
     complete : (ys : List ℤ) → IsCompletion (l ∷ ls) (state_at states i) ys → IsWay (arcs ∷ steps) i ys
     complete [] h = absurd h.inside
@@ -57,12 +66,12 @@ end_right states ends i there = record {
     complete [] h = tt
     complete (y ∷ ys) h = absurd h.inside
 
--- a layer is shaped and has the hulls of those behind it
+-- a layer is shaped and has the hulls and twins of those behind it
 pub layer_at : (rows : ℕ) (layers : List Layer) (k : ℕ) (d : Layer) → AreLayers rows layers → k < length layers
-    → IsShaped rows (get_or layers k d) × AreHulls (drop (suc k) layers) (get_or layers k d).hulls
+    → IsShaped rows (get_or layers k d) × AreHulls (drop (suc k) layers) (get_or layers k d).hulls × AreTwins (drop (suc k) layers) (get_or layers k d).twins
 layer_at rows [] k d h l = absurd (omega arith)
-layer_at rows (x ∷ xs) zero d h l = (h.0, h.1)
-layer_at rows (x ∷ xs) (suc k) d h l = layer_at rows xs k d h.2 (omega arith)
+layer_at rows (x ∷ xs) zero d h l = (h.0, h.1, h.2)
+layer_at rows (x ∷ xs) (suc k) d h l = layer_at rows xs k d h.3 (omega arith)
 
 -- a loop's step: one layer more
 pub graph_more : (rows : ℕ) (layers : List Layer) (k : ℕ) (d : Layer) (l : Layer) (root : List Span) (states next : List (List Span)) (arcs : List Arc) (steps : List (List Arc))
@@ -73,7 +82,7 @@ graph_more rows layers k d l root states next arcs steps there is shaped have x 
     subst (λ (ss : List (List Arc)). IsRight layers root ss 0) (sym (append_assoc steps (arcs ∷ []) rest))
     (so_far (arcs ∷ rest) (subst (λ (ls : List Layer). AreRight ls states (arcs ∷ rest)) (sym front) now))
   where
-    at : IsShaped rows (get_or layers k d) × AreHulls (drop (suc k) layers) (get_or layers k d).hulls
+    at : IsShaped rows (get_or layers k d) × AreHulls (drop (suc k) layers) (get_or layers k d).hulls × AreTwins (drop (suc k) layers) (get_or layers k d).twins
     at = layer_at rows layers k d shaped there
 
     front : drop k layers ≡ l ∷ drop (suc k) layers
@@ -88,11 +97,14 @@ graph_more rows layers k d l root states next arcs steps there is shaped have x 
     hulls : AreHulls (drop (suc k) layers) l.hulls
     hulls = subst (λ (x : Layer). AreHulls (drop (suc k) layers) x.hulls) (sym is) at.1
 
+    twins : AreTwins (drop (suc k) layers) l.twins
+    twins = subst (λ (x : Layer). AreTwins (drop (suc k) layers) x.twins) (sym is) at.2
+
     each : (i : ℕ) → i < length states → length l.hulls ≡ length (state_at states i)
     each i lt = shape.hulls ∙ sym (have i [] lt)
 
     now : AreRight (l ∷ drop (suc k) layers) states (arcs ∷ rest)
-    now = expanded_right l (drop (suc k) layers) states next arcs rest each hulls x (subst (λ n. AreRight (drop n layers) next rest) one right)
+    now = expanded_right l (drop (suc k) layers) states next arcs rest each hulls twins x (subst (λ n. AreRight (drop n layers) next rest) one right)
 
 -- arcs stay safe
 pub graph_safe : (l : Layer) (states next : List (List Span)) (arcs : List Arc) (steps : List (List Arc)) (wide wider : ℕ)

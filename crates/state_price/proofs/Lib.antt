@@ -7,3 +7,5 @@ pub mod WalkLaws
 pub mod PriceLaws
 pub mod ColumnLaws
 pub mod BlockLaws
+pub mod TwinLaws
+pub mod LayerLaws

@@ -6,7 +6,7 @@ use Rattle.bp_theory.specs.declared.Span.{Span}
 use Rattle.bp_theory.specs.declared.Term.{Term}
 use Rattle.bp_theory.specs.declared.Row.{Row}
 use Rattle.pricing.specs.Ends.{top_cost}
-use Rattle.state_price.specs.Windows.{coef_of}
+use Rattle.state_price.specs.Windows.{coef_of, twin_at}
 
 -- the coefficient of each variable in a row's terms
 pub record AreCoefs (terms : List Term) (count : ℕ) (coefs : List ℤ) : Type 0 where
@@ -36,3 +36,19 @@ pub record AreWidened (hulls : List Span) (column : List ℤ) (span : Span) (wid
 pub record AreZeros (count : ℕ) (hulls : List Span) : Type 0 where
   pub each : length hulls ≡ count
   pub zeros : (row : ℕ) → row < count → span_at hulls row ≡ record { lo = pos 0; hi = pos 0 }
+
+-- a row has the coefficient of another, and the same twin
+pub record IsTwin (twins : List ℕ) (column : List ℤ) (row twin : ℕ) : Type 0 where
+  pub there : twin < length twins
+  pub coef : coef_of column twin ≡ coef_of column row
+  pub same : twin_at twins twin ≡ twin_at twins row
+
+-- the twins of all rows with one variable more
+pub record AreRefined (twins : List ℕ) (column : List ℤ) (finer : List ℕ) : Type 0 where
+  pub each : length finer ≡ length twins
+  pub twins_are : (row : ℕ) → row < length twins → IsTwin twins column row (twin_at finer row)
+
+-- the first row is the twin of each
+pub record AreFirst (count : ℕ) (twins : List ℕ) : Type 0 where
+  pub each : length twins ≡ count
+  pub firsts : (row : ℕ) → row < count → twin_at twins row ≡ 0

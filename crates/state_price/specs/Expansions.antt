@@ -2,7 +2,7 @@
 use Rattle.std.specs.Prelude.{◌≡◌, ℕ, ◌<◌, ◌⊎◌, List, [], length, slice_index_or, ℤ, pos, ◌<ℤ◌, All}
 use Rattle.bp_theory.specs.Program.{IsWithin}
 use Rattle.bp_theory.specs.declared.Span.{Span}
-use Rattle.state_price.specs.Windows.{IsMoved, IsLost}
+use Rattle.state_price.specs.Windows.{IsMoved, IsLost, IsJoined, IsVoid}
 use Rattle.state_price.specs.Graphs.{arc_at, Leads, IsWay}
 use Rattle.state_price.specs.Layers.{IsCompletion}
 use Rattle.state_price.specs.declared.graph.Arc.{Arc}
@@ -21,16 +21,27 @@ pub record IsStateOf (states : List (List Span)) (from : ℕ) (state : List Span
   pub there : from < length states
   pub same : state_at states from ≡ state
 
+-- what a number of a layer's variable leaves of a state: its windows are moved, and those of twins joined
+pub record IsLeft (layer : Layer) (state : List Span) (y : ℤ) (left : List Span) : Type 0 where
+  pub moved : List Span
+  pub moves : IsMoved layer.column layer.hulls state y moved
+  pub joins : IsJoined layer.twins moved left
+
+-- it leaves nothing of it: a row has nothing left, or no sums lie in the windows as they are moved
+abbrev pub IsGone : (layer : Layer) (state : List Span) (y : ℤ) → Type 0
+IsGone layer state y =
+    IsLost layer.column layer.hulls state y ⊎ ((moved : List Span) × IsMoved layer.column layer.hulls state y moved × IsVoid layer.twins moved)
+
 -- an arc leads from a state, by each number of its label, to the state that this number leaves
 pub record IsSound (layer : Layer) (states next : List (List Span)) (arc : Arc) : Type 0 where
   pub from : arc.from < length states
   pub to : arc.to < length next
   pub within : (y : ℤ) → IsWithin arc.label y → IsWithin layer.span y
-  pub moves : (y : ℤ) → IsWithin arc.label y → IsMoved layer.column layer.hulls (state_at states arc.from) y (state_at next arc.to)
+  pub moves : (y : ℤ) → IsWithin arc.label y → IsLeft layer (state_at states arc.from) y (state_at next arc.to)
 
--- a number of a state is lost, or an arc has it
+-- a number leaves nothing of a state, or an arc has it
 abbrev pub IsServed : (layer : Layer) (states : List (List Span)) (arcs : List Arc) (from : ℕ) (y : ℤ) → Type 0
-IsServed layer states arcs from y = IsLost layer.column layer.hulls (state_at states from) y ⊎ ((j : ℕ) × Leads arcs from y j)
+IsServed layer states arcs from y = IsGone layer (state_at states from) y ⊎ ((j : ℕ) × Leads arcs from y j)
 
 -- each arc is sound; the numbers of the states below one, and of that one the numbers below an end, are served
 pub record IsBuilt (layer : Layer) (states : List (List Span)) (from : ℕ) (end : ℤ) (next : List (List Span)) (arcs : List Arc) : Type 0 where

@@ -1,12 +1,12 @@
 -- The layers of a block, and which numbers complete a state.
-use Rattle.std.specs.Prelude.{◌≡◌, ℕ, ◌<◌, List, [], ◌∷◌, map, length, slice_index_or, ℤ, pos, ◌+ℤ◌, ◌*ℤ◌}
+use Rattle.std.specs.Prelude.{◌≡◌, ℕ, ◌<◌, List, [], ◌∷◌, map, length, slice_index_or, ℤ, pos, ◌+ℤ◌, ◌*ℤ◌, All}
 use Rattle.std.specs.Int.{int_min, int_max}
 use Rattle.bp_theory.specs.Program.{span_at, activity, IsWithin, IsInside}
 use Rattle.bp_theory.specs.declared.Sense.{Sense}
 use Rattle.bp_theory.specs.declared.Sense.TheVariants.{Le, Ge, Eq, In}
 use Rattle.bp_theory.specs.declared.Row.{Row}
 use Rattle.bp_theory.specs.declared.Span.{Span}
-use Rattle.state_price.specs.Windows.{coef_of}
+use Rattle.state_price.specs.Windows.{coef_of, twin_at}
 use Rattle.state_price.specs.declared.layers.Layer.{Layer}
 
 -- the root spans of layers
@@ -28,15 +28,22 @@ pub record IsCompletion (layers : List Layer) (state : List Span) (ys : List ℤ
 abbrev pub AreHulls : List Layer → List Span → Type 0
 AreHulls layers hulls = (row : ℕ) (ys : List ℤ) → row < length hulls → IsInside (spans_in layers) ys → IsWithin (span_at hulls row) (row_sum layers row ys)
 
--- a layer has a coefficient and a hull for each row
+-- rows whose sums over the layers' variables are those of other rows
+pub record AreTwins (layers : List Layer) (twins : List ℕ) : Type 0 where
+  pub below : (row : ℕ) → row < length twins → twin_at twins row < length twins
+  pub same : (row : ℕ) (ys : List ℤ) → row < length twins → row_sum layers (twin_at twins row) ys ≡ row_sum layers row ys
+
+-- a layer has a coefficient, a hull and a twin for each row
 pub record IsShaped (rows : ℕ) (l : Layer) : Type 0 where
   pub column : length l.column ≡ rows
   pub hulls : length l.hulls ≡ rows
+  pub twins : length l.twins ≡ rows
+  pub below : All (λ twin. twin < rows) l.twins
 
--- each layer is shaped, and has the hulls of those behind it
+-- each layer is shaped, and has the hulls and twins of those behind it
 abbrev pub AreLayers : (rows : ℕ) → List Layer → Type 0
 AreLayers rows [] = Unit {0}
-AreLayers rows (l ∷ ls) = IsShaped rows l × AreHulls ls l.hulls × AreLayers rows ls
+AreLayers rows (l ∷ ls) = IsShaped rows l × AreHulls ls l.hulls × AreTwins ls l.twins × AreLayers rows ls
 
 -- the lower side of a row where it has one, within a hull
 abbrev pub lower_side : Sense → (low least : ℤ) → ℤ

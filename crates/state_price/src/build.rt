@@ -1,5 +1,5 @@
 // The graph of a block.
-ghost use Rattle.std.specs.Prelude.{◌≡◌, ◌≤◌, ◌↔◌, pos, All, IfOk, IfSome, IsTrue, length, vec_len};
+ghost use Rattle.std.specs.Prelude.{◌≡◌, ◌≤◌, ◌^◌, ◌↔◌, pos, All, IfOk, IfSome, IsTrue, length, vec_len};
 ghost use Rattle.bp_theory.specs.Program.{IsWithin};
 ghost use Rattle.pricing.specs.Form.{IsForm, HasShortEnds};
 ghost use Rattle.state_price.specs.Graphs.{IsGraphOf};
@@ -16,6 +16,9 @@ use std::alloc::{AllocError, Global};
 
 /// The most arcs of a graph.
 const MOST_ARCS: usize = 1 << 18;
+
+/// The most windows that the arcs of a graph lead to: for each arc one of each row.
+const MOST_WINDOWS: usize = 1 << 22;
 
 /// The most nodes of a graph, as if each layer had as many as the widest: a pass clears a cell for each and keeps a pick.
 const MOST_CELLS: usize = 1 << 21;
@@ -49,6 +52,13 @@ fn larger(a: usize, b: usize) -> usize
     if a < b { b } else { a }
 }
 
+/// How many arcs a graph of so many rows may have.
+fn room_for(rows: usize) -> usize
+    ensures { result ≤ 2 ^ 18 }
+{
+    MOST_ARCS.min(MOST_WINDOWS / rows.max(1))
+}
+
 /// The graph of layers from a first state on; none where it has too many arcs or states.
 fn graph_of(alloc: Global, layers: &[Layer], root: Items<Span>) -> Result<Option<Graph>, AllocError>
     requires layers { AreLayers (length root) layers.now }
@@ -56,11 +66,11 @@ fn graph_of(alloc: Global, layers: &[Layer], root: Items<Span>) -> Result<Option
     ensures many { IfOk result (λ made. IfSome made (λ g. vec_len g.steps ≡ length layers.now)) }
     ensures right { IfOk result (λ made. IfSome made (λ g. IsRight layers.now root g.steps.items 0)) }
 {
+    let mut room = room_for(root.len());
     let mut states = Vec::new(alloc);
     states.push(root)?;
     let mut steps = Vec::new(alloc);
     let mut wide = 1;
-    let mut room = MOST_ARCS;
     for layer in layers {
         match expand(alloc, layer, &states, room)? {
             Some(Frontier { arcs, states: next }) => {

@@ -12,6 +12,7 @@ ghost use Rattle.state_price.specs.Columns.{AreCoefs, AreDense, IsColumn, hull_w
 use crate::clip::product;
 use crate::expand::count_of;
 use crate::layers::Layer;
+use crate::twins::{first_twins, refined};
 use bp_theory::{Items, Row, Span, Term};
 use std::alloc::{AllocError, Global};
 
@@ -200,6 +201,7 @@ fn layers_from(
 {
     let mut layers = Vec::new(alloc);
     let mut hulls = zero_hulls(alloc, rows.len())?;
+    let mut twins = first_twins(alloc, rows.len())?;
     for var in (0..spans.len()).rev() {
         let span = spans[var];
         if count_of(&span) > MOST_NUMBERS {
@@ -210,12 +212,15 @@ fn layers_from(
             Some(wider) => wider,
             None => return Ok(None),
         };
+        let finer = refined(alloc, twins.as_slice(), column.as_slice())?;
         layers.push(Layer {
             span,
             column,
             hulls,
+            twins,
         })?;
         hulls = wider;
+        twins = finer;
     }
     layers.reverse();
     Ok(Some(Layers { layers, hulls }))

@@ -6,12 +6,13 @@ ghost use Rattle.bp_theory.specs.declared.Span.{Span};
 ghost use Rattle.bp_theory.specs.Classes.{width};
 ghost use Rattle.pricing.specs.Form.{HasShortEnds};
 ghost use Rattle.state_price.specs.Layers.{IsShaped};
-ghost use Rattle.state_price.specs.Expansions.{IsStateOf, IsBuilt, IsExpanded, HaveRows};
+ghost use Rattle.state_price.specs.Expansions.{IsStateOf, IsBuilt, IsExpanded, IsLeft, IsGone, HaveRows};
 
 use crate::clip::move_state;
 use crate::graph::Arc;
 use crate::layers::Layer;
 use crate::states::States;
+use crate::twins::join;
 use bp_theory::{Items, Span};
 use std::alloc::{AllocError, Global};
 
@@ -67,6 +68,26 @@ fn arc_of(from: u32, to: usize, number: &i64) -> Arc
     }
 }
 
+/// What a number leaves of a state: its windows are moved, and those of twins joined. Tells whether each row has a window left.
+fn leave(moved: &mut Vec<Span>, layer: &Layer, state: &[Span], number: &i64) -> bool
+    requires room { vec_len moved.old ≡ length state.now }
+    requires shaped { IsShaped (length state.now) layer.now }
+    ensures room { vec_len moved.new ≡ vec_len moved.old }
+    ensures left { OnTrue result (IsLeft layer.now state.now number.now moved.new.items) }
+    ensures gone { OnFalse result (IsGone layer.now state.now number.now) }
+{
+    if !move_state(
+        moved,
+        state,
+        layer.column.as_slice(),
+        layer.hulls.as_slice(),
+        number,
+    ) {
+        return false;
+    }
+    join(moved, layer.twins.as_slice())
+}
+
 /// Tries a number of a state: where each row has a window left, an arc leads to the state with these.
 fn place(
     frontier: &mut Frontier,
@@ -87,13 +108,7 @@ fn place(
         → IsBuilt layer.now states from number.now frontier.old.states.list.items frontier.old.arcs
         → IsBuilt layer.now states from (number.now +ℤ pos 1) frontier.new.states.list.items frontier.new.arcs) }
 {
-    if !move_state(
-        moved,
-        state,
-        layer.column.as_slice(),
-        layer.hulls.as_slice(),
-        number,
-    ) {
+    if !leave(moved, layer, state, number) {
         return Ok(());
     }
     let to = frontier.states.find_or_add(alloc, moved.as_slice())?;

@@ -13,6 +13,7 @@ mod picks;
 mod pricer;
 mod root;
 mod states;
+mod twins;
 mod walk;
 
 pub use pricer::StatePricer;

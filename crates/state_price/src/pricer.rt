@@ -34,9 +34,10 @@ impl StatePricer {
     ghost use Rattle.pricing.specs.Form.{IsForm, AreOf};
     ghost use Rattle.state_price.specs.Kept.{rows_of, spans_of};
 
-    /// The pricer of a block, if its graph keeps the limits: at most 2^18 arcs, at most 2^22 windows in the states of a
-    /// layer, at most 2^21 nodes if each layer had as many as the widest, at most 2^20 coefficients with zeros counted, and
-    /// at most 4,096 numbers of a variable. So it holds at most 32 MiB, and while it is made at most 200 MiB.
+    /// The pricer of a block, if its graph keeps the limits: at most 2^18 arcs and 2^22 windows that they lead to
+    /// (arcs times rows), at most 2^22 windows in the states of a layer, at most 2^21 nodes if each layer had as many as the
+    /// widest, at most 2^20 coefficients with zeros counted, and at most 4,096 numbers of a variable. So it holds at most
+    /// 32 MiB, and while it is made at most 200 MiB.
     pub fn make(alloc: Global, block: &Block) -> Result<Option<StatePricer>, AllocError>
         requires { IsForm block.now.block.rows block.now.spans }
         ensures { IfOk result (λ made. IfSome made (λ pricer. AreOf block.now (rows_of pricer) (spans_of pricer))) }

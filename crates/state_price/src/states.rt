@@ -21,7 +21,7 @@ pub struct States {
 }
 
 /// A hash with one number more.
-fn mixed(hash: u64, number: u64) -> u64 {
+pub fn mixed(hash: u64, number: u64) -> u64 {
     (hash.rotate_left(23) ^ number).wrapping_mul(0x9e37_79b9_7f4a_7c15)
 }
 
@@ -66,7 +66,7 @@ fn copied_state(alloc: Global, state: &[Span]) -> Result<Items<Span>, AllocError
 }
 
 /// The place of a table at a step from a hash.
-fn place_at(hash: u64, step: usize, count: usize) -> usize
+pub fn place_at(hash: u64, step: usize, count: usize) -> usize
     requires { 0 < count }
     ensures { result < count }
 {

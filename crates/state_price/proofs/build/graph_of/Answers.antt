@@ -1,10 +1,10 @@
-use Rattle.std.proofs.Common.{◌≡◌, ◌∙◌, refl, ◌+◌, ◌^◌, ◌≤◌, ℕ, arith, sym, ap, subst, List, [], ◌∷◌, ◌++◌, length, get_or, drop, suc}
+use Rattle.std.proofs.Common.{◌≡◌, ◌∙◌, refl, ◌+◌, ◌^◌, ◌≤◌, ◌<◌, ℕ, arith, sym, ap, subst, List, [], ◌∷◌, ◌++◌, length, get_or, drop, suc}
 use Rattle.std.proofs.Math.ListN.{drop_of_length-le}
 use Rattle.std.proofs.lemmas.List.{append-nil}
 use Rattle.std.specs.Vec.{vec_len}
 use Rattle.std.specs.Prelude.{Option, IfSome}
 use Rattle.bp_theory.specs.declared.Span.{Span}
-use Rattle.state_price.specs.Layers.{IsShaped, AreHulls}
+use Rattle.state_price.specs.Layers.{IsShaped, AreHulls, AreTwins}
 use Rattle.state_price.specs.Graphs.{IsSafe}
 use Rattle.state_price.specs.Expansions.{HaveRows, IsExpanded, IsRight, AreRight}
 use Rattle.state_price.specs.declared.graph.Arc.{Arc}
@@ -14,11 +14,16 @@ use Rattle.state_price.proofs.GraphLaws.{layer_at, graph_more, graph_safe, end_r
 use Rattle.state_price.proofs.build.graph_of.Goals as goal
 
 shape_of : (rows : ℕ) (layers : List Layer) (k : ℕ) (l : Layer) → l ≡ get_or layers k l
-    → IsShaped rows (get_or layers k l) × AreHulls (drop (suc k) layers) (get_or layers k l).hulls → IsShaped rows l
+    → IsShaped rows (get_or layers k l) × AreHulls (drop (suc k) layers) (get_or layers k l).hulls × AreTwins (drop (suc k) layers) (get_or layers k l).twins → IsShaped rows l
 shape_of rows layers k l is h = subst (IsShaped rows) (sym is) h.0
 
 shape_own : (rows : ℕ) (l : Layer) → IsShaped rows l → IsShaped (length l.column) l
-shape_own rows l h = record { column = refl; hulls = h.hulls ∙ sym h.column }
+shape_own rows l h = record {
+  column = refl;
+  hulls = h.hulls ∙ sym h.column;
+  twins = h.twins ∙ sym h.column;
+  below = λ k d lt. subst (λ n. get_or l.twins k d < n) (sym h.column) (h.below k d lt);
+}
 
 pub expand-requires-clause-shaped : goal.expand-requires-clause-shaped
 expand-requires-clause-shaped c =

@@ -1,19 +1,20 @@
-use Rattle.std.proofs.Common.{◌≡◌, refl, sym, subst, ◌+◌, ◌-◌, List, [], length, arith}
+use Rattle.std.proofs.Common.{◌≡◌, refl, sym, subst, ◌+◌, ◌-◌, ℕ, List, [], length, arith}
 use Rattle.std.proofs.Math.IntN.{ℤ}
 use Rattle.std.specs.Prelude.{Option, IfSome}
 use Rattle.bp_theory.specs.Program.{span_at}
 use Rattle.bp_theory.specs.declared.Span.{Span}
-use Rattle.state_price.specs.Columns.{AreWidened}
+use Rattle.state_price.specs.Columns.{AreWidened, AreRefined}
 use Rattle.state_price.specs.declared.layers.Layer.{Layer}
-use Rattle.state_price.proofs.ColumnLaws.{IsSoFar, so_far_none, so_far_more, so_far_all, dense_wide}
+use Rattle.state_price.proofs.ColumnLaws.{dense_wide}
+use Rattle.state_price.proofs.LayerLaws.{IsSoFar, so_far_none, so_far_more, so_far_all}
 use Rattle.state_price.proofs.columns.layers_from.Goals as goal
 
 pub loop-var-init : goal.loop-var-init
 loop-var-init c =
-    subst (λ (ls : List Layer). IsSoFar (length c.args.rows.now) c.args.spans.now c.args.dense.now (length c.args.spans.now) ls c.in_ok-hulls.hulls) (sym c.new-layers.ensures.items)
-    (so_far_none (length c.args.rows.now) c.args.spans.now c.args.dense.now (length c.args.spans.now) c.in_ok-hulls.hulls (omega arith)
+    subst (λ (ls : List Layer). IsSoFar (length c.args.rows.now) c.args.spans.now c.args.dense.now (length c.args.spans.now) ls c.in_ok-hulls.hulls c.in_ok-twins.twins) (sym c.new-layers.ensures.items)
+    (so_far_none (length c.args.rows.now) c.args.spans.now c.args.dense.now (length c.args.spans.now) c.in_ok-hulls.hulls c.in_ok-twins.twins (omega arith)
     (λ row l. omega (arith, dense_wide c.args.rows.now (length c.args.spans.now) c.args.dense.now c.requires.coefs row [] (omega (arith, l, c.requires.coefs.many))))
-    c.in_ok-hulls.ensures.each (λ row l. c.in_ok-hulls.ensures.zeros row (omega (arith, l, c.in_ok-hulls.ensures.each))))
+    c.in_ok-hulls.ensures.each (λ row l. c.in_ok-hulls.ensures.zeros row (omega (arith, l, c.in_ok-hulls.ensures.each))) c.in_ok-twins.ensures)
 
 pub column_of-requires : goal.column_of-requires
 column_of-requires c = λ k d l.
@@ -24,17 +25,21 @@ loop-var-preserved c =
     let back : c.loop-var.var ≡ c.loop-var.var - 1 + 1 = omega (arith, c.loop-var-test.true) in
     let wider : AreWidened c.as_slice.result.now c.as_slice-in-loop-var.result.now (span_at c.args.spans.now (c.loop-var.var - 1)) c.in-Some.wider =
     subst (λ (o : Option (List Span)). IfSome o (λ (w : List Span). AreWidened c.as_slice.result.now c.as_slice-in-loop-var.result.now (span_at c.args.spans.now (c.loop-var.var - 1)) w)) c.in-Some.is c.in_ok-wider.ensures in
-    so_far_more (length c.args.rows.now) c.args.spans.now c.args.dense.now (c.loop-var.var - 1) c.loop-var.layers.items c.push.new.self.items c.loop-var.hulls c.in-Some.wider c.in_ok-column.column
+    let refined : AreRefined c.loop-var.twins c.in_ok-column.column c.in_ok-finer.finer =
+    subst (λ (ts : List ℕ). AreRefined ts c.in_ok-column.column c.in_ok-finer.finer) c.as_slice-in-loop-var-2.ensures
+    (subst (λ (cs : List ℤ). AreRefined c.as_slice-in-loop-var-2.result.now cs c.in_ok-finer.finer) c.as_slice-in-loop-var-3.ensures c.in_ok-finer.ensures) in
+    so_far_more (length c.args.rows.now) c.args.spans.now c.args.dense.now (c.loop-var.var - 1) c.loop-var.layers.items c.push.new.self.items c.loop-var.hulls c.in-Some.wider c.loop-var.twins c.in_ok-finer.finer c.in_ok-column.column
     (span_at c.args.spans.now (c.loop-var.var - 1))
     (omega (arith, c.loop-var-test.true, c.loop-var.auto.var)) c.requires.coefs.many
     (λ row l. omega (arith, dense_wide c.args.rows.now (length c.args.spans.now) c.args.dense.now c.requires.coefs row [] (omega (arith, l, c.requires.coefs.many)), c.loop-var-test.true, c.loop-var.auto.var))
     refl c.in_ok-column.ensures
     (subst (λ (hs : List Span). AreWidened hs c.in_ok-column.column (span_at c.args.spans.now (c.loop-var.var - 1)) c.in-Some.wider) c.as_slice.ensures
     (subst (λ (cs : List ℤ). AreWidened c.as_slice.result.now cs (span_at c.args.spans.now (c.loop-var.var - 1)) c.in-Some.wider) c.as_slice-in-loop-var.ensures wider))
+    refined
     c.in_ok-push.ensures.items
-    (subst (λ n. IsSoFar (length c.args.rows.now) c.args.spans.now c.args.dense.now n c.loop-var.layers.items c.loop-var.hulls) back c.loop-var.invariant)
+    (subst (λ n. IsSoFar (length c.args.rows.now) c.args.spans.now c.args.dense.now n c.loop-var.layers.items c.loop-var.hulls c.loop-var.twins) back c.loop-var.invariant)
 
 pub returns : goal.returns
 returns c =
-    so_far_all c.args.rows.now c.args.spans.now c.args.dense.now c.loop-var.var c.loop-var.layers.items c.reverse.new.self.items c.loop-var.hulls
+    so_far_all c.args.rows.now c.args.spans.now c.args.dense.now c.loop-var.var c.loop-var.layers.items c.reverse.new.self.items c.loop-var.hulls c.loop-var.twins
     (omega (arith, c.loop-var-test.false)) c.reverse.ensures.items c.requires.coefs c.requires.form.places c.loop-var.invariant
