@@ -109,3 +109,27 @@ fn all_points_tried_give_the_same(rt: HostRuntime) -> Result<(), Fail> {
     assert_eq!(rt; wrong, None);
     Ok(())
 }
+
+// A problem of three rows with one coefficient of the last variable, and so with the same sums behind the second one.
+fn draw_hub(seed: &mut u64) -> Problem {
+    let mut problem = draw_problem(seed);
+    let coef = problem.lines[0].coefs[2];
+    problem.lines[1].coefs[2] = coef;
+    problem.lines[2].coefs[2] = coef;
+    problem.rows = 3;
+    problem
+}
+
+#[test]
+fn all_points_tried_give_the_same_with_a_hub(rt: HostRuntime) -> Result<(), Fail> {
+    let alloc = rt.alloc();
+    let mut seed = 11;
+    let mut wrong = None;
+    for number in 0..500u32 {
+        if !agrees(alloc, Kind::Graph, &draw_hub(&mut seed), Cap::Never)? {
+            wrong = Some(number);
+        }
+    }
+    assert_eq!(rt; wrong, None);
+    Ok(())
+}
