@@ -1,28 +1,29 @@
 -- Lists of desks and of what they are filled with, place by place.
-use Rattle.std.proofs.Common.{◌≡◌, refl, sym, ap, subst, ◌∙◌, ℕ, zero, suc, ◌+◌, ◌<◌, ◌≤◌, Bool, true, false, if◌then◌else◌, List, [], ◌∷◌, ◌++◌, map, take, length, get_or, set, Option, Some, None, ⊎_elim, arith}
+use Rattle.std.proofs.Common.{◌≡◌, refl, sym, ap, subst, ◌∙◌, ℕ, zero, suc, ◌+◌, ◌<◌, ◌≤◌, true, false, if◌then◌else◌, List, [], ◌∷◌, ◌++◌, map, take, length, get_or, set, Option, Some, None, ⊎_elim, arith}
 use Rattle.std.proofs.lemmas.Bool.{cases_lt}
-use Rattle.std.proofs.lemmas.List.{get_or-set_same, get_or-set_other, get_or_append_left, get_or_at, length-append, get_or-map, get_or_past, get_or_default, length-map, length-set, map-set, map-append, take_more}
+use Rattle.std.proofs.lemmas.List.{get_or-set_same, get_or-set_other, get_or_append_left, get_or_at, length-append, get_or-map, get_or_past, length-map, length-set, map-append, take_more}
 use Rattle.std.specs.List.{AllByRecursion}
 use Rattle.std.proofs.lemmas.Int.{ints}
 use Rattle.std.proofs.lemmas.List.Elements.{All-from_recursion}
 use Rattle.std.proofs.Math.IntN.{ℤ, pos}
 use Rattle.std.specs.Prelude.{◌≤ℤ◌, ◌↔◌, All, IsTrue}
-use Rattle.bp_theory.specs.Program.{span_at}
+use Rattle.bp_theory.specs.Program.{span_at, IsWithin}
 use Rattle.bp_theory.specs.Blocking.{Copy}
 use Rattle.bp_theory.specs.Trees.{IsSubspan, IsSubzone, IsProper}
 use Rattle.bp_theory.proofs.ZipLaws.{AllZip_at, AllZip-length}
-use Rattle.lagr_bound.specs.Desks.{form_of, told_point, priced_point}
+use Rattle.lagr_bound.specs.Desks.{form_of}
+use Rattle.lagr_bound.specs.Told.{told_point, room_of}
+use Rattle.lagr_bound.specs.declared.told.Told.{Told}
 use Rattle.lagr_bound.specs.declared.desk.Desk.{Desk}
-use Rattle.bp_theory.specs.Blocking.{Block, Blocking}
-use Rattle.bp_theory.specs.Bound.{spans_of, Fits}
+use Rattle.bp_theory.specs.Blocking.{Block}
+use Rattle.bp_theory.specs.Bound.{spans_of}
 use Rattle.bp_theory.specs.Trees.{IsZone}
 use Rattle.bp_theory.specs.declared.Span.{Span}
-use Rattle.bp_theory.specs.declared.Row.{Row}
-use Rattle.bp_theory.specs.declared.Proof.{Proof}
 use Rattle.block_form.specs.Blocked.{BlockedProgram, RootBlock, IsFormed}
 use Rattle.pricing.specs.Form.{IsForm}
+use Rattle.pricing.specs.Priced.{IsCheapest}
 use Rattle.pricing.proofs.BlockLaws.{blocks_have_form_lem}
-use Rattle.lagr_bound.specs.Forms.{BlockForm, form_in, form_with, forms_in}
+use Rattle.lagr_bound.specs.Forms.{BlockForm, no_form, form_at, form_in, form_with, forms_in, span_count}
 use Rattle.knap_price.specs.Taken.{IsTaken}
 use Rattle.search_laws.specs.Spread.{block_at}
 use Rattle.lagr_bound.specs.Pricers.{IsEnough, AreEnough, IsFitting, is_table, rows_of as pricer_rows, spans_of as pricer_spans}
@@ -59,17 +60,13 @@ map-set_alike f (x ∷ xs) zero a d l e = ap (λ y. y ∷ map f xs) e
 map-set_alike f (x ∷ xs) (suc k) a d l e = ap (λ ys. f x ∷ ys) (map-set_alike f xs k a d (omega (arith, l)) e)
 
 -- the form of a block of a program in blocks
-pub form_at : (b : BlockedProgram) (k : RootBlock) (number : ℕ) (forms : List BlockForm) (form : BlockForm) → number < length b.blocking.blocks
-    → ((d : Block) → k.block ≡ get_or b.blocking.blocks number d) → k.spans ≡ spans_of b.named.program.spans k.block → forms ≡ forms_in b
-    → form ≡ get_or forms number (record { rows = []; spans = [] }) → form ≡ form_in k
-form_at b k number forms form l is_block spans_are forms_are is_form =
+pub form_in_at : (b : BlockedProgram) (k : RootBlock) (number : ℕ) → number < length b.blocking.blocks
+    → ((d : Block) → k.block ≡ get_or b.blocking.blocks number d) → k.spans ≡ spans_of b.named.program.spans k.block
+    → form_in k ≡ form_at (forms_in b) number
+form_in_at b k number l is_block spans_are =
     let none : Block = record { copies = []; rows = [] } in
-    let nothing : BlockForm = record { rows = []; spans = [] } in
-    let at : get_or (forms_in b) number nothing ≡ form_with b.named.program.spans (get_or b.blocking.blocks number none) =
-    get_or-map (form_with b.named.program.spans) b.blocking.blocks number none nothing l in
-    is_form ∙ ap (λ (fs : List BlockForm). get_or fs number nothing) forms_are ∙ at
-    ∙ ap (form_with b.named.program.spans) (sym (is_block none))
-    ∙ ap (form_of_spans k) (sym spans_are)
+    ap (form_of_spans k) spans_are ∙ ap (form_with b.named.program.spans) (is_block none)
+    ∙ sym (get_or-map (form_with b.named.program.spans) b.blocking.blocks number none no_form l)
   where
     form_of_spans : RootBlock → List Span → BlockForm
     form_of_spans k ss = record { rows = k.block.rows; spans = ss }
@@ -84,66 +81,51 @@ has_form b k number formed l is_block spans_are =
 
 -- ---- desks
 
--- a block's desk is there
-pub desk_there : (b : BlockedProgram) (desks : List Desk) (k : ℕ) → map form_of desks ≡ forms_in b → k < length b.blocking.blocks → k < length desks
-desk_there b desks k e l =
-    let many : length (map form_of desks) ≡ length (forms_in b) = ap (λ (fs : List BlockForm). length fs) e in
-    omega (arith, l, many, length-map desks form_of, length-map b.blocking.blocks (form_with b.named.program.spans))
+-- a point that is told, and one that isn't
+pub told_is : (told : Told) → told.tells ≡ true → told_point told ≡ Some told.numbers.items
+told_is told e = ap (λ t. if t then Some told.numbers.items else None) e
 
--- a desk that tells its pricer's point, and one that tells none
-pub told_is : (desk : Desk) → desk.tells ≡ true → told_point desk ≡ Some (priced_point desk)
-told_is desk e = ap (λ t. if t then Some (priced_point desk) else None) e
+pub silent_is : (told : Told) → told.tells ≡ false → told_point told ≡ None
+silent_is told e = ap (λ t. if t then Some told.numbers.items else None) e
 
-pub silent_is : (desk : Desk) → desk.tells ≡ false → told_point desk ≡ None
-silent_is desk e = ap (λ t. if t then Some (priced_point desk) else None) e
-
--- a desk that goes on telling none
-pub silent_still : (before now : Desk) → now.tells ≡ before.tells → told_point before ≡ None → told_point now ≡ told_point before
-silent_still before now e none = by now.tells before.tells (priced_point now) (priced_point before) e none
-  where
-    by : (s t : Bool) (x y : List ℤ) → s ≡ t → (if t then Some y else None) ≡ None → (if s then Some x else None) ≡ (if t then Some y else None)
-    by true true x y e none = absurd (cc)
-    by true false x y e none = absurd (cc)
-    by false true x y e none = absurd (cc)
-    by false false x y e none = refl
-
--- an item of a list that has some
-pub some_item : {X : Type 0} (xs : List X) (k : ℕ) → k < length xs → X
-some_item [] k l = absurd (omega (arith, l))
-some_item (x ∷ xs) k l = x
-
-none_end : {X : Type 0} (xs : List (Option X)) (v : Option X) → v ≡ None → ((i : ℕ) → get_or xs i None ≡ None) → (i : ℕ) → get_or (xs ++ v ∷ []) i None ≡ None
+pub none_end : {X : Type 0} (xs : List (Option X)) (v : Option X) → v ≡ None → ((i : ℕ) → get_or xs i None ≡ None) → (i : ℕ) → get_or (xs ++ v ∷ []) i None ≡ None
 none_end [] v e h zero = e
 none_end [] v e h (suc i) = refl
 none_end (x ∷ xs) v e h zero = h 0
 none_end (x ∷ xs) v e h (suc i) = none_end xs v e (λ j. h (suc j)) i
 
 -- one desk more
-pub one_desk_more : (b : BlockedProgram) (k : RootBlock) (n : ℕ) (desks all : List Desk) (desk : Desk) → all ≡ desks ++ desk ∷ [] → n < length b.blocking.blocks
+pub one_desk_more : (forms : List BlockForm) (blocks : List ℕ) (n : ℕ) (desks all : List Desk) (desk : Desk) → n < length blocks → all ≡ desks ++ desk ∷ []
+    → form_of desk ≡ form_at forms (get_or blocks n 0) → map form_of desks ≡ map (form_at forms) (take n blocks)
+    → map form_of all ≡ map (form_at forms) (take (n + 1) blocks)
+one_desk_more forms blocks n desks all desk l e form had =
+    ap (λ (ds : List Desk). map form_of ds) e
+    ∙ map-append form_of desks (desk ∷ [])
+    ∙ ap (λ (fs : List BlockForm). fs ++ form_of desk ∷ []) had
+    ∙ ap (λ (f : BlockForm). map (form_at forms) (take n blocks) ++ f ∷ []) form
+    ∙ sym (map-append (form_at forms) (take n blocks) (get_or blocks n 0 ∷ []))
+    ∙ ap (λ (ks : List ℕ). map (form_at forms) ks) (sym (take_more blocks n 0 l))
+
+-- room for the point of one block more
+pub one_room_more : (b : BlockedProgram) (k : RootBlock) (n : ℕ) (told all : List Told) (room : Told) → n < length b.blocking.blocks
     → ((d : Block) → k.block ≡ get_or b.blocking.blocks n d) → k.spans ≡ spans_of b.named.program.spans k.block
-    → form_of desk ≡ form_in k → told_point desk ≡ None
-    → map form_of desks ≡ take n (forms_in b) → ((i : ℕ) → get_or (map told_point desks) i None ≡ None)
-    → (map form_of all ≡ take (n + 1) (forms_in b)) × ((i : ℕ) → get_or (map told_point all) i None ≡ None)
-one_desk_more b k n desks all desk e l is_block spans_are form silent had none_had =
-    let none : Block = record { copies = []; rows = [] } in
-    let nothing : BlockForm = record { rows = []; spans = [] } in
+    → all ≡ told ++ room ∷ [] → room_of room ≡ length k.spans → told_point room ≡ None
+    → map room_of told ≡ take n (map span_count (forms_in b)) → ((i : ℕ) → get_or (map told_point told) i None ≡ None)
+    → (map room_of all ≡ take (n + 1) (map span_count (forms_in b))) × ((i : ℕ) → get_or (map told_point all) i None ≡ None)
+one_room_more b k n told all room l is_block spans_are e rooms silent had none_had =
     let there : n < length (forms_in b) = omega (arith, l, length-map b.blocking.blocks (form_with b.named.program.spans)) in
-    let at : get_or (forms_in b) n nothing ≡ form_with b.named.program.spans (get_or b.blocking.blocks n none) =
-    get_or-map (form_with b.named.program.spans) b.blocking.blocks n none nothing l in
-    let same : form_of desk ≡ get_or (forms_in b) n nothing =
-    form ∙ ap (form_of_spans k) spans_are ∙ ap (form_with b.named.program.spans) (is_block none) ∙ sym at in (
-      ap (λ (ds : List Desk). map form_of ds) e
-          ∙ map-append form_of desks (desk ∷ [])
-          ∙ ap (λ (fs : List BlockForm). fs ++ form_of desk ∷ []) had
-          ∙ ap (λ (f : BlockForm). take n (forms_in b) ++ f ∷ []) same
-          ∙ sym (take_more (forms_in b) n nothing there),
-      λ i. ap (λ (ds : List Desk). get_or (map told_point ds) i None) e
-          ∙ ap (λ (os : List (Option (List ℤ))). get_or os i None) (map-append told_point desks (desk ∷ []))
-          ∙ none_end (map told_point desks) (told_point desk) silent none_had i,
+    let wide : n < length (map span_count (forms_in b)) = omega (arith, there, length-map (forms_in b) span_count) in
+    let at : room_of room ≡ get_or (map span_count (forms_in b)) n 0 =
+    rooms ∙ ap span_count (form_in_at b k n l is_block spans_are) ∙ sym (get_or-map span_count (forms_in b) n no_form 0 there) in (
+      ap (λ (ts : List Told). map room_of ts) e
+          ∙ map-append room_of told (room ∷ [])
+          ∙ ap (λ (ns : List ℕ). ns ++ room_of room ∷ []) had
+          ∙ ap (λ n'. take n (map span_count (forms_in b)) ++ n' ∷ []) at
+          ∙ sym (take_more (map span_count (forms_in b)) n 0 wide),
+      λ i. ap (λ (ts : List Told). get_or (map told_point ts) i None) e
+          ∙ ap (λ (os : List (Option (List ℤ))). get_or os i None) (map-append told_point told (room ∷ []))
+          ∙ none_end (map told_point told) (told_point room) silent none_had i,
     )
-  where
-    form_of_spans : RootBlock → List Span → BlockForm
-    form_of_spans k ss = record { rows = k.block.rows; spans = ss }
 
 -- ---- the cells that tables share
 
@@ -166,10 +148,42 @@ enough_more most now own desks all desk e l m had more =
 pub enough_at : (cells : ℕ) (desks : List Desk) (k : ℕ) (desk : Desk) → k < length desks → desk ≡ get_or desks k desk
     → AreEnough cells (map form_of desks) → IsEnough cells (form_of desk).rows (form_of desk).spans
 enough_at cells desks k desk l is enough =
-    let nothing : BlockForm = record { rows = []; spans = [] } in
-    let same : form_of desk ≡ get_or (map form_of desks) k nothing =
-    ap form_of is ∙ sym (get_or-map form_of desks k desk nothing l) in
-    subst (λ (f : BlockForm). IsEnough cells f.rows f.spans) (sym same) (enough k nothing (omega (arith, l, length-map desks form_of)))
+    let same : form_of desk ≡ get_or (map form_of desks) k no_form =
+    ap form_of is ∙ sym (get_or-map form_of desks k desk no_form l) in
+    subst (λ (f : BlockForm). IsEnough cells f.rows f.spans) (sym same) (enough k no_form (omega (arith, l, length-map desks form_of)))
+
+-- ---- seats
+
+-- each block has a seat
+pub seats_many : (b : BlockedProgram) (desks : List Desk) (seats : List ℕ) → map (form_at (map form_of desks)) seats ≡ forms_in b
+    → length seats ≡ length b.blocking.blocks
+seats_many b desks seats e =
+    let many : length (map (form_at (map form_of desks)) seats) ≡ length (forms_in b) = ap (λ (fs : List BlockForm). length fs) e in
+    omega (arith, many, length-map seats (form_at (map form_of desks)), length-map b.blocking.blocks (form_with b.named.program.spans))
+
+-- the form of a block's desk is that of the block
+pub seat_form : (desks : List Desk) (seats : List ℕ) (k : ℕ) → k < length seats
+    → form_at (map form_of desks) (get_or seats k 0) ≡ form_at (map (form_at (map form_of desks)) seats) k
+seat_form desks seats k l = sym (get_or-map (form_at (map form_of desks)) seats k 0 no_form l)
+
+-- a point of a block has as many numbers as the block's form has spans
+pub point_fits : (b : BlockedProgram) (forms : List BlockForm) (k : ℕ) (zone : List Span) (costs y : List ℤ) (v : ℤ) → forms ≡ forms_in b
+    → k < length b.blocking.blocks → IsCheapest (block_at b.blocking k).rows (spans_of zone (block_at b.blocking k)) costs y v
+    → length y ≡ span_count (form_at forms k)
+point_fits b forms k zone costs y v e l h =
+    let block : Block = block_at b.blocking k in
+    let own : form_at forms k ≡ form_with b.named.program.spans block =
+    ap (λ (fs : List BlockForm). form_at fs k) e
+    ∙ get_or-map (form_with b.named.program.spans) b.blocking.blocks k (record { copies = []; rows = [] }) no_form l in
+    let long : length (spans_of zone block) ≡ length y = AllZip-length IsWithin (spans_of zone block) y h.is_point.inside in
+    let many : span_count (form_at forms k) ≡ length (spans_of b.named.program.spans block) = ap span_count own in
+    omega (
+      arith,
+      long,
+      many,
+      length-map block.copies (λ (c : Copy). span_at zone c.var),
+      length-map block.copies (λ (c : Copy). span_at b.named.program.spans c.var),
+    )
 
 -- ---- which blocks have tables
 
@@ -178,18 +192,22 @@ table_where_taken (Table plan) taken = (λ _. taken, λ _. refl)
 table_where_taken (States states) other = (λ same. absurd (cc), λ taken. absurd (other taken))
 table_where_taken (Search search') other = (λ same. absurd (cc), λ taken. absurd (other taken))
 
-pub tables_where_taken : (b : BlockedProgram) (desks : List Desk) → map form_of desks ≡ forms_in b → All (λ (desk : Desk). IsFitting desk.pricer) desks
+pub tables_where_taken : (b : BlockedProgram) (desks : List Desk) (seats : List ℕ) → map (form_at (map form_of desks)) seats ≡ forms_in b
+    → All (λ seat. seat < length desks) seats → All (λ (desk : Desk). IsFitting desk.pricer) desks
     → (k : ℕ) (desk : Desk) → k < length b.blocking.blocks
-    → IsTrue (is_table (get_or desks k desk).pricer) ↔ IsTaken (block_at b.blocking k).rows (spans_of b.named.program.spans (block_at b.blocking k))
-tables_where_taken b desks e fitting k desk l =
-    let there : k < length desks = desk_there b desks k e l in
+    → IsTrue (is_table (get_or desks (get_or seats k 0) desk).pricer) ↔ IsTaken (block_at b.blocking k).rows (spans_of b.named.program.spans (block_at b.blocking k))
+tables_where_taken b desks seats e seated fitting k desk l =
+    let many : length seats ≡ length b.blocking.blocks = seats_many b desks seats e in
+    let own : k < length seats = omega (arith, l, many) in
+    let there : get_or seats k 0 < length desks = seated k 0 own in
     let none : Block = record { copies = []; rows = [] } in
-    let nothing : BlockForm = record { rows = []; spans = [] } in
-    let form : form_of (get_or desks k desk) ≡ form_with b.named.program.spans (block_at b.blocking k) =
-    sym (get_or-map form_of desks k desk nothing there) ∙ ap (λ (fs : List BlockForm). get_or fs k nothing) e
-    ∙ get_or-map (form_with b.named.program.spans) b.blocking.blocks k none nothing l in
-    subst (λ (f : BlockForm). IsTrue (is_table (get_or desks k desk).pricer) ↔ IsTaken f.rows f.spans) form
-    (table_where_taken (get_or desks k desk).pricer (fitting k desk there))
+    let form : form_of (get_or desks (get_or seats k 0) desk) ≡ form_with b.named.program.spans (block_at b.blocking k) =
+    sym (get_or-map form_of desks (get_or seats k 0) desk no_form there)
+    ∙ sym (get_or-map (form_at (map form_of desks)) seats k 0 no_form own)
+    ∙ ap (λ (fs : List BlockForm). get_or fs k no_form) e
+    ∙ get_or-map (form_with b.named.program.spans) b.blocking.blocks k none no_form l in
+    subst (λ (f : BlockForm). IsTrue (is_table (get_or desks (get_or seats k 0) desk).pricer) ↔ IsTaken f.rows f.spans) form
+    (table_where_taken (get_or desks (get_or seats k 0) desk).pricer (fitting (get_or seats k 0) desk there))
 
 -- ---- the spans of a block in a zone
 

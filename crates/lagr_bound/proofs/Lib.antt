@@ -6,3 +6,4 @@ pub mod PickedLemmas
 pub mod PartLemmas
 pub mod SharedLemmas
 pub mod DeskLemmas
+pub mod SeatLemmas

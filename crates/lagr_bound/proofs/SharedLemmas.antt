@@ -1,7 +1,6 @@
 -- Classes of blocks that are priced once.
-use Rattle.std.proofs.Common.{◌≡◌, ◌≢◌, refl, sym, ap, subst, ◌∙◌, ℕ, ◌+◌, ◌<◌, ◌≤◌, Bool, true, false, List, length, get_or, set, Option, Some, None, ⊎_elim, arith}
+use Rattle.std.proofs.Common.{◌≡◌, ◌≢◌, refl, sym, ap, subst, ◌∙◌, ℕ, ◌+◌, ◌<◌, true, List, map, length, get_or, set, Option, Some, None, ⊎_elim, arith}
 use Rattle.std.proofs.Math.IntN.{ℤ}
-use Rattle.std.specs.Prelude.{MatchOption}
 use Rattle.std.proofs.lemmas.Bool.{cases_lt, cases_eq}
 use Rattle.std.proofs.lemmas.List.{get_or-set_same, get_or-set_other, length-map}
 use Rattle.bp_theory.specs.Blocking.{Blocking}
@@ -12,7 +11,9 @@ use Rattle.bp_theory.specs.declared.Proof.{Proof}
 use Rattle.bp_theory.proofs.ClassProof.{same_price_lem}
 use Rattle.block_form.specs.Blocked.{BlockedProgram}
 use Rattle.lagr_bound.specs.Desks.{form_of}
-use Rattle.lagr_bound.specs.Forms.{BlockForm, form_with, forms_in}
+use Rattle.lagr_bound.specs.Told.{told_point, room_of}
+use Rattle.lagr_bound.specs.Forms.{form_at, forms_in, span_count}
+use Rattle.lagr_bound.proofs.DeskLemmas.{seats_many}
 use Rattle.lagr_bound.specs.Works.{forms_of}
 use Rattle.lagr_bound.specs.declared.work.Work.{Work}
 use Rattle.search_laws.specs.Spread.{block_at, class_at}
@@ -51,15 +52,20 @@ none_is (Some x) h = absurd (h x refl)
 -- there is room for what is known of each block
 pub known_wide : (b : BlockedProgram) (work : Work) → forms_of work ≡ forms_in b → length work.known.items ≡ length b.blocking.blocks
 known_wide b work e =
-    let many : length (forms_of work) ≡ length (forms_in b) = ap (λ (fs : List BlockForm). length fs) e in
+    omega (arith, seats_many b work.desks.items work.seats.items e, work.room, work.known.ok.0, work.seats.ok.0)
+
+-- there is room for what is told of each block
+pub told_wide : (b : BlockedProgram) (work : Work) → forms_of work ≡ forms_in b → length (map told_point work.told.items) ≡ length b.blocking.blocks
+told_wide b work e =
+    let many : length (map room_of work.told.items) ≡ length (map span_count (forms_of work)) = ap (λ (ns : List ℕ). length ns) work.points in
     omega (
       arith,
       many,
-      length-map work.desks.items form_of,
-      length-map b.blocking.blocks (form_with b.named.program.spans),
-      work.room,
-      work.known.ok.0,
-      work.desks.ok.0,
+      length-map (forms_of work) span_count,
+      length-map work.seats.items (form_at (map form_of work.desks.items)),
+      length-map work.told.items room_of,
+      length-map work.told.items told_point,
+      seats_many b work.desks.items work.seats.items e,
     )
 
 -- the class of the first block of a class, and first blocks are there

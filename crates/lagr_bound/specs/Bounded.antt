@@ -2,7 +2,7 @@
 use Rattle.std.specs.Prelude.{◌≡◌, ℕ, ◌<◌, ◌≤◌, true, List, length, ℤ, ◌≤ℤ◌, Option, Some, None, slice_index_or, MatchOption, IsTrue}
 use Rattle.bp_theory.specs.Sums.{dot}
 use Rattle.bp_theory.specs.Blocking.{Block, Blocking}
-use Rattle.bp_theory.specs.Bound.{spans_of, IsPoint, IsPart, IsBound, IsEndless, is_picked, reduced_cost}
+use Rattle.bp_theory.specs.Bound.{spans_of, IsPoint, IsPart, IsBound, IsEndless, is_picked}
 use Rattle.bp_theory.specs.declared.Span.{Span}
 use Rattle.bp_theory.specs.declared.Picked.{Picked}
 use Rattle.bp_theory.specs.declared.Proof.{Proof}

@@ -1,5 +1,5 @@
 -- What desks show.
-use Rattle.std.specs.Prelude.{List, map, ℤ, Option, Some, None, if◌then◌else◌}
+use Rattle.std.specs.Prelude.{List, ℤ}
 use Rattle.lagr_bound.specs.Forms.{BlockForm}
 use Rattle.lagr_bound.specs.Pricers.{rows_of, spans_of, kept_point}
 use Rattle.lagr_bound.specs.declared.desk.Desk.{Desk}
@@ -11,7 +11,3 @@ form_of desk = record { rows = rows_of desk.pricer; spans = spans_of desk.pricer
 -- the point that its pricer keeps
 abbrev pub priced_point : Desk → List ℤ
 priced_point desk = kept_point desk.pricer
-
--- the point that it tells
-abbrev pub told_point : Desk → Option (List ℤ)
-told_point desk = if desk.tells then Some (kept_point desk.pricer) else None

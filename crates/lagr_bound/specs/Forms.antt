@@ -1,5 +1,5 @@
 -- What pricers are made for: the rows and root spans of blocks.
-use Rattle.std.specs.Prelude.{List, map}
+use Rattle.std.specs.Prelude.{ℕ, List, [], length, map, slice_index_or}
 use Rattle.bp_theory.specs.Blocking.{Block}
 use Rattle.bp_theory.specs.Bound.{spans_of}
 use Rattle.bp_theory.specs.declared.Span.{Span}
@@ -10,6 +10,18 @@ use Rattle.block_form.specs.Blocked.{RootBlock, BlockedProgram}
 pub record BlockForm : Type 0 where
   pub rows : List Row
   pub spans : List Span
+
+-- that of no block
+abbrev pub no_form : BlockForm
+no_form = record { rows = []; spans = [] }
+
+-- the one at a place of a list
+abbrev pub form_at : List BlockForm → ℕ → BlockForm
+form_at forms k = slice_index_or forms k no_form
+
+-- for how many variables it is
+abbrev pub span_count : BlockForm → ℕ
+span_count form = length form.spans
 
 -- that of a block
 abbrev pub form_in : RootBlock → BlockForm

@@ -2,6 +2,8 @@ pub mod Sizes
 pub mod Pricers
 pub mod Rooms
 pub mod Forms
+pub mod Seats
 pub mod Desks
+pub mod Told
 pub mod Works
 pub mod Bounded

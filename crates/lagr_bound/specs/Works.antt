@@ -1,22 +1,31 @@
 -- What pricing all blocks keeps and tells.
-use Rattle.std.specs.Prelude.{◌≡◌, ◌↔◌, ℕ, ◌<◌, List, length, map, ℤ, Option, None, IsTrue, slice_index_or}
+use Rattle.std.specs.Prelude.{◌≡◌, ◌↔◌, ℕ, ◌<◌, List, [], length, map, ℤ, Option, None, IsTrue, slice_index_or}
 use Rattle.bp_theory.specs.Bound.{spans_of}
 use Rattle.search_laws.specs.Spread.{block_at}
 use Rattle.block_form.specs.Blocked.{BlockedProgram}
 use Rattle.knap_price.specs.Taken.{IsTaken}
-use Rattle.lagr_bound.specs.Forms.{BlockForm}
+use Rattle.lagr_bound.specs.Forms.{BlockForm, form_at}
 use Rattle.lagr_bound.specs.Pricers.{is_table}
-use Rattle.lagr_bound.specs.Desks.{form_of, told_point}
+use Rattle.lagr_bound.specs.Desks.{form_of, priced_point}
+use Rattle.lagr_bound.specs.Told.{told_point}
 use Rattle.lagr_bound.specs.declared.desk.Desk.{Desk}
 use Rattle.lagr_bound.specs.declared.work.Work.{Work}
 
+-- the number of a block's desk
+abbrev pub seat_of : Work → ℕ → ℕ
+seat_of work k = slice_index_or work.seats.items k 0
+
 -- what its pricers are made for, block by block
 abbrev pub forms_of : Work → List BlockForm
-forms_of work = map form_of work.desks.items
+forms_of work = map (form_at (map form_of work.desks.items)) work.seats.items
+
+-- the point that the pricer of a block keeps
+abbrev pub priced_at : Work → ℕ → List ℤ
+priced_at work k = slice_index_or (map priced_point work.desks.items) (seat_of work k) []
 
 -- the point of a block that it tells
 abbrev pub point_at : Work → ℕ → Option (List ℤ)
-point_at work k = slice_index_or (map told_point work.desks.items) k None
+point_at work k = slice_index_or (map told_point work.told.items) k None
 
 -- it tells no point
 abbrev pub IsSilent : Work → Type 0
@@ -26,5 +35,5 @@ IsSilent work = (k : ℕ) → point_at work k ≡ None
 abbrev pub HasTables : BlockedProgram → Work → Type 0
 HasTables b work =
     (k : ℕ) (desk : Desk) → k < length b.blocking.blocks
-    → IsTrue (is_table (slice_index_or work.desks.items k desk).pricer)
+    → IsTrue (is_table (slice_index_or work.desks.items (seat_of work k) desk).pricer)
     ↔ IsTaken (block_at b.blocking k).rows (spans_of b.named.program.spans (block_at b.blocking k))

@@ -4,14 +4,14 @@ ghost use Rattle.bp_theory.specs.Bound.{Fits, IsEndless};
 ghost use Rattle.bp_theory.specs.Trees.{IsZone};
 ghost use Rattle.block_class.specs.Classes.{AreSameClasses};
 ghost use Rattle.pricing.specs.declared.Cap.TheVariants.{Never};
-ghost use Rattle.lagr_bound.specs.Desks.{told_point};
+ghost use Rattle.lagr_bound.specs.Told.{told_point};
 ghost use Rattle.lagr_bound.specs.Forms.{forms_in};
 ghost use Rattle.lagr_bound.specs.Works.{forms_of, point_at, IsSilent};
 ghost use Rattle.lagr_bound.specs.Bounded.{IsBounded, IfWhole, IsPartAnswer, TellsPoints, AreTold, AreKnown, IfLeast};
 
 use crate::bounded::Bounded;
 use crate::costs::base;
-use crate::parts::{box_part, price_at};
+use crate::parts::box_part;
 use crate::picked::is_picked;
 use crate::work::Work;
 use block_class::Classes;
@@ -75,11 +75,11 @@ fn shared_part(
     requires zone { IsZone b.now.named.program.spans zone.now }
     requires fits { Fits b.now.blocking proof.now }
     requires known { AreKnown b.now.blocking zone.now proof.now classes.now.classes classes.now.firsts number work.old.known.items }
-    requires told { AreTold b.now.blocking zone.now proof.now classes.now.classes number (map told_point work.old.desks.items) }
+    requires told { AreTold b.now.blocking zone.now proof.now classes.now.classes number (map told_point work.old.told.items) }
     ensures answer { IsPartAnswer b.now.blocking zone.now proof.now cap number result }
     ensures made_for { forms_of work.new ≡ forms_of work.old }
     ensures known { IfLeast result (AreKnown b.now.blocking zone.now proof.now classes.now.classes classes.now.firsts (number + 1) work.new.known.items) }
-    ensures told { IfLeast result (AreTold b.now.blocking zone.now proof.now classes.now.classes (number + 1) (map told_point work.new.desks.items)) }
+    ensures told { IfLeast result (AreTold b.now.blocking zone.now proof.now classes.now.classes (number + 1) (map told_point work.new.told.items)) }
 {
     if !is_picked(&proof.picked, b.blocks() as usize, number) {
         return Priced::Least(box_part(b, number, zone, proof));
@@ -88,15 +88,7 @@ fn shared_part(
     if let Some(least) = work.known_at(first) {
         return Priced::Least(least);
     }
-    let answer = price_at(
-        &mut work.desks,
-        &mut work.cells,
-        b,
-        number,
-        zone,
-        proof,
-        cap,
-    );
+    let answer = work.price(b, number, zone, proof, cap);
     if let Priced::Least(least) = answer {
         work.keep(first, number, &least);
     }

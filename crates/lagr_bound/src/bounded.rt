@@ -43,15 +43,7 @@ pub fn sum_bound(work: &mut Work, b: &Blocked, zone: &Zone, proof: &Proof, cap: 
     let blocks = b.blocks();
     let mut sum = base(b, proof);
     for number in 0..blocks {
-        match part(
-            &mut work.desks,
-            &mut work.cells,
-            b,
-            number,
-            zone,
-            proof,
-            cap,
-        ) {
+        match part(work, b, number, zone, proof, cap) {
             Priced::Least(least) => sum = plus(&sum, &least),
             Priced::Nothing => return Bounded::Endless,
             Priced::Cut => return Bounded::Cut(number),

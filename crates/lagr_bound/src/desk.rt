@@ -11,19 +11,17 @@ use bp_theory::{Proof, Span};
 use pricing::{Cap, Priced};
 use std::alloc::{AllocError, Global};
 
-/// A block's pricer, with room for the block's reduced costs and for its spans in a zone, and whether the pricer's point
-/// is one to be told.
+/// The pricer of a block and of all that have its form, with room for reduced costs and for spans in a zone.
 #[derive(Drop)]
 pub struct Desk {
     pricer: BlockPricer,
     costs: Vec<i128>,
     spans: Vec<Span>,
-    tells: bool,
     ghost room: { HasRoom pricer costs.items spans.items },
 }
 
 impl Desk {
-    ghost use Rattle.std.specs.Prelude.{◌≡◌, IfOk, IsTrue, MatchOption, vec_len};
+    ghost use Rattle.std.specs.Prelude.{◌≡◌, IfOk, vec_len};
     ghost use Rattle.lagr_bound.specs.Pricers.{IsEnough, IsFitting};
     ghost use Rattle.bp_theory.specs.Bound.{spans_of};
     ghost use Rattle.bp_theory.specs.Trees.{IsZone};
@@ -31,13 +29,12 @@ impl Desk {
     ghost use Rattle.pricing.specs.Priced.{IsPriced};
     ghost use Rattle.lagr_bound.specs.Sizes.{IsSmallBlock, IsSmallProof, reduced_costs};
     ghost use Rattle.lagr_bound.specs.Forms.{form_in};
-    ghost use Rattle.lagr_bound.specs.Desks.{form_of, told_point, priced_point};
+    ghost use Rattle.lagr_bound.specs.Desks.{form_of, priced_point};
 
-    /// The desk of a block, which tells no point.
+    /// The desk of a block.
     pub fn make(alloc: Global, block: &Block, room: &mut GraphRoom) -> Result<Desk, AllocError>
         requires { IsForm block.now.block.rows block.now.spans }
         ensures form { IfOk result (λ desk. form_of desk ≡ form_in block.now) }
-        ensures silent { IfOk result (λ desk. told_point desk ≡ None) }
         ensures kind { IfOk result (λ desk. IsFitting desk.pricer) }
     {
         let pricer = BlockPricer::make(alloc, block, room)?;
@@ -48,7 +45,6 @@ impl Desk {
             pricer,
             costs,
             spans,
-            tells: false,
         })
     }
 
@@ -69,7 +65,6 @@ impl Desk {
         ensures answer { IsPriced block.now.block.rows (spans_of zone.now block.now.block) (reduced_costs proof.now block.now.block) cap result (priced_point self.new) }
         ensures cells { vec_len cells.new ≡ vec_len cells.old }
         ensures form { form_of self.new ≡ form_of self.old }
-        ensures tells { self.new.tells ≡ self.old.tells }
     {
         fill_costs(&mut self.costs, block, proof);
         fill_spans(&mut self.spans, block, zone);
@@ -86,24 +81,11 @@ impl Desk {
         self.pricer.cells()
     }
 
-    /// Whether the pricer's point is to be told from now on.
-    pub fn tell(&mut self, tells: bool)
-        ensures form { form_of self.new ≡ form_of self.old }
-        ensures point { priced_point self.new ≡ priced_point self.old }
-        ensures tells { self.new.tells ≡ tells }
+    /// The point that the last `Least` reached, as long as no other call of `price` came.
+    pub fn point(&self) -> &[i64]
+        ensures { result.now ≡ priced_point self.now }
     {
-        self.tells = tells;
-    }
-
-    /// The point that it tells.
-    pub fn point(&self) -> Option<&[i64]>
-        ensures { MatchOption result (told_point self.now ≡ None) (λ y. told_point self.now ≡ Some y.now) }
-    {
-        if self.tells {
-            Some(self.pricer.point())
-        } else {
-            None
-        }
+        self.pricer.point()
     }
 }
 

@@ -7,11 +7,14 @@ mod bounded;
 mod costs;
 mod desk;
 mod desks;
+mod forms;
 mod parts;
 mod picked;
 mod plain;
 mod pricers;
 mod rounded;
+mod seats;
+mod told;
 mod work;
 
 pub use alike::bound;

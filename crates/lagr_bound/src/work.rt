@@ -1,39 +1,47 @@
 // What pricing all blocks of a program takes.
-ghost use Rattle.std.specs.Prelude.{◌≡◌, ◌≤◌, map, vec_len};
+ghost use Rattle.std.specs.Prelude.{◌≡◌, ◌<◌, All, length, map, vec_len};
 ghost use Rattle.lagr_bound.specs.Desks.{form_of};
+ghost use Rattle.lagr_bound.specs.Forms.{form_at, span_count};
 ghost use Rattle.lagr_bound.specs.Pricers.{AreEnough};
+ghost use Rattle.lagr_bound.specs.Told.{room_of};
 
 use crate::desk::Desk;
-use crate::desks::{clear, silence};
-use crate::pricers::GraphRoom;
-use block_form::Blocked;
+use crate::desks::{clear, desks_of, rooms_of};
+use crate::parts::price_at;
+use crate::seats::seated;
+use crate::told::{Told, silence};
+use block_form::{Blocked, Zone};
+use bp_theory::Proof;
+use pricing::{Cap, Priced};
 use std::alloc::{AllocError, Global};
 
-/// A pricer for each block of a program in blocks, a table where one takes the block, else a graph of states where
-/// one suits it, else a search, with all memory that pricing needs, where all tables share their cells; and the points that the last bound told.
+/// Pricers for the blocks of a program in blocks, with all memory that pricing needs; and the points that the last bound
+/// told. Blocks with the same rows and the same spans at the root share one pricer, as far as they are found: a table where
+/// one takes the block, else a graph of states where one suits it, else a search. All tables share their cells.
 #[derive(Drop)]
 pub struct Work {
     pub(crate) desks: Vec<Desk>,
+    pub(crate) seats: Vec<usize>,
+    pub(crate) told: Vec<Told>,
     pub(crate) known: Vec<Option<i128>>,
     pub(crate) cells: Vec<i128>,
-    ghost room: { vec_len known ≡ vec_len desks },
+    ghost there: { All (λ seat. seat < vec_len desks) seats.items },
+    ghost points: { map room_of told.items ≡ map span_count (map (form_at (map form_of desks.items)) seats.items) },
+    ghost room: { vec_len known ≡ vec_len seats },
     ghost enough: { AreEnough (vec_len cells) (map form_of desks.items) },
 }
 
-/// The larger of two counts.
-fn larger(a: usize, b: usize) -> usize
-    ensures first { a ≤ result }
-    ensures second { b ≤ result }
-{
-    if a < b { b } else { a }
-}
-
 impl Work {
-    ghost use Rattle.std.specs.Prelude.{◌≡◌, ◌<◌, ℕ, IfOk, MatchOption, length, map, slice_index_or, slice_set};
-    ghost use Rattle.lagr_bound.specs.declared.desk.Desk.{Desk};
-    ghost use Rattle.lagr_bound.specs.Desks.{told_point, priced_point};
-    ghost use Rattle.lagr_bound.specs.Forms.{forms_in};
-    ghost use Rattle.lagr_bound.specs.Works.{forms_of, point_at, IsSilent, HasTables};
+    ghost use Rattle.std.specs.Prelude.{◌≡◌, ◌<◌, ℕ, Some, None, IfOk, MatchOption, length, map, slice_index_or, slice_set};
+    ghost use Rattle.bp_theory.specs.Bound.{Fits, spans_of};
+    ghost use Rattle.bp_theory.specs.Trees.{IsZone};
+    ghost use Rattle.search_laws.specs.Spread.{block_at};
+    ghost use Rattle.block_form.specs.Blocked.{IsFormed};
+    ghost use Rattle.pricing.specs.Priced.{IsPriced};
+    ghost use Rattle.lagr_bound.specs.Forms.{forms_in, form_at, span_count};
+    ghost use Rattle.lagr_bound.specs.Sizes.{reduced_costs};
+    ghost use Rattle.lagr_bound.specs.Told.{told_point};
+    ghost use Rattle.lagr_bound.specs.Works.{forms_of, point_at, priced_at, IsSilent, HasTables};
 
     /// The pricers of a program's blocks, which tell no point. A block has a table exactly where a table takes it.
     pub fn make(alloc: Global, b: &Blocked) -> Result<Work, AllocError>
@@ -41,18 +49,15 @@ impl Work {
         ensures silent { IfOk result (λ work. IsSilent work) }
         ensures tables { IfOk result (λ work. HasTables b.now work) }
     {
-        let mut desks = Vec::new(alloc);
-        let mut most = 0;
-        let mut room = GraphRoom::whole();
-        for number in 0..b.blocks() {
-            let desk = Desk::make(alloc, b.block(number), &mut room)?;
-            most = larger(most, desk.cells());
-            desks.push(desk)?;
-        }
-        let known = Vec::from_elem(alloc, None, desks.len())?;
+        let known = Vec::from_elem(alloc, None, b.blocks() as usize)?;
+        let (seats, firsts) = seated(alloc, b)?;
+        let (desks, most) = desks_of(alloc, b, firsts.as_slice())?;
+        let told = rooms_of(alloc, b)?;
         let cells = Vec::from_elem(alloc, 0, most)?;
         Ok(Work {
             desks,
+            seats,
+            told,
             known,
             cells,
         })
@@ -64,7 +69,7 @@ impl Work {
         requires { block < length (forms_of self.now) }
         ensures { MatchOption result (point_at self.now block ≡ None) (λ y. point_at self.now block ≡ Some y.now) }
     {
-        self.desks[block as usize].point()
+        self.told[block as usize].point()
     }
 
     /// Tells no point from now on.
@@ -72,7 +77,7 @@ impl Work {
         ensures forms { forms_of self.new ≡ forms_of self.old }
         ensures silent { IsSilent self.new }
     {
-        silence(&mut self.desks);
+        silence(&mut self.told);
     }
 
     /// Knows no class and tells no point from now on.
@@ -93,15 +98,51 @@ impl Work {
         self.known[first as usize]
     }
 
-    /// Knows the least of the class of this first block, and tells the point of a block of it.
+    /// Prices a block by its pricer. What is told and known stays.
+    pub(crate) fn price(
+        &mut self,
+        b: &Blocked,
+        number: u32,
+        zone: &Zone,
+        proof: &Proof,
+        cap: Cap,
+    ) -> Priced
+        requires made_for { forms_of self.old ≡ forms_in b.now }
+        requires there { number < length b.now.blocking.blocks }
+        requires zone { IsZone b.now.named.program.spans zone.now }
+        requires fits { Fits b.now.blocking proof.now }
+        requires formed { IsFormed b.now }
+        ensures answer { IsPriced (block_at b.now.blocking number).rows (spans_of zone.now (block_at b.now.blocking number))
+            (reduced_costs proof.now (block_at b.now.blocking number)) cap result (priced_at self.new number) }
+        ensures made_for { forms_of self.new ≡ forms_of self.old }
+        ensures known { self.new.known ≡ self.old.known }
+        ensures told { self.new.told ≡ self.old.told }
+    {
+        let seat = self.seats[number as usize];
+        let block = b.block(number);
+        price_at(
+            &mut self.desks,
+            &mut self.cells,
+            seat,
+            block,
+            zone,
+            proof,
+            cap,
+        )
+    }
+
+    /// Knows the least of the class of this first block, and tells the point of a block of it, which was priced last of all
+    /// blocks of its pricer.
     pub(crate) fn keep(&mut self, first: u32, block: u32, least: &i128)
         requires first { first < length (forms_of self.old) }
         requires block { block < length (forms_of self.old) }
+        requires point { length (priced_at self.old block) ≡ span_count (form_at (forms_of self.old) block) }
         ensures forms { forms_of self.new ≡ forms_of self.old }
         ensures known { self.new.known.items ≡ slice_set self.old.known.items first (Some least.now) }
-        ensures told { (d : Desk) → map told_point self.new.desks.items ≡ slice_set (map told_point self.old.desks.items) block (Some (priced_point (slice_index_or self.old.desks.items block d))) }
+        ensures told { map told_point self.new.told.items ≡ slice_set (map told_point self.old.told.items) block (Some (priced_at self.old block)) }
     {
         self.known[first as usize] = Some(*least);
-        self.desks[block as usize].tell(true);
+        let seat = self.seats[block as usize];
+        self.told[block as usize].tell(self.desks[seat].point());
     }
 }

@@ -1,4 +1,4 @@
-use Rattle.std.proofs.Common.{◌≡◌, refl, ◌∙◌, sym, ap, subst, ℕ, ◌<◌, ◌≤◌, ◌+◌, ◌^◌, List, Option, None, length, map, get_or, arith, to_z, of_z}
+use Rattle.std.proofs.Common.{◌≡◌, refl, ◌∙◌, sym, subst, ◌<◌, ◌+◌, length, map, arith, to_z, of_z}
 use Rattle.std.proofs.Math.IntN.{ℤ, ◌+ℤ◌}
 use Rattle.std.specs.Int.{w128}
 use Rattle.std.proofs.lemmas.Int.{ints}
@@ -7,7 +7,7 @@ use Rattle.search_laws.specs.Spread.{block_at}
 use Rattle.lagr_bound.specs.declared.bounded.Bounded.TheVariants.{Whole}
 use Rattle.lagr_bound.proofs.Magnitude.{bound_small}
 use Rattle.lagr_bound.proofs.PartLemmas.{HasParts, no_parts, one_part_more, parts_small, all_parts, endless_is, never_otherwise}
-use Rattle.lagr_bound.specs.Desks.{told_point}
+use Rattle.lagr_bound.specs.Told.{told_point}
 use Rattle.lagr_bound.proofs.SharedLemmas.{none_known, none_told}
 use Rattle.lagr_bound.proofs.alike.bound.Goals as goal
 
@@ -24,7 +24,7 @@ loop-number-init c =
       no_parts c.args.b.now.blocking c.args.zone.now c.args.proof.now start (same ∙ c.base-sum.ensures),
       omega arith,
       none_known c.args.b.now.blocking c.args.zone.now c.args.proof.now c.args.classes.now.classes c.args.classes.now.firsts c.begin.new.self.known.items c.begin.ensures.unknown,
-      none_told c.args.b.now.blocking c.args.zone.now c.args.proof.now c.args.classes.now.classes (map told_point c.begin.new.self.desks.items) c.begin.ensures.silent,
+      none_told c.args.b.now.blocking c.args.zone.now c.args.proof.now c.args.classes.now.classes (map told_point c.begin.new.self.told.items) c.begin.ensures.silent,
     )
 
 pub plus-sum-requires : goal.plus-sum-requires

@@ -1,10 +1,11 @@
-use Rattle.std.proofs.Common.{◌≡◌, refl, ◌∙◌, sym, ap, subst, ℕ, ◌<◌, ◌≤◌, ◌+◌, ◌^◌, List, Option, None, length, get_or, arith, to_z, of_z}
+use Rattle.std.proofs.Common.{◌≡◌, refl, ◌∙◌, sym, ap, subst, ◌<◌, ◌+◌, None, map, length, get_or, arith, to_z, of_z}
 use Rattle.std.proofs.Math.IntN.{ℤ, ◌+ℤ◌}
 use Rattle.std.specs.Int.{w128}
 use Rattle.std.proofs.lemmas.Int.{ints}
 use Rattle.bp_theory.specs.Bound.{IsPart}
 use Rattle.search_laws.specs.Spread.{block_at}
 use Rattle.lagr_bound.specs.declared.bounded.Bounded.TheVariants.{Whole}
+use Rattle.lagr_bound.specs.Told.{told_point}
 use Rattle.lagr_bound.proofs.Magnitude.{bound_small}
 use Rattle.lagr_bound.proofs.PartLemmas.{HasParts, no_parts, one_part_more, parts_small, all_parts, endless_is, never_otherwise}
 use Rattle.lagr_bound.proofs.bounded.sum_bound.Goals as goal
@@ -47,7 +48,7 @@ loop-number-preserved c =
     let there : c.loop-number.number < length c.args.b.now.blocking.blocks = omega (arith, c.loop-number-test.true, c.blocks-blocks.ensures.blocks) in
     let part = subst (IsPart c.args.zone.now c.args.proof.now c.loop-number.number (block_at c.args.b.now.blocking c.loop-number.number)) (sym same) c.in-Least.ensures.answer in (
       c.part.ensures.made_for ∙ c.loop-number.invariant.0,
-      (λ k. ap (λ (xs : List (Option (List ℤ))). get_or xs k None) c.part.ensures.told ∙ c.loop-number.invariant.1 k),
+      (λ k. ap (λ v. get_or (map told_point v.items) k None) c.part.ensures.told ∙ c.loop-number.invariant.1 k),
       subst (HasParts c.args.b.now.blocking c.args.zone.now c.args.proof.now (c.loop-number.number + 1)) (sym next_is)
           (one_part_more c.args.b.now.blocking c.args.zone.now c.args.proof.now c.loop-number.number sum more there c.loop-number.invariant.2 part),
       omega (arith, c.loop-number-test.true),

@@ -1,4 +1,4 @@
-use Rattle.std.proofs.Common.{◌≡◌, refl, ℕ, ◌<◌, ◌≤◌, ◌+◌, None, length, get_or, arith, ⊎_elim}
+use Rattle.std.proofs.Common.{refl, None, arith, ⊎_elim}
 use Rattle.std.proofs.lemmas.Bool.{cases_lt}
 use Rattle.std.proofs.lemmas.List.{get_or_past}
 use Rattle.lagr_bound.proofs.DeskLemmas.{none_more}

@@ -1,8 +1,7 @@
-use Rattle.std.proofs.Common.{◌≡◌, ◌∙◌, sym, ap, subst, [], arith, to_z, of_z}
+use Rattle.std.proofs.Common.{◌≡◌, ◌∙◌, sym, ap, subst, arith, to_z, of_z}
 use Rattle.std.proofs.Math.IntN.{ℤ}
 use Rattle.std.specs.Int.{w128}
 use Rattle.std.proofs.lemmas.Int.{ints}
-use Rattle.bp_theory.specs.Blocking.{Block}
 use Rattle.bp_theory.specs.Bound.{IsPart}
 use Rattle.search_laws.specs.Spread.{block_at}
 use Rattle.lagr_bound.specs.Sizes.{IsSmallBlock, block_least}

@@ -1,4 +1,4 @@
-use Rattle.std.proofs.Common.{◌≡◌, sym, subst}
+use Rattle.std.proofs.Common.{sym, subst}
 use Rattle.knap_price.specs.Taken.{IsTaken}
 use Rattle.lagr_bound.specs.Pricers.{rows_of, spans_of, IsFitting}
 use Rattle.lagr_bound.specs.declared.pricers.BlockPricer.{BlockPricer}
