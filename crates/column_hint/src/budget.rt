@@ -4,7 +4,7 @@ ghost use Rattle.std.specs.Prelude.{◌≡◌, ◌<◌, length};
 use crate::wide::has_many_beginnings;
 use block_class::Classes;
 use block_form::{Block, Blocked, MAX_SCALE, Zone, fits};
-use bp_theory::{Items, Picked, Proof};
+use bp_theory::{Items, Picked, Proof, Span};
 use lagr_bound::{Bounded, Work, bound};
 use point_hint::{clipped, product, put, quotient};
 use pricing::Cap;
@@ -99,7 +99,7 @@ impl PricingBudget {
         }
         self.left -= 1;
         for _ in 0..MOST_ROUNDS {
-            let proof = self.proof_at(alloc, mults, MAX_SCALE)?;
+            let proof = self.open_proof(alloc, b, zone, mults)?;
             if !fits(b, &proof) {
                 return Ok(None);
             }
@@ -107,6 +107,7 @@ impl PricingBudget {
             match bound(&mut self.work, b, classes, zone, &proof, cap) {
                 Bounded::Whole(value) => {
                     self.write_point(b, classes, point);
+                    write_settled(b, zone, point);
                     return Ok(Some(value));
                 }
                 Bounded::Endless => return Ok(None),
@@ -126,6 +127,34 @@ impl PricingBudget {
             mults: Items::from_vec(mults),
             picked,
         })
+    }
+
+    // The proof of multipliers by row at the greatest scale, which prices the blocks that hints price but for those of one point in a
+    // zone: what these cost is the least over their box.
+    fn open_proof(
+        &self,
+        alloc: Global,
+        b: &Blocked,
+        zone: &Zone,
+        mults: &[i64],
+    ) -> Result<Proof, AllocError> {
+        let mut proof = self.proof_at(alloc, mults, MAX_SCALE)?;
+        if has_settled(b, zone) {
+            let picks = self.open_picks(alloc, b, zone)?;
+            proof.picked = Picked::These(Items::from_vec(picks));
+        }
+        Ok(proof)
+    }
+
+    // The blocks that hints price and that have more than one point in the box of a zone.
+    fn open_picks(&self, alloc: Global, b: &Blocked, zone: &Zone) -> Result<Vec<u32>, AllocError> {
+        let mut picks = Vec::new(alloc);
+        for block in 0..b.blocks() {
+            if self.is_picked(block) && !is_settled(b.block(block), zone.spans()) {
+                picks.push(block)?;
+            }
+        }
+        Ok(picks)
     }
 
     // The blocks that hints price.
@@ -242,6 +271,39 @@ impl PricingBudget {
         for block in 0..b.blocks() {
             if let Some(numbers) = self.work.point(block) {
                 write_class(b, classes, block, numbers, point);
+            }
+        }
+    }
+}
+
+// Whether a block has one point in the box of a zone.
+fn has_settled(b: &Blocked, zone: &Zone) -> bool {
+    for block in 0..b.blocks() {
+        if is_settled(b.block(block), zone.spans()) {
+            return true;
+        }
+    }
+    false
+}
+
+/// Whether each variable of a block has one number in spans of all variables.
+pub fn is_settled(block: &Block, spans: &[Span]) -> bool {
+    block.vars().iter().all(|var| match spans.get(*var as usize) {
+        None => true,
+        Some(span) => span.lo == span.hi,
+    })
+}
+
+// Writes the numbers of the blocks of one point in the box of a zone.
+fn write_settled(b: &Blocked, zone: &Zone, point: &mut [i64]) {
+    let spans = zone.spans();
+    for block in 0..b.blocks() {
+        let block = b.block(block);
+        if is_settled(block, spans) {
+            for var in block.vars() {
+                if let Some(span) = spans.get(*var as usize) {
+                    put(point, *var as usize, span.lo);
+                }
             }
         }
     }

@@ -1,5 +1,6 @@
 // The restricted master of a zone: the master rows less what the blocks of one point take, the classes of the other blocks, and
 // columns of these. What a row misses costs a penalty, which keeps its multiplier in a range.
+use crate::budget::is_settled as is_settled_block;
 use crate::lines::{Lines, at_scale, place_of};
 use crate::pools::{Place, Pools};
 use block_class::Classes;
@@ -465,11 +466,7 @@ fn is_settled(b: &Blocked, number: u32, spans: &[Span]) -> bool {
     if number >= b.blocks() {
         return true;
     }
-    let vars = b.block(number).vars();
-    vars.iter().all(|var| match spans.get(*var as usize) {
-        None => true,
-        Some(span) => span.lo == span.hi,
-    })
+    is_settled_block(b.block(number), spans)
 }
 
 // Takes so many blocks like one, of one point, from the rows.

@@ -4,9 +4,10 @@ ghost use Rattle.bp_theory.specs.Trees.{IsZone};
 ghost use Rattle.block_class.specs.Classes.{AreSameClasses};
 ghost use Rattle.column_hint.specs.Pools.{AreMadeFor};
 
-use crate::dives::Dive;
+use crate::budget::is_settled;
+use crate::dives::{Dive, lows};
 use crate::generation::add_class;
-use crate::master::RestrictedMaster;
+use crate::master::{RestrictedMaster, block_spans};
 use crate::pools::Pools;
 use block_class::Classes;
 use block_form::{Block, Blocked, Zone};
@@ -166,8 +167,36 @@ fn add_left_of(
     if master.size(class) == 0 || block >= b.blocks() {
         return Ok(false);
     }
+    if is_settled(b.block(block), dive.spans.now.as_slice()) {
+        return add_settled(alloc, b, pools, master, class, block, dive);
+    }
     let first = first_like(inner, block);
     add_class(alloc, b, pools, master, class, first)
+}
+
+// Adds the one point of a block that is left, which no bound tells, as a column of a class; whether it is a new column.
+fn add_settled(
+    alloc: Global,
+    b: &Blocked,
+    pools: &mut Pools,
+    master: &mut RestrictedMaster,
+    class: u32,
+    block: u32,
+    dive: &Dive,
+) -> Result<bool, AllocError>
+    requires made_for { AreMadeFor b.now pools.old }
+    requires there { block < length b.now.blocking.blocks }
+    ensures made_for { AreMadeFor b.now pools.new }
+{
+    let spans = block_spans(alloc, b.block(block), dive.spans.now.as_slice())?;
+    let point = lows(alloc, spans.as_slice())?;
+    let Some(place) = pools.add_point(alloc, b, block, point.as_slice())? else {
+        return Ok(false);
+    };
+    match pools.column(place) {
+        None => Ok(false),
+        Some(column) => master.add_if_better(alloc, column, class, place),
+    }
 }
 
 // The first block of a block's class.
