@@ -19,8 +19,9 @@ TOP = os.path.dirname(os.path.dirname(os.path.realpath(__file__)))
 PROGRAM = os.path.realpath(os.environ.get("BPRICE", f"{TOP}/bprice"))
 RUNS = int(os.environ.get("RUNS", "3"))
 NAMES = [
-    "assignment-gen-60", *(f"assignment-gen-100-s{seed}" for seed in (2, 3, 5, 7, 8)), "assignment-gen-150", "assignment-gen-200", "assignment-E-5-100",
-    "facility-20-60", "crews-20-50", "assignment-D-5-30+", "general-10-12+", "crews-15-40+", "crews-20-50+", "facility-25-70+", "general-8-16+",
+    "lots-4-6", "general-10-10", "vehicles-two-6-36", "facility-12-40", "assignment-gen-40", "assignment-gen-60", "crews-20-50", "facility-20-60",
+    *(f"assignment-gen-100-s{seed}" for seed in (2, 3, 7, 8)), "assignment-gen-150", "assignment-E-5-100", "assignment-gen-200", "assignment-gen-300",
+    "assignment-D-5-30+", "general-10-12+", "crews-15-40+", "crews-20-50+", "facility-25-70+", "general-8-16+",
 ]
 
 

@@ -99,8 +99,26 @@ def test_time(large):
     accepted(large, "lp", "cert")
 
 
+def test_signal_in_the_first_call(large, monkeypatch):
+    """It leaves nothing, neither a file nor a process. A script stands for a call that takes long."""
+    script = large / "slow"
+    script.write_text("#!/bin/sh\necho $$ >pid\nexec sleep 50\n")
+    script.chmod(0o755)
+    monkeypatch.setenv("BPRICE", str(script))
+    with start("lp", "--cert", "cert", cwd=large) as ran:
+        while not (large / "pid").exists() or not (large / "pid").read_text():
+            time.sleep(0.01)
+        ran.send_signal(signal.SIGINT)
+        out, err = ran.communicate(timeout=20)
+    assert (out, err, ran.returncode) == ("", "bprice-run: stopped before the first report\n", 5)
+    with pytest.raises(ProcessLookupError):
+        os.kill(int((large / "pid").read_text()), 0)
+    assert not list(large.glob("cert*"))
+
+
 @pytest.mark.parametrize("number", [signal.SIGINT, signal.SIGTERM])
 def test_signals(large, number):
+    told("lp", "--cert", "cert", "--steps", 7, cwd=large)
     with start("lp", "--cert", "cert", cwd=large) as ran:
         line = ran.stderr.readline()
         ran.send_signal(number)
@@ -142,6 +160,19 @@ def test_refusals(large):
     assert not (large / "cert").exists()
 
 
+def test_words(large):
+    """A name and its value in one word; what is no word, has no value or a wrong one; a file that would be written and read."""
+    assert told("lp", "--cert=cert", "--steps=1", cwd=large)[2] == 5
+    (large / "lp.part").write_bytes((large / "lp").read_bytes())
+    for words, what in ((("lp",), "--cert CERT"), (("lp", "dec", "--cert", "cert"), "dec"), (("lp", "--cert", "cert", "--times", 1), "--times"),
+                        (("lp", "--cert", "cert", "--gap", "-1"), "--gap"), (("lp", "--cert", "cert", "--steps"), "--steps"),
+                        (("lp.part", "--cert", "lp"), "lp.part would be written")):
+        out, err, status = told(*words, cwd=large)
+        assert (out, status) == ("", 2) and err.startswith("bprice-run: ") and what in err
+    assert (large / "lp.part").exists()
+    assert told("--help")[0].startswith("Solves a model")
+
+
 def test_auto_decomposition(small):
     out, err, status = told("lp", "--cert", "cert", "--dec", "auto", "--time", 40, cwd=small)
     if knows("propose", "none.lp", "none.dec"):
@@ -171,5 +202,5 @@ def test_program_without_going_on(large, monkeypatch):
     script.write_text(f'#!/bin/sh\nfor word; do [ "$word" = --from ] && echo refused words && exit 2; done\nexec {PROGRAM} "$@"\n')
     script.chmod(0o755)
     monkeypatch.setenv("BPRICE", str(script))
-    out, err, status = told("lp", "--cert", "cert", cwd=large, env=os.environ)
+    out, err, status = told("lp", "--cert", "cert", "--time", 20, cwd=large, env=os.environ)
     assert (out, status) == ("refused words\n", 2) and "no `solve --from`" in err
