@@ -2,16 +2,18 @@
 """How much faster many processes solve a model than one search: farm/run with GNU parallel on this machine, beside one `solve`.
 
     bench/farm.py [NAME..]          for each model: seconds by the clock and steps of one search, and of farms of 1, 2 and 4 workers
+    bench/farm.py --reckon [NAME..] the same by processor seconds, for a machine that has other work: see reckoned.py
     bench/farm.py --kills [RUNS]    so many runs of two workers (100) in which half of the processes are killed at random
     BPRICE=program bench/farm.py    another program than ./bprice
 
 A NAME is one of bench/models.py, with `:plain` behind it without its decomposition. The machine should have four idle cores. Each farm's
 certificate is judged by `check` and by tools/check_certificate.py, as farm/run does; what these take is not counted. It ends with status 1
-where an answer is wrong.
+where an answer is wrong. WORKERS=4 in the environment measures farms of 4 workers alone.
 """
 import os
 import pathlib
 import re
+import resource
 import subprocess
 import sys
 import tempfile
@@ -24,9 +26,10 @@ import crews  # noqa: E402
 from models import make  # noqa: E402
 
 BPRICE = os.path.abspath(os.environ.get("BPRICE", HERE.parent / "bprice"))
-RUN = HERE.parent / "farm" / "run"
+RUN, RECKONED = HERE.parent / "farm" / "run", HERE / "reckoned.py"
 MODELS = ("assignment-gen-300:plain", "assignment-E-5-100:plain", "crews-20-50")
-WORKERS = (1, 2, 4)
+WORKERS = [int(word) for word in os.environ.get("WORKERS", "1 2 4").split()]
+IS_RECKONED = "--reckon" in sys.argv[1:]
 
 # Half of the processes of workers are killed, after up to twenty thousandths of a second, if they live so long.
 DIES = """#!/usr/bin/env bash
@@ -51,16 +54,22 @@ class Model:
 
     def alone(self, room):
         """The first line that one search prints, its seconds, and its steps."""
-        cert, begin = room / "alone.cert", time.monotonic()
+        cert, begin = room / "alone.cert", seconds()
         ran = subprocess.run([BPRICE, "solve", self.lp, *(["--dec", self.dec] if self.dec else []), "--cert", cert], capture_output=True, text=True, check=False)
-        seconds = time.monotonic() - begin
+        took = seconds() - begin
         text = cert.read_bytes()
-        return ran.stdout.split("\n", 1)[0], seconds, text.count(b"\nsplit ") + text.count(b"\nleaf ")
+        return ran.stdout.split("\n", 1)[0], took, text.count(b"\nsplit ") + text.count(b"\nleaf ")
+
+
+def seconds():
+    """The time by the clock, or what all children took of processors."""
+    used = resource.getrusage(resource.RUSAGE_CHILDREN)
+    return used.ru_utime + used.ru_stime if IS_RECKONED else time.monotonic()
 
 
 def farm(folder, lp, dec, workers, program=BPRICE, steps=None):
     """The first line that a farm prints, and of its log the seconds to the end of the search, the steps of its tree, and how many workers died."""
-    words = [sys.executable, RUN, lp, *([dec] if dec else []), folder, "--workers", workers, "--bprice", program, *(["--steps", steps] if steps else [])]
+    words = [sys.executable, RECKONED if IS_RECKONED else RUN, lp, *([dec] if dec else []), folder, "--workers", workers, "--bprice", program, *(["--steps", steps] if steps else [])]
     ran = subprocess.run(list(map(str, words)), capture_output=True, text=True, check=False)
     log = (folder / "log").read_text(encoding="ascii").splitlines() if (folder / "log").exists() else []
     ended = re.fullmatch(r"\S+ \S+ +(\S+) ended: .* died (\d+), .*steps (\d+)", log[-1]) if log else None
@@ -80,9 +89,11 @@ def measure(names):
             first, alone, steps = model.alone(room)
             print(f"| {model.name} | one search | {first} | {alone:.1f} | | {steps} | |", flush=True)
             for workers in WORKERS:
-                answer, seconds, taken, _ = farm(room / f"farm-{workers}", model.lp, model.dec, workers)
+                answer, took, taken, _ = farm(room / f"farm-{workers}", model.lp, model.dec, workers)
                 is_right = is_right and answer == first
-                print(f"| {model.name} | {workers} | {answer} | {seconds:.1f} | {alone / max(seconds, 1e-3):.2f} | {taken} | {taken / steps:.2f} |", flush=True)
+                print(f"| {model.name} | {workers} | {answer} | {took:.1f} | {alone / max(took, 1e-3):.2f} | {taken} | {taken / steps:.2f} |", flush=True)
+                if os.environ.get("LOGS"):
+                    print((room / f"farm-{workers}" / "log").read_text(encoding="ascii"), flush=True)
     return is_right
 
 
@@ -112,7 +123,7 @@ def kill(runs):
 
 
 def main():
-    words = [word for word in sys.argv[1:] if word != "--kills"]
+    words = [word for word in sys.argv[1:] if word not in ("--kills", "--reckon")]
     is_right = kill(int(words[0]) if words else 100) if "--kills" in sys.argv[1:] else measure(words or MODELS)
     sys.exit(0 if is_right else 1)
 

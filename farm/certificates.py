@@ -1,13 +1,14 @@
-"""What the driver reads of a certificate: its claim, how far its tree is, and its open leaves. It judges nothing."""
+"""What the driver knows of certificates: the tree, the parts of it that workers begin with, and how what they bring back is put into it. It
+judges nothing."""
 import re
 from typing import NamedTuple
 
+TRIVIAL = b"open 1 rows 0 priced 0\n"  # an open leaf with no multipliers
+
 
 class Leaf(NamedTuple):
-    """An open leaf: its number among the `open` lines, from 1, and the way down to it. A way is a 1, and then a binary digit for each split,
-    0 for its low part and 1 for its high part."""
+    """The way down to an open leaf: a 1, and then a binary digit for each split, 0 for its low part and 1 for its high part."""
 
-    number: int
     way: int
 
     @property
@@ -15,12 +16,24 @@ class Leaf(NamedTuple):
         return self.way.bit_length() - 1
 
 
-class Tree(NamedTuple):
-    """The words of the claim, how many splits and shut leaves there are, and the open leaves in the order of their lines."""
+class Tree:
+    """A certificate: its claim, the line of its point, empty where there is none, the lines of its nodes by their ways, the ways of its open
+    leaves, and how many splits and shut leaves it has."""
 
-    claim: str
-    steps: int
-    leaves: list
+    def __init__(self, name):
+        self.lines, self.open, ways = {}, set(), [1]
+        with open(name, "rb") as lines:
+            self.claim = [next(lines), next(lines)][1][6:-1].decode("ascii")
+            self.point = b"" if self.value is None else next(lines)
+            for line in lines:
+                if line == b"end\n":
+                    break
+                way = ways.pop()
+                self.lines[way] = line
+                if line.startswith(b"split "):
+                    ways += [2 * way + 1, 2 * way]
+                elif line.startswith(b"open "):
+                    self.open.add(way)
 
     @property
     def value(self):
@@ -28,45 +41,58 @@ class Tree(NamedTuple):
         found = re.search(r"(?:value|optimal) (-?\d+)$", self.claim)
         return int(found[1]) if found else None
 
+    @property
+    def steps(self):
+        return len(self.lines) - len(self.open)
+
+    def leaves(self):
+        """The open leaves, the shallowest first."""
+        return [Leaf(way) for way in sorted(self.open)]
+
+    def text(self, bound, ways=None):
+        """The certificate under a claim of a bound, and the numbers of these open leaves in it, from 1. Where ways are given, it has the ways to
+        these leaves and nothing else of the tree: what stands beside is open, with no multipliers."""
+        above = {way >> up for way in ways for up in range(way.bit_length())} if ways else self.lines
+        value = "" if self.value is None else f" value {self.value}"
+        lines, numbers, count, stack = [b"bpcert 1\n", f"claim bound {bound}{value}\n".encode(), self.point], [], 0, [1]
+        while stack:
+            way = stack.pop()
+            line = self.lines[way] if way in above else TRIVIAL
+            lines.append(line)
+            if line.startswith(b"split "):
+                stack += [2 * way + 1, 2 * way]
+            elif line.startswith(b"open "):
+                count += 1
+                if ways and way in ways:
+                    numbers.append(count)
+        return b"".join([*lines, b"end\n"]), numbers
+
+    def has_way(self, other, way):
+        """Whether another tree splits as this one does above the end of a way."""
+        return all(self.lines.get(way >> up) == other.lines.get(way >> up) for up in range(1, way.bit_length()))
+
+    def take(self, other, ways, bound):
+        """Puts what another tree has at the ends of these ways in place of the open leaves there, and takes its point where that is better: nearer
+        to the model's bound. How many of these leaves were worked on, and the steps that come with it."""
+        steps, worked = self.steps, 0
+        for top in self.open & ways:
+            self.open.remove(top)
+            worked += other.lines[top] != self.lines[top]
+            stack = [top]
+            while stack:
+                way = stack.pop()
+                line = self.lines[way] = other.lines[way]
+                if line.startswith(b"split "):
+                    stack += [2 * way, 2 * way + 1]
+                elif line.startswith(b"open "):
+                    self.open.add(way)
+        if other.value is not None and (self.value is None or abs(other.value - bound) < abs(self.value - bound)):
+            self.claim, self.point = f"bound {self.claim.split(' ')[1]} value {other.value}", other.point
+        return worked, self.steps - steps
+
 
 def is_below(way, ways):
     """Whether a way leads through the end of one of these, or is one of them."""
     while way and way not in ways:
         way >>= 1
     return way > 0
-
-
-def walk(lines):
-    """The word and the way of each node."""
-    ways = [1]
-    for line in lines:
-        word = line[:5]
-        if word in (b"split", b"leaf ", b"open "):
-            way = ways.pop()
-            if word == b"split":
-                ways += [2 * way + 1, 2 * way]
-            yield word, way
-
-
-def read_tree(name):
-    """The tree of a certificate's file."""
-    steps, leaves = 0, []
-    with open(name, "rb") as lines:
-        claim = [next(lines), next(lines)][1][6:-1].decode("ascii")
-        for word, way in walk(lines):
-            if word == b"open ":
-                leaves.append(Leaf(len(leaves) + 1, way))
-            else:
-                steps += 1
-    return Tree(claim, steps, leaves)
-
-
-def steps_below(name, tops):
-    """How many splits and shut leaves the tree of a certificate's file has at the ends of these ways and below them."""
-    steps, inside = 0, None
-    with open(name, "rb") as lines:
-        for word, way in walk(lines):
-            if inside is None or way.bit_length() <= inside:
-                inside = way.bit_length() if way in tops else None
-            steps += inside is not None and word != b"open "
-    return steps
