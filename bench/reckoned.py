@@ -54,7 +54,7 @@ class Clock:
 class Places:
     """Stands for GNU parallel."""
 
-    AHEAD, SHORTEST, LONGEST = 200, 1.0, 60.0
+    AHEAD, SHORTEST, LONGEST = 200, 3.0, 60.0
 
     def __init__(self, farm, clock, folder, workers):
         self.farm, self.clock, self.folder, self.free, self.running, self.count = farm, clock, folder, [0.0] * workers, [], 0

@@ -67,6 +67,11 @@ class Tree:
                     numbers.append(count)
         return b"".join([*lines, b"end\n"]), numbers
 
+    def shows(self, bound):
+        """Whether the claim says by itself that no point is past this bound, which lies beyond all values."""
+        word, number = self.claim.split(" ")[:2] if " " in self.claim else (self.claim, "0")
+        return word != "bound" or int(number) == bound or self.value is not None and (int(number) - bound) * (self.value - bound) > 0
+
     def has_way(self, other, way):
         """Whether another tree splits as this one does above the end of a way."""
         return all(self.lines.get(way >> up) == other.lines.get(way >> up) for up in range(1, way.bit_length()))

@@ -38,7 +38,7 @@ class Parallel:
     sent where those of real ones do not suffice."""
 
     AHEAD = 200  # at most so many jobs wait, and no more than are worked on: parallel reads lines as it needs them, from a pipe
-    SHORTEST, LONGEST = 1.0, 60.0  # seconds of a job
+    SHORTEST, LONGEST = 3.0, 60.0  # seconds of a job
     PULSE = 0.5  # seconds from one idle line to the next
 
     def __init__(self, folder, workers, hosts, is_dry):

@@ -14,6 +14,7 @@ from conftest import PROGRAM, TOP, load_tool, run
 RUN = TOP / "farm" / "run"
 CHECKER = load_tool(TOP / "tools" / "check_certificate.py")
 CREWS = load_tool(TOP / "bench" / "crews.py")
+CERTIFICATES = load_tool(TOP / "farm" / "certificates.py")
 pytestmark = pytest.mark.skipif(shutil.which("parallel") is None, reason="GNU parallel is not installed, which runs the farm's processes (Debian: parallel)")
 
 
@@ -70,6 +71,30 @@ fi
     return program
 
 
+def test_a_part_is_a_certificate_that_goes_back_into_the_tree(plan, tmp_path):
+    lp, _ = plan
+    bound = int(run("solve", lp, "--steps", 0)[0].split("\n")[1].removeprefix("bound "))
+    run("solve", lp, "--steps", 20, "--cert", tmp_path / "tree")
+    tree = CERTIFICATES.Tree(tmp_path / "tree")
+    assert len(tree.open) > 2 and tree.text(bound)[0].split(b"\n")[2:] == (tmp_path / "tree").read_bytes().split(b"\n")[2:]
+    for every in (100, 2):
+        ways = set(sorted(tree.open)[::every])
+        text, numbers = tree.text(bound, ways)
+        (tmp_path / "part").write_bytes(text)
+        assert run("check", lp, tmp_path / "part")[0].startswith(f"accepted bound {bound}") and len(numbers) == len(ways)
+        assert run("solve", lp, "--from", tmp_path / "part", "--leaf", numbers[-1], "--steps", 5, "--cert", tmp_path / "new")[1] == 5
+        part = CERTIFICATES.Tree(tmp_path / "new")
+        assert all(tree.has_way(part, way) for way in ways)
+        steps = tree.steps
+        leaves, more = tree.take(part, ways, bound)
+        assert (leaves, tree.steps) == (1, steps + more) and more > 0
+        (tmp_path / "whole").write_bytes(tree.text(bound)[0])
+        assert run("check", lp, tmp_path / "whole")[0].startswith(f"accepted bound {bound}")
+    other = CERTIFICATES.Tree(tmp_path / "new")
+    other.lines[1] = b"split 1 99\n"
+    assert not tree.has_way(other, max(tree.open))
+
+
 def test_two_workers_find_what_one_search_finds(plan, tmp_path):
     lp, first = plan
     told, status, _ = farm(lp, tmp_path / "dir")
@@ -107,6 +132,17 @@ def test_what_is_no_certificate_is_put_aside(plan, tmp_path):
     lp, first = plan
     lies = stand_in(tmp_path, 'if [ $leaf = 1 ] && [ $turn = 0 ]; then PROGRAM "$@"; for last; do :; done; sed -i "s/^claim.*/claim optimal 1/" "$last"; exit 0; fi\nexec PROGRAM "$@"\n')
     told, status, noise = farm(lp, tmp_path / "dir", program=lies)
+    assert (told.split("\n", 1)[0], status) == (first, 0), noise
+    assert accepted(tmp_path / "dir", lp) == first
+    assert os.listdir(tmp_path / "dir" / "refused")
+
+
+def test_bounds_that_are_weaker_than_the_model_s_own_are_put_aside(plan, tmp_path):
+    """A worker brings back a valid certificate that claims next to nothing: the tree would not be valid with it."""
+    lp, first = plan
+    worse = stand_in(tmp_path, 'if [ $leaf = 1 ] && [ "$(wc -l <"$0.leaves")" -lt 4 ]; then PROGRAM "$@"; for last; do :; done; '
+                     'sed -i "s/^claim bound [0-9]*/claim bound 999999999/; s/^open .*/open 1 rows 1 1 -9999 priced 0/" "$last"; exit 5; fi\nexec PROGRAM "$@"\n')
+    told, status, noise = farm(lp, tmp_path / "dir", program=worse)
     assert (told.split("\n", 1)[0], status) == (first, 0), noise
     assert accepted(tmp_path / "dir", lp) == first
     assert os.listdir(tmp_path / "dir" / "refused")
