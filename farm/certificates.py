@@ -1,24 +1,14 @@
 """What the driver knows of certificates: the tree, the parts of it that workers begin with, and how what they bring back is put into it. It
 judges nothing."""
 import re
-from typing import NamedTuple
 
 TRIVIAL = b"open 1 rows 0 priced 0\n"  # an open leaf with no multipliers
 
 
-class Leaf(NamedTuple):
-    """The way down to an open leaf: a 1, and then a binary digit for each split, 0 for its low part and 1 for its high part."""
-
-    way: int
-
-    @property
-    def depth(self):
-        return self.way.bit_length() - 1
-
-
 class Tree:
     """A certificate: its claim, the line of its point, empty where there is none, the lines of its nodes by their ways, the ways of its open
-    leaves, and how many splits and shut leaves it has."""
+    leaves, and how many splits and shut leaves it has. A way is a 1, and then a binary digit for each split, 0 for its low part and 1 for its
+    high part."""
 
     def __init__(self, name):
         self.lines, self.open, ways = {}, set(), [1]
@@ -44,10 +34,6 @@ class Tree:
     @property
     def steps(self):
         return len(self.lines) - len(self.open)
-
-    def leaves(self):
-        """The open leaves, the shallowest first."""
-        return [Leaf(way) for way in sorted(self.open)]
 
     def text(self, bound, ways=None):
         """The certificate under a claim of a bound, and the numbers of these open leaves in it, from 1. Where ways are given, it has the ways to
