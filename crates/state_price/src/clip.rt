@@ -63,7 +63,25 @@ pub fn clipped(window: &Span, coef: &i64, number: &i64, hull: &Span) -> Option<S
     })
 }
 
-/// Moves a state's windows by a number of a variable with this column. Tells whether each row has a window left.
+/// Whether a row that the variable stands in has no window left after a number.
+fn is_lost(state: &[Span], column: &[i64], hulls: &[Span], number: &i64) -> bool
+    requires column { length column.now ≡ length state.now }
+    requires hulls { length hulls.now ≡ length state.now }
+    ensures { OnTrue result (IsLost column.now hulls.now state.now number.now) }
+{
+    for row in 0..column.len() {
+        if column[row] != 0 {
+            match clipped(&state[row], &column[row], number, &hulls[row]) {
+                Some(_) => {}
+                None => return true,
+            }
+        }
+    }
+    false
+}
+
+/// Moves a state's windows by a number of a variable with this column. Tells whether each row has a window left. The rows
+/// that the variable stands in are looked at first, since most numbers that are lost are lost there.
 pub fn move_state(
     moved: &mut Vec<Span>,
     state: &[Span],
@@ -78,6 +96,9 @@ pub fn move_state(
     ensures moved { OnTrue result (IsMoved column.now hulls.now state.now number.now moved.new.items) }
     ensures lost { OnFalse result (IsLost column.now hulls.now state.now number.now) }
 {
+    if is_lost(state, column, hulls, number) {
+        return false;
+    }
     for row in 0..state.len() {
         match clipped(&state[row], &column[row], number, &hulls[row]) {
             Some(window) => moved[row] = window,
