@@ -1,5 +1,6 @@
 -- Programs in blocks, and blocks beside their spans at the root.
 use Rattle.std.specs.Prelude.{◌≡◌, ℕ, List, [], ◌∷◌, map, length, ℤ, All, Option, ◌≤◌, ◌<◌, slice_index_or}
+use Rattle.bp_theory.specs.Limits.{most_parts}
 use Rattle.bp_theory.specs.Blocking.{Copy, Block, Blocking}
 use Rattle.bp_theory.specs.Bound.{spans_of}
 use Rattle.bp_theory.specs.Decomposition.{Decomposition, HasPlaces, IsLinking, blocking_of}
@@ -18,12 +19,12 @@ pub record BlockedProgram : Type 0 where
   pub dec : Decomposition
   pub blocking : Blocking
 
--- what a program in blocks keeps: its limits, at most 8,192 blocks, a place for each row, no variable in rows of two blocks, and the blocking
+-- what a program in blocks keeps: its limits, at most so many blocks as may be, a place for each row, no variable in rows of two blocks, and the blocking
 -- that the decomposition gives the program
 pub record IsFormed (b : BlockedProgram) : Type 0 where
   pub kept : IsKept b.named
   pub places : HasPlaces b.named.program b.dec
-  pub count : length b.blocking.blocks ≤ 8192
+  pub count : length b.blocking.blocks ≤ most_parts
   pub apart : (v : ℕ) → IsLinking b.named.program b.dec v → ⊥
   pub blocking : b.blocking ≡ blocking_of b.named.program b.dec []
 

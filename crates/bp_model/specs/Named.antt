@@ -1,5 +1,6 @@
 -- Programs with the names of their variables and rows, and what a model keeps of one.
 use Rattle.std.specs.Prelude.{◌≡◌, ℕ, ◌+◌, ◌*◌, ◌<◌, ◌≤◌, ◌^◌, unsigned_abs, sum_by, List, length, ℤ, All}
+use Rattle.bp_theory.specs.Limits.{most_digits, most_rows, most_variables}
 use Rattle.std.specs.List.{IsDistinct}
 use Rattle.std.specs.Str.{bytes_eq}
 use Rattle.bp_theory.specs.Program.{Program, KeepsActivity, span_at, reach}
@@ -32,9 +33,9 @@ pub record IsKept (m : NamedProgram) : Type 0 where
   pub rows_distinct : IsDistinct bytes_eq m.row_names
   pub proper : IsProper m.program.spans
   pub ends : All HasSmallEnds m.program.spans
-  pub variables : length m.program.spans ≤ 4096
-  pub rows : length m.program.rows ≤ 8192
-  pub bits : zone_bits m.program.spans ≤ 8192
+  pub variables : length m.program.spans ≤ most_variables
+  pub rows : length m.program.rows ≤ most_rows
+  pub bits : zone_bits m.program.spans ≤ most_digits
   pub closed : IsClosed m.program
   pub tidy_costs : IsTidyFrom 0 m.program.costs
   pub tidy_rows : All (λ row. IsTidyFrom 0 row.terms) m.program.rows

@@ -1,5 +1,6 @@
 -- What a model is made of, and what it is refused for.
 use Rattle.std.specs.Prelude.{◌≡◌, ℕ, ◌+◌, ◌<◌, ◌≤◌, ◌^◌, unsigned_abs, sum_by, Bool, List, length, ℤ, pos, ◌≤ℤ◌, ◌<ℤ◌, All, Option, None, Some, slice_index_or}
+use Rattle.bp_theory.specs.Limits.{most_digits, most_rows, most_terms, most_variables}
 use Rattle.std.specs.List.{AllZip}
 use Rattle.bp_theory.specs.Program.{Program, coefficient, span_at, KeepsActivity}
 use Rattle.bp_theory.specs.Decomposition.{HasVariablesBelow, IsTidyFrom}
@@ -67,30 +68,30 @@ pub record IsFirstLarge (p : Program) (row : ℕ) : Type 0 where
 
 -- too many variables, rows or written terms, or a span's end past the numbers of texts
 pub data IsOverLimit (parts : Parts) : Type 0 where
-  variables : 4096 < length parts.spans → IsOverLimit parts
-  rows : 8192 < length parts.rows → IsOverLimit parts
-  terms : 65536 < written_terms parts → IsOverLimit parts
+  variables : most_variables < length parts.spans → IsOverLimit parts
+  rows : most_rows < length parts.rows → IsOverLimit parts
+  terms : most_terms < written_terms parts → IsOverLimit parts
   ends : (All HasSmallEnds parts.spans → ⊥) → IsOverLimit parts
 
 -- the numbers of variables, rows and written terms and the spans' ends keep the limits
 pub record IsWithinLimits (parts : Parts) : Type 0 where
-  pub variables : length parts.spans ≤ 4096
-  pub rows : length parts.rows ≤ 8192
-  pub terms : written_terms parts ≤ 65536
+  pub variables : length parts.spans ≤ most_variables
+  pub rows : length parts.rows ≤ most_rows
+  pub terms : written_terms parts ≤ most_terms
   pub ends : All HasSmallEnds parts.spans
 
 -- the first fault of parts, in order: a crossed span, the bits, an activity (of the objective first), a limit
 abbrev pub HasModelFault : Parts → ModelFault → Type 0
 HasModelFault parts (Crossed v) = IsFirstCrossed parts.spans v
-HasModelFault parts Bits = NoneCrossed parts.spans × (8192 < zone_bits parts.spans)
+HasModelFault parts Bits = NoneCrossed parts.spans × (most_digits < zone_bits parts.spans)
 HasModelFault parts (Activity None) =
-    NoneCrossed parts.spans × (zone_bits parts.spans ≤ 8192)
+    NoneCrossed parts.spans × (zone_bits parts.spans ≤ most_digits)
     × ((m : NamedProgram) × Makes parts m × (2 ^ 62 ≤ cost_limit m.program))
 HasModelFault parts (Activity (Some row)) =
-    NoneCrossed parts.spans × (zone_bits parts.spans ≤ 8192)
+    NoneCrossed parts.spans × (zone_bits parts.spans ≤ most_digits)
     × ((m : NamedProgram) × Makes parts m × (cost_limit m.program < 2 ^ 62) × IsFirstLarge m.program row)
 HasModelFault parts Limit =
-    NoneCrossed parts.spans × (zone_bits parts.spans ≤ 8192)
+    NoneCrossed parts.spans × (zone_bits parts.spans ≤ most_digits)
     × ((m : NamedProgram) × Makes parts m × (cost_limit m.program < 2 ^ 62) × All (KeepsActivity m.program) m.program.rows)
     × IsOverLimit parts
 HasModelFault parts NoMemory = Unit {0}

@@ -1,5 +1,6 @@
 -- Terms added up: sums by variable, their limits at spans, and what the steps of making a model tell.
 use Rattle.std.specs.Prelude.{◌≡◌, ℕ, ◌+◌, ◌*◌, ◌<◌, ◌≤◌, ◌^◌, unsigned_abs, sum_by, max, not, List, map, filter, take, length, ℤ, pos, All, Option, None, Some, slice_index_or}
+use Rattle.bp_theory.specs.Limits.{most_digits}
 use Rattle.std.specs.List.{AllZip}
 use Rattle.std.specs.Ordering.{int_eq}
 use Rattle.bp_theory.specs.Program.{span_at, reach}
@@ -77,7 +78,7 @@ HasCostsFault spans constant costs NoMemory = Unit {0}
 -- what is wrong with spans
 abbrev pub HasSpansFault : List Span → ModelFault → Type 0
 HasSpansFault spans (Crossed v) = IsFirstCrossed spans v
-HasSpansFault spans Bits = NoneCrossed spans × (8192 < zone_bits spans)
+HasSpansFault spans Bits = NoneCrossed spans × (most_digits < zone_bits spans)
 HasSpansFault spans (Activity row) = ⊥
 HasSpansFault spans Limit = ⊥
 HasSpansFault spans NoMemory = ⊥
@@ -86,7 +87,7 @@ HasSpansFault spans NoMemory = ⊥
 pub record CanAssemble (parts : Parts) (costs : List Term) (rows : List Row) : Type 0 where
   pub fitting : AreFitting parts
   pub proper : NoneCrossed parts.spans
-  pub bits : zone_bits parts.spans ≤ 8192
+  pub bits : zone_bits parts.spans ≤ most_digits
   pub costs_small : IsSmall parts.spans (unsigned_abs parts.constant) parts.costs costs
   pub rows_small : AllZip (IsSmallRow parts.spans) parts.rows rows
   pub limits : IsWithinLimits parts

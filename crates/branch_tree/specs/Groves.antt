@@ -1,5 +1,6 @@
 -- What a grove is, what it keeps, and what is done with it.
 use Rattle.std.specs.Prelude.{◌≡◌, ℕ, ◌+◌, ◌<◌, ◌≤◌, ◌^◌, List, [], ◌∷◌, ◌++◌, length, Some, None, ℤ, unsigned_abs, refl}
+use Rattle.bp_theory.specs.Limits.{greatest_depth}
 use Rattle.std.specs.Coded.{Coded, code_by, coded×, coded_list, coded_ℕ}
 use base.Stored.{coded_ℤ}
 use Rattle.bp_theory.specs.Bound.{IsBound, plain_proof}
@@ -39,7 +40,7 @@ pub record IsStanding (g : GroveState) : Type 0 where
   pub proper : IsProper g.root
   pub splits : HasSoundSplits (certificate_tree g.tree) g.root
   pub queued : IsQueue g.tree (queue_of g.queue) (made g.tree)
-  pub deep : depth (certificate_tree g.tree) ≤ 8256
+  pub deep : depth (certificate_tree g.tree) ≤ greatest_depth
   pub few : made g.tree < 2 ^ 64
   pub fewer : live_count g.tree ≤ steps (certificate_tree g.tree) + 1
 

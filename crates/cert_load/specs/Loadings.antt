@@ -1,5 +1,6 @@
 -- What is loaded of a certificate, and on the way down its tree.
 use Rattle.std.specs.Prelude.{◌≡◌, ℕ, ◌+◌, ◌<◌, ◌≤◌, ◌^◌, Option, Some, None, Result, Ok, Err, ℤ}
+use Rattle.bp_theory.specs.Limits.{greatest_depth}
 use Rattle.bp_theory.specs.Blocking.{Blocking}
 use Rattle.bp_theory.specs.Trees.{Tree, depth, IsZone}
 use Rattle.bp_theory.specs.Claims.{Certificate}
@@ -44,7 +45,7 @@ LoadsCert b cert (Err NoMemory) = Unit {0}
 pub record MayLoad (b : BlockedProgram) (best : Option ℤ) (at : Walk) (tree : Tree) : Type 0 where
   pub zone : IsZone b.named.program.spans at.zone
   pub can : CanLoad b.blocking best at.zone tree
-  pub shallow : at.depth + depth tree ≤ 8256
+  pub shallow : at.depth + depth tree ≤ greatest_depth
   pub few : at.line + node_count tree < 2 ^ 64
 
 -- a walk came back from a node that is loaded: it stands behind the node's lines

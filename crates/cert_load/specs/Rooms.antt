@@ -1,5 +1,6 @@
 -- The room that the live leaves of a loaded tree need, line by line.
 use Rattle.std.specs.Prelude.{◌≡◌, ℕ, ◌+◌, ◌<◌, ◌≤◌, ◌^◌, List, [], ◌∷◌, ◌++◌, length, Option, Some, None, ℤ, pos, ◌*ℤ◌, ◌-ℤ◌, ◌<ℤ◌, ◌⊎◌, unsigned_abs, slice_index_or, nat_lt, if◌then◌else◌}
+use Rattle.bp_theory.specs.Limits.{greatest_depth}
 use Rattle.bp_theory.specs.Blocking.{Blocking}
 use Rattle.bp_theory.specs.Bound.{Fits}
 use Rattle.bp_theory.specs.Trees.{Tree, shut_leaf, open_leaf, split, low_part, high_part, depth, IsZone, IsSoundSplit}
@@ -20,8 +21,8 @@ rooms (fork v at low high) deep zone = 0 ∷ (rooms low (deep + 1) (low_part zon
 pub record IsFirstDeep (sizes : List ℕ) (first line : ℕ) : Type 0 where
   pub place : ℕ
   pub there : place < length sizes
-  pub deep : 8256 < slice_index_or sizes place 0
-  pub earlier : (k : ℕ) → k < place → slice_index_or sizes k 0 ≤ 8256
+  pub deep : greatest_depth < slice_index_or sizes place 0
+  pub earlier : (k : ℕ) → k < place → slice_index_or sizes k 0 ≤ greatest_depth
   pub numbered : line ≡ first + place
 
 -- the line of a tree's root in the text of a certificate: it stands behind two lines, or three where there is a point
@@ -37,7 +38,7 @@ IsLeaf (fork v at low high) = ⊥
 
 -- what was found of rooms: none above 8,256, or the line of the first that is
 abbrev pub FindsDeep : List ℕ → (first : ℕ) → Option ℕ → Type 0
-FindsDeep sizes first None = (k : ℕ) → slice_index_or sizes k 0 ≤ 8256
+FindsDeep sizes first None = (k : ℕ) → slice_index_or sizes k 0 ≤ greatest_depth
 FindsDeep sizes first (Some line) = IsFirstDeep sizes first line
 
 -- a line that was found already, or what is found of rooms

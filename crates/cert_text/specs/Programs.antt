@@ -8,7 +8,7 @@ use Rattle.bp_theory.specs.declared.Claim.{Claim}
 use Rattle.bp_theory.specs.declared.Claim.TheVariants.{Optimal, Infeasible, Bound}
 use Rattle.block_form.specs.Blocked.{BlockedProgram, IsFormed}
 use Rattle.cert_text.specs.Cert as texts
-use Rattle.cert_text.specs.Limits.{greatest_depth}
+use Rattle.bp_theory.specs.Limits.{greatest_depth}
 use Rattle.cert_text.specs.Text.{One}
 use Rattle.cert_text.specs.Fault.{IsText, IsFirstCertFault}
 use Rattle.cert_text.specs.Kept.{kept_cert}

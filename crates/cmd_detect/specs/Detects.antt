@@ -1,5 +1,6 @@
 -- What `detect` answers by the files.
 use Rattle.std.specs.Prelude.{◌≡◌, ℕ, ◌≤◌, List, [], Option, Some, None}
+use Rattle.bp_theory.specs.Limits.{most_blocks}
 use Rattle.bp_shelf.specs.Shelf.{Files}
 use Rattle.bp_theory.specs.Decomposition.{Decomposition}
 use Rattle.bp_model.specs.Named.{NamedProgram}
@@ -17,7 +18,7 @@ use Rattle.cmd_detect.specs.declared.Found.{Found}
 -- what master rows of a program are answered: more blocks than a decomposition may have, or the decomposition that is written
 pub data DetectsBeside (m : NamedProgram) (master : List ℕ) : Answer → Type 0 where
   many : HasTooMany m.program master → DetectsBeside m master (stops 3 (rows_refusal 0 Blocks))
-  found : (d : Decomposition) → IsFound m.program master d → d.blocks ≤ 4096
+  found : (d : Decomposition) → IsFound m.program master d → d.blocks ≤ most_blocks
       → DetectsBeside m master (record { status = 0; report = detected_report d.blocks; text = Some (text_of m d) })
 
 -- what the file of master rows is answered, beside a program

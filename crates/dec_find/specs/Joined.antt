@@ -1,5 +1,6 @@
 -- Rows that variables join outside the master, and the decomposition that has them as its blocks.
 use Rattle.std.specs.Prelude.{◌≡◌, ◌≢◌, ◌↔◌, ℕ, ◌<◌, List, [], ◌∷◌, length, Option, None, Some, Contains, slice_index_or, pos}
+use Rattle.bp_theory.specs.Limits.{most_blocks}
 use Rattle.bp_theory.specs.Program.{Program, coefficient}
 use Rattle.bp_theory.specs.Decomposition.{Decomposition, HasPlaces}
 use Rattle.bp_theory.specs.declared.Row.{Row}
@@ -49,7 +50,7 @@ pub record IsFound (p : Program) (master : List ℕ) (d : Decomposition) : Type 
 pub record HasTooMany (p : Program) (master : List ℕ) : Type 0 where
   pub found : Decomposition
   pub is_found : IsFound p master found
-  pub many : 4096 < found.blocks
+  pub many : most_blocks < found.blocks
 
 -- a decomposition has these master rows
 abbrev pub HasMaster : Program → (master : List ℕ) → Decomposition → Type 0

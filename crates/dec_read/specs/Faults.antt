@@ -1,5 +1,6 @@
 -- What is wrong with a token in its place, and with the end of a text.
 use Rattle.std.specs.Prelude.{◌==◌, ℕ, Bool, true, false, not, ◌&&◌, nat_le, if◌then◌else◌, List, Option, None, Some, slice_get, option_and_then}
+use Rattle.bp_theory.specs.Limits.{most_blocks}
 use Rattle.std.specs.List.{list_any}
 use Rattle.bp_model.specs.Named.{NamedProgram}
 use Rattle.dec_read.specs.Cut.{Token}
@@ -45,7 +46,7 @@ block_fault blocks n = if nat_le 1 n && nat_le n blocks then None else Some kind
 -- what is wrong with a keyword's number
 abbrev pub number_fault : ℕ → Keyword → ℕ → Option DecKind
 number_fault blocks Presolved n = if n == 0 then None else (if n == 1 then Some kinds.Presolved else Some kinds.Syntax)
-number_fault blocks Nblocks n = if nat_le n 4096 then None else Some kinds.Limit
+number_fault blocks Nblocks n = if nat_le n most_blocks then None else Some kinds.Limit
 number_fault blocks ConsDefaultMaster n = if nat_le n 1 then None else Some kinds.Syntax
 number_fault blocks Block n = block_fault blocks n
 number_fault blocks BlockVars n = block_fault blocks n

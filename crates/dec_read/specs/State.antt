@@ -1,5 +1,6 @@
 -- What a reader keeps of the tokens that it has taken.
 use Rattle.std.specs.Prelude.{◌≡◌, ℕ, ◌<◌, ◌≤◌, ◌==◌, Bool, true, false, List, ◌∷◌, map, drop, length, Option, None, Some, Result, Ok, Err}
+use Rattle.bp_theory.specs.Limits.{most_blocks}
 use Rattle.std.specs.declared.alloc.AllocError.{AllocError}
 use Rattle.bp_model.specs.Named.{NamedProgram}
 use Rattle.dec_read.specs.Cut.{Token, tokens}
@@ -43,7 +44,7 @@ pub record Keeps (m : NamedProgram) (reader : Reader) (earlier : List Part) : Ty
   pub counted : reader.counted ≡ has_come earlier Nblocks
   pub defaulted : reader.defaulted ≡ has_come earlier ConsDefaultMaster
   pub blocks : reader.blocks ≡ block_count earlier
-  pub few : reader.blocks ≤ 4096
+  pub few : reader.blocks ≤ most_blocks
   pub strict : reader.strict ≡ refuses_unlisted earlier
   pub rows : Lists m.row_names reader.rows (rows_listed earlier)
   pub listed : reader.listed.items ≡ vars_listed m.names earlier

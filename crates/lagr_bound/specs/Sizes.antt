@@ -1,5 +1,6 @@
 -- How large the sums of a bound can be.
 use Rattle.std.specs.Prelude.{ℕ, ◌+◌, ◌^◌, ◌<◌, ◌≤◌, unsigned_abs, sum_by, List, map, length, ℤ, pos, ◌*ℤ◌, All}
+use Rattle.bp_theory.specs.Limits.{greatest_scale, most_rows, most_variables}
 use Rattle.std.specs.List.Sorted.{IsStrictlyIncreasing}
 use Rattle.bp_theory.specs.Blocking.{Copy, Block, Blocking, row_at}
 use Rattle.bp_theory.specs.Bound.{spans_of, reduced_cost, side_at, end_cost, box_least}
@@ -11,14 +12,14 @@ use Rattle.pricing.specs.Form.{cost_size}
 -- a copy has a cost and coefficients below 2 to the 62, and at most 8,192 of them
 pub record IsSmallCopy (c : Copy) : Type 0 where
   pub cost : unsigned_abs c.cost < 2 ^ 62
-  pub few : length c.coefs ≤ 8192
+  pub few : length c.coefs ≤ most_rows
   pub coefs : All (λ e. unsigned_abs e.1 < 2 ^ 62) c.coefs
 
 -- a proof's scale and multipliers keep their limits, there are at most 8,192, and their rows ascend
 pub record IsSmallProof (proof : Proof) : Type 0 where
-  pub scale : proof.scale ≤ 2 ^ 20
+  pub scale : proof.scale ≤ greatest_scale
   pub sizes : All (λ m. unsigned_abs m.1 ≤ 2 ^ 40) proof.mults
-  pub few : length proof.mults ≤ 8192
+  pub few : length proof.mults ≤ most_rows
   pub ascend : IsStrictlyIncreasing (map (λ m. m.0) proof.mults)
 
 -- the reduced costs of a block's copies
@@ -45,7 +46,7 @@ base_size b proof =
 -- a block's copies are small, at most 4,096 and in the zone, and its reduced costs are at most 2 to the 116 together
 pub record IsSmallBlock (zone : List Span) (proof : Proof) (block : Block) : Type 0 where
   pub copies : All IsSmallCopy block.copies
-  pub few : length block.copies ≤ 4096
+  pub few : length block.copies ≤ most_variables
   pub there : All (λ c. c.var < length zone) block.copies
   pub size : block_size zone proof block ≤ 2 ^ 116
 

@@ -1,5 +1,6 @@
 -- What is noted of the tokens that are read, by what they name and count as.
 use Rattle.std.specs.Prelude.{◌≡◌, ◌⊎◌, ℕ, ◌+◌, ◌≤◌, Bool, true, false, ◌||◌, nat_lt, if◌then◌else◌, List, [], ◌∷◌, ◌++◌, map, length, Option, None, Some, decimal}
+use Rattle.bp_theory.specs.Limits.{most_rows, most_terms, most_variables}
 use Rattle.lp_token.specs.declared.LpKind.TheVariants.{RowTwice, Limit}
 use Rattle.lp_read.specs.declared.notes.Notes.{Notes}
 use Rattle.lp_read.specs.declared.notes.ParseFault.{ParseFault}
@@ -69,14 +70,14 @@ is_repeated_in r t = is_repeated r.row_names (row_of t.site t.symbol t.next)
 
 -- whether there is a variable, a row or a term too many
 abbrev pub are_too_many : Notes → Bool
-are_too_many r = nat_lt 4096 (length r.names) || (nat_lt 8192 (length r.row_names) || nat_lt 65536 r.terms)
+are_too_many r = nat_lt most_variables (length r.names) || (nat_lt most_rows (length r.row_names) || nat_lt most_terms r.terms)
 
 -- there are as many as may be, at most
 abbrev pub HaveRoom : Notes → Type 0
-HaveRoom r = (length r.names ≤ 4096) × (length r.row_names ≤ 8192) × (r.terms ≤ 65536)
+HaveRoom r = (length r.names ≤ most_variables) × (length r.row_names ≤ most_rows) × (r.terms ≤ most_terms)
 
 abbrev pub HaveRoomForVariables : Notes → Type 0
-HaveRoomForVariables r = length r.names ≤ 4096
+HaveRoomForVariables r = length r.names ≤ most_variables
 
 -- a row of this name is refused at its token, since an earlier one has it, or memory is wanting
 abbrev pub IsTwice : List Name → Name → ℕ → ParseFault → Type 0

@@ -1,5 +1,6 @@
 -- The parts of the model that a tree means, and what stands in their way.
 use Rattle.std.specs.Prelude.{◌≡◌, ℕ, ◌<◌, ◌≤◌, List, length, map, Some, None, slice_index_or, []}
+use Rattle.bp_theory.specs.Limits.{most_digits}
 use Rattle.bp_theory.specs.Digits.{zone_bits}
 use Rattle.bp_model.specs.declared.parts.Parts.{Parts}
 use Rattle.bp_model.specs.Named.{NamedProgram}
@@ -38,7 +39,7 @@ pub record AreVariablesSound (t : SyntaxTree) : Type 0 where
 -- parts whose spans and numbers keep the limits of a model
 pub record AreLimited (p : Parts) : Type 0 where
   pub proper : NoneCrossed p.spans
-  pub bits : zone_bits p.spans ≤ 8192
+  pub bits : zone_bits p.spans ≤ most_digits
   pub limits : IsWithinLimits p
 
 -- A tree's first fault: of a variable's bounds or digits at the first token that names it, of the objective's sums at

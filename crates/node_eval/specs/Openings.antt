@@ -1,5 +1,6 @@
 -- What pricing shows of a zone.
 use Rattle.std.specs.Prelude.{◌≡◌, ◌⊎◌, ◌<◌, ◌-◌, ◌^◌, ℕ, List, length, ℤ, pos, ◌*ℤ◌, ◌≤ℤ◌, IsTrue}
+use Rattle.bp_theory.specs.Limits.{most_prefixes}
 use Rattle.bp_theory.specs.Blocking.{Blocking}
 use Rattle.bp_theory.specs.Bound.{IsBound, IsEndless, is_picked, spans_of}
 use Rattle.bp_theory.specs.declared.Proof.{Proof}
@@ -28,7 +29,7 @@ pub record MayBeCut (b : Blocking) (zone : List Span) (proof : Proof) : Type 0 w
   pub block : ℕ
   pub there : block < length b.blocks
   pub picked : IsTrue (is_picked proof.picked block)
-  pub exceeded : IsExceeded (At 1048576) (spans_of zone (block_at b block))
+  pub exceeded : IsExceeded (At most_prefixes) (spans_of zone (block_at b block))
 
 -- a bound is no less than what a sound proof shows of a zone, or it is the greatest there is, or the pricing may be cut
 abbrev pub IsReached : Blocking → List Span → ℤ → Proof → Type 0

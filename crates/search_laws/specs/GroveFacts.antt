@@ -1,5 +1,6 @@
 -- What a growing tree keeps at every moment of a search.
 use Rattle.std.specs.Prelude.{ℕ, zero, suc, ◌+◌, ◌/◌, ◌^◌, ◌<◌, ◌≤◌, ◌≡◌, List, ◌++◌, length, Option, Some, None, option_map, option_to_list, IfSome, ℤ, pos, ◌+ℤ◌, ◌≤ℤ◌, unsigned_abs, sum_by, All, Contains}
+use Rattle.bp_theory.specs.Limits.{greatest_depth, most_digits}
 use Rattle.std.specs.Int.{int_gap}
 use Rattle.bp_theory.specs.Program.{Program, IsFeasible, cost, span_at}
 use Rattle.bp_theory.specs.Blocking.{Blocking}
@@ -48,8 +49,8 @@ IsSettled b best leaf = SettlesIfShut b best leaf.zone leaf.proof leaf.bound
 
 -- a leaf's depth, and at a live leaf the bits of its zone with it, stay at most 8,256
 abbrev pub KeepsDepth : ℕ → List Span → Option ℤ → Type 0
-KeepsDepth depth zone None = depth ≤ 8256
-KeepsDepth depth zone (Some bound) = depth + zone_bits zone ≤ 8256
+KeepsDepth depth zone None = depth ≤ greatest_depth
+KeepsDepth depth zone (Some bound) = depth + zone_bits zone ≤ greatest_depth
 
 -- a leaf is not too deep
 abbrev pub IsShallow : GrowingLeaf → Type 0
@@ -72,7 +73,7 @@ IsNoDearer (Some y) (Some z) = y ≤ℤ z
 -- a program's spans have numbers and at most 8,192 bits together
 pub record IsSized (p : Program) : Type 0 where
   pub proper : IsProper p.spans
-  pub bits : zone_bits p.spans ≤ 8192
+  pub bits : zone_bits p.spans ≤ most_digits
 
 -- a number is one of a list's and none of them is less
 pub record IsLeastOf (zs : List ℤ) (v : ℤ) : Type 0 where

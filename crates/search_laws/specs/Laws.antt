@@ -1,5 +1,6 @@
 -- The laws of the search.
 use Rattle.std.specs.Prelude.{ℕ, ◌+◌, ◌<◌, ◌≤◌, ◌^◌, ◌≡◌, ◌≢◌, ◌↔◌, List, [], ◌∷◌, ◌++◌, Option, Some, None, ℤ, pos, ◌+ℤ◌, ◌*ℤ◌, ◌≤ℤ◌, zip, unsigned_abs, length, map, count_by, sum, is_some, Bool, All}
+use Rattle.bp_theory.specs.Limits.{greatest_depth}
 use Rattle.bp_theory.specs.Program.{Program, IsInside, IsFeasible, IsBest, cost, span_at}
 use Rattle.bp_theory.specs.Blocking.{Blocking, IsFaithful, AddsUp}
 use Rattle.bp_theory.specs.Decomposition.{Decomposition, IsClosed, HasPlaces, full_row, proof_rows, blocking_of}
@@ -57,7 +58,7 @@ pub record StaysShallow : Type 0 where
       → IsSized p → HasSoundSplits (certificate_tree t) p.spans → live_at t path ≡ Some leaf
       → IsSoundSplit (zone_at t p.spans path) v at → IsTimelySplit (length path) (zone_at t p.spans path) v at
       → All IsShallow (growing_leaves t p.spans) → All IsShallow (growing_leaves (fork_at t path v at proof bound) p.spans)
-  pub depth : (t : GrowingTree) (zone : List Span) → All IsShallow (growing_leaves t zone) → depth (certificate_tree t) ≤ 8256
+  pub depth : (t : GrowingTree) (zone : List Span) → All IsShallow (growing_leaves t zone) → depth (certificate_tree t) ≤ greatest_depth
 
 -- a split at the middle takes at least one bit from the zones of both parts, and no sound split adds one
 pub record MiddleTakesABit : Type 0 where

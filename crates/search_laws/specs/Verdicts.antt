@@ -1,5 +1,6 @@
 -- What a leaf's evaluation may answer, and what is done with it.
 use Rattle.std.specs.Prelude.{ℕ, List, Option, Some, None, IfSome, ℤ, ◌≤ℤ◌, ◌<ℤ◌, int_lt, if◌then◌else◌, ◌≤◌, [], All}
+use Rattle.bp_theory.specs.Limits.{most_prefixes}
 use Rattle.std.specs.Int.{int_min}
 use Rattle.bp_theory.specs.Program.{Program, IsFeasible, cost}
 use Rattle.bp_theory.specs.Blocking.{Blocking}
@@ -60,7 +61,7 @@ every_block = record { scale = 1; mults = []; picked = Every }
 
 -- no block has more than 1,048,576 prefixes in a zone
 abbrev pub HasFewPrefixes : Blocking → List Span → Type 0
-HasFewPrefixes b zone = All (λ k. prefixes (spans_of zone k) ≤ 1048576) b.blocks
+HasFewPrefixes b zone = All (λ k. prefixes (spans_of zone k) ≤ most_prefixes) b.blocks
 
 -- where prefixes are few, a fork comes only where each block has a point, and with a bound no less than that of every block's points
 abbrev pub IsThorough : Blocking → List Span → Next → Type 0
