@@ -1,11 +1,12 @@
 -- Laws of the sums with which a search begins.
-use Rattle.std.proofs.Common.{◌≡◌, sym, ap, subst, ◌∙◌, ℕ, zero, suc, ◌+◌, ◌*◌, ◌^◌, ◌<◌, ◌≤◌, List, [], ◌∷◌, map, length, get_or, take, arith}
+use Rattle.std.proofs.Common.{◌≡◌, sym, ap, subst, ◌∙◌, ℕ, zero, suc, ◌+◌, ◌*◌, ◌^◌, ◌<◌, ◌≤◌, List, [], ◌∷◌, map, length, get_or, set, take, arith, ⊎_elim}
 use Rattle.std.proofs.Math.IntN.{ℤ, pos, ◌+ℤ◌, ◌*ℤ◌}
 use Rattle.std.proofs.Math.Nat.{mul-le-mul_left}
 use Rattle.std.specs.Prelude.{unsigned_abs, sum_by, FitsSigned, All}
 use Rattle.std.specs.Int.{w128}
 use Rattle.std.proofs.lemmas.Int.{ints, clamps, fits_signed_from_abs}
-use Rattle.std.proofs.lemmas.List.{ext_get_or, get_or-map, length-map}
+use Rattle.std.proofs.lemmas.Bool.{cases_lt}
+use Rattle.std.proofs.lemmas.List.{ext_get_or, get_or-map, length-map, get_or_read, get_or-set_same, get_or-set_other}
 use Rattle.std.proofs.lemmas.List.Sums.{get_or-le-sum_by, sum_by-take-le}
 use Rattle.bp_theory.specs.Program.{span_at, reach}
 use Rattle.bp_theory.specs.Bound.{end_cost, box_least}
@@ -145,3 +146,18 @@ read_places rows n m places same q l row is terms of =
     subst (λ k. HasVariablesBelow k terms) (sym same)
     (subst (λ (ts : List Term). HasVariablesBelow n ts) (sym of)
     (subst (λ (r : Row). HasVariablesBelow n r.terms) (sym is) (places q row l)))
+
+-- sums of the first so many rows, with that of one more
+pub sum_set : (rows : List Row) (sums : List ℤ) (f : List Term → ℤ) (n : ℕ) (v s : ℤ) (row : Row) (terms : List Term)
+    → n < length rows → length sums ≡ length rows → row ≡ get_or rows n row → terms ≡ row.terms → v ≡ s → s ≡ f terms
+    → ((i : ℕ) (d : Row) → i < n → get_or sums i (pos 0) ≡ f (get_or rows i d).terms)
+    → (i : ℕ) (d : Row) → i < n + 1 → get_or (set sums n v) i (pos 0) ≡ f (get_or rows i d).terms
+sum_set rows sums f n v s row terms l many read is same sum before i d m = ⊎_elim
+    (λ less. get_or-set_other sums n i v (pos 0) (λ e. omega (arith, less, e)) ∙ before i d less)
+    (λ more. let e : i ≡ n = omega (arith, m, more) in
+    ap (λ k. get_or (set sums n v) k (pos 0)) e
+    ∙ get_or-set_same sums n v (pos 0) (omega (arith, l, many))
+    ∙ same ∙ sum ∙ ap f is
+    ∙ ap (λ (r : Row). f r.terms) (get_or_read rows n row l read d)
+    ∙ ap (λ k. f (get_or rows k d).terms) (sym e))
+    (cases_lt i n)

@@ -9,3 +9,4 @@ pub mod BeginLaws
 pub mod StopLaws
 pub mod RelaxLaws
 pub mod OrderLaws
+pub mod DivisorLaws

@@ -6,7 +6,6 @@ use Rattle.std.specs.Int.{w128, int_gap}
 use Rattle.std.proofs.lemmas.Int.{ints, fits_signed_from_abs, to_z-of_z, by_lt_z}
 use mir.Val.{of_z, to_z}
 use Rattle.std.proofs.lemmas.Bool.{cases_eq, cases_lt}
-use Rattle.std.proofs.lemmas.List.{get_or_past}
 use Rattle.bp_theory.specs.Sums.{dot}
 use Rattle.bp_theory.specs.Program.{span_at, value_at, IsWithin, IsInside}
 use Rattle.bp_theory.specs.Bound.{IsPoint, box_least}

@@ -8,3 +8,4 @@ pub mod Relax
 pub mod Sizes
 pub mod Caps
 pub mod Kept
+pub mod Divisors

@@ -1,9 +1,11 @@
 // What a search is made of: rows, root spans, and the rows by variables.
-ghost use Rattle.std.specs.Prelude.{◌≡◌, IfOk, vec_len};
+ghost use Rattle.std.specs.Prelude.{◌≡◌, ◌↔◌, IfOk, IsTrue, vec_len};
 ghost use Rattle.pricing.specs.Form.{IsForm};
 ghost use Rattle.search_price.specs.Columns.{AreColumns};
+ghost use Rattle.search_price.specs.Divisors.{LackMultiples};
 
 use crate::columns::{Entry, columns_of};
+use crate::divisor::lack_multiples;
 use bp_theory::{Items, Row, Span};
 use pricing::{copied_rows, copied_spans};
 use std::alloc::{AllocError, Global};
@@ -18,9 +20,11 @@ pub struct Form {
     pub spans: Vec<Span>,
     pub columns: Vec<Items<Entry>>,
     short: bool,
+    missed: bool,
     ghost kept: { IsForm rows.items spans.items },
     ghost wide: { vec_len columns ≡ vec_len spans },
     ghost by_variables: { AreColumns rows.items columns.items },
+    ghost divided: { IsTrue missed ↔ LackMultiples rows.items },
 }
 
 /// Whether rows have few terms in the mean.
@@ -43,12 +47,22 @@ impl Form {
         let spans_copied = copied_spans(alloc, spans)?;
         let columns = columns_of(alloc, spans.len(), rows)?;
         let short = are_short(rows);
+        let missed = lack_multiples(rows);
         Ok(Form {
             rows: rows_copied,
             spans: spans_copied,
             columns,
             short,
+            missed,
         })
+    }
+
+    /// Whether the two sides of a row lie between neighbouring multiples of a common divisor of its coefficients. No whole
+    /// numbers meet the rows then.
+    pub fn is_missed(&self) -> bool
+        ensures { IsTrue result ↔ LackMultiples self.now.rows.items }
+    {
+        self.missed
     }
 
     /// Whether rows have few terms in the mean, so that each number of a variable that sits in many rows decides much.

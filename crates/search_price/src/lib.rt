@@ -5,6 +5,7 @@ mod begin;
 mod caps;
 mod columns;
 mod dive;
+mod divisor;
 mod form;
 mod moves;
 mod multipliers;

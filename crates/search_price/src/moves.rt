@@ -59,7 +59,7 @@ fn stays_below(least: &i128, side: &i64) -> bool
 }
 
 /// Whether a greatest sum is at least a side.
-fn reaches(most: &i128, side: &i64) -> bool
+pub fn reaches(most: &i128, side: &i64) -> bool
     ensures { IsTrue result ↔ (side.now ≤ℤ most.now) }
 {
     i128::from(*side) <= *most

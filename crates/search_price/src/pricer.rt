@@ -17,7 +17,8 @@ use pricing::{Cap, Priced, Pricer};
 use std::alloc::{AllocError, Global};
 
 /// Prices by a depth first search over a block's variables, pruned by what each row can still reach, by cost, and by cost
-/// with rows added. It takes all memory that it needs when it is made.
+/// with rows added. Where the two sides of a row lie between neighbouring multiples of a common divisor of its coefficients,
+/// there is no point, and it answers so without a search. It takes all memory that it needs when it is made.
 #[derive(Drop)]
 pub struct SearchPricer {
     form: Form,
@@ -79,6 +80,9 @@ impl Pricer for SearchPricer {
     ghost chosen = { kept_point };
 
     fn price(&mut self, block: &Block, zone: &[Span], costs: &[i128], cap: Cap) -> Priced {
+        if self.form.is_missed() {
+            return Priced::Nothing;
+        }
         self.multipliers
             .seek(&mut self.relaxed, &self.form, zone, costs);
         relax(

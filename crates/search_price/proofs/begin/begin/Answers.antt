@@ -1,11 +1,13 @@
-use Rattle.std.proofs.Common.{◌≡◌, ◌∙◌, sym, ap, subst, ◌≤◌, List, length, map, arith}
+use Rattle.std.proofs.Common.{◌≡◌, ◌∙◌, sym, ap, subst, ◌<◌, ◌≤◌, List, length, map, arith, to_z, of_z}
+use Rattle.std.specs.Int.{w128}
+use Rattle.std.proofs.lemmas.List.{length-set}
 use Rattle.bp_theory.specs.Bound.{box_least}
 use Rattle.bp_theory.specs.Trees.{IsSubzone, IsProper}
 use Rattle.bp_theory.specs.declared.Span.{Span}
 use Rattle.bp_theory.specs.declared.Row.{Row}
 use Rattle.pricing.proofs.Passed.{passed}
 use Rattle.search_price.specs.Reach.{low_reach, high_reach}
-use Rattle.search_price.proofs.BeginLaws.{map_from_places, zone_itself, read_places}
+use Rattle.search_price.proofs.BeginLaws.{map_from_places, zone_itself, read_places, sum_set}
 use Rattle.search_price.proofs.PlaceLaws.{many_spans}
 use Rattle.search_price.proofs.begin.begin.Goals as goal
 
@@ -43,3 +45,19 @@ sum_of_highs-requires-clause-places c =
     (many_spans c.args.form.now c.args.zone.now c.args.costs.now c.requires.priceable)
     c.loop-row.row (omega (arith, c.loop-row-test.true, c.args.form.now.rows.ok.0, c.len-row-end.ensures))
     c.index.result.now c.index.ensures c.as_slice-terms.result.now c.as_slice-terms.ensures
+
+pub loop-row-preserved : goal.loop-row-preserved
+loop-row-preserved c =
+    let there : c.loop-row.row < length c.args.form.now.rows.items = omega (arith, c.loop-row-test.true, c.args.form.now.rows.ok.0, c.len-row-end.ensures) in
+    record {
+      zone = c.loop-row.invariant.zone;
+      point = c.loop-row.invariant.point;
+      many_lows = length-set c.loop-row.dive.lows.items c.loop-row.row (to_z w128 (of_z w128 c.sum_of_lows.result)) ∙ c.loop-row.invariant.many_lows;
+      many_highs = length-set c.loop-row.dive.highs.items c.loop-row.row (to_z w128 (of_z w128 c.sum_of_highs.result)) ∙ c.loop-row.invariant.many_highs;
+      lows = sum_set c.args.form.now.rows.items c.loop-row.dive.lows.items (low_reach c.args.zone.now) c.loop-row.row (to_z w128 (of_z w128 c.sum_of_lows.result)) c.sum_of_lows.result
+          c.index.result.now c.as_slice-terms.result.now there c.loop-row.invariant.many_lows c.index.ensures c.as_slice-terms.ensures
+          (passed c.sum_of_lows.result c.sum_of_lows.type_inv) c.sum_of_lows.ensures c.loop-row.invariant.lows;
+      highs = sum_set c.args.form.now.rows.items c.loop-row.dive.highs.items (high_reach c.args.zone.now) c.loop-row.row (to_z w128 (of_z w128 c.sum_of_highs.result)) c.sum_of_highs.result
+          c.index.result.now c.as_slice-terms.result.now there c.loop-row.invariant.many_highs c.index.ensures c.as_slice-terms.ensures
+          (passed c.sum_of_highs.result c.sum_of_highs.type_inv) c.sum_of_highs.ensures c.loop-row.invariant.highs;
+    }

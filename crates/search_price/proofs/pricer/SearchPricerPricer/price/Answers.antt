@@ -1,8 +1,12 @@
-use Rattle.std.proofs.Common.{◌∙◌, sym, subst, ◌<◌, ℕ, List, take, length}
+use Rattle.std.proofs.Common.{refl, sym, subst, ◌<◌, ℕ, List, take, length}
 use Rattle.std.specs.Prelude.{All}
 use Rattle.bp_theory.specs.declared.Span.{Span}
 use Rattle.search_price.specs.Reach.{IsNarrowed}
+use Rattle.search_price.proofs.DivisorLaws.{unallowed}
 use Rattle.search_price.proofs.pricer.SearchPricerPricer.price.Goals as goal
+
+pub returns-then-is_missed-clause-answer : goal.returns-then-is_missed-clause-answer
+returns-then-is_missed-clause-answer c = unallowed c.args.self.now.form.rows.items c.args.zone.now (c.if-is_missed.ensures.0 refl)
 
 pub explore-requires-clause-order : goal.explore-requires-clause-order
 explore-requires-clause-order c =
