@@ -25,7 +25,7 @@ type Known = (
 const NONE: Numbers = ([0, 0, 0], Sense::Le, [0, 0]);
 
 /// Two numbers from 0 to 2, and such that only 0 and 1 or only 2, and 1 or 2, are left; three from 0 to 3; two up to a
-/// thousand millions; one up to 2^40 and two of at most 1.
+/// thousand millions; one up to 2^40 and two of at most 1; two up to 2^40.
 const WHOLE: [[i64; 2]; 3] = [[0, 2], [0, 2], [0, 0]];
 
 const LOW: [[i64; 2]; 3] = [[0, 1], [0, 2], [0, 0]];
@@ -37,6 +37,8 @@ const THREE: [[i64; 2]; 3] = [[0, 3], [0, 3], [0, 3]];
 const WIDE: [[i64; 2]; 3] = [[0, 1_000_000_000], [0, 1_000_000_000], [0, 0]];
 
 const FAR: [[i64; 2]; 3] = [[0, 1 << 40], [0, 1], [0, 1]];
+
+const VAST: [[i64; 2]; 3] = [[0, 1 << 40], [0, 1 << 40], [0, 0]];
 
 /// The row `3 a + 2 b` with a sense and sides.
 const BETWEEN: Numbers = ([3, 2, 0], Sense::In, [2, 4]);
@@ -56,6 +58,27 @@ const AT_LEAST: Numbers = ([3, 2, 0], Sense::Ge, [7, 7]);
 /// The row `2 a + 4 b = 7`, which no numbers meet.
 const EVEN: Numbers = ([2, 4, 0], Sense::Eq, [7, 7]);
 
+/// Rows between whose sides there is no multiple of a common divisor of their coefficients.
+const ODD_GAP: Numbers = ([2, -2, 0], Sense::Eq, [1, 1]);
+
+const ODD_BETWEEN: Numbers = ([2, -2, 0], Sense::In, [1, 1]);
+
+const ODD_BELOW: Numbers = ([2, -2, 0], Sense::In, [-1, -1]);
+
+const THREE_BETWEEN: Numbers = ([4, 6, 0], Sense::In, [3, 3]);
+
+/// Rows between whose sides there is one.
+const EVEN_GAP: Numbers = ([2, -2, 0], Sense::Eq, [2, 2]);
+
+const ABOUT_FOUR: Numbers = ([4, 6, 0], Sense::In, [3, 4]);
+
+const ABOUT_SIX: Numbers = ([4, 6, 0], Sense::In, [6, 7]);
+
+/// Rows of one side each, which no numbers meet together.
+const ABOVE_NONE: Numbers = ([3, -3, 0], Sense::Ge, [1, 0]);
+
+const BELOW_THREE: Numbers = ([3, -3, 0], Sense::Le, [0, 2]);
+
 /// Rows of three variables: 2 a + b + 3 c at most 7, a - b + c at least 1, a + b + c at most 2, and a at most 2^20 b.
 const ROOM: Numbers = ([2, 1, 3], Sense::Le, [0, 7]);
 
@@ -67,7 +90,7 @@ const STEEP: Numbers = ([1, -(1 << 20), 0], Sense::Le, [0, 0]);
 
 const NEVER: Cap = Cap::Never;
 
-const KNOWN: [Known; 21] = [
+const KNOWN: [Known; 29] = [
     (
         Kind::Table,
         NEVER,
@@ -241,12 +264,92 @@ const KNOWN: [Known; 21] = [
     (
         Kind::Search,
         Cap::At(1000),
+        [2, 2],
+        WIDE,
+        [ABOVE_NONE, BELOW_THREE],
+        WIDE,
+        [5, 4, 0],
+        Found::Answer(Priced::Cut, [0, 0, 0]),
+    ),
+    (
+        Kind::Search,
+        NEVER,
         [2, 1],
         WIDE,
         [EVEN, NONE],
         WIDE,
         [5, 4, 0],
-        Found::Answer(Priced::Cut, [0, 0, 0]),
+        Found::Answer(Priced::Nothing, [0, 0, 0]),
+    ),
+    (
+        Kind::Search,
+        NEVER,
+        [2, 1],
+        VAST,
+        [ODD_GAP, NONE],
+        VAST,
+        [5, 4, 0],
+        Found::Answer(Priced::Nothing, [0, 0, 0]),
+    ),
+    (
+        Kind::Search,
+        Cap::At(0),
+        [2, 2],
+        VAST,
+        [SIX, ODD_BETWEEN],
+        VAST,
+        [5, 4, 0],
+        Found::Answer(Priced::Nothing, [0, 0, 0]),
+    ),
+    (
+        Kind::Search,
+        NEVER,
+        [2, 1],
+        VAST,
+        [ODD_BELOW, NONE],
+        VAST,
+        [5, 4, 0],
+        Found::Answer(Priced::Nothing, [0, 0, 0]),
+    ),
+    (
+        Kind::Search,
+        NEVER,
+        [2, 1],
+        VAST,
+        [THREE_BETWEEN, NONE],
+        VAST,
+        [5, 4, 0],
+        Found::Answer(Priced::Nothing, [0, 0, 0]),
+    ),
+    (
+        Kind::Search,
+        NEVER,
+        [2, 1],
+        VAST,
+        [EVEN_GAP, NONE],
+        VAST,
+        [5, 4, 0],
+        Found::Answer(Priced::Least(5), [1, 0, 0]),
+    ),
+    (
+        Kind::Search,
+        NEVER,
+        [2, 1],
+        WHOLE,
+        [ABOUT_FOUR, NONE],
+        WHOLE,
+        [5, 4, 0],
+        Found::Answer(Priced::Least(5), [1, 0, 0]),
+    ),
+    (
+        Kind::Search,
+        NEVER,
+        [2, 1],
+        WHOLE,
+        [ABOUT_SIX, NONE],
+        WHOLE,
+        [5, 4, 0],
+        Found::Answer(Priced::Least(4), [0, 1, 0]),
     ),
     (
         Kind::Graph,
@@ -304,7 +407,7 @@ fn is_wanted(found: &Found, wanted: &Found) -> bool {
 // The place of a problem with another answer than the wanted one.
 fn wrong(alloc: Global) -> Result<Option<usize>, AllocError> {
     let mut wrong = None;
-    for place in 0..21 {
+    for place in 0..29 {
         let known = KNOWN[place];
         let found = asked(alloc, known.0, &problem_of(&known), known.1)?;
         if !is_wanted(&found, &known.7) {
