@@ -1,3 +1,4 @@
+-- Other crates cite all of these.
 pub mod Searches
 pub mod Ends
 pub mod Below

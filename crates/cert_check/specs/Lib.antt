@@ -1,1 +1,2 @@
+-- Other crates cite Judging.
 pub mod Judging

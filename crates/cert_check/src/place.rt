@@ -1,3 +1,4 @@
+// Where a walk over a tree of a certificate stands, and lines at fault.
 use block_form::Zone;
 use bp_theory::CheckKind;
 

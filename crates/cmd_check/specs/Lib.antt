@@ -1,2 +1,3 @@
+-- Other crates cite Checks. The rest is for contracts here alone.
 pub mod Checks
 pub mod Replies

@@ -1,1 +1,2 @@
+-- Other crates cite Demos.
 pub mod Demos

@@ -1,1 +1,2 @@
+-- Other crates cite Generates.
 pub mod Generates

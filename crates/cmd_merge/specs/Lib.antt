@@ -1,3 +1,4 @@
+-- Other crates cite Merges and Files. The rest are words of contracts here alone.
 pub mod Claims
 pub mod Opens
 pub mod Merges

@@ -1,1 +1,2 @@
+-- Other crates cite Shows.
 pub mod Shows

@@ -1,3 +1,4 @@
+-- Other crates cite all of these.
 pub mod Starts
 pub mod Solves
 pub mod Saves

@@ -1,1 +1,2 @@
+-- Other crates cite Guess.
 pub mod Guess

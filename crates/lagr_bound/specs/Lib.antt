@@ -1,3 +1,4 @@
+-- Other crates cite Sizes, Forms, Works and Bounded. The rest are words of contracts here alone.
 pub mod Sizes
 pub mod Pricers
 pub mod Rooms

@@ -1,3 +1,4 @@
+// What texts of certificates read as, and what certificates are written as.
 use bp_theory::{Claim, Items, Picked, Proof};
 use cert_text::{Cert, CertFault, CertKind, Frame, Sketch, read, write};
 use std::alloc::{AllocError, Global};
