@@ -32,10 +32,13 @@ use std::alloc::Global;
 /// or below one of its open leaves alone with no more than the given steps.
 /// All this holds for a crew of any number of workers in any order too, whose events are listed.
 pub fn run<F: Shelf, O: Sink>(alloc: Global, words: &[String], shelf: &mut F, out: &mut O) -> Ended
-    // The headline, for told files and a sink that tells. What `solve` prints is true of the program that the LP text means:
-    // `optimal` with a best point, `infeasible`, or `budget` after exactly the given steps with a bound that no point betters.
-    ensures solved_truly { IsTrue (F.tells shelf.old) → IsTrue (O.tells out.old) → OfOrder (map string_bytes words.now)
-        (λ order. SolvesTruly order (F.file shelf.old) result.kept result.status (O.taken out.old) (O.taken out.new)) }
+    // The headline, for told files and a sink that tells. What `solve` prints is true of the program that the LP text
+    // means: `optimal` with a best point, `infeasible`, or `budget` after exactly the given steps with a bound that no
+    // point betters.
+    ensures solved_truly { IsTrue (F.tells shelf.old) → IsTrue (O.tells out.old) →
+        OfOrder (map string_bytes words.now)
+        (λ order. SolvesTruly order (F.file shelf.old) result.kept result.status (O.taken out.old)
+        (O.taken out.new)) }
     // `solve` tells one of these of each LP text that means a program, and of each decomposition of it that is accepted.
     ensures solves_accepted { IsTrue (F.tells shelf.old) → OfOrder (map string_bytes words.now)
         (λ order. SolvesAccepted order (F.file shelf.old) result.status) }
@@ -44,38 +47,54 @@ pub fn run<F: Shelf, O: Sink>(alloc: Global, words: &[String], shelf: &mut F, ou
     // The certificate that `solve` writes is one that `check` accepts, and what `check` accepts is true, whoever wrote it.
     ensures certified { IsTrue (F.tells shelf.old) → OfOrder (map string_bytes words.now)
         (λ order. WritesCertificate order (F.file shelf.new) result.kept) }
-    ensures checked_truly { IsTrue (F.tells shelf.old) → IsTrue (O.tells out.old) → OfOrder (map string_bytes words.now)
-        (λ order. ChecksTruly order (F.file shelf.old) result.status (O.taken out.old) (O.taken out.new)) }
-    // Without a fault and with its memory a run answers the words by the files, whatever its sink tells, and adds its report whole.
+    ensures checked_truly { IsTrue (F.tells shelf.old) → IsTrue (O.tells out.old) →
+        OfOrder (map string_bytes words.now)
+        (λ order. ChecksTruly order (F.file shelf.old) result.status (O.taken out.old)
+        (O.taken out.new)) }
+    // Without a fault and with its memory a run answers the words by the files, whatever its sink tells, and adds its
+    // report whole.
     ensures answered { IsTrue (F.tells shelf.old) →
-        AnswersBy (Answers (map string_bytes words.now) (F.file shelf.old) result.kept) result.status (O.tells out.old) (O.taken out.old) (O.taken out.new) }
+        AnswersBy (Answers (map string_bytes words.now) (F.file shelf.old) result.kept)
+        result.status (O.tells out.old) (O.taken out.old) (O.taken out.new) }
     // No other status is right.
-    ensures exact { IsTrue (F.tells shelf.old) → IsOnly (Answers (map string_bytes words.now) (F.file shelf.old) result.kept) result.status }
-    // What is written: the valid certificate of the outcome that is kept, or the texts that are made; and that nothing else is.
-    ensures written { IsTrue (F.tells shelf.old) →
-        OfOrder (map string_bytes words.now) (λ order. HasWritten order (F.file shelf.old) (F.file shelf.new) result.kept result.status) }
+    ensures exact { IsTrue (F.tells shelf.old) →
+        IsOnly (Answers (map string_bytes words.now) (F.file shelf.old) result.kept) result.status }
+    // What is written: the valid certificate of the outcome that is kept, or the texts that are made; and that nothing
+    // else is.
+    ensures written { IsTrue (F.tells shelf.old) → OfOrder (map string_bytes words.now)
+        (λ order. HasWritten order (F.file shelf.old) (F.file shelf.new) result.kept
+        result.status) }
     // What a crew did, where one was ordered and its outcome is kept; and else nothing.
-    ensures events { IsTrue (F.tells shelf.old) →
-        OfOrder (map string_bytes words.now) (λ order. ListsEvents order (F.file shelf.old) result.kept result.events.items) }
+    ensures events { IsTrue (F.tells shelf.old) → OfOrder (map string_bytes words.now)
+        (λ order. ListsEvents order (F.file shelf.old) result.kept result.events.items) }
     ensures no_events { result.kept ≡ None → result.events.items ≡ [] }
-    // The report is one put, and the last thing that is done. Where a write of the shelf failed, nothing is put, and where the
-    // report could not be put, what is written stands whole.
+    // The report is one put, and the last thing that is done. Where a write of the shelf failed, nothing is put, and
+    // where the report could not be put, what is written stands whole.
     ensures puts { PutsReport result.status (O.puts out.old) (O.puts out.new) }
-    ensures failed { result.status ≡ 8 → FailsToWrite
-        (IsTrue (F.tells shelf.old) → OfOrder (map string_bytes words.now) (λ order. HasPutLast order (F.file shelf.old) (F.file shelf.new)))
-        (F.write_faults shelf.old) (F.write_faults shelf.new) (O.faults out.old) (O.faults out.new) (O.puts out.old) (O.puts out.new) (O.taken out.old) (O.taken out.new) }
+    ensures failed { result.status ≡ 8 →
+        FailsToWrite (IsTrue (F.tells shelf.old) → OfOrder (map string_bytes words.now)
+        (λ order. HasPutLast order (F.file shelf.old) (F.file shelf.new)))
+        (F.write_faults shelf.old) (F.write_faults shelf.new) (O.faults out.old) (O.faults out.new)
+        (O.puts out.old) (O.puts out.new) (O.taken out.old) (O.taken out.new) }
     // Which status comes only where, over any shelf and sink.
     ensures causes { HasCauses result.status (F.read_faults shelf.old) (F.read_faults shelf.new)
-        (F.write_faults shelf.old) (F.write_faults shelf.new) (O.faults out.old) (O.faults out.new) }
-    ensures kept { (result.kept ≡ None) ⊎ ((result.status ≡ 0) ⊎ (result.status ≡ 4) ⊎ (result.status ≡ 5)) }
+        (F.write_faults shelf.old) (F.write_faults shelf.new) (O.faults out.old)
+        (O.faults out.new) }
+    ensures kept { (result.kept ≡ None) ⊎
+        ((result.status ≡ 0) ⊎ (result.status ≡ 4) ⊎ (result.status ≡ 5)) }
     ensures words { result.status ≡ 2 → AreRefused (map string_bytes words.now) }
-    ensures no_words { AreRefused (map string_bytes words.now) → (result.status ≡ 2) ⊎ (result.status ≡ 8) ⊎ (result.status ≡ 9) }
-    ensures refusal { result.status ≡ 2 → IsTrue (O.tells out.old) → O.taken out.new ≡ O.taken out.old ++ words_refusal }
+    ensures no_words { AreRefused (map string_bytes words.now) → (result.status ≡ 2) ⊎
+        (result.status ≡ 8) ⊎ (result.status ≡ 9) }
+    ensures refusal { result.status ≡ 2 → IsTrue (O.tells out.old) →
+        O.taken out.new ≡ O.taken out.old ++ words_refusal }
     // What stands afterwards.
-    ensures nothing_ordered { AreRefused (map string_bytes words.now) → F.file shelf.new ≡ F.file shelf.old }
-    ensures silent { (result.status ≡ 7) ⊎ (result.status ≡ 9) ⊎ (result.status ≡ 11) → O.taken out.new ≡ O.taken out.old }
+    ensures nothing_ordered { AreRefused (map string_bytes words.now) →
+        F.file shelf.new ≡ F.file shelf.old }
+    ensures silent { (result.status ≡ 7) ⊎ (result.status ≡ 9) ⊎ (result.status ≡ 11) →
+        O.taken out.new ≡ O.taken out.old }
     ensures cut_off { IsTrue (F.tells shelf.old) → IsTrue (O.tells out.old) →
-        CutsOff (Answers (map string_bytes words.now) (F.file shelf.old)) result.status (O.taken out.old) (O.taken out.new) }
+        CutsOff (Answers (map string_bytes words.now) (F.file shelf.old)) result.status
+        (O.taken out.old) (O.taken out.new) }
 {
     answer_words(alloc, words, shelf, out)
 }
@@ -87,36 +106,50 @@ fn answer_words<F: Shelf, O: Sink>(
     shelf: &mut F,
     out: &mut O,
 ) -> Ended
-    // Without a fault and with its memory a run answers the words by the files, whatever its sink tells, and adds its report whole.
+    // Without a fault and with its memory a run answers the words by the files, whatever its sink tells, and adds its
+    // report whole.
     ensures answered { IsTrue (F.tells shelf.old) →
-        AnswersBy (Answers (map string_bytes words.now) (F.file shelf.old) result.kept) result.status (O.tells out.old) (O.taken out.old) (O.taken out.new) }
+        AnswersBy (Answers (map string_bytes words.now) (F.file shelf.old) result.kept)
+        result.status (O.tells out.old) (O.taken out.old) (O.taken out.new) }
     // No other status is right.
-    ensures exact { IsTrue (F.tells shelf.old) → IsOnly (Answers (map string_bytes words.now) (F.file shelf.old) result.kept) result.status }
-    // What is written: the valid certificate of the outcome that is kept, or the texts that are made; and that nothing else is.
-    ensures written { IsTrue (F.tells shelf.old) →
-        OfOrder (map string_bytes words.now) (λ order. HasWritten order (F.file shelf.old) (F.file shelf.new) result.kept result.status) }
-    // The report is one put, and the last thing that is done. Where a write of the shelf failed, nothing is put, and where the
-    // report could not be put, what is written stands whole.
+    ensures exact { IsTrue (F.tells shelf.old) →
+        IsOnly (Answers (map string_bytes words.now) (F.file shelf.old) result.kept) result.status }
+    // What is written: the valid certificate of the outcome that is kept, or the texts that are made; and that nothing
+    // else is.
+    ensures written { IsTrue (F.tells shelf.old) → OfOrder (map string_bytes words.now)
+        (λ order. HasWritten order (F.file shelf.old) (F.file shelf.new) result.kept
+        result.status) }
+    // The report is one put, and the last thing that is done. Where a write of the shelf failed, nothing is put, and
+    // where the report could not be put, what is written stands whole.
     ensures puts { PutsReport result.status (O.puts out.old) (O.puts out.new) }
-    ensures failed { result.status ≡ 8 → FailsToWrite
-        (IsTrue (F.tells shelf.old) → OfOrder (map string_bytes words.now) (λ order. HasPutLast order (F.file shelf.old) (F.file shelf.new)))
-        (F.write_faults shelf.old) (F.write_faults shelf.new) (O.faults out.old) (O.faults out.new) (O.puts out.old) (O.puts out.new) (O.taken out.old) (O.taken out.new) }
+    ensures failed { result.status ≡ 8 →
+        FailsToWrite (IsTrue (F.tells shelf.old) → OfOrder (map string_bytes words.now)
+        (λ order. HasPutLast order (F.file shelf.old) (F.file shelf.new)))
+        (F.write_faults shelf.old) (F.write_faults shelf.new) (O.faults out.old) (O.faults out.new)
+        (O.puts out.old) (O.puts out.new) (O.taken out.old) (O.taken out.new) }
     // Which status comes only where, over any shelf and sink.
     ensures causes { HasCauses result.status (F.read_faults shelf.old) (F.read_faults shelf.new)
-        (F.write_faults shelf.old) (F.write_faults shelf.new) (O.faults out.old) (O.faults out.new) }
-    ensures kept { (result.kept ≡ None) ⊎ ((result.status ≡ 0) ⊎ (result.status ≡ 4) ⊎ (result.status ≡ 5)) }
+        (F.write_faults shelf.old) (F.write_faults shelf.new) (O.faults out.old)
+        (O.faults out.new) }
+    ensures kept { (result.kept ≡ None) ⊎
+        ((result.status ≡ 0) ⊎ (result.status ≡ 4) ⊎ (result.status ≡ 5)) }
     // What a crew did, where one was ordered and its outcome is kept; and else nothing.
-    ensures events { IsTrue (F.tells shelf.old) →
-        OfOrder (map string_bytes words.now) (λ order. ListsEvents order (F.file shelf.old) result.kept result.events.items) }
+    ensures events { IsTrue (F.tells shelf.old) → OfOrder (map string_bytes words.now)
+        (λ order. ListsEvents order (F.file shelf.old) result.kept result.events.items) }
     ensures no_events { result.kept ≡ None → result.events.items ≡ [] }
     ensures words { result.status ≡ 2 → AreRefused (map string_bytes words.now) }
-    ensures no_words { AreRefused (map string_bytes words.now) → (result.status ≡ 2) ⊎ (result.status ≡ 8) ⊎ (result.status ≡ 9) }
-    ensures refusal { result.status ≡ 2 → IsTrue (O.tells out.old) → O.taken out.new ≡ O.taken out.old ++ words_refusal }
+    ensures no_words { AreRefused (map string_bytes words.now) → (result.status ≡ 2) ⊎
+        (result.status ≡ 8) ⊎ (result.status ≡ 9) }
+    ensures refusal { result.status ≡ 2 → IsTrue (O.tells out.old) →
+        O.taken out.new ≡ O.taken out.old ++ words_refusal }
     // What stands afterwards.
-    ensures nothing_ordered { AreRefused (map string_bytes words.now) → F.file shelf.new ≡ F.file shelf.old }
-    ensures silent { (result.status ≡ 7) ⊎ (result.status ≡ 9) ⊎ (result.status ≡ 11) → O.taken out.new ≡ O.taken out.old }
+    ensures nothing_ordered { AreRefused (map string_bytes words.now) →
+        F.file shelf.new ≡ F.file shelf.old }
+    ensures silent { (result.status ≡ 7) ⊎ (result.status ≡ 9) ⊎ (result.status ≡ 11) →
+        O.taken out.new ≡ O.taken out.old }
     ensures cut_off { IsTrue (F.tells shelf.old) → IsTrue (O.tells out.old) →
-        CutsOff (Answers (map string_bytes words.now) (F.file shelf.old)) result.status (O.taken out.old) (O.taken out.new) }
+        CutsOff (Answers (map string_bytes words.now) (F.file shelf.old)) result.status
+        (O.taken out.old) (O.taken out.new) }
 {
     match read_words(alloc, words) {
         Ok(order) => obey(alloc, &order, shelf, out),
@@ -129,21 +162,32 @@ fn answer_words<F: Shelf, O: Sink>(
 fn obey<F: Shelf, O: Sink>(alloc: Global, order: &Order, shelf: &mut F, out: &mut O) -> Ended
     requires { IsInRange order.now }
     ensures answered { IsTrue (F.tells shelf.old) →
-        AnswersBy (AnswersOrder order.now (F.file shelf.old) result.kept) result.status (O.tells out.old) (O.taken out.old) (O.taken out.new) }
-    ensures exact { IsTrue (F.tells shelf.old) → IsOnly (AnswersOrder order.now (F.file shelf.old) result.kept) result.status }
-    ensures written { IsTrue (F.tells shelf.old) → HasWritten order.now (F.file shelf.old) (F.file shelf.new) result.kept result.status }
+        AnswersBy (AnswersOrder order.now (F.file shelf.old) result.kept) result.status
+        (O.tells out.old) (O.taken out.old) (O.taken out.new) }
+    ensures exact { IsTrue (F.tells shelf.old) →
+        IsOnly (AnswersOrder order.now (F.file shelf.old) result.kept) result.status }
+    ensures written { IsTrue (F.tells shelf.old) →
+        HasWritten order.now (F.file shelf.old) (F.file shelf.new) result.kept result.status }
     ensures puts { PutsReport result.status (O.puts out.old) (O.puts out.new) }
-    ensures failed { result.status ≡ 8 → FailsToWrite (IsTrue (F.tells shelf.old) → HasPutLast order.now (F.file shelf.old) (F.file shelf.new))
-        (F.write_faults shelf.old) (F.write_faults shelf.new) (O.faults out.old) (O.faults out.new) (O.puts out.old) (O.puts out.new) (O.taken out.old) (O.taken out.new) }
+    ensures failed { result.status ≡ 8 →
+        FailsToWrite (IsTrue (F.tells shelf.old) →
+        HasPutLast order.now (F.file shelf.old) (F.file shelf.new)) (F.write_faults shelf.old)
+        (F.write_faults shelf.new) (O.faults out.old) (O.faults out.new) (O.puts out.old)
+        (O.puts out.new) (O.taken out.old) (O.taken out.new) }
     ensures causes { HasCauses result.status (F.read_faults shelf.old) (F.read_faults shelf.new)
-        (F.write_faults shelf.old) (F.write_faults shelf.new) (O.faults out.old) (O.faults out.new) }
-    ensures kept { (result.kept ≡ None) ⊎ ((result.status ≡ 0) ⊎ (result.status ≡ 4) ⊎ (result.status ≡ 5)) }
-    ensures events { IsTrue (F.tells shelf.old) → ListsEvents order.now (F.file shelf.old) result.kept result.events.items }
+        (F.write_faults shelf.old) (F.write_faults shelf.new) (O.faults out.old)
+        (O.faults out.new) }
+    ensures kept { (result.kept ≡ None) ⊎
+        ((result.status ≡ 0) ⊎ (result.status ≡ 4) ⊎ (result.status ≡ 5)) }
+    ensures events { IsTrue (F.tells shelf.old) →
+        ListsEvents order.now (F.file shelf.old) result.kept result.events.items }
     ensures no_events { result.kept ≡ None → result.events.items ≡ [] }
     ensures words { result.status ≢ 2 }
-    ensures silent { (result.status ≡ 7) ⊎ (result.status ≡ 9) ⊎ (result.status ≡ 11) → O.taken out.new ≡ O.taken out.old }
+    ensures silent { (result.status ≡ 7) ⊎ (result.status ≡ 9) ⊎ (result.status ≡ 11) →
+        O.taken out.new ≡ O.taken out.old }
     ensures cut_off { IsTrue (F.tells shelf.old) → IsTrue (O.tells out.old) →
-        CutsOff (AnswersOrder order.now (F.file shelf.old)) result.status (O.taken out.old) (O.taken out.new) }
+        CutsOff (AnswersOrder order.now (F.file shelf.old)) result.status (O.taken out.old)
+        (O.taken out.new) }
 {
     match order {
         Order::Solve {
@@ -221,7 +265,8 @@ fn refuse_words<O: Sink>(alloc: Global, out: &mut O) -> Ended
     ensures events { result.events.items ≡ [] }
     ensures fault { result.status ≡ 8 → Rose (O.faults out.old) (O.faults out.new) }
     ensures rose { O.faults out.old < O.faults out.new → result.status ≡ 8 }
-    ensures printed { IsTrue (O.tells out.old) → result.status ≡ 2 → O.taken out.new ≡ O.taken out.old ++ words_refusal }
+    ensures printed { IsTrue (O.tells out.old) → result.status ≡ 2 →
+        O.taken out.new ≡ O.taken out.old ++ words_refusal }
     ensures partly { IsTrue (O.tells out.old) → result.status ≡ 8 →
         (count : ℕ) × (O.taken out.new ≡ O.taken out.old ++ take count words_refusal) }
     ensures silent { result.status ≡ 9 → O.taken out.new ≡ O.taken out.old }

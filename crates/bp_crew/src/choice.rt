@@ -73,7 +73,8 @@ fn push_choices(
     may_take: bool,
     may_drop: bool,
 ) -> Result<(), AllocError>
-    ensures { OnOk result (list.new.items ≡ list.old.items ++ choices_of worker held may_take may_drop) }
+    ensures { OnOk result (list.new.items ≡ list.old.items ++ choices_of worker held may_take
+        may_drop) }
 {
     if held {
         list.push(Choice {

@@ -60,6 +60,7 @@ impl Crew {
         ensures made { IfOk result (IsMade from workers) }
         ensures kept { IfOk result (IsCrewOf b.now) }
     {
+        // For the proof alone: `b` is formed.
         let _ = b.blocks();
         let Loaded { grove, best } = from;
         let best = kept_from(best);
@@ -80,7 +81,8 @@ impl Crew {
         requires idle { hand_of self.old worker ≡ None }
         requires some_free { 0 < free_count (crew_of self.old) }
         ensures taken { OnOk result (IsTaken self.old worker self.new) }
-        ensures event { (b : BlockedProgram) → IsCrewOf b self.old → OnOk result ((path : List Side) × IsEvent b self.old (takes worker path) self.new) }
+        ensures event { (b : BlockedProgram) → IsCrewOf b self.old →
+            OnOk result ((path : List Side) × IsEvent b self.old (takes worker path) self.new) }
         ensures same { OnErr result (self.new ≡ self.old) }
     {
         let turn = first_free(alloc, &self.grove, self.hands.as_slice())?;
@@ -134,7 +136,8 @@ impl Crew {
     pub fn drop_turn(&mut self, worker: u32)
         requires { (hand : Hand) × (hand_of self.old worker ≡ Some hand) }
         ensures dropped { self.new ≡ dropped self.old worker }
-        ensures event { (b : BlockedProgram) → IsCrewOf b self.old → IsEvent b self.old (drops worker) self.new }
+        ensures event { (b : BlockedProgram) → IsCrewOf b self.old →
+            IsEvent b self.old (drops worker) self.new }
     {
         self.hands[worker as usize] = None;
         self.holders -= 1;
@@ -150,7 +153,8 @@ impl Crew {
     /// The leaf that a worker holds, as it was handed out. None exactly where it holds nothing.
     pub fn turn(&self, worker: u32) -> Option<&Turn>
         requires { worker < length self.now.hands }
-        ensures { MatchOption result (hand_of self.now worker ≡ None) (λ turn. IsTurnOf (hand_of self.now worker) turn.now) }
+        ensures { MatchOption result (hand_of self.now worker ≡ None)
+            (λ turn. IsTurnOf (hand_of self.now worker) turn.now) }
     {
         match &self.hands[worker as usize] {
             None => None,
@@ -189,7 +193,8 @@ impl Crew {
         requires live { 0 < live_count self.now.grove.tree }
         requires some { 1 ≤ length self.now.hands }
         requires few { length self.now.hands < 2 ^ 32 }
-        ensures { IfOk result (λ choice. slice_get (choices_in drops self.now) (draw_of state % length (choices_in drops self.now)) ≡ Some choice) }
+        ensures { IfOk result (λ choice. slice_get (choices_in drops self.now)
+            (draw_of state % length (choices_in drops self.now)) ≡ Some choice) }
     {
         let holds = holds_of(alloc, self.hands.as_slice())?;
         let may_take = self.free() > 0;
@@ -214,7 +219,8 @@ impl Crew {
     /// How a search ends whose steps are taken, or that has no live leaf, and the events that led there.
     pub fn conclude(self, b: &Blocked) -> (Outcome, Vec<Event>)
         requires { IsCrewOf b.now self }
-        ensures ends { (most : ℕ) → HasStopped most self.grove.tree → EndsWithin b.now most result.0 }
+        ensures ends { (most : ℕ) → HasStopped most self.grove.tree →
+            EndsWithin b.now most result.0 }
         ensures writable { IsWritable b.now result.0 }
         ensures grove { grove_in result.0 ≡ self.grove }
         ensures point { point_of result.0 ≡ kept_point self.best }

@@ -36,7 +36,8 @@ pub fn run_crew(
     requires few { IfSome steps (λ n. n ≤ 2 ^ 60) }
     ensures ends { IfOk result (λ r. EndsWithin b.now (last_step from.grove steps) r.0) }
     ensures writable { IfOk result (λ r. IsWritable b.now r.0) }
-    ensures run { IfOk result (λ r. IsCrewRun b.now from workers order (last_step from.grove steps) r.0 r.1.items) }
+    ensures run { IfOk result (λ r. IsCrewRun b.now from workers order (last_step from.grove steps)
+        r.0 r.1.items) }
 {
     let most = from.grove.count() + steps.unwrap_or(MAX_STEPS);
     let mut crew = Crew::make(alloc, b, from, workers)?;
@@ -60,9 +61,11 @@ fn draw_events(
     requires limit { most < 2 ^ 63 - 1 }
     ensures kept { OnOk result (IsCrewOf b.now crew.new) }
     ensures all { OnOk result (length crew.new.hands ≡ length crew.old.hands) }
-    ensures drawn { OnOk result ((drops : ℕ) × (state : ℕ) × IsDrawnTo b.now most order crew.old crew.new drops state) }
+    ensures drawn { OnOk result ((drops : ℕ) × (state : ℕ) ×
+        IsDrawnTo b.now most order crew.old crew.new drops state) }
     ensures few { OnOk result (steps (certificate_tree crew.new.grove.tree) ≤ most) }
-    ensures over { OnOk result (0 < live_count crew.new.grove.tree → steps (certificate_tree crew.new.grove.tree) ≡ most) }
+    ensures over { OnOk result (0 < live_count crew.new.grove.tree →
+        steps (certificate_tree crew.new.grove.tree) ≡ most) }
 {
     let mut pools = Pools::make(alloc, b)?;
     let mut state = order;
@@ -78,7 +81,8 @@ fn draw_events(
 
 // Whether a leaf is live and a step is left.
 fn goes_on(crew: &Crew, most: u64) -> bool
-    ensures { IsTrue result ↔ ((0 < live_count crew.now.grove.tree) × (steps (certificate_tree crew.now.grove.tree) < most)) }
+    ensures { IsTrue result ↔ ((0 < live_count crew.now.grove.tree) ×
+        (steps (certificate_tree crew.now.grove.tree) < most)) }
 {
     crew.live() > 0 && crew.count() < most
 }
@@ -149,6 +153,7 @@ fn let_go_one(b: &Blocked, crew: &mut Crew, worker: u32)
     requires known { worker < length crew.old.hands }
     ensures gone { IsLetGoAt b.now crew.old worker crew.new }
 {
+    // For the proof alone: `b` stands in the contract.
     let _ = b;
     if crew.turn(worker).is_some() {
         crew.drop_turn(worker);

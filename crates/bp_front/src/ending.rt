@@ -8,8 +8,8 @@ use branch_tree::Outcome;
 use search_laws::Event;
 use std::alloc::Global;
 
-/// How a run ended: the status that the program ends with, the outcome of a search, where one was printed, and what the workers
-/// of a crew did in that search, in order; nothing where no crew ran or no outcome is kept.
+/// How a run ended: the status that the program ends with, the outcome of a search, where one was printed, and what the
+/// workers of a crew did in that search, in order; nothing where no crew ran or no outcome is kept.
 #[derive(Drop)]
 pub struct Ended {
     pub status: u8,
@@ -59,7 +59,8 @@ pub fn print<O: Sink>(alloc: Global, out: &mut O, reply: &Reply, kept: Option<Ou
     ensures none_kept { result.status ≡ 8 → result.kept ≡ None }
     ensures events { result.events.items ≡ [] }
     ensures once { O.puts out.new ≡ next_count (O.puts out.old) }
-    ensures printed { IsTrue (O.tells out.old) → result.status ≢ 8 → O.taken out.new ≡ O.taken out.old ++ reply.now.report.items }
+    ensures printed { IsTrue (O.tells out.old) → result.status ≢ 8 →
+        O.taken out.new ≡ O.taken out.old ++ reply.now.report.items }
     ensures partly { IsTrue (O.tells out.old) → result.status ≡ 8 →
         (count : ℕ) × (O.taken out.new ≡ O.taken out.old ++ take count reply.now.report.items) }
     ensures fault { result.status ≡ 8 → Rose (O.faults out.old) (O.faults out.new) }

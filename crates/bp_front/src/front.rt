@@ -56,9 +56,11 @@ pub fn load<F: Shelf>(
     dec: Option<&str>,
 ) -> Result<Blocked, Halt>
     ensures blocked { IsTrue (F.tells shelf.old) →
-        IfOk result (λ b. FilesCome (F.file shelf.old) lp.now (option_map (λ name. name.now) dec.entry) (blocked b)) }
+        IfOk result (λ b. FilesCome (F.file shelf.old) lp.now (option_map
+        (λ name. name.now) dec.entry) (blocked b)) }
     ensures halted { IsTrue (F.tells shelf.old) →
-        IfErr result (ComesToHalt (F.file shelf.old) lp.now (option_map (λ name. name.now) dec.entry)) }
+        IfErr result (ComesToHalt (F.file shelf.old) lp.now (option_map
+        (λ name. name.now) dec.entry)) }
     ensures told { F.tells shelf.new ≡ F.tells shelf.old }
     ensures files { F.file shelf.new ≡ F.file shelf.old }
     ensures cause { CountsHalted (F.read_faults shelf.old) (F.read_faults shelf.new) result }
@@ -103,11 +105,13 @@ fn load_dec<F: Shelf>(
     dec: Option<&str>,
 ) -> Result<Dec, Halt>
     ensures dec { IsTrue (F.tells shelf.old) →
-        IfOk result (HasDec (F.file shelf.old) model.now (option_map (λ name. name.now) dec.entry)) }
+        IfOk result (HasDec (F.file shelf.old) model.now (option_map
+        (λ name. name.now) dec.entry)) }
     ensures places { IfOk result (λ parts. HasPlaces model.now.program parts) }
     ensures listed { IfOk result (λ parts. HasListed model.now.program parts) }
     ensures halted { IsTrue (F.tells shelf.old) →
-        IfErr result (DecHalts (F.file shelf.old) model.now (option_map (λ name. name.now) dec.entry)) }
+        IfErr result (DecHalts (F.file shelf.old) model.now (option_map
+        (λ name. name.now) dec.entry)) }
     ensures told { F.tells shelf.new ≡ F.tells shelf.old }
     ensures files { F.file shelf.new ≡ F.file shelf.old }
     ensures cause { CountsHalted (F.read_faults shelf.old) (F.read_faults shelf.new) result }
@@ -131,6 +135,7 @@ fn model_of(alloc: Global, text: &[u8]) -> Result<Model, Halt>
 {
     match read_lp(alloc, text) {
         Ok(model) => {
+            // For the proof alone: what a model keeps.
             let _rows = model.rows();
             Ok(model)
         }

@@ -24,9 +24,13 @@ pub fn read_front<F: Shelf>(
     most: usize,
 ) -> Result<Vec<u8>, ShelfFault>
     requires { most < 2 ^ 62 }
-    ensures bytes { IsTrue (F.tells shelf.old) → IfOk result (λ front. IfSome (F.file shelf.old name.now) (λ all. front.items ≡ take most all)) }
-    ensures found { IsTrue (F.tells shelf.old) → IsOk result → 0 < most → IsSome (F.file shelf.old name.now) }
-    ensures missing { IsTrue (F.tells shelf.old) → IsErrOf result ShelfFault.Missing → F.file shelf.old name.now ≡ None }
+    ensures bytes { IsTrue (F.tells shelf.old) →
+        IfOk result (λ front. IfSome (F.file shelf.old name.now)
+        (λ all. front.items ≡ take most all)) }
+    ensures found { IsTrue (F.tells shelf.old) → IsOk result → 0 < most →
+        IsSome (F.file shelf.old name.now) }
+    ensures missing { IsTrue (F.tells shelf.old) → IsErrOf result ShelfFault.Missing →
+        F.file shelf.old name.now ≡ None }
     ensures told { F.tells shelf.new ≡ F.tells shelf.old }
     ensures files { F.file shelf.new ≡ F.file shelf.old }
     ensures cause { CountsFailed (F.read_faults shelf.old) (F.read_faults shelf.new) result }
@@ -53,16 +57,19 @@ fn read_more<F: Shelf>(
 ) -> Result<usize, ShelfFault>
     requires room { 0 < length buffer.old }
     requires more { vec_len front.old < most }
-    ensures front { OnOk result (HasFront (F.tells shelf.old) (F.file shelf.old name.now) front.old.items →
-        HasFront (F.tells shelf.old) (F.file shelf.old name.now) front.new.items) }
-    ensures end { IfOk result (λ count. count ≡ 0 → IsTrue (F.tells shelf.old) → HasFront (F.tells shelf.old) (F.file shelf.old name.now) front.old.items →
+    ensures front { OnOk result (HasFront (F.tells shelf.old) (F.file shelf.old name.now)
+        front.old.items → HasFront (F.tells shelf.old) (F.file shelf.old name.now)
+        front.new.items) }
+    ensures end { IfOk result (λ count. count ≡ 0 → IsTrue (F.tells shelf.old) →
+        HasFront (F.tells shelf.old) (F.file shelf.old name.now) front.old.items →
         IfSome (F.file shelf.old name.now) (λ all. front.new.items ≡ all)) }
     ensures len { IfOk result (λ count. vec_len front.new ≡ vec_len front.old + count) }
     ensures count { IfOk result (λ count. count ≤ length buffer.old) }
     ensures far { 2 ^ 62 ≤ vec_len front.old → IfOk result (λ count. count ≡ 0) }
     ensures within { OnOk result (vec_len front.new ≤ most) }
     ensures found { IsTrue (F.tells shelf.old) → IsOk result → IsSome (F.file shelf.old name.now) }
-    ensures missing { IsTrue (F.tells shelf.old) → IsErrOf result ShelfFault.Missing → F.file shelf.old name.now ≡ None }
+    ensures missing { IsTrue (F.tells shelf.old) → IsErrOf result ShelfFault.Missing →
+        F.file shelf.old name.now ≡ None }
     ensures told { F.tells shelf.new ≡ F.tells shelf.old }
     ensures files { F.file shelf.new ≡ F.file shelf.old }
     ensures cause { CountsFailed (F.read_faults shelf.old) (F.read_faults shelf.new) result }

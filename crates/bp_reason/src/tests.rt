@@ -3,8 +3,9 @@ use super::*;
 use std::alloc::{AllocError, Global};
 use std::test::Fail;
 
-/// Cases: the words behind the program's name, or a dash; the status and the first line of the report; the text that was read
-/// first, and the one behind it, or dashes; the note. Bars end the lines of texts and notes; a star stands for the rest of a note.
+/// Cases: the words behind the program's name, or a dash; the status and the first line of the report; the text that
+/// was read first, and the one behind it, or dashes; the note. Bars end the lines of texts and notes; a star stands for
+/// the rest of a note.
 const CASES: &str = "\
 - @ 2 refused words @ - @ - @ usage: bprice COMMAND ..|  solve LP [..]           a best point, and a certificate of it|  check LP CERT [..]      whether*
 --help @ 2 refused words @ - @ - @ usage: bprice COMMAND ..|*

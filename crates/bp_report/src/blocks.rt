@@ -59,7 +59,8 @@ fn push_block(text: &mut Vec<u8>, b: &Blocked, block: u32, rows: &[u32]) -> Resu
 // How many rows there are, and their names.
 fn push_row_names(text: &mut Vec<u8>, m: &Model, rows: &[u32]) -> Result<(), AllocError>
     requires { All (λ row. row < length m.now.program.rows) rows.now }
-    ensures { OnOk result (text.new.items ≡ text.old.items ++ counted_names (codes " rows ") m.now.row_names rows.now) }
+    ensures { OnOk result (text.new.items ≡ text.old.items ++ counted_names (codes " rows ")
+        m.now.row_names rows.now) }
 {
     push_named(text, b" rows ", rows.len() as u64)?;
     for row in rows {
@@ -71,7 +72,8 @@ fn push_row_names(text: &mut Vec<u8>, m: &Model, rows: &[u32]) -> Result<(), All
 // How many variables there are, and their names.
 fn push_var_names(text: &mut Vec<u8>, m: &Model, vars: &[u32]) -> Result<(), AllocError>
     requires { All (λ var. var < length m.now.program.spans) vars.now }
-    ensures { OnOk result (text.new.items ≡ text.old.items ++ counted_names (codes " variables ") m.now.names vars.now) }
+    ensures { OnOk result (text.new.items ≡ text.old.items ++ counted_names (codes " variables ")
+        m.now.names vars.now) }
 {
     push_named(text, b" variables ", vars.len() as u64)?;
     for var in vars {
@@ -94,13 +96,15 @@ fn vars_of(b: &Blocked, block: u32) -> &[u32]
     ensures vars { result.now ≡ map (λ (c : Copy). c.var) (block_at b.now.blocking block).copies }
     ensures known { All (λ var. var < length b.now.named.program.spans) result.now }
 {
+    // For the proof alone: `b` is formed.
     let _blocks = b.blocks();
     b.block(block).vars()
 }
 
 // The rows of all blocks.
 fn all_rows(alloc: Global, b: &Blocked) -> Result<Vec<Items<u32>>, AllocError>
-    ensures { IfOk result (λ all. all.items ≡ map (rows_of_block b.now.dec.places) (range_with_len 0 (length b.now.blocking.blocks))) }
+    ensures { IfOk result (λ all. all.items ≡ map (rows_of_block b.now.dec.places)
+        (range_with_len 0 (length b.now.blocking.blocks))) }
 {
     rows_by_block(alloc, b.dec().places(), b.blocks())
 }
@@ -113,7 +117,8 @@ fn rows_by_block(
 ) -> Result<Vec<Items<u32>>, AllocError>
     requires known { All (IsPlace blocks) places.now }
     requires few { length places.now < 2 ^ 32 }
-    ensures { IfOk result (λ all. all.items ≡ map (rows_of_block places.now) (range_with_len 0 blocks)) }
+    ensures { IfOk result (λ all. all.items ≡ map (rows_of_block places.now)
+        (range_with_len 0 blocks)) }
 {
     let mut all = empty(alloc, blocks)?;
     for row in 0..places.len() {
@@ -138,8 +143,10 @@ fn empty(alloc: Global, blocks: u32) -> Result<Vec<Items<u32>>, AllocError>
 fn push_row(all: &mut Vec<Items<u32>>, place: Option<u32>, row: u32) -> Result<(), AllocError>
     requires { IsPlace (vec_len all.old) place }
     ensures len { vec_len all.new ≡ vec_len all.old }
-    ensures pushed { OnOk result ((k : ℕ) → slice_index_or all.new.items k []
-        ≡ (if is_block k place then slice_index_or all.old.items k [] ++ row ∷ [] else slice_index_or all.old.items k [])) }
+    ensures pushed { OnOk result ((k : ℕ) →
+        slice_index_or all.new.items k [] ≡
+        (if is_block k place then slice_index_or all.old.items k [] ++ row ∷ [] else slice_index_or
+        all.old.items k [])) }
 {
     match place {
         None => Ok(()),
@@ -151,7 +158,8 @@ fn push_row(all: &mut Vec<Items<u32>>, place: Option<u32>, row: u32) -> Result<(
 fn push_to(all: &mut Vec<Items<u32>>, block: u32, row: u32) -> Result<(), AllocError>
     requires { block < vec_len all.old }
     ensures len { vec_len all.new ≡ vec_len all.old }
-    ensures pushed { OnOk result (all.new.items ≡ slice_set all.old.items block (slice_index_or all.old.items block [] ++ row ∷ [])) }
+    ensures pushed { OnOk result (all.new.items ≡ slice_set all.old.items block
+        (slice_index_or all.old.items block [] ++ row ∷ [])) }
 {
     all[block as usize].push(row)?;
     Ok(())

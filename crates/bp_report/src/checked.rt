@@ -53,7 +53,8 @@ fn push_claim(text: &mut Vec<u8>, claim: &Claim) -> Result<(), AllocError>
 
 // A word with the spaces around it, and a value.
 fn push_words(text: &mut Vec<u8>, word: &[u8], value: &i64) -> Result<(), AllocError>
-    ensures { OnOk result (text.new.items ≡ text.old.items ++ word.now ++ signed_decimal value.now) }
+    ensures { OnOk result (text.new.items ≡ text.old.items ++ word.now ++
+        signed_decimal value.now) }
 {
     text.extend_from_slice(word)?;
     push_value(text, value)

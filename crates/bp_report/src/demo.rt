@@ -24,7 +24,8 @@ pub fn demo_text(
     judged: &Judged,
 ) -> Result<Vec<u8>, AllocError>
     requires { CanTell b.now.named o.now }
-    ensures { IfOk result (λ text. text.items ≡ demo_report seed size b.now.named o.now judged.now) }
+    ensures { IfOk result (λ text. text.items ≡ demo_report seed size b.now.named o.now
+        judged.now) }
 {
     let mut text = Vec::new(alloc);
     push_demo(&mut text, seed, size)?;

@@ -14,7 +14,8 @@ use std::alloc::{AllocError, Global};
 /// The report of a search that ended with this best point, or that found that no point is feasible.
 pub fn ended_text(alloc: Global, m: &Model, best: Option<&[i64]>) -> Result<Vec<u8>, AllocError>
     requires { ForSome best (λ x. IsInside m.now.program.spans x.now) }
-    ensures { IfOk result (λ text. text.items ≡ ended_report m.now (option_map (λ x. x.now) best.entry)) }
+    ensures { IfOk result (λ text. text.items ≡ ended_report m.now (option_map
+        (λ x. x.now) best.entry)) }
 {
     let mut text = Vec::new(alloc);
     push_ended(&mut text, m, best)?;
@@ -32,7 +33,8 @@ pub fn budget_text(
     best: Option<&[i64]>,
 ) -> Result<Vec<u8>, AllocError>
     requires { ForSome best (λ x. IsInside m.now.program.spans x.now) }
-    ensures { IfOk result (λ text. text.items ≡ budget_report m.now steps least.now (option_map (λ x. x.now) best.entry)) }
+    ensures { IfOk result (λ text. text.items ≡ budget_report m.now steps least.now (option_map
+        (λ x. x.now) best.entry)) }
 {
     let mut text = Vec::new(alloc);
     push_budget(&mut text, m, steps, least, best)?;
@@ -103,7 +105,8 @@ fn known_point(best: &Option<(Items<i64>, i64)>) -> Option<&[i64]>
 // The first line on a search that ended.
 fn push_ended(text: &mut Vec<u8>, m: &Model, best: Option<&[i64]>) -> Result<(), AllocError>
     requires { ForSome best (λ x. IsInside m.now.program.spans x.now) }
-    ensures { OnOk result (text.new.items ≡ text.old.items ++ ended_line m.now (option_map (λ x. x.now) best.entry)) }
+    ensures { OnOk result (text.new.items ≡ text.old.items ++
+        ended_line m.now (option_map (λ x. x.now) best.entry)) }
 {
     match best {
         Some(point) => push_value_line(text, b"optimal ", &value(m, point)),
@@ -120,7 +123,8 @@ fn push_budget(
     best: Option<&[i64]>,
 ) -> Result<(), AllocError>
     requires { ForSome best (λ x. IsInside m.now.program.spans x.now) }
-    ensures { OnOk result (text.new.items ≡ text.old.items ++ budget_lines m.now steps least.now (option_map (λ x. x.now) best.entry)) }
+    ensures { OnOk result (text.new.items ≡ text.old.items ++ budget_lines m.now steps least.now
+        (option_map (λ x. x.now) best.entry)) }
 {
     push_count_line(text, b"budget ", steps)?;
     push_value_line(text, b"bound ", &in_sense(m.maximises(), least))?;
@@ -130,7 +134,8 @@ fn push_budget(
 // The line of the value of a known point.
 fn push_known_value(text: &mut Vec<u8>, m: &Model, best: Option<&[i64]>) -> Result<(), AllocError>
     requires { ForSome best (λ x. IsInside m.now.program.spans x.now) }
-    ensures { OnOk result (text.new.items ≡ text.old.items ++ known_line m.now (option_map (λ x. x.now) best.entry)) }
+    ensures { OnOk result (text.new.items ≡ text.old.items ++
+        known_line m.now (option_map (λ x. x.now) best.entry)) }
 {
     match best {
         Some(point) => push_value_line(text, b"value ", &value(m, point)),
@@ -141,7 +146,8 @@ fn push_known_value(text: &mut Vec<u8>, m: &Model, best: Option<&[i64]>) -> Resu
 // The lines of a known point.
 fn push_known(text: &mut Vec<u8>, m: &Model, best: Option<&[i64]>) -> Result<(), AllocError>
     requires { ForSome best (λ x. IsInside m.now.program.spans x.now) }
-    ensures { OnOk result (text.new.items ≡ text.old.items ++ known_lines m.now (option_map (λ x. x.now) best.entry)) }
+    ensures { OnOk result (text.new.items ≡ text.old.items ++
+        known_lines m.now (option_map (λ x. x.now) best.entry)) }
 {
     match best {
         Some(point) => push_point(text, m, m.vars(), point),

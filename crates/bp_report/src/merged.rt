@@ -41,7 +41,8 @@ fn grove_of(o: &Outcome) -> &Grove
 
 // What an outcome claims.
 fn push_claim(text: &mut Vec<u8>, maximises: bool, o: &Outcome) -> Result<(), AllocError>
-    ensures { OnOk result (text.new.items ≡ text.old.items ++ claim_words (claim_of maximises o.now)) }
+    ensures { OnOk result (text.new.items ≡ text.old.items ++
+        claim_words (claim_of maximises o.now)) }
 {
     match o {
         Outcome::Optimal { cost, .. } => push_value(text, b"optimal ", maximises, cost),
@@ -57,7 +58,9 @@ fn push_bound(
     best: &Option<(Items<i64>, i64)>,
     bound: &i64,
 ) -> Result<(), AllocError>
-    ensures { OnOk result (text.new.items ≡ text.old.items ++ claim_words (Bound (in_sense maximises bound.now) (option_map (λ e. in_sense maximises e.1) best.now))) }
+    ensures { OnOk result (text.new.items ≡ text.old.items ++
+        claim_words (Bound (in_sense maximises bound.now) (option_map
+        (λ e. in_sense maximises e.1) best.now))) }
 {
     push_value(text, b"bound ", maximises, bound)?;
     match best {
@@ -73,7 +76,8 @@ fn push_value(
     maximises: bool,
     cost: &i64,
 ) -> Result<(), AllocError>
-    ensures { OnOk result (text.new.items ≡ text.old.items ++ word.now ++ signed_decimal (in_sense maximises cost.now)) }
+    ensures { OnOk result (text.new.items ≡ text.old.items ++ word.now ++
+        signed_decimal (in_sense maximises cost.now)) }
 {
     text.extend_from_slice(word)?;
     let value = in_sense(maximises, cost);

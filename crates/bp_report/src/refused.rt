@@ -33,7 +33,8 @@ pub enum Refusal {
 /// has no report: its text is empty.
 pub fn refusal_text(alloc: Global, m: Option<&Model>, what: &Refusal) -> Result<Vec<u8>, AllocError>
     requires { CanName (option_map (λ m. m.now) m) what.now }
-    ensures { IfOk result (λ text. text.items ≡ refusal_report (option_map (λ m. m.now) m.entry) what.now) }
+    ensures { IfOk result (λ text. text.items ≡ refusal_report (option_map (λ m. m.now) m.entry)
+        what.now) }
 {
     match what {
         Refusal::Words => words_text(alloc),

@@ -139,7 +139,8 @@ fn push_class_line(
     vars: u32,
     rows: u64,
 ) -> Result<(), AllocError>
-    ensures { OnOk result (text.new.items ≡ text.old.items ++ class_line class first size vars rows) }
+    ensures { OnOk result (text.new.items ≡ text.old.items ++ class_line class first size
+        vars rows) }
 {
     push_named(text, b"class ", class as u64 + 1)?;
     push_named(text, b" first ", first as u64 + 1)?;

@@ -18,10 +18,10 @@ use node_hint::Pools;
 use search_laws::Side;
 use std::alloc::{AllocError, Global};
 
-/// Goes on with a search as `resume`, but only at a path and below it: what is not there stands as it was, live leaves too. It
-/// ends when the given steps are taken or no leaf there is live. The outcome is that of the whole tree: `Optimal` or
-/// `Infeasible` exactly where no leaf at all is live, and else `Budget` with the least bound of all live leaves and the best
-/// point's cost.
+/// Goes on with a search as `resume`, but only at a path and below it: what is not there stands as it was, live leaves
+/// too. It ends when the given steps are taken or no leaf there is live. The outcome is that of the whole tree:
+/// `Optimal` or `Infeasible` exactly where no leaf at all is live, and else `Budget` with the least bound of all live
+/// leaves and the best point's cost.
 pub fn resume_below(
     alloc: Global,
     b: &Blocked,
@@ -54,9 +54,11 @@ fn take_steps_below(
     requires few { steps (certificate_tree grove.old.tree) ≤ last }
     requires limit { last < 2 ^ 63 - 1 }
     ensures running { OnOk result (IsRunning b.now grove.new best.new) }
-    ensures more { OnOk result (steps (certificate_tree grove.old.tree) ≤ steps (certificate_tree grove.new.tree)) }
+    ensures more { OnOk result (steps (certificate_tree grove.old.tree) ≤
+        steps (certificate_tree grove.new.tree)) }
     ensures few { OnOk result (steps (certificate_tree grove.new.tree) ≤ last) }
-    ensures done { OnOk result (NoneLiveBelow grove.new.tree below.now ⊎ (steps (certificate_tree grove.new.tree) ≡ last)) }
+    ensures done { OnOk result (NoneLiveBelow grove.new.tree below.now ⊎
+        (steps (certificate_tree grove.new.tree) ≡ last)) }
     ensures beside { OnOk result (IsAsBeside below.now grove.old.tree grove.new.tree) }
 {
     let mut pools = Pools::make(alloc, b)?;

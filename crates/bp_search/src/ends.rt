@@ -20,6 +20,7 @@ pub fn conclude(b: &Blocked, grove: Grove, best: Option<Kept>) -> Outcome
     ensures grove { grove_in result ≡ grove }
     ensures point { point_of result ≡ kept_point best }
 {
+    // For the proof alone: `b` is formed.
     let _ = b.blocks();
     if grove.live() == 0 {
         ended(grove, best)

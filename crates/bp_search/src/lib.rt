@@ -28,8 +28,8 @@ pub const MAX_STEPS: u64 = 1 << 60;
 
 /// Searches for a best point. A step shuts or forks one leaf, and a leaf is taken only while fewer than the given steps
 /// have been taken. The outcome is `Optimal` or `Infeasible` exactly where no leaf is live, the first where a point is
-/// kept, and `Budget` exactly where all steps are taken and a leaf is live. Each outcome may be written as a certificate. The
-/// only error is want of memory.
+/// kept, and `Budget` exactly where all steps are taken and a leaf is live. Each outcome may be written as a
+/// certificate. The only error is want of memory.
 ///
 /// Vanderbeck, Branching in branch-and-price: a generic scheme; Desaulniers, Desrosiers and Solomon, Column generation.
 pub fn search(alloc: Global, b: &Blocked, steps: Option<u64>) -> Result<Outcome, AllocError>

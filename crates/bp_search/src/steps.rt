@@ -28,7 +28,8 @@ pub fn take_steps(
     requires limit { most < 2 ^ 63 - 1 }
     ensures running { OnOk result (IsRunning b.now grove.new best.new) }
     ensures few { OnOk result (steps (certificate_tree grove.new.tree) ≤ most) }
-    ensures spent { OnOk result (0 < live_count grove.new.tree → steps (certificate_tree grove.new.tree) ≡ most) }
+    ensures spent { OnOk result (0 < live_count grove.new.tree →
+        steps (certificate_tree grove.new.tree) ≡ most) }
 {
     let mut pools = Pools::make(alloc, b)?;
     while grove.count() < most {
@@ -55,9 +56,11 @@ pub fn step(
     requires few { steps (certificate_tree grove.old.tree) < 2 ^ 63 - 1 }
     ensures running { OnOk result (IsRunning b.now grove.new best.new) }
     ensures made_for { AreMadeFor b.now pools.new }
-    ensures one { OnOk result (steps (certificate_tree grove.new.tree) ≡ steps (certificate_tree grove.old.tree) + 1) }
+    ensures one { OnOk result (steps (certificate_tree grove.new.tree) ≡
+        steps (certificate_tree grove.old.tree) + 1) }
     ensures beside { OnOk result (IsAsBeside turn.now.path grove.old.tree grove.new.tree) }
 {
+    // For the proof alone: `b` is formed.
     let _ = b.blocks();
     let Verdict { point, next } = evaluate(alloc, b, turn, cost_of(best), pools)?;
     grow(alloc, b, grove, turn, next)?;

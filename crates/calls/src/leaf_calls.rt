@@ -99,6 +99,7 @@ fn next_turn(alloc: Global, b: &Blocked, grove: &Grove) -> Result<Option<Turn>, 
     ensures live { IfOk result (λ next. IfSome next (IsLiveTurn grove.now)) }
     ensures turn { IfOk result (λ next. IfSome next (IsTurn b.now)) }
 {
+    // For the proof alone: `b` stands in the contract.
     let _ = b;
     grove.take(alloc)
 }

@@ -48,7 +48,8 @@ fn used_columns(
 ) -> Result<Vec<Used>, AllocError>
     requires root { zone.now ≡ b.now.named.program.spans }
     requires class { 0 < length classes.now.firsts }
-    ensures used { IfOk result (λ used. All (IsUsed zone.now b.now.blocking classes.now.firsts) used.items) }
+    ensures used { IfOk result (λ used. All (IsUsed zone.now b.now.blocking classes.now.firsts)
+        used.items) }
     ensures weights { IfOk result (λ used. All HasWeight used.items) }
 {
     let mut used = Vec::new(alloc);
@@ -96,7 +97,8 @@ fn point_in(
     point: &[i64],
 ) -> Result<Option<Items<i64>>, AllocError>
     requires { number < length b.now.blocking.blocks }
-    ensures { IfOk result (λ found. IfSome found (λ y. IsPoint (root_block b.now number).block.rows (root_block b.now number).spans y)) }
+    ensures { IfOk result (λ found. IfSome found
+        (λ y. IsPoint (root_block b.now number).block.rows (root_block b.now number).spans y)) }
 {
     let block = b.block(number);
     if point.len() != block.vars().len() {

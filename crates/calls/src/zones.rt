@@ -17,6 +17,7 @@ pub fn narrowed(
     requires { IsZone b.now.named.program.spans zone.now }
     ensures { IfOk result (IsZone b.now.named.program.spans) }
 {
+    // For the proof alone: `b` stands in the contract.
     let _ = b;
     if !is_sound(zone, var, at) {
         return zone.copy(alloc);

@@ -29,6 +29,7 @@ pub fn check(alloc: Global, b: &Blocked, cert: &Cert) -> Result<Judged, AllocErr
     ensures judged { IfOk result (IsJudged b.now (certificate_of cert.now)) }
     ensures truth { IfOk result (IsTrueIfAccepted b.now.named.program) }
 {
+    // For the proof alone: `b` is formed.
     let _model = b.model();
     match judge_point(b, cert) {
         Err(found) => Ok(rejected(&found)),
@@ -39,11 +40,14 @@ pub fn check(alloc: Global, b: &Blocked, cert: &Cert) -> Result<Judged, AllocErr
 // Judges a certificate whose point's line passes, where it has one, from the line of the root on.
 fn judge_nodes(alloc: Global, b: &Blocked, cert: &Cert, line: u64) -> Result<Judged, AllocError>
     requires goes_with { GoesWith b.now (certificate_of cert.now) }
-    requires point { JudgesPoint b.now.named.program b.now.blocking (certificate_of cert.now).claim (point_lines (named_value (certificate_of cert.now).claim) (certificate_of cert.now).point) (Ok line) }
+    requires point { JudgesPoint b.now.named.program b.now.blocking (certificate_of cert.now).claim
+        (point_lines (named_value (certificate_of cert.now).claim) (certificate_of cert.now).point)
+        (Ok line) }
     ensures judged { IfOk result (IsJudged b.now (certificate_of cert.now)) }
     ensures truth { IfOk result (IsTrueIfAccepted b.now.named.program) }
 {
     let claim = cert.claim();
+    // For the proof alone: `b` is formed.
     let _model = b.model();
     let zone = Zone::root(alloc, b)?;
     let mut work = None;

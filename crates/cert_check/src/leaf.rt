@@ -34,7 +34,9 @@ pub fn judge_leaf(
     requires zone { IsZone b.now.named.program.spans at.zone }
     requires fits { Fits b.now.blocking proof.now }
     requires few { at.line + 1 < 2 ^ 64 }
-    ensures judged { IfOk result (λ found. JudgesLines b.now.named.program b.now.blocking claim.now (leaf_line (record { zone = at.zone; proof = proof.now; is_open = is_open }) ∷ []) at found) }
+    ensures judged { IfOk result (λ found. JudgesLines b.now.named.program b.now.blocking claim.now
+        (leaf_line (record { zone = at.zone; proof = proof.now; is_open = is_open }) ∷ [])
+        at found) }
     ensures made_for { IfSome work.new (λ made. forms_of made ≡ forms_in b.now) }
 {
     let fault = leaf_fault(alloc, b, claim, work, &at.zone, proof, is_open)?;
@@ -64,7 +66,11 @@ fn leaf_fault(
     requires claim { IsSmallClaim claim.now }
     requires zone { IsZone b.now.named.program.spans zone.now }
     requires fits { Fits b.now.blocking proof.now }
-    ensures fault { IfOk result (λ found. MatchOption found (Passes b.now.named.program b.now.blocking claim.now (leaf_line (record { zone = zone.now; proof = proof.now; is_open = is_open }))) (HasFault b.now.named.program b.now.blocking claim.now (leaf_line (record { zone = zone.now; proof = proof.now; is_open = is_open })))) }
+    ensures fault { IfOk result (λ found.
+        MatchOption found (Passes b.now.named.program b.now.blocking claim.now
+        (leaf_line (record { zone = zone.now; proof = proof.now; is_open = is_open })))
+        (HasFault b.now.named.program b.now.blocking claim.now
+        (leaf_line (record { zone = zone.now; proof = proof.now; is_open = is_open })))) }
     ensures made_for { IfSome work.new (λ made. forms_of made ≡ forms_in b.now) }
 {
     if !signs_fit(b, proof) {
@@ -95,7 +101,9 @@ fn shows(
     requires claim { IsSmallClaim claim.now }
     requires zone { IsZone b.now.named.program.spans zone.now }
     requires fits { Fits b.now.blocking proof.now }
-    ensures shown { IfOk result (λ shown. (is_open : Bool) → IsTrue shown ↔ Shows b.now.named.program b.now.blocking claim.now (record { zone = zone.now; proof = proof.now; is_open = is_open })) }
+    ensures shown { IfOk result (λ shown. (is_open : Bool) → IsTrue shown ↔
+        Shows b.now.named.program b.now.blocking claim.now
+        (record { zone = zone.now; proof = proof.now; is_open = is_open })) }
     ensures made_for { IfSome work.new (λ made. forms_of made ≡ forms_in b.now) }
 {
     match bound_in(alloc, b, work, zone, proof)? {
@@ -107,7 +115,10 @@ fn shows(
 // Whether a bound is what a claim asks of a leaf, where a proof has it at this scale.
 fn is_enough(b: &Blocked, claim: &Claim, scale: u32, bound: &i128) -> bool
     requires claim { IsSmallClaim claim.now }
-    ensures { (zone : List Span) (proof : proofs.Proof) (is_open : Bool) → proof.scale ≡ scale → IsBound b.now.blocking zone proof bound.now → IsTrue result ↔ Shows b.now.named.program b.now.blocking claim.now (record { zone = zone; proof = proof; is_open = is_open }) }
+    ensures { (zone : List Span) (proof : proofs.Proof) (is_open : Bool) → proof.scale ≡ scale →
+        IsBound b.now.blocking zone proof bound.now → IsTrue result ↔
+        Shows b.now.named.program b.now.blocking claim.now
+        (record { zone = zone; proof = proof; is_open = is_open }) }
 {
     let maximises = b.model().maximises();
     match claim {

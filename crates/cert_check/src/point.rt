@@ -16,7 +16,9 @@ use cert_text::Cert;
 
 /// Judges the line of a certificate's point, where it has one: gives the number of the line behind it.
 pub fn judge_point(b: &Blocked, cert: &Cert) -> Result<u64, Rejection>
-    ensures { JudgesPoint b.now.named.program b.now.blocking (certificate_of cert.now).claim (point_lines (named_value (certificate_of cert.now).claim) (certificate_of cert.now).point) result }
+    ensures { JudgesPoint b.now.named.program b.now.blocking (certificate_of cert.now).claim
+        (point_lines (named_value (certificate_of cert.now).claim) (certificate_of cert.now).point)
+        result }
 {
     let claim = cert.claim();
     let value = value_of(&claim);
@@ -42,7 +44,9 @@ fn value_of(claim: &Claim) -> Option<i64>
 
 // What is wrong with a point of a value.
 fn value_fault(model: &Model, value: &i64, point: &[i64]) -> Option<CheckKind>
-    ensures { MatchOption result (Reaches model.now.program value.now point.now) (λ kind. (b : Blocking) (claim : claims.Claim) → HasFault model.now.program b claim (point_line value.now point.now) kind) }
+    ensures { MatchOption result (Reaches model.now.program value.now point.now)
+        (λ kind. (b : Blocking) (claim : claims.Claim) →
+        HasFault model.now.program b claim (point_line value.now point.now) kind) }
 {
     match model.misses(point) {
         Some(miss) => Some(miss_kind(&miss)),

@@ -29,7 +29,9 @@ pub fn bound_in(
     requires made_for { IfSome work.old (λ made. forms_of made ≡ forms_in b.now) }
     requires zone { IsZone b.now.named.program.spans zone.now }
     requires fits { Fits b.now.blocking proof.now }
-    ensures bound { IfOk result (λ found. MatchOption found (IsEndless b.now.blocking zone.now proof.now) (λ v. IsBound b.now.blocking zone.now proof.now v)) }
+    ensures bound { IfOk result (λ found.
+        MatchOption found (IsEndless b.now.blocking zone.now proof.now)
+        (λ v. IsBound b.now.blocking zone.now proof.now v)) }
     ensures made_for { IfSome work.new (λ made. forms_of made ≡ forms_in b.now) }
 {
     if picks_nothing(proof) {

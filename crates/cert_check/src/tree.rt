@@ -31,7 +31,8 @@ pub fn judge_tree(
     requires zone { IsZone b.now.named.program.spans at.zone }
     requires fits { ProofsFit b.now.blocking (tree_of tree.now) }
     requires few { at.line + length (tree_lines (tree_of tree.now) at.zone) < 2 ^ 64 }
-    ensures judged { IfOk result (λ found. JudgesLines b.now.named.program b.now.blocking claim.now (tree_lines (tree_of tree.now) at.zone) at found) }
+    ensures judged { IfOk result (λ found. JudgesLines b.now.named.program b.now.blocking claim.now
+        (tree_lines (tree_of tree.now) at.zone) at found) }
     ensures made_for { IfSome work.new (λ made. forms_of made ≡ forms_in b.now) }
 {
     match tree {
@@ -67,7 +68,9 @@ pub fn judge_tree(
 
 // The span of a variable in a zone, where a split behind a number is sound.
 fn sound_span(zone: &Zone, var: u32, at: &i64) -> Option<Span>
-    ensures { MatchOption result (IsSoundSplit zone.now var at.now → ⊥) (λ span. (span ≡ span_at zone.now var) × (var < length zone.now) × IsSoundSplit zone.now var at.now) }
+    ensures { MatchOption result (IsSoundSplit zone.now var at.now → ⊥)
+        (λ span. (span ≡ span_at zone.now var) × (var < length zone.now) ×
+        IsSoundSplit zone.now var at.now) }
 {
     if var as usize >= zone.spans().len() {
         return None;
@@ -104,7 +107,8 @@ fn to_low(at: NodePlace, var: u32, split: &i64) -> NodePlace
 fn to_high(at: NodePlace, var: u32, span: &Span, split: &i64) -> NodePlace
     requires there { var < length at.zone }
     requires below { split.now <ℤ span.now.hi }
-    ensures zone { result.zone ≡ slice_set at.zone var (record { lo = split.now +ℤ pos 1; hi = span.now.hi }) }
+    ensures zone { result.zone ≡ slice_set at.zone var
+        (record { lo = split.now +ℤ pos 1; hi = span.now.hi }) }
     ensures line { result.line ≡ at.line }
 {
     let part = high_span(span, split);

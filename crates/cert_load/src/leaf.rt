@@ -27,7 +27,8 @@ pub fn load_leaf(
     requires made_for { IfSome work.old (λ made. forms_of made ≡ forms_in b.now) }
     requires zone { IsZone b.now.named.program.spans zone.now }
     requires can { CanLoadLeaf b.now.blocking best.now zone.now proof.now }
-    ensures loads { IfOk result (λ leaf. LoadsLeaf b.now.blocking best.now zone.now proof.now (tree_of leaf)) }
+    ensures loads { IfOk result (λ leaf. LoadsLeaf b.now.blocking best.now zone.now proof.now
+        (tree_of leaf)) }
     ensures made_for { IfSome work.new (λ made. forms_of made ≡ forms_in b.now) }
 {
     let bound = bound_in(alloc, b, work, zone, proof)?;

@@ -35,6 +35,7 @@ pub fn load(alloc: Global, b: &Blocked, cert: &Cert) -> Result<Loaded, LoadFault
     requires valid { IsCertified b.now.named.program b.now.dec (certificate_of cert.now) }
     ensures { LoadsCert b.now (certificate_of cert.now) result }
 {
+    // For the proof alone: `b` is formed.
     let _ = b.blocks();
     let best = best_of(alloc, b, cert)?;
     let (tree, deep) = load_nodes(alloc, b, cert, &cost_in(&best))?;
@@ -94,8 +95,10 @@ fn load_nodes(
     requires valid { IsCertified b.now.named.program b.now.dec (certificate_of cert.now) }
     requires best { best.now ≡ best_cost b.now.named.program (certificate_of cert.now).point }
     ensures loads { IfOk result (λ r. IsLoadedTree b.now (certificate_of cert.now) (tree_of r.0)) }
-    ensures deep { IfOk result (λ r. FindsDeep (rooms (tree_of r.0) 0 b.now.named.program.spans) (root_line (certificate_of cert.now).point) r.1) }
+    ensures deep { IfOk result (λ r. FindsDeep (rooms (tree_of r.0) 0 b.now.named.program.spans)
+        (root_line (certificate_of cert.now).point) r.1) }
 {
+    // For the proof alone: `b` is formed.
     let _ = b.blocks();
     let zone = Zone::root(alloc, b)?;
     let line = root_line(cert);
@@ -122,7 +125,8 @@ fn load_node(
 ) -> Result<(Box<Tree>, Walk), AllocError>
     requires made_for { IfSome work.old (λ made. forms_of made ≡ forms_in b.now) }
     requires may { MayLoad b.now best.now at (sketches.tree_of sketch.now) }
-    ensures loaded { IfOk result (λ r. IsLoadedNode b.now.blocking best.now at (sketches.tree_of sketch.now) (tree_of r.0.value) r.1) }
+    ensures loaded { IfOk result (λ r. IsLoadedNode b.now.blocking best.now at
+        (sketches.tree_of sketch.now) (tree_of r.0.value) r.1) }
     ensures made_for { IfSome work.new (λ made. forms_of made ≡ forms_in b.now) }
 {
     match sketch {
@@ -156,7 +160,8 @@ fn load_end(
 ) -> Result<(Box<Tree>, Walk), AllocError>
     requires made_for { IfSome work.old (λ made. forms_of made ≡ forms_in b.now) }
     requires may { MayLoad b.now best.now at (trees.open_leaf proof.now) }
-    ensures loaded { IfOk result (λ r. IsLoadedNode b.now.blocking best.now at (trees.open_leaf proof.now) (tree_of r.0.value) r.1) }
+    ensures loaded { IfOk result (λ r. IsLoadedNode b.now.blocking best.now at
+        (trees.open_leaf proof.now) (tree_of r.0.value) r.1) }
     ensures made_for { IfSome work.new (λ made. forms_of made ≡ forms_in b.now) }
 {
     let leaf = load_leaf(alloc, b, best, work, &at.zone, proof)?;
@@ -172,7 +177,8 @@ fn forked(
     low: Box<Tree>,
     high: Box<Tree>,
 ) -> Result<Box<Tree>, AllocError>
-    ensures { IfOk result (λ node. tree_of node.value ≡ fork var at.now (tree_of low.value) (tree_of high.value)) }
+    ensures { IfOk result (λ node. tree_of node.value ≡ fork var at.now (tree_of low.value)
+        (tree_of high.value)) }
 {
     let node = Box::new(
         alloc,

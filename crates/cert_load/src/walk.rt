@@ -42,7 +42,8 @@ pub fn to_low(at: Walk, var: u32, split: &i64) -> Walk
 pub fn to_high(at: Walk, var: u32, span: &Span, split: &i64) -> Walk
     requires there { var < length at.zone }
     requires below { split.now <ℤ span.now.hi }
-    ensures zone { result.zone ≡ slice_set at.zone var (record { lo = split.now +ℤ pos 1; hi = span.now.hi }) }
+    ensures zone { result.zone ≡ slice_set at.zone var
+        (record { lo = split.now +ℤ pos 1; hi = span.now.hi }) }
     ensures depth { result.depth ≡ at.depth }
     ensures line { result.line ≡ at.line }
     ensures deep { result.deep ≡ at.deep }
@@ -81,7 +82,8 @@ pub fn pass(at: Walk, leaf: &Tree) -> Walk
     ensures zone { result.zone ≡ at.zone }
     ensures depth { result.depth ≡ at.depth }
     ensures line { result.line ≡ at.line + 1 }
-    ensures deep { FindsBehind at.deep (rooms (tree_of leaf.now) at.depth at.zone) at.line result.deep }
+    ensures deep { FindsBehind at.deep (rooms (tree_of leaf.now) at.depth at.zone) at.line
+        result.deep }
 {
     let deep = match at.deep {
         Some(line) => Some(line),
@@ -124,6 +126,7 @@ fn bits(spans: &[Span]) -> u128
     ensures value { result ≡ zone_bits spans.now }
     ensures few { result < 2 ^ 71 }
 {
+    // For the proof alone: how long `spans` can be.
     let _count = spans.len();
     let mut sum = 0;
     for span in spans {

@@ -30,22 +30,30 @@ pub fn check<F: Shelf, O: Sink>(
     dec: Option<&str>,
 ) -> Ended
     ensures answered { IsTrue (F.tells shelf.old) →
-        AnswersBy (AnswersCheck (F.file shelf.old) lp.now cert.now (option_map (λ name. name.now) dec.entry)) result.status (O.tells out.old) (O.taken out.old) (O.taken out.new) }
+        AnswersBy (AnswersCheck (F.file shelf.old) lp.now cert.now (option_map
+        (λ name. name.now) dec.entry)) result.status (O.tells out.old) (O.taken out.old)
+        (O.taken out.new) }
     ensures exact { IsTrue (F.tells shelf.old) →
-        IsOnly (AnswersCheck (F.file shelf.old) lp.now cert.now (option_map (λ name. name.now) dec.entry)) result.status }
+        IsOnly (AnswersCheck (F.file shelf.old) lp.now cert.now (option_map
+        (λ name. name.now) dec.entry)) result.status }
     ensures causes { HasCauses result.status (F.read_faults shelf.old) (F.read_faults shelf.new)
-        (F.write_faults shelf.old) (F.write_faults shelf.new) (O.faults out.old) (O.faults out.new) }
+        (F.write_faults shelf.old) (F.write_faults shelf.new) (O.faults out.old)
+        (O.faults out.new) }
     ensures kept { result.kept ≡ None }
     ensures events { result.events.items ≡ [] }
     ensures words { result.status ≢ 2 }
     ensures files { F.file shelf.new ≡ F.file shelf.old }
     ensures writes { F.write_faults shelf.new ≡ F.write_faults shelf.old }
-    ensures silent { (result.status ≡ 7) ⊎ (result.status ≡ 9) ⊎ (result.status ≡ 11) → O.taken out.new ≡ O.taken out.old }
+    ensures silent { (result.status ≡ 7) ⊎ (result.status ≡ 9) ⊎ (result.status ≡ 11) →
+        O.taken out.new ≡ O.taken out.old }
     ensures puts { PutsReport result.status (O.puts out.old) (O.puts out.new) }
-    ensures failed { result.status ≡ 8 → IsUnput (F.file shelf.new ≡ F.file shelf.old) (F.write_faults shelf.old) (F.write_faults shelf.new)
-        (O.faults out.old) (O.faults out.new) (O.puts out.old) (O.puts out.new) }
+    ensures failed { result.status ≡ 8 →
+        IsUnput (F.file shelf.new ≡ F.file shelf.old) (F.write_faults shelf.old)
+        (F.write_faults shelf.new) (O.faults out.old) (O.faults out.new) (O.puts out.old)
+        (O.puts out.new) }
     ensures cut_off { IsTrue (F.tells shelf.old) → IsTrue (O.tells out.old) →
-        CutsOff (λ kept. AnswersCheck (F.file shelf.old) lp.now cert.now (option_map (λ name. name.now) dec.entry)) result.status (O.taken out.old) (O.taken out.new) }
+        CutsOff (λ kept. AnswersCheck (F.file shelf.old) lp.now cert.now (option_map
+        (λ name. name.now) dec.entry)) result.status (O.taken out.old) (O.taken out.new) }
 {
     match load(alloc, shelf, lp, dec) {
         Ok(b) => check_blocks(alloc, shelf, out, &b, cert),
@@ -63,21 +71,28 @@ fn check_blocks<F: Shelf, O: Sink>(
     cert: &str,
 ) -> Ended
     ensures answered { IsTrue (F.tells shelf.old) →
-        AnswersBy (ChecksBlocked (F.file shelf.old) cert.now b.now) result.status (O.tells out.old) (O.taken out.old) (O.taken out.new) }
-    ensures exact { IsTrue (F.tells shelf.old) → IsOnly (ChecksBlocked (F.file shelf.old) cert.now b.now) result.status }
+        AnswersBy (ChecksBlocked (F.file shelf.old) cert.now b.now) result.status (O.tells out.old)
+        (O.taken out.old) (O.taken out.new) }
+    ensures exact { IsTrue (F.tells shelf.old) →
+        IsOnly (ChecksBlocked (F.file shelf.old) cert.now b.now) result.status }
     ensures causes { HasCauses result.status (F.read_faults shelf.old) (F.read_faults shelf.new)
-        (F.write_faults shelf.old) (F.write_faults shelf.new) (O.faults out.old) (O.faults out.new) }
+        (F.write_faults shelf.old) (F.write_faults shelf.new) (O.faults out.old)
+        (O.faults out.new) }
     ensures kept { result.kept ≡ None }
     ensures events { result.events.items ≡ [] }
     ensures words { result.status ≢ 2 }
     ensures files { F.file shelf.new ≡ F.file shelf.old }
     ensures writes { F.write_faults shelf.new ≡ F.write_faults shelf.old }
-    ensures silent { (result.status ≡ 7) ⊎ (result.status ≡ 9) ⊎ (result.status ≡ 11) → O.taken out.new ≡ O.taken out.old }
+    ensures silent { (result.status ≡ 7) ⊎ (result.status ≡ 9) ⊎ (result.status ≡ 11) →
+        O.taken out.new ≡ O.taken out.old }
     ensures puts { PutsReport result.status (O.puts out.old) (O.puts out.new) }
-    ensures failed { result.status ≡ 8 → IsUnput (F.file shelf.new ≡ F.file shelf.old) (F.write_faults shelf.old) (F.write_faults shelf.new)
-        (O.faults out.old) (O.faults out.new) (O.puts out.old) (O.puts out.new) }
+    ensures failed { result.status ≡ 8 →
+        IsUnput (F.file shelf.new ≡ F.file shelf.old) (F.write_faults shelf.old)
+        (F.write_faults shelf.new) (O.faults out.old) (O.faults out.new) (O.puts out.old)
+        (O.puts out.new) }
     ensures cut_off { IsTrue (F.tells shelf.old) → IsTrue (O.tells out.old) →
-        CutsOff (λ kept. ChecksBlocked (F.file shelf.old) cert.now b.now) result.status (O.taken out.old) (O.taken out.new) }
+        CutsOff (λ kept. ChecksBlocked (F.file shelf.old) cert.now b.now) result.status
+        (O.taken out.old) (O.taken out.new) }
 {
     match judged_file(alloc, shelf, b, cert) {
         Ok(reply) => print(alloc, out, &reply, None),
@@ -92,9 +107,12 @@ fn judged_file<F: Shelf>(
     b: &Blocked,
     cert: &str,
 ) -> Result<Reply, ShelfFault>
-    ensures right { IsTrue (F.tells shelf.old) → IfOk result (RepliesFrom (F.file shelf.old) cert.now b.now) }
-    ensures statuses { IfOk result (λ reply. (reply.status ≡ 0) ⊎ (reply.status ≡ 3) ⊎ (reply.status ≡ 6)) }
-    ensures missing { IsTrue (F.tells shelf.old) → IsErrOf result ShelfFault.Missing → F.file shelf.old cert.now ≡ None }
+    ensures right { IsTrue (F.tells shelf.old) →
+        IfOk result (RepliesFrom (F.file shelf.old) cert.now b.now) }
+    ensures statuses { IfOk result (λ reply. (reply.status ≡ 0) ⊎ (reply.status ≡ 3) ⊎
+        (reply.status ≡ 6)) }
+    ensures missing { IsTrue (F.tells shelf.old) → IsErrOf result ShelfFault.Missing →
+        F.file shelf.old cert.now ≡ None }
     ensures files { F.file shelf.new ≡ F.file shelf.old }
     ensures cause { CountsFailed (F.read_faults shelf.old) (F.read_faults shelf.new) result }
     ensures writes { F.write_faults shelf.new ≡ F.write_faults shelf.old }
@@ -106,7 +124,8 @@ fn judged_file<F: Shelf>(
 // Judges the text of a certificate.
 fn judged(alloc: Global, b: &Blocked, text: &[u8]) -> Result<Reply, AllocError>
     ensures right { IfOk result (IsReplyTo b.now text.now) }
-    ensures statuses { IfOk result (λ reply. (reply.status ≡ 0) ⊎ (reply.status ≡ 3) ⊎ (reply.status ≡ 6)) }
+    ensures statuses { IfOk result (λ reply. (reply.status ≡ 0) ⊎ (reply.status ≡ 3) ⊎
+        (reply.status ≡ 6)) }
 {
     match read_cert(alloc, text, b) {
         Ok(cert) => {

@@ -27,16 +27,23 @@ use std::alloc::{AllocError, Global};
 pub fn demonstrate<O: Sink>(alloc: Global, out: &mut O, seed: u64, size: u32) -> Ended
     requires some { 1 ≤ size }
     requires few { size ≤ 1024 }
-    ensures answered { AnswersBy (AnswersDemo seed size result.kept) result.status (O.tells out.old) (O.taken out.old) (O.taken out.new) }
+    ensures answered { AnswersBy (AnswersDemo seed size result.kept) result.status (O.tells out.old)
+        (O.taken out.old) (O.taken out.new) }
     ensures exact { IsOnly (AnswersDemo seed size result.kept) result.status }
-    ensures causes { (reads writes : ℕ) → HasCauses result.status reads reads writes writes (O.faults out.old) (O.faults out.new) }
-    ensures kept { (result.kept ≡ None) ⊎ ((result.status ≡ 0) ⊎ (result.status ≡ 4) ⊎ (result.status ≡ 5)) }
+    ensures causes { (reads writes : ℕ) →
+        HasCauses result.status reads reads writes writes (O.faults out.old) (O.faults out.new) }
+    ensures kept { (result.kept ≡ None) ⊎
+        ((result.status ≡ 0) ⊎ (result.status ≡ 4) ⊎ (result.status ≡ 5)) }
     ensures events { result.events.items ≡ [] }
-    ensures statuses { (result.status ≡ 0) ⊎ (result.status ≡ 3) ⊎ (result.status ≡ 4) ⊎ (result.status ≡ 5) ⊎ (result.status ≡ 8) ⊎ (result.status ≡ 9) }
+    ensures statuses { (result.status ≡ 0) ⊎ (result.status ≡ 3) ⊎ (result.status ≡ 4) ⊎
+        (result.status ≡ 5) ⊎ (result.status ≡ 8) ⊎ (result.status ≡ 9) }
     ensures silent { result.status ≡ 9 → O.taken out.new ≡ O.taken out.old }
     ensures puts { PutsReport result.status (O.puts out.old) (O.puts out.new) }
-    ensures failed { result.status ≡ 8 → (writes : ℕ) → IsUnput (Unit {0}) writes writes (O.faults out.old) (O.faults out.new) (O.puts out.old) (O.puts out.new) }
-    ensures cut_off { IsTrue (O.tells out.old) → CutsOff (AnswersDemo seed size) result.status (O.taken out.old) (O.taken out.new) }
+    ensures failed { result.status ≡ 8 → (writes : ℕ) →
+        IsUnput (Unit {0}) writes writes (O.faults out.old) (O.faults out.new) (O.puts out.old)
+        (O.puts out.new) }
+    ensures cut_off { IsTrue (O.tells out.old) →
+        CutsOff (AnswersDemo seed size) result.status (O.taken out.old) (O.taken out.new) }
 {
     match demonstrated(alloc, seed, size) {
         Ok((reply, outcome)) => print(alloc, out, &reply, Some(outcome)),
@@ -82,9 +89,11 @@ fn summary(
 fn certificate(alloc: Global, b: &Blocked, outcome: &Outcome) -> Result<Cert, AllocError>
     requires ends { IsOutcome b.now (Some 2000) outcome.now }
     requires writable { IsWritable b.now outcome.now }
-    ensures same { IfOk result (λ cert. certificate_of cert ≡ outcome_certificate b.now.named.program outcome.now) }
+    ensures same { IfOk result (λ cert. certificate_of cert ≡
+        outcome_certificate b.now.named.program outcome.now) }
     ensures goes_with { IfOk result (λ cert. GoesWith b.now (certificate_of cert)) }
 {
+    // For the proof alone: `b` is formed.
     let _ = b.blocks();
     let text = write_cert(alloc, b, outcome)?;
     match read_cert(alloc, &text, b) {

@@ -40,21 +40,31 @@ pub fn detect<F: Shelf, O: Sink>(
     dec: &str,
 ) -> Ended
     ensures answered { IsTrue (F.tells shelf.old) →
-        AnswersBy (AnswersDetect (F.file shelf.old) lp.now rows.now) result.status (O.tells out.old) (O.taken out.old) (O.taken out.new) }
-    ensures exact { IsTrue (F.tells shelf.old) → IsOnly (AnswersDetect (F.file shelf.old) lp.now rows.now) result.status }
+        AnswersBy (AnswersDetect (F.file shelf.old) lp.now rows.now) result.status (O.tells out.old)
+        (O.taken out.old) (O.taken out.new) }
+    ensures exact { IsTrue (F.tells shelf.old) →
+        IsOnly (AnswersDetect (F.file shelf.old) lp.now rows.now) result.status }
     ensures causes { HasCauses result.status (F.read_faults shelf.old) (F.read_faults shelf.new)
-        (F.write_faults shelf.old) (F.write_faults shelf.new) (O.faults out.old) (O.faults out.new) }
+        (F.write_faults shelf.old) (F.write_faults shelf.new) (O.faults out.old)
+        (O.faults out.new) }
     ensures kept { result.kept ≡ None }
     ensures events { result.events.items ≡ [] }
     ensures words { result.status ≢ 2 }
-    ensures leaves { IsTrue (F.tells shelf.old) → DetectLeaves lp.now rows.now dec.now (F.file shelf.old) (F.file shelf.new) result.status }
-    ensures others { IsTrue (F.tells shelf.old) → OthersAsBefore dec.now (F.file shelf.old) (F.file shelf.new) }
+    ensures leaves { IsTrue (F.tells shelf.old) →
+        DetectLeaves lp.now rows.now dec.now (F.file shelf.old) (F.file shelf.new) result.status }
+    ensures others { IsTrue (F.tells shelf.old) →
+        OthersAsBefore dec.now (F.file shelf.old) (F.file shelf.new) }
     ensures puts { PutsReport result.status (O.puts out.old) (O.puts out.new) }
-    ensures failed { result.status ≡ 8 → FailsToWrite (IsTrue (F.tells shelf.old) → DetectWrites lp.now rows.now dec.now (F.file shelf.old) (F.file shelf.new))
-        (F.write_faults shelf.old) (F.write_faults shelf.new) (O.faults out.old) (O.faults out.new) (O.puts out.old) (O.puts out.new) (O.taken out.old) (O.taken out.new) }
-    ensures silent { (result.status ≡ 7) ⊎ (result.status ≡ 9) ⊎ (result.status ≡ 11) → O.taken out.new ≡ O.taken out.old }
+    ensures failed { result.status ≡ 8 →
+        FailsToWrite (IsTrue (F.tells shelf.old) →
+        DetectWrites lp.now rows.now dec.now (F.file shelf.old) (F.file shelf.new))
+        (F.write_faults shelf.old) (F.write_faults shelf.new) (O.faults out.old) (O.faults out.new)
+        (O.puts out.old) (O.puts out.new) (O.taken out.old) (O.taken out.new) }
+    ensures silent { (result.status ≡ 7) ⊎ (result.status ≡ 9) ⊎ (result.status ≡ 11) →
+        O.taken out.new ≡ O.taken out.old }
     ensures cut_off { IsTrue (F.tells shelf.old) → IsTrue (O.tells out.old) →
-        CutsOff (λ kept. AnswersDetect (F.file shelf.old) lp.now rows.now) result.status (O.taken out.old) (O.taken out.new) }
+        CutsOff (λ kept. AnswersDetect (F.file shelf.old) lp.now rows.now) result.status
+        (O.taken out.old) (O.taken out.new) }
 {
     match load_found(alloc, shelf, lp, rows) {
         Ok(found) => match shelf.replace(dec, &found.text) {
@@ -69,9 +79,11 @@ pub fn detect<F: Shelf, O: Sink>(
 
 // The decomposition beside the master rows of a file, or what a run ends with.
 fn load_found<F: Shelf>(alloc: Global, shelf: &mut F, lp: &str, rows: &str) -> Result<Found, Halt>
-    ensures found { IsTrue (F.tells shelf.old) → IfOk result (λ f. Detects (F.file shelf.old) lp.now rows.now (answer_of f)) }
+    ensures found { IsTrue (F.tells shelf.old) →
+        IfOk result (λ f. Detects (F.file shelf.old) lp.now rows.now (answer_of f)) }
     ensures done { IfOk result (λ f. f.reply.status ≡ 0) }
-    ensures halted { IsTrue (F.tells shelf.old) → IfErr result (IsHalt (Detects (F.file shelf.old) lp.now rows.now)) }
+    ensures halted { IsTrue (F.tells shelf.old) →
+        IfErr result (IsHalt (Detects (F.file shelf.old) lp.now rows.now)) }
     ensures told { F.tells shelf.new ≡ F.tells shelf.old }
     ensures files { F.file shelf.new ≡ F.file shelf.old }
     ensures cause { CountsHalted (F.read_faults shelf.old) (F.read_faults shelf.new) result }

@@ -34,20 +34,28 @@ pub fn generate<F: Shelf, O: Sink>(
 ) -> Ended
     requires some { 1 ≤ size }
     requires few { size ≤ 1024 }
-    ensures answered { AnswersBy (AnswersGen size) result.status (O.tells out.old) (O.taken out.old) (O.taken out.new) }
+    ensures answered { AnswersBy (AnswersGen size) result.status (O.tells out.old) (O.taken out.old)
+        (O.taken out.new) }
     ensures exact { IsOnly (AnswersGen size) result.status }
     ensures causes { HasCauses result.status (F.read_faults shelf.old) (F.read_faults shelf.new)
-        (F.write_faults shelf.old) (F.write_faults shelf.new) (O.faults out.old) (O.faults out.new) }
+        (F.write_faults shelf.old) (F.write_faults shelf.new) (O.faults out.old)
+        (O.faults out.new) }
     ensures kept { result.kept ≡ None }
     ensures events { result.events.items ≡ [] }
     ensures statuses { (result.status ≡ 0) ⊎ (result.status ≡ 8) ⊎ (result.status ≡ 9) }
-    ensures leaves { IsTrue (F.tells shelf.old) → GenLeaves seed size lp.now dec.now (F.file shelf.old) (F.file shelf.new) result.status }
-    ensures others { IsTrue (F.tells shelf.old) → OthersStand lp.now dec.now (F.file shelf.old) (F.file shelf.new) }
+    ensures leaves { IsTrue (F.tells shelf.old) →
+        GenLeaves seed size lp.now dec.now (F.file shelf.old) (F.file shelf.new) result.status }
+    ensures others { IsTrue (F.tells shelf.old) →
+        OthersStand lp.now dec.now (F.file shelf.old) (F.file shelf.new) }
     ensures puts { PutsReport result.status (O.puts out.old) (O.puts out.new) }
-    ensures failed { result.status ≡ 8 → FailsToWrite (IsTrue (F.tells shelf.old) → GenWrites seed size lp.now dec.now (F.file shelf.old) (F.file shelf.new))
-        (F.write_faults shelf.old) (F.write_faults shelf.new) (O.faults out.old) (O.faults out.new) (O.puts out.old) (O.puts out.new) (O.taken out.old) (O.taken out.new) }
+    ensures failed { result.status ≡ 8 →
+        FailsToWrite (IsTrue (F.tells shelf.old) →
+        GenWrites seed size lp.now dec.now (F.file shelf.old) (F.file shelf.new))
+        (F.write_faults shelf.old) (F.write_faults shelf.new) (O.faults out.old) (O.faults out.new)
+        (O.puts out.old) (O.puts out.new) (O.taken out.old) (O.taken out.new) }
     ensures silent { result.status ≡ 9 → O.taken out.new ≡ O.taken out.old }
-    ensures cut_off { IsTrue (O.tells out.old) → CutsOff (λ kept. AnswersGen size) result.status (O.taken out.old) (O.taken out.new) }
+    ensures cut_off { IsTrue (O.tells out.old) →
+        CutsOff (λ kept. AnswersGen size) result.status (O.taken out.old) (O.taken out.new) }
 {
     let Ok(made) = make(alloc, seed, size) else {
         return stopped(alloc, 9);
@@ -77,7 +85,8 @@ fn make(alloc: Global, seed: u64, size: u32) -> Result<Made, AllocError>
 // Writes both texts.
 fn write<F: Shelf>(shelf: &mut F, made: &Made, lp: &str, dec: &str) -> Result<(), ShelfFault>
     ensures files { IsTrue (F.tells shelf.old) →
-        WritesBoth lp.now dec.now made.now.lp.items made.now.dec.items (F.file shelf.old) (F.file shelf.new) result }
+        WritesBoth lp.now dec.now made.now.lp.items made.now.dec.items (F.file shelf.old)
+        (F.file shelf.new) result }
     ensures never_missing { IsErrOf result ShelfFault.Missing → ⊥ }
     ensures cause { CountsFailed (F.write_faults shelf.old) (F.write_faults shelf.new) result }
     ensures reads { F.read_faults shelf.new ≡ F.read_faults shelf.old }

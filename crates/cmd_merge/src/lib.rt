@@ -19,9 +19,10 @@ use bp_front::{Ended, Halt, Reply, load, print, stopped, stopped_by};
 use bp_shelf::{Shelf, ShelfFault, Sink};
 use std::alloc::Global;
 
-/// Merges the certificates of two files, writes the merged one to a named file, and prints how many of its leaves are open
-/// and what `check` prints for it. Both certificates are read and judged before anything is written, so one file may be named
-/// for all. No other file is changed; what stands after a write that failed or for want of memory is told by the status.
+/// Merges the certificates of two files, writes the merged one to a named file, and prints how many of its leaves are
+/// open and what `check` prints for it. Both certificates are read and judged before anything is written, so one file
+/// may be named for all. No other file is changed; what stands after a write that failed or for want of memory is told
+/// by the status.
 pub fn merge<F: Shelf, O: Sink>(
     alloc: Global,
     shelf: &mut F,
@@ -33,24 +34,35 @@ pub fn merge<F: Shelf, O: Sink>(
     dec: Option<&str>,
 ) -> Ended
     ensures answered { IsTrue (F.tells shelf.old) →
-        AnswersBy (AnswersMerge (F.file shelf.old) lp.now first.now second.now (option_map (λ name. name.now) dec.entry)) result.status (O.tells out.old) (O.taken out.old) (O.taken out.new) }
+        AnswersBy (AnswersMerge (F.file shelf.old) lp.now first.now second.now (option_map
+        (λ name. name.now) dec.entry)) result.status (O.tells out.old) (O.taken out.old)
+        (O.taken out.new) }
     ensures exact { IsTrue (F.tells shelf.old) →
-        IsOnly (AnswersMerge (F.file shelf.old) lp.now first.now second.now (option_map (λ name. name.now) dec.entry)) result.status }
+        IsOnly (AnswersMerge (F.file shelf.old) lp.now first.now second.now (option_map
+        (λ name. name.now) dec.entry)) result.status }
     ensures causes { HasCauses result.status (F.read_faults shelf.old) (F.read_faults shelf.new)
-        (F.write_faults shelf.old) (F.write_faults shelf.new) (O.faults out.old) (O.faults out.new) }
+        (F.write_faults shelf.old) (F.write_faults shelf.new) (O.faults out.old)
+        (O.faults out.new) }
     ensures kept { result.kept ≡ None }
     ensures events { result.events.items ≡ [] }
     ensures words { result.status ≢ 2 }
     ensures leaves { IsTrue (F.tells shelf.old) →
-        MergeLeaves lp.now first.now second.now (option_map (λ name. name.now) dec.entry) new.now (F.file shelf.old) (F.file shelf.new) result.status }
-    ensures others { IsTrue (F.tells shelf.old) → OthersAsBefore new.now (F.file shelf.old) (F.file shelf.new) }
+        MergeLeaves lp.now first.now second.now (option_map (λ name. name.now) dec.entry) new.now
+        (F.file shelf.old) (F.file shelf.new) result.status }
+    ensures others { IsTrue (F.tells shelf.old) →
+        OthersAsBefore new.now (F.file shelf.old) (F.file shelf.new) }
     ensures puts { PutsReport result.status (O.puts out.old) (O.puts out.new) }
-    ensures failed { result.status ≡ 8 → FailsToWrite
-        (IsTrue (F.tells shelf.old) → MergeWrites lp.now first.now second.now (option_map (λ name. name.now) dec.entry) new.now (F.file shelf.old) (F.file shelf.new))
-        (F.write_faults shelf.old) (F.write_faults shelf.new) (O.faults out.old) (O.faults out.new) (O.puts out.old) (O.puts out.new) (O.taken out.old) (O.taken out.new) }
-    ensures silent { (result.status ≡ 7) ⊎ (result.status ≡ 9) ⊎ (result.status ≡ 11) → O.taken out.new ≡ O.taken out.old }
+    ensures failed { result.status ≡ 8 →
+        FailsToWrite (IsTrue (F.tells shelf.old) →
+        MergeWrites lp.now first.now second.now (option_map (λ name. name.now) dec.entry) new.now
+        (F.file shelf.old) (F.file shelf.new)) (F.write_faults shelf.old) (F.write_faults shelf.new)
+        (O.faults out.old) (O.faults out.new) (O.puts out.old) (O.puts out.new) (O.taken out.old)
+        (O.taken out.new) }
+    ensures silent { (result.status ≡ 7) ⊎ (result.status ≡ 9) ⊎ (result.status ≡ 11) →
+        O.taken out.new ≡ O.taken out.old }
     ensures cut_off { IsTrue (F.tells shelf.old) → IsTrue (O.tells out.old) →
-        CutsOff (λ kept. AnswersMerge (F.file shelf.old) lp.now first.now second.now (option_map (λ name. name.now) dec.entry)) result.status (O.taken out.old) (O.taken out.new) }
+        CutsOff (λ kept. AnswersMerge (F.file shelf.old) lp.now first.now second.now (option_map
+        (λ name. name.now) dec.entry)) result.status (O.taken out.old) (O.taken out.new) }
 {
     match load_merged(alloc, shelf, lp, first, second, dec) {
         Ok(merged) => match shelf.replace(new, &merged.text) {
@@ -73,10 +85,12 @@ fn load_merged<F: Shelf>(
     dec: Option<&str>,
 ) -> Result<Merged, Stop>
     ensures merged { IsTrue (F.tells shelf.old) →
-        IfOk result (λ m. Merges (F.file shelf.old) lp.now first.now second.now (option_map (λ name. name.now) dec.entry) (answer_of m)) }
+        IfOk result (λ m. Merges (F.file shelf.old) lp.now first.now second.now (option_map
+        (λ name. name.now) dec.entry) (answer_of m)) }
     ensures done { IfOk result (λ m. m.reply.status ≡ 0) }
     ensures stopped { IsTrue (F.tells shelf.old) →
-        IfErr result (IsStop (Merges (F.file shelf.old) lp.now first.now second.now (option_map (λ name. name.now) dec.entry))) }
+        IfErr result (IsStop (Merges (F.file shelf.old) lp.now first.now second.now (option_map
+        (λ name. name.now) dec.entry))) }
     ensures refusals { IfErr result IsRefusal }
     ensures told { F.tells shelf.new ≡ F.tells shelf.old }
     ensures files { F.file shelf.new ≡ F.file shelf.old }
@@ -98,9 +112,12 @@ fn merge_files<F: Shelf>(
     first: &str,
     second: &str,
 ) -> Result<Merged, Stop>
-    ensures merged { IsTrue (F.tells shelf.old) → IfOk result (λ m. MergesBlocked (F.file shelf.old) b.now first.now second.now (answer_of m)) }
+    ensures merged { IsTrue (F.tells shelf.old) →
+        IfOk result (λ m. MergesBlocked (F.file shelf.old) b.now first.now second.now
+        (answer_of m)) }
     ensures done { IfOk result (λ m. m.reply.status ≡ 0) }
-    ensures stopped { IsTrue (F.tells shelf.old) → IfErr result (IsStop (MergesBlocked (F.file shelf.old) b.now first.now second.now)) }
+    ensures stopped { IsTrue (F.tells shelf.old) →
+        IfErr result (IsStop (MergesBlocked (F.file shelf.old) b.now first.now second.now)) }
     ensures refusals { IfErr result IsRefusal }
     ensures told { F.tells shelf.new ≡ F.tells shelf.old }
     ensures files { F.file shelf.new ≡ F.file shelf.old }

@@ -56,9 +56,11 @@ pub fn open_cert<F: Shelf>(
     b: &Blocked,
     name: &str,
 ) -> Result<Loaded, Stop>
-    ensures opened { IsTrue (F.tells shelf.old) → IfOk result (IsOpenedFile (F.file shelf.old) b.now name.now) }
+    ensures opened { IsTrue (F.tells shelf.old) →
+        IfOk result (IsOpenedFile (F.file shelf.old) b.now name.now) }
     ensures usable { IfOk result (CanMerge b.now) }
-    ensures stopped { IsTrue (F.tells shelf.old) → IfErr result (IsStop (RefusesFile (F.file shelf.old) b.now name.now)) }
+    ensures stopped { IsTrue (F.tells shelf.old) →
+        IfErr result (IsStop (RefusesFile (F.file shelf.old) b.now name.now)) }
     ensures refusals { IfErr result IsRefusal }
     ensures told { F.tells shelf.new ≡ F.tells shelf.old }
     ensures files { F.file shelf.new ≡ F.file shelf.old }
@@ -76,7 +78,9 @@ fn opened(alloc: Global, b: &Blocked, text: &[u8]) -> Result<Loaded, Stop>
     ensures stopped { IfErr result (IsTextStop b.now text.now) }
     ensures refusals { IfErr result IsRefusal }
 {
+    // For the proof alone: how long `text` can be.
     let _size = text.len();
+    // For the proof alone: `b` is formed.
     let _ = b.blocks();
     match read_cert(alloc, text, b) {
         Ok(cert) => judged(alloc, b, &cert),
@@ -92,8 +96,10 @@ fn opened(alloc: Global, b: &Blocked, text: &[u8]) -> Result<Loaded, Stop>
 fn judged(alloc: Global, b: &Blocked, cert: &Cert) -> Result<Loaded, Stop>
     requires { GoesWith b.now (certificate_of cert.now) }
     ensures loaded { IfOk result (IsLoadedOf b.now (certificate_of cert.now)) }
-    ensures valid { IfOk result (λ from. IsCertified b.now.named.program b.now.dec (certificate_of cert.now)) }
-    ensures stopped { IfErr result (λ stop. (text : List ℕ) → IsText (frame_for b.now) One (kept_cert cert.now) text → IsTextStop b.now text stop) }
+    ensures valid { IfOk result (λ from. IsCertified b.now.named.program b.now.dec
+        (certificate_of cert.now)) }
+    ensures stopped { IfErr result (λ stop. (text : List ℕ) →
+        IsText (frame_for b.now) One (kept_cert cert.now) text → IsTextStop b.now text stop) }
     ensures refusals { IfErr result IsRefusal }
 {
     let judged = judge(alloc, b, cert)?;
@@ -111,7 +117,8 @@ fn loaded(alloc: Global, b: &Blocked, cert: &Cert) -> Result<Loaded, Stop>
     requires goes_with { GoesWith b.now (certificate_of cert.now) }
     requires valid { IsCertified b.now.named.program b.now.dec (certificate_of cert.now) }
     ensures loaded { IfOk result (IsLoadedOf b.now (certificate_of cert.now)) }
-    ensures stopped { IfErr result (λ stop. (text : List ℕ) → IsText (frame_for b.now) One (kept_cert cert.now) text → IsTextStop b.now text stop) }
+    ensures stopped { IfErr result (λ stop. (text : List ℕ) →
+        IsText (frame_for b.now) One (kept_cert cert.now) text → IsTextStop b.now text stop) }
     ensures refusals { IfErr result IsRefusal }
 {
     match load(alloc, b, cert) {

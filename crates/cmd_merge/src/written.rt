@@ -27,10 +27,12 @@ pub fn written(
 ) -> Result<Merged, AllocError>
     requires first { CanMerge b.now first }
     requires second { CanMerge b.now second }
-    ensures merged { IfOk result (λ m. (text more : List ℕ) → (one : IsOpened b.now text first) → (other : IsOpened b.now more second)
-        → AnswersBoth b.now one.cert other.cert first second (answer_of m)) }
+    ensures merged { IfOk result (λ m. (text more : List ℕ) → (one : IsOpened b.now text first) →
+        (other : IsOpened b.now more second) →
+        AnswersBoth b.now one.cert other.cert first second (answer_of m)) }
     ensures done { IfOk result (λ m. m.reply.status ≡ 0) }
 {
+    // For the proof alone: `b` is formed.
     let _ = b.blocks();
     let from = tree_merge::merge(alloc, b, first, second)?;
     let Loaded { grove, best } = from;

@@ -31,8 +31,9 @@ struct Proposal {
     reply: Reply,
 }
 
-/// Writes a decomposition of a model, which it chooses itself, and prints how many blocks, classes of blocks and master rows it
-/// has. No other file is changed; what stands after a write that failed or for want of memory is told by the status.
+/// Writes a decomposition of a model, which it chooses itself, and prints how many blocks, classes of blocks and master
+/// rows it has. No other file is changed; what stands after a write that failed or for want of memory is told by the
+/// status.
 pub fn propose<F: Shelf, O: Sink>(
     alloc: Global,
     shelf: &mut F,
@@ -41,21 +42,31 @@ pub fn propose<F: Shelf, O: Sink>(
     dec: &str,
 ) -> Ended
     ensures answered { IsTrue (F.tells shelf.old) →
-        AnswersBy (AnswersPropose (F.file shelf.old) lp.now) result.status (O.tells out.old) (O.taken out.old) (O.taken out.new) }
-    ensures exact { IsTrue (F.tells shelf.old) → IsOnly (AnswersPropose (F.file shelf.old) lp.now) result.status }
+        AnswersBy (AnswersPropose (F.file shelf.old) lp.now) result.status (O.tells out.old)
+        (O.taken out.old) (O.taken out.new) }
+    ensures exact { IsTrue (F.tells shelf.old) →
+        IsOnly (AnswersPropose (F.file shelf.old) lp.now) result.status }
     ensures causes { HasCauses result.status (F.read_faults shelf.old) (F.read_faults shelf.new)
-        (F.write_faults shelf.old) (F.write_faults shelf.new) (O.faults out.old) (O.faults out.new) }
+        (F.write_faults shelf.old) (F.write_faults shelf.new) (O.faults out.old)
+        (O.faults out.new) }
     ensures kept { result.kept ≡ None }
     ensures events { result.events.items ≡ [] }
     ensures words { result.status ≢ 2 }
-    ensures leaves { IsTrue (F.tells shelf.old) → ProposeLeaves lp.now dec.now (F.file shelf.old) (F.file shelf.new) result.status }
-    ensures others { IsTrue (F.tells shelf.old) → OthersAsBefore dec.now (F.file shelf.old) (F.file shelf.new) }
+    ensures leaves { IsTrue (F.tells shelf.old) →
+        ProposeLeaves lp.now dec.now (F.file shelf.old) (F.file shelf.new) result.status }
+    ensures others { IsTrue (F.tells shelf.old) →
+        OthersAsBefore dec.now (F.file shelf.old) (F.file shelf.new) }
     ensures puts { PutsReport result.status (O.puts out.old) (O.puts out.new) }
-    ensures failed { result.status ≡ 8 → FailsToWrite (IsTrue (F.tells shelf.old) → ProposeWrites lp.now dec.now (F.file shelf.old) (F.file shelf.new))
-        (F.write_faults shelf.old) (F.write_faults shelf.new) (O.faults out.old) (O.faults out.new) (O.puts out.old) (O.puts out.new) (O.taken out.old) (O.taken out.new) }
-    ensures silent { (result.status ≡ 7) ⊎ (result.status ≡ 9) ⊎ (result.status ≡ 11) → O.taken out.new ≡ O.taken out.old }
+    ensures failed { result.status ≡ 8 →
+        FailsToWrite (IsTrue (F.tells shelf.old) →
+        ProposeWrites lp.now dec.now (F.file shelf.old) (F.file shelf.new))
+        (F.write_faults shelf.old) (F.write_faults shelf.new) (O.faults out.old) (O.faults out.new)
+        (O.puts out.old) (O.puts out.new) (O.taken out.old) (O.taken out.new) }
+    ensures silent { (result.status ≡ 7) ⊎ (result.status ≡ 9) ⊎ (result.status ≡ 11) →
+        O.taken out.new ≡ O.taken out.old }
     ensures cut_off { IsTrue (F.tells shelf.old) → IsTrue (O.tells out.old) →
-        CutsOff (λ kept. AnswersPropose (F.file shelf.old) lp.now) result.status (O.taken out.old) (O.taken out.new) }
+        CutsOff (λ kept. AnswersPropose (F.file shelf.old) lp.now) result.status (O.taken out.old)
+        (O.taken out.new) }
 {
     match load_proposal(alloc, shelf, lp) {
         Ok(proposal) => match shelf.replace(dec, &proposal.text) {
@@ -70,9 +81,11 @@ pub fn propose<F: Shelf, O: Sink>(
 
 // A decomposition of a file's model, or what a run ends with.
 fn load_proposal<F: Shelf>(alloc: Global, shelf: &mut F, lp: &str) -> Result<Proposal, Halt>
-    ensures proposed { IsTrue (F.tells shelf.old) → IfOk result (λ p. Proposes (F.file shelf.old) lp.now (answer_of p)) }
+    ensures proposed { IsTrue (F.tells shelf.old) →
+        IfOk result (λ p. Proposes (F.file shelf.old) lp.now (answer_of p)) }
     ensures done { IfOk result (λ p. p.reply.status ≡ 0) }
-    ensures halted { IsTrue (F.tells shelf.old) → IfErr result (IsHalt (Proposes (F.file shelf.old) lp.now)) }
+    ensures halted { IsTrue (F.tells shelf.old) →
+        IfErr result (IsHalt (Proposes (F.file shelf.old) lp.now)) }
     ensures told { F.tells shelf.new ≡ F.tells shelf.old }
     ensures files { F.file shelf.new ≡ F.file shelf.old }
     ensures cause { CountsHalted (F.read_faults shelf.old) (F.read_faults shelf.new) result }

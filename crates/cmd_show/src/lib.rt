@@ -25,22 +25,29 @@ pub fn show<F: Shelf, O: Sink>(
     blocks: bool,
 ) -> Ended
     ensures answered { IsTrue (F.tells shelf.old) →
-        AnswersBy (AnswersShow (F.file shelf.old) lp.now (option_map (λ name. name.now) dec.entry) blocks) result.status (O.tells out.old) (O.taken out.old) (O.taken out.new) }
+        AnswersBy (AnswersShow (F.file shelf.old) lp.now (option_map (λ name. name.now) dec.entry)
+        blocks) result.status (O.tells out.old) (O.taken out.old) (O.taken out.new) }
     ensures exact { IsTrue (F.tells shelf.old) →
-        IsOnly (AnswersShow (F.file shelf.old) lp.now (option_map (λ name. name.now) dec.entry) blocks) result.status }
+        IsOnly (AnswersShow (F.file shelf.old) lp.now (option_map (λ name. name.now) dec.entry)
+        blocks) result.status }
     ensures causes { HasCauses result.status (F.read_faults shelf.old) (F.read_faults shelf.new)
-        (F.write_faults shelf.old) (F.write_faults shelf.new) (O.faults out.old) (O.faults out.new) }
+        (F.write_faults shelf.old) (F.write_faults shelf.new) (O.faults out.old)
+        (O.faults out.new) }
     ensures kept { result.kept ≡ None }
     ensures events { result.events.items ≡ [] }
     ensures words { result.status ≢ 2 }
     ensures files { F.file shelf.new ≡ F.file shelf.old }
     ensures writes { F.write_faults shelf.new ≡ F.write_faults shelf.old }
-    ensures silent { (result.status ≡ 7) ⊎ (result.status ≡ 9) ⊎ (result.status ≡ 11) → O.taken out.new ≡ O.taken out.old }
+    ensures silent { (result.status ≡ 7) ⊎ (result.status ≡ 9) ⊎ (result.status ≡ 11) →
+        O.taken out.new ≡ O.taken out.old }
     ensures puts { PutsReport result.status (O.puts out.old) (O.puts out.new) }
-    ensures failed { result.status ≡ 8 → IsUnput (F.file shelf.new ≡ F.file shelf.old) (F.write_faults shelf.old) (F.write_faults shelf.new)
-        (O.faults out.old) (O.faults out.new) (O.puts out.old) (O.puts out.new) }
+    ensures failed { result.status ≡ 8 →
+        IsUnput (F.file shelf.new ≡ F.file shelf.old) (F.write_faults shelf.old)
+        (F.write_faults shelf.new) (O.faults out.old) (O.faults out.new) (O.puts out.old)
+        (O.puts out.new) }
     ensures cut_off { IsTrue (F.tells shelf.old) → IsTrue (O.tells out.old) →
-        CutsOff (λ kept. AnswersShow (F.file shelf.old) lp.now (option_map (λ name. name.now) dec.entry) blocks) result.status (O.taken out.old) (O.taken out.new) }
+        CutsOff (λ kept. AnswersShow (F.file shelf.old) lp.now (option_map
+        (λ name. name.now) dec.entry) blocks) result.status (O.taken out.old) (O.taken out.new) }
 {
     match load(alloc, shelf, lp, dec) {
         Ok(b) => print_blocked(alloc, out, &b, blocks),
@@ -51,7 +58,8 @@ pub fn show<F: Shelf, O: Sink>(
 
 // Prints the sizes and classes of a program in blocks, and its blocks where they are wanted.
 fn print_blocked<O: Sink>(alloc: Global, out: &mut O, b: &Blocked, blocks: bool) -> Ended
-    ensures answered { AnswersBy (ShowsBlocked blocks b.now) result.status (O.tells out.old) (O.taken out.old) (O.taken out.new) }
+    ensures answered { AnswersBy (ShowsBlocked blocks b.now) result.status (O.tells out.old)
+        (O.taken out.old) (O.taken out.new) }
     ensures exact { IsOnly (ShowsBlocked blocks b.now) result.status }
     ensures statuses { (result.status ≡ 0) ⊎ (result.status ≡ 8) ⊎ (result.status ≡ 9) }
     ensures kept { result.kept ≡ None }
@@ -61,7 +69,9 @@ fn print_blocked<O: Sink>(alloc: Global, out: &mut O, b: &Blocked, blocks: bool)
     ensures silent { result.status ≡ 9 → O.taken out.new ≡ O.taken out.old }
     ensures once { result.status ≢ 9 → O.puts out.new ≡ next_count (O.puts out.old) }
     ensures never { result.status ≡ 9 → O.puts out.new ≡ O.puts out.old }
-    ensures cut_off { IsTrue (O.tells out.old) → CutsOff (λ kept. ShowsBlocked blocks b.now) result.status (O.taken out.old) (O.taken out.new) }
+    ensures cut_off { IsTrue (O.tells out.old) →
+        CutsOff (λ kept. ShowsBlocked blocks b.now) result.status (O.taken out.old)
+        (O.taken out.new) }
 {
     match shown(alloc, b, blocks) {
         Ok(reply) => print(alloc, out, &reply, None),

@@ -29,8 +29,8 @@ pub struct Searched {
     pub events: Vec<Event>,
 }
 
-/// The crew that is ordered by a number of workers or a seed of their order: one worker and the seed 0 where only the other is
-/// given, and none where neither is.
+/// The crew that is ordered by a number of workers or a seed of their order: one worker and the seed 0 where only the
+/// other is given, and none where neither is.
 pub fn crew_ordered(workers: Option<u32>, order: Option<u64>) -> Option<CrewOrder>
     ensures { result ≡ ordered_crew workers order }
 {
@@ -42,8 +42,8 @@ pub fn crew_ordered(workers: Option<u32>, order: Option<u64>) -> Option<CrewOrde
     }
 }
 
-/// A search from a tree, or from the start, by a crew where one is ordered. Where there is a path, it works at that path of the
-/// tree and below it alone.
+/// A search from a tree, or from the start, by a crew where one is ordered. Where there is a path, it works at that
+/// path of the tree and below it alone.
 pub fn search_from(
     alloc: Global,
     b: &Blocked,
@@ -146,8 +146,10 @@ fn search_together(
     requires some { 1 ≤ crew.workers }
     ensures ends { IfOk result (λ s. EndsAt b.now from None steps s.outcome s.told) }
     ensures writable { IfOk result (λ s. IsWritable b.now s.outcome) }
-    ensures events { IfOk result (λ s. IsSearchOf b.now from steps (Some crew) s.outcome s.events.items) }
+    ensures events { IfOk result (λ s. IsSearchOf b.now from steps (Some crew) s.outcome
+        s.events.items) }
 {
+    // For the proof alone: `b` is formed.
     let _ = b.blocks();
     match from {
         None => {

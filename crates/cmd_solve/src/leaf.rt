@@ -17,8 +17,8 @@ pub enum Sought {
     Behind(u64),
 }
 
-/// The path of an open leaf of a certificate's tree, by its number in the order of their lines, from 1. None exactly where there
-/// is no such leaf.
+/// The path of an open leaf of a certificate's tree, by its number in the order of their lines, from 1. None exactly
+/// where there is no such leaf.
 pub fn open_path(
     alloc: Global,
     tree: &Sketch,

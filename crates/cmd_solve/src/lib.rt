@@ -1,6 +1,6 @@
-//! The command `solve`: the best point of a program in blocks, or that it has none, or a bound where the steps ran out, from
-//! the start or from where a certificate stopped, there also below one open leaf alone, with a certificate where a file is named
-//! for it.
+//! The command `solve`: the best point of a program in blocks, or that it has none, or a bound where the steps ran out,
+//! from the start or from where a certificate stopped, there also below one open leaf alone, with a certificate where a
+//! file is named for it.
 #![tactic(auto)]
 
 mod crew;
@@ -32,12 +32,13 @@ use cert_text::write_cert;
 use search_laws::Side;
 use std::alloc::{AllocError, Global};
 
-/// Solves the model of a file, from the start or from where the certificate of a named file stopped, writes the certificate
-/// where a file is named for it, and prints the report. The certificate to go on from is read and judged before the search,
-/// so one file may be named for both. Where the number of an open leaf of that certificate is given, from 1 in the order of its
-/// lines, the search works at that leaf and below it alone: it ends when the steps are taken or no leaf there is live, the
-/// certificate and the report are those of the whole tree, and `budget` tells the steps that were taken. Where a number of workers or the seed of their order is given, a crew searches, whose events
-/// are handed out beside the outcome. What is written is written before the report: where only the report could not be put,
+/// Solves the model of a file, from the start or from where the certificate of a named file stopped, writes the
+/// certificate where a file is named for it, and prints the report. The certificate to go on from is read and judged
+/// before the search, so one file may be named for both. Where the number of an open leaf of that certificate is given,
+/// from 1 in the order of its lines, the search works at that leaf and below it alone: it ends when the steps are taken
+/// or no leaf there is live, the certificate and the report are those of the whole tree, and `budget` tells the steps
+/// that were taken. Where a number of workers or the seed of their order is given, a crew searches, whose events are
+/// handed out beside the outcome. What is written is written before the report: where only the report could not be put,
 /// it stands whole.
 pub fn solve<F: Shelf, O: Sink>(
     alloc: Global,
@@ -56,26 +57,43 @@ pub fn solve<F: Shelf, O: Sink>(
     requires some { IfSome workers (λ w. 1 ≤ w) }
     requires alone { IfSome leaf (λ _. (workers ≡ None) × (order ≡ None)) }
     ensures answered { IsTrue (F.tells shelf.old) →
-        AnswersBy (AnswersSolve (F.file shelf.old) lp.now (option_map (λ name. name.now) dec.entry) steps (option_map (λ name. name.now) from.entry) leaf result.kept) result.status (O.tells out.old) (O.taken out.old) (O.taken out.new) }
+        AnswersBy (AnswersSolve (F.file shelf.old) lp.now (option_map (λ name. name.now) dec.entry)
+        steps (option_map (λ name. name.now) from.entry) leaf result.kept) result.status
+        (O.tells out.old) (O.taken out.old) (O.taken out.new) }
     ensures exact { IsTrue (F.tells shelf.old) →
-        IsOnly (AnswersSolve (F.file shelf.old) lp.now (option_map (λ name. name.now) dec.entry) steps (option_map (λ name. name.now) from.entry) leaf result.kept) result.status }
+        IsOnly (AnswersSolve (F.file shelf.old) lp.now (option_map (λ name. name.now) dec.entry)
+        steps (option_map (λ name. name.now) from.entry) leaf result.kept) result.status }
     ensures saved { IsTrue (F.tells shelf.old) →
-        HasCertificate (F.file shelf.old) lp.now (option_map (λ name. name.now) dec.entry) (option_map (λ name. name.now) cert.entry) (F.file shelf.new) result.kept }
+        HasCertificate (F.file shelf.old) lp.now (option_map (λ name. name.now) dec.entry)
+        (option_map (λ name. name.now) cert.entry) (F.file shelf.new) result.kept }
     ensures puts { PutsReport result.status (O.puts out.old) (O.puts out.new) }
-    ensures failed { result.status ≡ 8 → FailsToWrite (IsTrue (F.tells shelf.old) → LeavesCertificate (F.file shelf.old) lp.now (option_map (λ name. name.now) dec.entry) steps (option_map (λ name. name.now) cert.entry) (option_map (λ name. name.now) from.entry) leaf (F.file shelf.new))
-        (F.write_faults shelf.old) (F.write_faults shelf.new) (O.faults out.old) (O.faults out.new) (O.puts out.old) (O.puts out.new) (O.taken out.old) (O.taken out.new) }
+    ensures failed { result.status ≡ 8 →
+        FailsToWrite (IsTrue (F.tells shelf.old) →
+        LeavesCertificate (F.file shelf.old) lp.now (option_map (λ name. name.now) dec.entry) steps
+        (option_map (λ name. name.now) cert.entry) (option_map (λ name. name.now) from.entry) leaf
+        (F.file shelf.new)) (F.write_faults shelf.old) (F.write_faults shelf.new) (O.faults out.old)
+        (O.faults out.new) (O.puts out.old) (O.puts out.new) (O.taken out.old) (O.taken out.new) }
     ensures causes { HasCauses result.status (F.read_faults shelf.old) (F.read_faults shelf.new)
-        (F.write_faults shelf.old) (F.write_faults shelf.new) (O.faults out.old) (O.faults out.new) }
-    ensures kept { (result.kept ≡ None) ⊎ ((result.status ≡ 0) ⊎ (result.status ≡ 4) ⊎ (result.status ≡ 5)) }
+        (F.write_faults shelf.old) (F.write_faults shelf.new) (O.faults out.old)
+        (O.faults out.new) }
+    ensures kept { (result.kept ≡ None) ⊎
+        ((result.status ≡ 0) ⊎ (result.status ≡ 4) ⊎ (result.status ≡ 5)) }
     ensures events { IsTrue (F.tells shelf.old) →
-        HasEvents (F.file shelf.old) lp.now (option_map (λ name. name.now) dec.entry) steps (option_map (λ name. name.now) from.entry) workers order result.kept result.events.items }
+        HasEvents (F.file shelf.old) lp.now (option_map (λ name. name.now) dec.entry) steps
+        (option_map (λ name. name.now) from.entry) workers order result.kept result.events.items }
     ensures no_events { result.kept ≡ None → result.events.items ≡ [] }
     ensures words { result.status ≢ 2 }
-    ensures files { IsTrue (F.tells shelf.old) → FilesStand (option_map (λ name. name.now) cert.entry) (F.file shelf.old) (F.file shelf.new) }
-    ensures untouched { IsTrue (F.tells shelf.old) → IsUntouched result.status → F.file shelf.new ≡ F.file shelf.old }
-    ensures silent { (result.status ≡ 7) ⊎ (result.status ≡ 9) ⊎ (result.status ≡ 11) → O.taken out.new ≡ O.taken out.old }
+    ensures files { IsTrue (F.tells shelf.old) →
+        FilesStand (option_map (λ name. name.now) cert.entry) (F.file shelf.old)
+        (F.file shelf.new) }
+    ensures untouched { IsTrue (F.tells shelf.old) → IsUntouched result.status →
+        F.file shelf.new ≡ F.file shelf.old }
+    ensures silent { (result.status ≡ 7) ⊎ (result.status ≡ 9) ⊎ (result.status ≡ 11) →
+        O.taken out.new ≡ O.taken out.old }
     ensures cut_off { IsTrue (F.tells shelf.old) → IsTrue (O.tells out.old) →
-        CutsOff (AnswersSolve (F.file shelf.old) lp.now (option_map (λ name. name.now) dec.entry) steps (option_map (λ name. name.now) from.entry) leaf) result.status (O.taken out.old) (O.taken out.new) }
+        CutsOff (AnswersSolve (F.file shelf.old) lp.now (option_map (λ name. name.now) dec.entry)
+        steps (option_map (λ name. name.now) from.entry) leaf) result.status (O.taken out.old)
+        (O.taken out.new) }
 {
     match load(alloc, shelf, lp, dec) {
         Ok(b) => {
@@ -103,25 +121,43 @@ fn solve_blocks<F: Shelf, O: Sink>(
     requires some { IfSome crew (λ c. 1 ≤ c.workers) }
     requires alone { IfSome leaf (λ _. crew ≡ None) }
     ensures answered { IsTrue (F.tells shelf.old) →
-        AnswersBy (SolvesBy (F.file shelf.old) (option_map (λ name. name.now) from.entry) leaf steps result.kept b.now) result.status (O.tells out.old) (O.taken out.old) (O.taken out.new) }
-    ensures exact { IsTrue (F.tells shelf.old) → IsOnly (SolvesBy (F.file shelf.old) (option_map (λ name. name.now) from.entry) leaf steps result.kept b.now) result.status }
-    ensures saved { IsTrue (F.tells shelf.old) → SavesBlocked b.now (option_map (λ name. name.now) cert.entry) (F.file shelf.new) result.kept }
+        AnswersBy (SolvesBy (F.file shelf.old) (option_map (λ name. name.now) from.entry) leaf steps
+        result.kept b.now) result.status (O.tells out.old) (O.taken out.old) (O.taken out.new) }
+    ensures exact { IsTrue (F.tells shelf.old) →
+        IsOnly (SolvesBy (F.file shelf.old) (option_map (λ name. name.now) from.entry) leaf steps
+        result.kept b.now) result.status }
+    ensures saved { IsTrue (F.tells shelf.old) →
+        SavesBlocked b.now (option_map (λ name. name.now) cert.entry) (F.file shelf.new)
+        result.kept }
     ensures puts { PutsReport result.status (O.puts out.old) (O.puts out.new) }
-    ensures failed { result.status ≡ 8 → FailsToWrite (IsTrue (F.tells shelf.old) → LeavesBy (F.file shelf.old) (option_map (λ name. name.now) from.entry) leaf steps (option_map (λ name. name.now) cert.entry) (F.file shelf.new) b.now)
-        (F.write_faults shelf.old) (F.write_faults shelf.new) (O.faults out.old) (O.faults out.new) (O.puts out.old) (O.puts out.new) (O.taken out.old) (O.taken out.new) }
+    ensures failed { result.status ≡ 8 →
+        FailsToWrite (IsTrue (F.tells shelf.old) →
+        LeavesBy (F.file shelf.old) (option_map (λ name. name.now) from.entry) leaf steps
+        (option_map (λ name. name.now) cert.entry) (F.file shelf.new) b.now)
+        (F.write_faults shelf.old) (F.write_faults shelf.new) (O.faults out.old) (O.faults out.new)
+        (O.puts out.old) (O.puts out.new) (O.taken out.old) (O.taken out.new) }
     ensures causes { HasCauses result.status (F.read_faults shelf.old) (F.read_faults shelf.new)
-        (F.write_faults shelf.old) (F.write_faults shelf.new) (O.faults out.old) (O.faults out.new) }
-    ensures kept { (result.kept ≡ None) ⊎ ((result.status ≡ 0) ⊎ (result.status ≡ 4) ⊎ (result.status ≡ 5)) }
+        (F.write_faults shelf.old) (F.write_faults shelf.new) (O.faults out.old)
+        (O.faults out.new) }
+    ensures kept { (result.kept ≡ None) ⊎
+        ((result.status ≡ 0) ⊎ (result.status ≡ 4) ⊎ (result.status ≡ 5)) }
     ensures events { IsTrue (F.tells shelf.old) →
-        EventsBy (F.file shelf.old) (option_map (λ name. name.now) from.entry) steps crew b.now result.kept result.events.items }
+        EventsBy (F.file shelf.old) (option_map (λ name. name.now) from.entry) steps crew b.now
+        result.kept result.events.items }
     ensures no_events { result.kept ≡ None → result.events.items ≡ [] }
     ensures words { result.status ≢ 2 }
-    ensures files { IsTrue (F.tells shelf.old) → FilesStand (option_map (λ name. name.now) cert.entry) (F.file shelf.old) (F.file shelf.new) }
-    ensures untouched { IsTrue (F.tells shelf.old) → IsUntouched result.status → F.file shelf.new ≡ F.file shelf.old }
-    ensures silent { (result.status ≡ 7) ⊎ (result.status ≡ 9) ⊎ (result.status ≡ 11) → O.taken out.new ≡ O.taken out.old }
+    ensures files { IsTrue (F.tells shelf.old) →
+        FilesStand (option_map (λ name. name.now) cert.entry) (F.file shelf.old)
+        (F.file shelf.new) }
+    ensures untouched { IsTrue (F.tells shelf.old) → IsUntouched result.status →
+        F.file shelf.new ≡ F.file shelf.old }
+    ensures silent { (result.status ≡ 7) ⊎ (result.status ≡ 9) ⊎ (result.status ≡ 11) →
+        O.taken out.new ≡ O.taken out.old }
     ensures cut_off { IsTrue (F.tells shelf.old) → IsTrue (O.tells out.old) →
-        CutsOff (λ kept. SolvesBy (F.file shelf.old) (option_map (λ name. name.now) from.entry) leaf steps kept b.now) result.status (O.taken out.old) (O.taken out.new) }
+        CutsOff (λ kept. SolvesBy (F.file shelf.old) (option_map (λ name. name.now) from.entry) leaf
+        steps kept b.now) result.status (O.taken out.old) (O.taken out.new) }
 {
+    // For the proof alone: `b` is formed.
     let _ = b.blocks();
     match begin(alloc, shelf, b, from, leaf) {
         Ok(Start::Fresh) => answer(alloc, shelf, out, b, None, None, steps, cert, crew),
@@ -150,21 +186,35 @@ fn answer<F: Shelf, O: Sink>(
     requires few { IfSome steps (λ n. n ≤ 2 ^ 60) }
     requires some { IfSome crew (λ c. 1 ≤ c.workers) }
     requires alone { IfSome below (λ _. crew ≡ None) }
-    ensures answered { AnswersBy (SolvesAt from below steps result.kept b.now) result.status (O.tells out.old) (O.taken out.old) (O.taken out.new) }
+    ensures answered { AnswersBy (SolvesAt from below steps result.kept b.now) result.status
+        (O.tells out.old) (O.taken out.old) (O.taken out.new) }
     ensures exact { IsOnly (SolvesAt from below steps result.kept b.now) result.status }
-    ensures saved { IsTrue (F.tells shelf.old) → SavesBlocked b.now (option_map (λ name. name.now) cert.entry) (F.file shelf.new) result.kept }
+    ensures saved { IsTrue (F.tells shelf.old) →
+        SavesBlocked b.now (option_map (λ name. name.now) cert.entry) (F.file shelf.new)
+        result.kept }
     ensures puts { PutsReport result.status (O.puts out.old) (O.puts out.new) }
-    ensures failed { result.status ≡ 8 → FailsToWrite (IsTrue (F.tells shelf.old) → LeavesAt from below steps (option_map (λ name. name.now) cert.entry) (F.file shelf.new) b.now)
-        (F.write_faults shelf.old) (F.write_faults shelf.new) (O.faults out.old) (O.faults out.new) (O.puts out.old) (O.puts out.new) (O.taken out.old) (O.taken out.new) }
+    ensures failed { result.status ≡ 8 →
+        FailsToWrite (IsTrue (F.tells shelf.old) →
+        LeavesAt from below steps (option_map (λ name. name.now) cert.entry) (F.file shelf.new)
+        b.now) (F.write_faults shelf.old) (F.write_faults shelf.new) (O.faults out.old)
+        (O.faults out.new) (O.puts out.old) (O.puts out.new) (O.taken out.old) (O.taken out.new) }
     ensures causes { HasCauses result.status (F.read_faults shelf.old) (F.read_faults shelf.new)
-        (F.write_faults shelf.old) (F.write_faults shelf.new) (O.faults out.old) (O.faults out.new) }
-    ensures kept { (result.kept ≡ None) ⊎ ((result.status ≡ 0) ⊎ (result.status ≡ 4) ⊎ (result.status ≡ 5)) }
+        (F.write_faults shelf.old) (F.write_faults shelf.new) (O.faults out.old)
+        (O.faults out.new) }
+    ensures kept { (result.kept ≡ None) ⊎
+        ((result.status ≡ 0) ⊎ (result.status ≡ 4) ⊎ (result.status ≡ 5)) }
     ensures events { HasEventsFrom b.now from steps crew result.kept result.events.items }
-    ensures statuses { (result.status ≡ 0) ⊎ (result.status ≡ 4) ⊎ (result.status ≡ 5) ⊎ (result.status ≡ 8) ⊎ (result.status ≡ 9) }
-    ensures files { IsTrue (F.tells shelf.old) → FilesStand (option_map (λ name. name.now) cert.entry) (F.file shelf.old) (F.file shelf.new) }
-    ensures untouched { IsTrue (F.tells shelf.old) → result.status ≡ 9 → F.file shelf.new ≡ F.file shelf.old }
+    ensures statuses { (result.status ≡ 0) ⊎ (result.status ≡ 4) ⊎ (result.status ≡ 5) ⊎
+        (result.status ≡ 8) ⊎ (result.status ≡ 9) }
+    ensures files { IsTrue (F.tells shelf.old) →
+        FilesStand (option_map (λ name. name.now) cert.entry) (F.file shelf.old)
+        (F.file shelf.new) }
+    ensures untouched { IsTrue (F.tells shelf.old) → result.status ≡ 9 →
+        F.file shelf.new ≡ F.file shelf.old }
     ensures silent { result.status ≡ 9 → O.taken out.new ≡ O.taken out.old }
-    ensures cut_off { IsTrue (O.tells out.old) → CutsOff (λ kept. SolvesAt from below steps kept b.now) result.status (O.taken out.old) (O.taken out.new) }
+    ensures cut_off { IsTrue (O.tells out.old) →
+        CutsOff (λ kept. SolvesAt from below steps kept b.now) result.status (O.taken out.old)
+        (O.taken out.new) }
 {
     let Ok(searched) = search_from(alloc, b, from, below, steps, crew) else {
         return stopped(alloc, 9);
@@ -195,21 +245,34 @@ fn tell<F: Shelf, O: Sink>(
 ) -> Ended
     requires ends { (most : ℕ) × EndsWithin b.now most outcome }
     requires writable { IsWritable b.now outcome }
-    ensures answered { AnswersBy (TellsOf b.now told outcome result.kept) result.status (O.tells out.old) (O.taken out.old) (O.taken out.new) }
+    ensures answered { AnswersBy (TellsOf b.now told outcome result.kept) result.status
+        (O.tells out.old) (O.taken out.old) (O.taken out.new) }
     ensures exact { IsOnly (TellsOf b.now told outcome result.kept) result.status }
-    ensures saved { IsTrue (F.tells shelf.old) → SavesBlocked b.now (option_map (λ name. name.now) cert.entry) (F.file shelf.new) result.kept }
+    ensures saved { IsTrue (F.tells shelf.old) →
+        SavesBlocked b.now (option_map (λ name. name.now) cert.entry) (F.file shelf.new)
+        result.kept }
     ensures puts { PutsReport result.status (O.puts out.old) (O.puts out.new) }
-    ensures failed { result.status ≡ 8 → FailsToWrite (IsTrue (F.tells shelf.old) → IsSaved b.now outcome (option_map (λ name. name.now) cert.entry) (F.file shelf.new))
-        (F.write_faults shelf.old) (F.write_faults shelf.new) (O.faults out.old) (O.faults out.new) (O.puts out.old) (O.puts out.new) (O.taken out.old) (O.taken out.new) }
+    ensures failed { result.status ≡ 8 →
+        FailsToWrite (IsTrue (F.tells shelf.old) →
+        IsSaved b.now outcome (option_map (λ name. name.now) cert.entry) (F.file shelf.new))
+        (F.write_faults shelf.old) (F.write_faults shelf.new) (O.faults out.old) (O.faults out.new)
+        (O.puts out.old) (O.puts out.new) (O.taken out.old) (O.taken out.new) }
     ensures causes { HasCauses result.status (F.read_faults shelf.old) (F.read_faults shelf.new)
-        (F.write_faults shelf.old) (F.write_faults shelf.new) (O.faults out.old) (O.faults out.new) }
-    ensures kept { (result.kept ≡ None) ⊎ ((result.status ≡ 0) ⊎ (result.status ≡ 4) ⊎ (result.status ≡ 5)) }
+        (F.write_faults shelf.old) (F.write_faults shelf.new) (O.faults out.old)
+        (O.faults out.new) }
+    ensures kept { (result.kept ≡ None) ⊎
+        ((result.status ≡ 0) ⊎ (result.status ≡ 4) ⊎ (result.status ≡ 5)) }
     ensures outcome { (result.kept ≡ None) ⊎ (result.kept ≡ Some outcome) }
-    ensures statuses { (result.status ≡ 0) ⊎ (result.status ≡ 4) ⊎ (result.status ≡ 5) ⊎ (result.status ≡ 8) ⊎ (result.status ≡ 9) }
-    ensures files { IsTrue (F.tells shelf.old) → FilesStand (option_map (λ name. name.now) cert.entry) (F.file shelf.old) (F.file shelf.new) }
-    ensures untouched { IsTrue (F.tells shelf.old) → result.status ≡ 9 → F.file shelf.new ≡ F.file shelf.old }
+    ensures statuses { (result.status ≡ 0) ⊎ (result.status ≡ 4) ⊎ (result.status ≡ 5) ⊎
+        (result.status ≡ 8) ⊎ (result.status ≡ 9) }
+    ensures files { IsTrue (F.tells shelf.old) →
+        FilesStand (option_map (λ name. name.now) cert.entry) (F.file shelf.old)
+        (F.file shelf.new) }
+    ensures untouched { IsTrue (F.tells shelf.old) → result.status ≡ 9 →
+        F.file shelf.new ≡ F.file shelf.old }
     ensures silent { result.status ≡ 9 → O.taken out.new ≡ O.taken out.old }
-    ensures cut_off { IsTrue (O.tells out.old) → CutsOff (TellsOf b.now told outcome) result.status (O.taken out.old) (O.taken out.new) }
+    ensures cut_off { IsTrue (O.tells out.old) →
+        CutsOff (TellsOf b.now told outcome) result.status (O.taken out.old) (O.taken out.new) }
 {
     let Ok(reply) = reply_to(alloc, b, &outcome, told) else {
         return stopped(alloc, 9);
@@ -258,9 +321,13 @@ fn save<F: Shelf>(
 ) -> Result<(), ShelfFault>
     requires ends { (most : ℕ) × EndsWithin b.now most outcome.now }
     requires writable { IsWritable b.now outcome.now }
-    ensures saved { IsTrue (F.tells shelf.old) → IsOk result → IsSaved b.now outcome.now (option_map (λ name. name.now) cert.entry) (F.file shelf.new) }
-    ensures files { IsTrue (F.tells shelf.old) → FilesStand (option_map (λ name. name.now) cert.entry) (F.file shelf.old) (F.file shelf.new) }
-    ensures untouched { IsTrue (F.tells shelf.old) → IsErrOf result ShelfFault.NoMemory → F.file shelf.new ≡ F.file shelf.old }
+    ensures saved { IsTrue (F.tells shelf.old) → IsOk result →
+        IsSaved b.now outcome.now (option_map (λ name. name.now) cert.entry) (F.file shelf.new) }
+    ensures files { IsTrue (F.tells shelf.old) →
+        FilesStand (option_map (λ name. name.now) cert.entry) (F.file shelf.old)
+        (F.file shelf.new) }
+    ensures untouched { IsTrue (F.tells shelf.old) → IsErrOf result ShelfFault.NoMemory →
+        F.file shelf.new ≡ F.file shelf.old }
     ensures never_missing { IsErrOf result ShelfFault.Missing → ⊥ }
     ensures told { F.tells shelf.new ≡ F.tells shelf.old }
     ensures cause { CountsFailed (F.write_faults shelf.old) (F.write_faults shelf.new) result }
@@ -269,6 +336,7 @@ fn save<F: Shelf>(
     match cert {
         None => Ok(()),
         Some(name) => {
+            // For the proof alone: `b` is formed.
             let _ = b.blocks();
             let text = write_cert(alloc, b, outcome)?;
             shelf.replace(name, &text)

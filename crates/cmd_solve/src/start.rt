@@ -36,8 +36,8 @@ pub enum Start {
     Refused(Reply),
 }
 
-/// The start that a named file gives, or the planted tree where none is named. Where the number of a leaf is given, the search
-/// is to work at that open leaf of the file's certificate and below it alone.
+/// The start that a named file gives, or the planted tree where none is named. Where the number of a leaf is given, the
+/// search is to work at that open leaf of the file's certificate and below it alone.
 pub fn begin<F: Shelf>(
     alloc: Global,
     shelf: &mut F,
@@ -45,9 +45,12 @@ pub fn begin<F: Shelf>(
     from: Option<&str>,
     leaf: Option<u64>,
 ) -> Result<Start, ShelfFault>
-    ensures start { IsTrue (F.tells shelf.old) → IfOk result (HasStart (F.file shelf.old) (option_map (λ name. name.now) from.entry) leaf b.now) }
+    ensures start { IsTrue (F.tells shelf.old) →
+        IfOk result (HasStart (F.file shelf.old) (option_map (λ name. name.now) from.entry)
+        leaf b.now) }
     ensures usable { IfOk result (CanBegin b.now leaf) }
-    ensures missing { IsTrue (F.tells shelf.old) → IsErrOf result ShelfFault.Missing → LacksStart (F.file shelf.old) (option_map (λ name. name.now) from.entry) }
+    ensures missing { IsTrue (F.tells shelf.old) → IsErrOf result ShelfFault.Missing →
+        LacksStart (F.file shelf.old) (option_map (λ name. name.now) from.entry) }
     ensures told { F.tells shelf.new ≡ F.tells shelf.old }
     ensures files { F.file shelf.new ≡ F.file shelf.old }
     ensures cause { CountsFailed (F.read_faults shelf.old) (F.read_faults shelf.new) result }
@@ -67,9 +70,11 @@ fn begin_from<F: Shelf>(
     name: &str,
     leaf: Option<u64>,
 ) -> Result<Start, ShelfFault>
-    ensures start { IsTrue (F.tells shelf.old) → IfOk result (HasStart (F.file shelf.old) (Some name.now) leaf b.now) }
+    ensures start { IsTrue (F.tells shelf.old) →
+        IfOk result (HasStart (F.file shelf.old) (Some name.now) leaf b.now) }
     ensures usable { IfOk result (CanBegin b.now leaf) }
-    ensures missing { IsTrue (F.tells shelf.old) → IsErrOf result ShelfFault.Missing → LacksStart (F.file shelf.old) (Some name.now) }
+    ensures missing { IsTrue (F.tells shelf.old) → IsErrOf result ShelfFault.Missing →
+        LacksStart (F.file shelf.old) (Some name.now) }
     ensures told { F.tells shelf.new ≡ F.tells shelf.old }
     ensures files { F.file shelf.new ≡ F.file shelf.old }
     ensures cause { CountsFailed (F.read_faults shelf.old) (F.read_faults shelf.new) result }
@@ -150,6 +155,7 @@ fn placed_start(
     ensures start { IfOk result (StartsOf b.now leaf cert.now) }
     ensures usable { IfOk result (CanBegin b.now leaf) }
 {
+    // For the proof alone: `b` is formed.
     let _ = b.blocks();
     match leaf {
         None => Ok(Start::Ready(from, None)),

@@ -25,8 +25,8 @@ const MOST_PRICES: u32 = 400;
 /// After how many leaves it is forgotten which blocks' pricing was cut.
 const MEMORY: u32 = 32;
 
-/// The pricers of a program's blocks, and the blocks that hints price: all, or those whose pricing was never cut. Of each leaf's
-/// hints so many prices are left. It is kept from leaf to leaf which blocks' pricing was cut.
+/// The pricers of a program's blocks, and the blocks that hints price: all, or those whose pricing was never cut. Of
+/// each leaf's hints so many prices are left. It is kept from leaf to leaf which blocks' pricing was cut.
 #[derive(Drop)]
 pub struct PricingBudget {
     pub work: Work,
@@ -129,8 +129,8 @@ impl PricingBudget {
         })
     }
 
-    // The proof of multipliers by row at the greatest scale, which prices the blocks that hints price but for those of one point in a
-    // zone: what these cost is the least over their box.
+    // The proof of multipliers by row at the greatest scale, which prices the blocks that hints price but for those of
+    // one point in a zone: what these cost is the least over their box.
     fn open_proof(
         &self,
         alloc: Global,

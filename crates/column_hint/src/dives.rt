@@ -1,5 +1,5 @@
-// Dives for a point by columns: columns of great weight are fixed in blocks of their classes, all spans are tightened, and the master of
-// the rest is settled again with a few rounds of pricing. A hint, which the model judges.
+// Dives for a point by columns: columns of great weight are fixed in blocks of their classes, all spans are tightened,
+// and the master of the rest is settled again with a few rounds of pricing. A hint, which the model judges.
 ghost use Rattle.std.specs.Prelude.{◌≡◌, length};
 ghost use Rattle.bp_theory.specs.Trees.{IsZone};
 ghost use Rattle.column_hint.specs.Pools.{AreMadeFor};
@@ -85,8 +85,8 @@ impl Dive {
     }
 }
 
-/// A dive in a zone from a master's solution, given up where the bound reaches the known cost. The master then stands as before, but for
-/// new columns.
+/// A dive in a zone from a master's solution, given up where the bound reaches the known cost. The master then stands
+/// as before, but for new columns.
 pub fn dive_by_columns(
     alloc: Global,
     b: &Blocked,
@@ -241,7 +241,8 @@ fn is_idle(pools: &Pools, place: Place) -> bool {
     }
 }
 
-// Takes a column into the next block of its class, and tightens the spans; whether a point may be left. Else all is as before.
+// Takes a column into the next block of its class, and tightens the spans; whether a point may be left. Else all is as
+// before.
 fn take_column(
     b: &Blocked,
     classes: &Classes,

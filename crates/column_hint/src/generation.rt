@@ -1,6 +1,7 @@
-// Column generation in a zone: the restricted master gives multipliers, and pricing them gives columns and bounds. The multipliers are
-// kept in a box round those of the best bound, which moves with it and is small beside them. (Marsten, Hogan and Blankenship, The boxstep
-// method for large-scale optimization, 1975; du Merle, Villeneuve, Desrosiers and Hansen, Stabilized column generation, 1999.)
+// Column generation in a zone: the restricted master gives multipliers, and pricing them gives columns and bounds. The
+// multipliers are kept in a box round those of the best bound, which moves with it and is small beside them. (Marsten,
+// Hogan and Blankenship, The boxstep method for large-scale optimization, 1975; du Merle, Villeneuve, Desrosiers and
+// Hansen, Stabilized column generation, 1999.)
 ghost use Rattle.std.specs.Prelude.{◌≡◌, ◌<◌, length};
 ghost use Rattle.bp_theory.specs.Trees.{IsZone};
 ghost use Rattle.block_class.specs.Classes.{AreSameClasses};
@@ -31,8 +32,8 @@ const BOX_PART: f64 = 300.0;
 /// The least width of the box.
 const LEAST_WIDTH: f64 = 1e-4;
 
-/// How many times the greatest cost and the greatest multiplier it costs to miss a row by one at first, by what that is raised, and
-/// where it ends.
+/// How many times the greatest cost and the greatest multiplier it costs to miss a row by one at first, by what that is
+/// raised, and where it ends.
 const COST_TIMES: f64 = 4.0;
 
 const MULT_TIMES: f64 = 2.0;
@@ -48,7 +49,8 @@ pub struct Centre {
     pub value: i128,
 }
 
-// A restricted master with the multipliers that it gave last, room for a priced point, and the width of the box, where there is one.
+// A restricted master with the multipliers that it gave last, room for a priced point, and the width of the box, where
+// there is one.
 #[derive(Drop)]
 struct Generation {
     master: RestrictedMaster,
@@ -89,8 +91,9 @@ pub fn mean_mult(b: &Blocked, mults: &[i64]) -> f64 {
     }
 }
 
-/// Rounds of master and pricing in a zone from a centre, which becomes that of the best bound there: the master after the last one, with
-/// a solution that may miss rows. There is none where a block has no point, or no master can be made.
+/// Rounds of master and pricing in a zone from a centre, which becomes that of the best bound there: the master after
+/// the last one, with a solution that may miss rows. There is none where a block has no point, or no master can be
+/// made.
 pub fn generate_columns(
     alloc: Global,
     b: &Blocked,

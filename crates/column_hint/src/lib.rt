@@ -1,6 +1,6 @@
-//! Multipliers with a great bound in a zone, and points of columns: a budget of pricing, pools of columns, subgradient steps, column
-//! generation by a restricted master, and dives. Nothing is promised of how good these are: exact bounds and the model judge them.
-//! What pools keep from leaf to leaf is promised: columns are points of their blocks.
+//! Multipliers with a great bound in a zone, and points of columns: a budget of pricing, pools of columns, subgradient
+//! steps, column generation by a restricted master, and dives. Nothing is promised of how good these are: exact bounds
+//! and the model judge them. What pools keep from leaf to leaf is promised: columns are points of their blocks.
 #![tactic(auto)]
 
 mod budget;

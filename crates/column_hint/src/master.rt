@@ -1,5 +1,5 @@
-// The restricted master of a zone: the master rows less what the blocks of one point take, the classes of the other blocks, and
-// columns of these. What a row misses costs a penalty, which keeps its multiplier in a range.
+// The restricted master of a zone: the master rows less what the blocks of one point take, the classes of the other
+// blocks, and columns of these. What a row misses costs a penalty, which keeps its multiplier in a range.
 use crate::budget::is_settled as is_settled_block;
 use crate::lines::{Lines, at_scale, place_of};
 use crate::pools::{Place, Pools};
@@ -53,8 +53,8 @@ pub struct MasterColumn {
     pub cost: i64,
 }
 
-/// A restricted master: its program, the lines of its rows, its number of each class of the zone, its columns, what the blocks of one point
-/// take from the rows, and their cost with the constant.
+/// A restricted master: its program, the lines of its rows, its number of each class of the zone, its columns, what the
+/// blocks of one point take from the rows, and their cost with the constant.
 #[derive(Drop)]
 pub struct RestrictedMaster {
     program: ColumnProgram,
@@ -101,8 +101,8 @@ struct Settled {
 }
 
 impl RestrictedMaster {
-    /// The restricted master of a zone without columns, where missing a row by one costs a penalty. There is none without rows or
-    /// classes.
+    /// The restricted master of a zone without columns, where missing a row by one costs a penalty. There is none
+    /// without rows or classes.
     pub fn make(
         alloc: Global,
         b: &Blocked,
@@ -135,7 +135,8 @@ impl RestrictedMaster {
         Ok(Some(master))
     }
 
-    /// Adds the pools' columns inside the zone, of each class those of least reduced cost, and begins with the first of each.
+    /// Adds the pools' columns inside the zone, of each class those of least reduced cost, and begins with the first of
+    /// each.
     pub fn begin(
         &mut self,
         alloc: Global,

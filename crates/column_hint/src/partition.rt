@@ -1,5 +1,5 @@
-// Columns that go together, for classes of identical blocks: each block of a class is priced in what those before it leave of the rows'
-// sides. One class gives one column a round otherwise. No bound comes from these.
+// Columns that go together, for classes of identical blocks: each block of a class is priced in what those before it
+// leave of the rows' sides. One class gives one column a round otherwise. No bound comes from these.
 ghost use Rattle.std.specs.Prelude.{◌<◌, length};
 ghost use Rattle.knap_price.specs.Kept as by_table;
 ghost use Rattle.pricing.specs.Form.{AreOf};
@@ -149,7 +149,8 @@ fn price_by_table(
     member: &mut Member,
     sides: &mut Vec<Side>,
 ) -> Result<Vec<Vec<i64>>, AllocError>
-    requires same_block { AreOf block.now (by_table.rows_of pricer.old) (by_table.spans_of pricer.old) }
+    requires same_block { AreOf block.now (by_table.rows_of pricer.old)
+        (by_table.spans_of pricer.old) }
 {
     let mut points = Vec::new(alloc);
     for _ in 0..member.many {
@@ -175,7 +176,8 @@ fn price_by_search(
     member: &mut Member,
     sides: &mut Vec<Side>,
 ) -> Result<Vec<Vec<i64>>, AllocError>
-    requires same_block { AreOf block.now (by_search.rows_of pricer.old) (by_search.spans_of pricer.old) }
+    requires same_block { AreOf block.now (by_search.rows_of pricer.old)
+        (by_search.spans_of pricer.old) }
 {
     let mut points = Vec::new(alloc);
     for _ in 0..member.many {

@@ -21,9 +21,9 @@ pub struct Store {
     pub pool: Pool,
 }
 
-/// The pricers of a program's blocks, and the columns that they gave: a pool for each class of blocks at the root. Each column
-/// is a point of its class's first block, and no pool has two with the same point. Where no block has rows, the relaxation of the
-/// program's rows too.
+/// The pricers of a program's blocks, and the columns that they gave: a pool for each class of blocks at the root. Each
+/// column is a point of its class's first block, and no pool has two with the same point. Where no block has rows, the
+/// relaxation of the program's rows too.
 #[derive(Drop)]
 pub struct Pools {
     pub bench: PricingBudget,
@@ -64,8 +64,8 @@ impl Pools {
         })
     }
 
-    /// Begins with another leaf: its hints price all blocks, and pools that have grown too large are emptied. Tells whether an
-    /// even number of leaves came before.
+    /// Begins with another leaf: its hints price all blocks, and pools that have grown too large are emptied. Tells
+    /// whether an even number of leaves came before.
     pub fn begin(&mut self, alloc: Global, b: &Blocked) -> Result<bool, AllocError>
         requires made_for { AreMadeFor b.now self.old }
         ensures made_for { AreMadeFor b.now self.new }
@@ -79,8 +79,8 @@ impl Pools {
         Ok(self.leaves % 2 == 1)
     }
 
-    /// The bound of multipliers by row at the greatest scale in a zone, with a point that reaches it but for the blocks that are
-    /// left out, whose numbers stay. There is none where a block has no point, or the leaf's prices are spent.
+    /// The bound of multipliers by row at the greatest scale in a zone, with a point that reaches it but for the blocks
+    /// that are left out, whose numbers stay. There is none where a block has no point, or the leaf's prices are spent.
     pub fn price(
         &mut self,
         alloc: Global,
@@ -141,8 +141,8 @@ impl Pools {
         }
     }
 
-    /// Adds the point that the last bound told of a block, and tells where it is. There is none where no point was told, or its
-    /// pool is full.
+    /// Adds the point that the last bound told of a block, and tells where it is. There is none where no point was
+    /// told, or its pool is full.
     pub fn add_priced(
         &mut self,
         alloc: Global,
@@ -170,8 +170,8 @@ impl Pools {
         }
     }
 
-    /// Adds a point to the columns of a block, and tells where it is. There is none where it is no point of the block, or its pool is
-    /// full.
+    /// Adds a point to the columns of a block, and tells where it is. There is none where it is no point of the block,
+    /// or its pool is full.
     pub fn add_point(
         &mut self,
         alloc: Global,

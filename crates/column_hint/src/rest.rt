@@ -80,8 +80,8 @@ fn fits(
     }
 }
 
-/// Settles the master of what is left with a few rounds of pricing; whether the bound stays below the known cost and each block has a
-/// point.
+/// Settles the master of what is left with a few rounds of pricing; whether the bound stays below the known cost and
+/// each block has a point.
 pub fn settle_rest(
     alloc: Global,
     b: &Blocked,

@@ -1,7 +1,8 @@
-// Multipliers by subgradient steps in whole numbers: hints, which exact bounds judge. A step goes along what the newest point leaves
-// open, from its multipliers, with Polyak's length to a level above the best bound. Where blocks are alike, one priced point counts
-// for many blocks and leaves far too much open: there a step goes from the best multipliers along what the mean of the priced points
-// leaves open, as the volume algorithm takes it. (Polyak; Barahona and Anbil.)
+// Multipliers by subgradient steps in whole numbers: hints, which exact bounds judge. A step goes along what the newest
+// point leaves open, from its multipliers, with Polyak's length to a level above the best bound. Where blocks are
+// alike, one priced point counts for many blocks and leaves far too much open: there a step goes from the best
+// multipliers along what the mean of the priced points leaves open, as the volume algorithm takes it. (Polyak; Barahona
+// and Anbil.)
 ghost use Rattle.std.specs.Prelude.{◌≡◌};
 ghost use Rattle.bp_theory.specs.Trees.{IsZone};
 ghost use Rattle.block_class.specs.Classes.{AreSameClasses};
@@ -18,8 +19,8 @@ use point_hint::{
 };
 use std::alloc::{AllocError, Global};
 
-/// How steps go: how many are taken, how many without a gain until the aim is lowered, the least gain that is aimed at, in units, and
-/// the greatest cost over the first aim below the root.
+/// How steps go: how many are taken, how many without a gain until the aim is lowered, the least gain that is aimed at,
+/// in units, and the greatest cost over the first aim below the root.
 #[derive(Clone, Copy)]
 struct Pace {
     steps: u32,
@@ -74,10 +75,10 @@ enum Course {
     Mean,
 }
 
-/// The state of the steps, and what they found: the multipliers of the best bound by row at the greatest scale, that bound,
-/// the mean of the points in units, and the cheapest feasible point that is cheaper than the known cost. Sums of the master
-/// rows are kept at the newest point, at that of the best bound, and along what the next step goes. That leaves from multipliers
-/// whose bound is short of the best.
+/// The state of the steps, and what they found: the multipliers of the best bound by row at the greatest scale, that
+/// bound, the mean of the points in units, and the cheapest feasible point that is cheaper than the known cost. Sums of
+/// the master rows are kept at the newest point, at that of the best bound, and along what the next step goes. That
+/// leaves from multipliers whose bound is short of the best.
 #[derive(Drop)]
 pub struct Subgradient {
     pub best: Vec<i64>,
@@ -339,8 +340,8 @@ pub fn reaches(steps: &Subgradient) -> bool {
     is_reached(steps.value, steps.known)
 }
 
-// Takes a step towards the aim; whether there was one to take. Where nothing is left open along it, it begins again at the point of
-// the best bound.
+// Takes a step towards the aim; whether there was one to take. Where nothing is left open along it, it begins again at
+// the point of the best bound.
 fn step(b: &Blocked, steps: &mut Subgradient) -> bool {
     let mut norm = norm_of(b, steps);
     if norm < LEAST_NORM {

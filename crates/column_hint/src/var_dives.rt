@@ -1,6 +1,6 @@
-// Dives for a point by variables, for classes of one block each, where a column is too coarse a step: all variables that the master holds at
-// a whole number above their lower end, and the most decided one between, go up, and the master of the rest is settled again. A hint, which
-// the model judges.
+// Dives for a point by variables, for classes of one block each, where a column is too coarse a step: all variables
+// that the master holds at a whole number above their lower end, and the most decided one between, go up, and the
+// master of the rest is settled again. A hint, which the model judges.
 ghost use Rattle.std.specs.Prelude.{◌≡◌};
 ghost use Rattle.bp_theory.specs.Trees.{IsZone};
 ghost use Rattle.column_hint.specs.Pools.{AreMadeFor};
@@ -42,8 +42,8 @@ struct Means {
     wholes: Vec<Option<usize>>,
 }
 
-/// A dive in a zone from a master's solution: a point, where it reached one. It is given up where the bound reaches the known cost. A
-/// seed moves the order of variables. The master then stands as before, but for new columns.
+/// A dive in a zone from a master's solution: a point, where it reached one. It is given up where the bound reaches the
+/// known cost. A seed moves the order of variables. The master then stands as before, but for new columns.
 pub fn dive_by_variables(
     alloc: Global,
     b: &Blocked,

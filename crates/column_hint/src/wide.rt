@@ -22,6 +22,7 @@ pub fn has_many_beginnings(
     requires there { number < length b.now.blocking.blocks }
     ensures { IfOk result (λ many. IsTrue many → IsWide b.now.blocking zone.now number) }
 {
+    // For the proof alone: `b` is formed.
     let _ = b.blocks();
     let block = b.block(number);
     let mut spans = Vec::from_elem(alloc, Span { lo: 0, hi: 0 }, block.vars().len())?;

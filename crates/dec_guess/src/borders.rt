@@ -1,5 +1,5 @@
-// Parts of an order of rows, cut where the fewest variables are open. (After Bergner,
-// Caprara, Ceselli, Furini, Lübbecke, Malaguti and Traversi, 'Automatic Dantzig-Wolfe reformulation of mixed integer programs', 2015.)
+// Parts of an order of rows, cut where the fewest variables are open. (After Bergner, Caprara, Ceselli, Furini,
+// Lübbecke, Malaguti and Traversi, 'Automatic Dantzig-Wolfe reformulation of mixed integer programs', 2015.)
 use bp_model::Model;
 use std::alloc::{AllocError, Global};
 
@@ -57,8 +57,8 @@ fn new_variables(m: &Model, known: &mut [bool], row: u32) -> u32 {
     new
 }
 
-/// For each row its part, where an order is cut into so many parts: near the places of parts of one length, behind rows where the
-/// fewest variables are open.
+/// For each row its part, where an order is cut into so many parts: near the places of parts of one length, behind rows
+/// where the fewest variables are open.
 pub fn cut_parts(
     alloc: Global,
     m: &Model,

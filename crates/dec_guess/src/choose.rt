@@ -18,7 +18,8 @@ use bp_model::{Dec, Model};
 use dec_find::{FindFault, find};
 use std::alloc::{AllocError, Global};
 
-// How much is looked at for all lists by names and forms together, and how much for all by structure: rows, variables and terms.
+// How much is looked at for all lists by names and forms together, and how much for all by structure: rows, variables
+// and terms.
 const WORK_ON_GROUPS: u64 = 10_000_000;
 
 const WORK_ON_STRUCTURE: u64 = 9_000_000;
@@ -38,8 +39,8 @@ const LEAST_INSIDE: usize = 4;
 // Into how many parts rows are cut, or the largest part of so many that variables are peeled apart to.
 const COUNTS: [usize; 6] = [2, 4, 8, 16, 32, 64];
 
-// The best decomposition so far with its score, by how much the first by structure has to be better, hashes of the lists that were looked at, how
-// much one look takes, and how much may still be looked at.
+// The best decomposition so far with its score, by how much the first by structure has to be better, hashes of the
+// lists that were looked at, how much one look takes, and how much may still be looked at.
 #[derive(Drop)]
 struct Proposal {
     dec: Dec,
@@ -387,8 +388,8 @@ fn lengths_of(alloc: Global, m: &Model) -> Result<Vec<usize>, AllocError> {
     Ok(lengths)
 }
 
-/// A decomposition of a model: the blocks beside master rows that were chosen by the names and the forms of rows or by the structure
-/// of the model, or every row a master row where no list of them promises anything.
+/// A decomposition of a model: the blocks beside master rows that were chosen by the names and the forms of rows or by
+/// the structure of the model, or every row a master row where no list of them promises anything.
 pub fn guess(alloc: Global, m: &Model) -> Result<Dec, AllocError>
     requires kept { IsKept m.now }
     ensures { IfOk result (IsGuess m.now.program) }

@@ -56,7 +56,8 @@ fn is_bracket(byte: u8) -> bool {
     byte == b'(' || byte == b')' || byte == b'[' || byte == b']'
 }
 
-// A hash of a row's sense, of whether its side is 0, 1 or another, and of whether its coefficients are 1, 1 and -1, or others.
+// A hash of a row's sense, of whether its side is 0, 1 or another, and of whether its coefficients are 1, 1 and -1, or
+// others.
 fn form_key(row: &Row) -> u64 {
     mix(
         mix(mix(START, sense_key(row.sense)), side_key(row)),

@@ -1,5 +1,5 @@
-// Parts of rows with few common variables between them, by graphs that become coarser. (George Karypis and Vipin Kumar, 'Multilevel
-// k-way partitioning scheme for irregular graphs', 1998.)
+// Parts of rows with few common variables between them, by graphs that become coarser. (George Karypis and Vipin Kumar,
+// 'Multilevel k-way partitioning scheme for irregular graphs', 1998.)
 use crate::columns::Columns;
 use crate::graph::{Graph, matched};
 use crate::order::text_order;

@@ -1,9 +1,11 @@
-// Parts of variables that rows join, as long as no part becomes too large: a row is left out where it would make one part of what
-// falls apart without it. (Parts are joined by size: Tarjan and van Leeuwen, 'Worst-case analysis of set union algorithms', 1984.)
+// Parts of variables that rows join, as long as no part becomes too large: a row is left out where it would make one
+// part of what falls apart without it. (Parts are joined by size: Tarjan and van Leeuwen, 'Worst-case analysis of set
+// union algorithms', 1984.)
 use bp_model::{Model, Row};
 use std::alloc::{AllocError, Global};
 
-// How far a variable's part is looked for: parts are joined by size, so that no way is longer than their number's binary digits.
+// How far a variable's part is looked for: parts are joined by size, so that no way is longer than their number's
+// binary digits.
 const LONGEST_WAY: u32 = 64;
 
 /// Variables in parts: each has another of its part above it, and the first of a part knows how many are in it.

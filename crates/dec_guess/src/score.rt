@@ -1,6 +1,7 @@
-// What the blocks of a decomposition promise for column generation: that they cover most variables, that many are alike, that none is
-// large, and that few rows are left beside them. (After Khaniyev, Elhedhli and Erenay, Structure detection in mixed-integer programs,
-// 2018, and the scores of Bergner et al., Automatic Dantzig-Wolfe reformulation of mixed integer programs, 2015.)
+// What the blocks of a decomposition promise for column generation: that they cover most variables, that many are
+// alike, that none is large, and that few rows are left beside them. (After Khaniyev, Elhedhli and Erenay, Structure
+// detection in mixed-integer programs, 2018, and the scores of Bergner et al., Automatic Dantzig-Wolfe reformulation of
+// mixed integer programs, 2015.)
 use crate::groups::{mix, mix_whole};
 use bp_model::{Dec, Model, Row};
 use std::alloc::{AllocError, Global};

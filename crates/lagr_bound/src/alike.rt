@@ -19,9 +19,10 @@ use block_form::{Blocked, Zone};
 use bp_theory::Proof;
 use pricing::{Cap, Priced, plus};
 
-/// The weak Lagrangian bound of a proof in a zone with the zone's classes, whose picked blocks are priced once a class: the
-/// lowest picked block, since blocks that are the same in the zone have the same least. It is the sum over all blocks, as
-/// that of `sum_bound`, and its magnitude at most `2^116`. After a whole bound `Work::point` tells a point of each such block that reaches its least.
+/// The weak Lagrangian bound of a proof in a zone with the zone's classes, whose picked blocks are priced once a class:
+/// the lowest picked block, since blocks that are the same in the zone have the same least. It is the sum over all
+/// blocks, as that of `sum_bound`, and its magnitude at most `2^116`. After a whole bound `Work::point` tells a point
+/// of each such block that reaches its least.
 pub fn bound(
     work: &mut Work,
     b: &Blocked,
@@ -35,10 +36,12 @@ pub fn bound(
     requires zone { IsZone b.now.named.program.spans zone.now }
     requires fits { Fits b.now.blocking proof.now }
     ensures answer { IsBounded b.now.blocking zone.now proof.now cap result }
-    ensures endless { cap ≡ Never → IsEndless b.now.blocking zone.now proof.now → result ≡ Bounded.Endless }
+    ensures endless { cap ≡ Never → IsEndless b.now.blocking zone.now proof.now →
+        result ≡ Bounded.Endless }
     ensures size { IfWhole result (λ v. unsigned_abs v ≤ 2 ^ 116) }
     ensures made_for { forms_of work.new ≡ forms_of work.old }
-    ensures points { TellsPoints b.now.blocking zone.now proof.now classes.now.classes result (point_at work.new) }
+    ensures points { TellsPoints b.now.blocking zone.now proof.now classes.now.classes result
+        (point_at work.new) }
 {
     work.begin();
     let blocks = b.blocks();
@@ -59,7 +62,8 @@ pub fn bound(
     Bounded::Whole(sum)
 }
 
-// What a block gives to a bound: where it is picked, what is known of its class, else its price, which is known from then on.
+// What a block gives to a bound: where it is picked, what is known of its class, else its price, which is known from
+// then on.
 fn shared_part(
     work: &mut Work,
     b: &Blocked,
@@ -74,12 +78,16 @@ fn shared_part(
     requires classes { AreSameClasses zone.now b.now.blocking classes.now }
     requires zone { IsZone b.now.named.program.spans zone.now }
     requires fits { Fits b.now.blocking proof.now }
-    requires known { AreKnown b.now.blocking zone.now proof.now classes.now.classes classes.now.firsts number work.old.known.items }
-    requires told { AreTold b.now.blocking zone.now proof.now classes.now.classes number (map told_point work.old.told.items) }
+    requires known { AreKnown b.now.blocking zone.now proof.now classes.now.classes
+        classes.now.firsts number work.old.known.items }
+    requires told { AreTold b.now.blocking zone.now proof.now classes.now.classes number
+        (map told_point work.old.told.items) }
     ensures answer { IsPartAnswer b.now.blocking zone.now proof.now cap number result }
     ensures made_for { forms_of work.new ≡ forms_of work.old }
-    ensures known { IfLeast result (AreKnown b.now.blocking zone.now proof.now classes.now.classes classes.now.firsts (number + 1) work.new.known.items) }
-    ensures told { IfLeast result (AreTold b.now.blocking zone.now proof.now classes.now.classes (number + 1) (map told_point work.new.told.items)) }
+    ensures known { IfLeast result (AreKnown b.now.blocking zone.now proof.now classes.now.classes
+        classes.now.firsts (number + 1) work.new.known.items) }
+    ensures told { IfLeast result (AreTold b.now.blocking zone.now proof.now classes.now.classes
+        (number + 1) (map told_point work.new.told.items)) }
 {
     if !is_picked(&proof.picked, b.blocks() as usize, number) {
         return Priced::Least(box_part(b, number, zone, proof));

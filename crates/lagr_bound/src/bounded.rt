@@ -34,7 +34,8 @@ pub fn sum_bound(work: &mut Work, b: &Blocked, zone: &Zone, proof: &Proof, cap: 
     requires zone { IsZone b.now.named.program.spans zone.now }
     requires fits { Fits b.now.blocking proof.now }
     ensures answer { IsBounded b.now.blocking zone.now proof.now cap result }
-    ensures endless { cap ≡ Never → IsEndless b.now.blocking zone.now proof.now → result ≡ Bounded.Endless }
+    ensures endless { cap ≡ Never → IsEndless b.now.blocking zone.now proof.now →
+        result ≡ Bounded.Endless }
     ensures size { IfWhole result (λ v. unsigned_abs v ≤ 2 ^ 116) }
     ensures made_for { forms_of work.new ≡ forms_of work.old }
     ensures silent { IsSilent work.new }

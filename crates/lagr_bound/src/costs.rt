@@ -28,7 +28,8 @@ pub fn reduced_cost(block: &Block, place: u32, proof: &Proof) -> i128
     requires there { place < length block.now.block.copies }
     requires copies { All IsSmallCopy block.now.block.copies }
     requires proof { IsSmallProof proof.now }
-    ensures { (d : Copy) → result ≡ reduced_cost proof.now (slice_index_or block.now.block.copies place d) }
+    ensures { (d : Copy) → result ≡ reduced_cost proof.now
+        (slice_index_or block.now.block.copies place d) }
 {
     let cost = scaled(proof.scale, &block.costs()[place as usize]);
     let paid = payment(proof.mults.as_slice(), block.master(place));
@@ -65,7 +66,8 @@ fn payment(mults: &[(u32, i64)], coefs: &[(u32, i64)]) -> i128
     requires ascend { IsStrictlyIncreasing (map (λ m. m.0) mults.now) }
     requires few { length coefs.now ≤ 8192 }
     requires coefs { All (λ e. unsigned_abs e.1 < 2 ^ 62) coefs.now }
-    ensures value { result ≡ sum_of (λ m. m.1 *ℤ sum_at (λ e. e.0) (λ e. e.1) coefs.now m.0) mults.now }
+    ensures value { result ≡ sum_of (λ m. m.1 *ℤ sum_at (λ e. e.0) (λ e. e.1) coefs.now m.0)
+        mults.now }
     ensures size { unsigned_abs result ≤ 2 ^ 115 }
 {
     let mut sum = 0;
@@ -84,8 +86,8 @@ fn coef_product(mults: &[(u32, i64)], coef: &(u32, i64)) -> i128
     product(&multiplier(mults, coef.0), &coef.1)
 }
 
-// The multiplier of a row, 0 where it has none. It is looked for at the row's own place first: where most rows have multipliers, it is
-// there or, by the number of the row that is, not far below. Else the rest is halved.
+// The multiplier of a row, 0 where it has none. It is looked for at the row's own place first: where most rows have
+// multipliers, it is there or, by the number of the row that is, not far below. Else the rest is halved.
 fn multiplier(mults: &[(u32, i64)], row: u32) -> i64
     requires { IsStrictlyIncreasing (map (λ m. m.0) mults.now) }
     ensures { result ≡ sum_at (λ m. m.0) (λ m. m.1) mults.now row }

@@ -61,8 +61,10 @@ impl Desk {
         requires zone { IsZone block.now.spans (spans_of zone.now block.now.block) }
         requires block { IsSmallBlock zone.now proof.now block.now.block }
         requires proof { IsSmallProof proof.now }
-        requires cells { IsEnough (vec_len cells.old) (form_of self.old).rows (form_of self.old).spans }
-        ensures answer { IsPriced block.now.block.rows (spans_of zone.now block.now.block) (reduced_costs proof.now block.now.block) cap result (priced_point self.new) }
+        requires cells { IsEnough (vec_len cells.old) (form_of self.old).rows
+            (form_of self.old).spans }
+        ensures answer { IsPriced block.now.block.rows (spans_of zone.now block.now.block)
+            (reduced_costs proof.now block.now.block) cap result (priced_point self.new) }
         ensures cells { vec_len cells.new ≡ vec_len cells.old }
         ensures form { form_of self.new ≡ form_of self.old }
     {

@@ -29,8 +29,10 @@ pub fn desks_of(
 ) -> Result<(Vec<Desk>, usize), AllocError>
     requires formed { IsFormed b.now }
     requires there { All (λ j. j < length b.now.blocking.blocks) blocks.now }
-    ensures forms { IfOk result (λ made. map form_of made.0.items ≡ map (form_at (forms_in b.now)) blocks.now) }
-    ensures kinds { IfOk result (λ made. All (λ (desk : Desk). IsFitting desk.pricer) made.0.items) }
+    ensures forms { IfOk result (λ made. map form_of made.0.items ≡ map (form_at (forms_in b.now))
+        blocks.now) }
+    ensures kinds { IfOk result (λ made. All (λ (desk : Desk). IsFitting desk.pricer)
+        made.0.items) }
     ensures cells { IfOk result (λ made. AreEnough made.1 (map form_of made.0.items)) }
 {
     let mut desks = Vec::new(alloc);
@@ -47,7 +49,8 @@ pub fn desks_of(
 /// Room for a point of each block, where nothing is told.
 pub fn rooms_of(alloc: Global, b: &Blocked) -> Result<Vec<Told>, AllocError>
     ensures rooms { IfOk result (λ told. map room_of told.items ≡ map span_count (forms_in b.now)) }
-    ensures silent { IfOk result (λ told. (k : ℕ) → slice_index_or (map told_point told.items) k None ≡ None) }
+    ensures silent { IfOk result (λ told. (k : ℕ) →
+        slice_index_or (map told_point told.items) k None ≡ None) }
 {
     let mut told = Vec::new(alloc);
     for number in 0..b.blocks() {

@@ -36,7 +36,8 @@ pub fn price_at(
     requires zone { IsZone block.now.spans (spans_of zone.now block.now.block) }
     requires block { IsSmallBlock zone.now proof.now block.now.block }
     requires proof { IsSmallProof proof.now }
-    ensures answer { IsPriced block.now.block.rows (spans_of zone.now block.now.block) (reduced_costs proof.now block.now.block) cap result
+    ensures answer { IsPriced block.now.block.rows (spans_of zone.now block.now.block)
+        (reduced_costs proof.now block.now.block) cap result
         (slice_index_or (map priced_point desks.new.items) seat []) }
     ensures len { vec_len desks.new ≡ vec_len desks.old }
     ensures cells { vec_len cells.new ≡ vec_len cells.old }

@@ -49,7 +49,8 @@ fn copy_least(block: &Block, place: u32, zone: &Zone, proof: &Proof) -> i128
     requires there { place < length block.now.block.copies }
     requires block { IsSmallBlock zone.now proof.now block.now.block }
     requires proof { IsSmallProof proof.now }
-    ensures { (d : Copy) → result ≡ copy_least zone.now proof.now (slice_index_or block.now.block.copies place d) }
+    ensures { (d : Copy) → result ≡ copy_least zone.now proof.now
+        (slice_index_or block.now.block.copies place d) }
 {
     let cost = reduced_cost(block, place, proof);
     let span = zone.span(block.vars()[place as usize]);

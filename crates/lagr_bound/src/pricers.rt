@@ -107,7 +107,8 @@ impl BlockPricer {
         requires same_block { AreOf block.now (rows_of self.old) (spans_of self.old) }
         requires priceable { IsPriceable (spans_of self.old) zone.now costs.now }
         requires cells { IsEnough (vec_len cells.old) (rows_of self.old) (spans_of self.old) }
-        ensures answer { IsPriced (rows_of self.old) zone.now costs.now cap result (kept_point self.new) }
+        ensures answer { IsPriced (rows_of self.old) zone.now costs.now cap result
+            (kept_point self.new) }
         ensures cells { vec_len cells.new ≡ vec_len cells.old }
         ensures same_rows { rows_of self.new ≡ rows_of self.old }
         ensures same_spans { spans_of self.new ≡ spans_of self.old }
@@ -138,7 +139,8 @@ fn states_of(
     room: &mut GraphRoom,
 ) -> Result<Option<StatePricer>, AllocError>
     requires { IsForm block.now.block.rows block.now.spans }
-    ensures { IfOk result (λ made. IfSome made (λ pricer. AreOf block.now (states_rows pricer) (states_spans pricer))) }
+    ensures { IfOk result (λ made. IfSome made
+        (λ pricer. AreOf block.now (states_rows pricer) (states_spans pricer))) }
 {
     if !room.serves(block) {
         return Ok(None);

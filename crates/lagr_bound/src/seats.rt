@@ -93,7 +93,8 @@ impl Firsts {
     fn find_or_add(&mut self, b: &Blocked, block: u32) -> Result<usize, AllocError>
         requires firsts { All (λ j. j < length b.now.blocking.blocks) self.old.list.items }
         requires there { block < length b.now.blocking.blocks }
-        ensures seat { IfOk result (λ seat. IsSeat (forms_in b.now) self.new.list.items block seat) }
+        ensures seat { IfOk result (λ seat. IsSeat (forms_in b.now) self.new.list.items
+            block seat) }
         ensures grown { IfOk result (λ _. AreGrown self.old.list.items block self.new.list.items) }
     {
         let hash = hash_of(b.block(block));
@@ -110,7 +111,8 @@ impl Firsts {
 /// The seat of each block, the number of its desk, and the first block of each desk: a block has the rows and the root
 /// spans of the first block of its desk.
 pub fn seated(alloc: Global, b: &Blocked) -> Result<(Vec<usize>, Vec<u32>), AllocError>
-    ensures { IfOk result (λ made. AreSeated (forms_in b.now) (length b.now.blocking.blocks) made.0.items made.1.items) }
+    ensures { IfOk result (λ made. AreSeated (forms_in b.now) (length b.now.blocking.blocks)
+        made.0.items made.1.items) }
 {
     let blocks = b.blocks();
     let mut firsts = Firsts::new(alloc, blocks)?;

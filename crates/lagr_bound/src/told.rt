@@ -47,7 +47,8 @@ impl Told {
 
     /// The point that is told.
     pub fn point(&self) -> Option<&[i64]>
-        ensures { MatchOption result (told_point self.now ≡ None) (λ y. told_point self.now ≡ Some y.now) }
+        ensures { MatchOption result (told_point self.now ≡ None)
+            (λ y. told_point self.now ≡ Some y.now) }
     {
         if self.tells {
             Some(self.numbers.as_slice())

@@ -67,7 +67,8 @@ impl Work {
     /// of a class that reaches its least, and none for each other block.
     pub fn point(&self, block: u32) -> Option<&[i64]>
         requires { block < length (forms_of self.now) }
-        ensures { MatchOption result (point_at self.now block ≡ None) (λ y. point_at self.now block ≡ Some y.now) }
+        ensures { MatchOption result (point_at self.now block ≡ None)
+            (λ y. point_at self.now block ≡ Some y.now) }
     {
         self.told[block as usize].point()
     }
@@ -112,8 +113,10 @@ impl Work {
         requires zone { IsZone b.now.named.program.spans zone.now }
         requires fits { Fits b.now.blocking proof.now }
         requires formed { IsFormed b.now }
-        ensures answer { IsPriced (block_at b.now.blocking number).rows (spans_of zone.now (block_at b.now.blocking number))
-            (reduced_costs proof.now (block_at b.now.blocking number)) cap result (priced_at self.new number) }
+        ensures answer { IsPriced (block_at b.now.blocking number).rows
+            (spans_of zone.now (block_at b.now.blocking number))
+            (reduced_costs proof.now (block_at b.now.blocking number)) cap result
+            (priced_at self.new number) }
         ensures made_for { forms_of self.new ≡ forms_of self.old }
         ensures known { self.new.known ≡ self.old.known }
         ensures told { self.new.told ≡ self.old.told }
@@ -136,10 +139,13 @@ impl Work {
     pub(crate) fn keep(&mut self, first: u32, block: u32, least: &i128)
         requires first { first < length (forms_of self.old) }
         requires block { block < length (forms_of self.old) }
-        requires point { length (priced_at self.old block) ≡ span_count (form_at (forms_of self.old) block) }
+        requires point { length (priced_at self.old block) ≡
+            span_count (form_at (forms_of self.old) block) }
         ensures forms { forms_of self.new ≡ forms_of self.old }
-        ensures known { self.new.known.items ≡ slice_set self.old.known.items first (Some least.now) }
-        ensures told { map told_point self.new.told.items ≡ slice_set (map told_point self.old.told.items) block (Some (priced_at self.old block)) }
+        ensures known { self.new.known.items ≡ slice_set self.old.known.items first
+            (Some least.now) }
+        ensures told { map told_point self.new.told.items ≡
+            slice_set (map told_point self.old.told.items) block (Some (priced_at self.old block)) }
     {
         self.known[first as usize] = Some(*least);
         let seat = self.seats[block as usize];

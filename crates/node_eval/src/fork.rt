@@ -41,8 +41,8 @@ pub fn open_or(zone: &Zone, var: u32, other: u32) -> u32
     }
 }
 
-/// Where a span is split at a depth: at a number, or the nearest that leaves both parts a number, and from depth 64 on at the
-/// middle.
+/// Where a span is split at a depth: at a number, or the nearest that leaves both parts a number, and from depth 64 on
+/// at the middle.
 pub fn place(depth: u32, span: &Span, wanted: i64) -> i64
     requires open { span.now.lo <ℤ span.now.hi }
     ensures above { span.now.lo ≤ℤ result }

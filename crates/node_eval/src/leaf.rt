@@ -33,10 +33,13 @@ pub fn evaluate(
     requires made_for { AreMadeFor b.now pools.old }
     requires turn { IsTurn b.now turn.now }
     requires best { IfSome best (λ z. unsigned_abs z < 2 ^ 62) }
-    ensures verdict { IfOk result (IsVerdict b.now.named.program b.now.blocking turn.now.depth turn.now.zone turn.now.bound best) }
-    ensures thorough { IfOk result (λ verdict. IsThorough b.now.blocking turn.now.zone verdict.next) }
+    ensures verdict { IfOk result (IsVerdict b.now.named.program b.now.blocking turn.now.depth
+        turn.now.zone turn.now.bound best) }
+    ensures thorough { IfOk result (λ verdict. IsThorough b.now.blocking turn.now.zone
+        verdict.next) }
     ensures made_for { AreMadeFor b.now pools.new }
 {
+    // For the proof alone: `b` is formed.
     let _ = b.model();
     match first_open(turn.zone.spans()) {
         None => one_point(alloc, b, turn, best),
@@ -56,8 +59,10 @@ fn many_points(
     requires made_for { AreMadeFor b.now pools.old }
     requires turn { IsTurn b.now turn.now }
     requires open { IsOpen turn.now.zone var }
-    ensures verdict { IfOk result (IsVerdict b.now.named.program b.now.blocking turn.now.depth turn.now.zone turn.now.bound best) }
-    ensures thorough { IfOk result (λ verdict. IsThorough b.now.blocking turn.now.zone verdict.next) }
+    ensures verdict { IfOk result (IsVerdict b.now.named.program b.now.blocking turn.now.depth
+        turn.now.zone turn.now.bound best) }
+    ensures thorough { IfOk result (λ verdict. IsThorough b.now.blocking turn.now.zone
+        verdict.next) }
     ensures made_for { AreMadeFor b.now pools.new }
 {
     if let Some(proof) = missed(alloc, b, turn)? {
@@ -111,8 +116,10 @@ fn searched(
     requires classes { AreSameClasses turn.now.zone b.now.blocking classes.now }
     requires shown { IsShown b.now.blocking turn.now.zone turn.now.bound shown.proof shown.bound }
     requires strong { IsStrong b.now.blocking turn.now.zone shown.bound }
-    ensures verdict { IfOk result (IsVerdict b.now.named.program b.now.blocking turn.now.depth turn.now.zone turn.now.bound best) }
-    ensures thorough { IfOk result (λ verdict. IsThorough b.now.blocking turn.now.zone verdict.next) }
+    ensures verdict { IfOk result (IsVerdict b.now.named.program b.now.blocking turn.now.depth
+        turn.now.zone turn.now.bound best) }
+    ensures thorough { IfOk result (λ verdict. IsThorough b.now.blocking turn.now.zone
+        verdict.next) }
     ensures made_for { AreMadeFor b.now pools.new }
 {
     let Hint {
@@ -190,7 +197,8 @@ pub fn cheaper(b: &Blocked, point: &Option<Items<i64>>, best: Option<i64>) -> Op
     }
 }
 
-/// What is done with a leaf of a zone with an open variable: it is shut where the bound reaches the known cost, and else forked.
+/// What is done with a leaf of a zone with an open variable: it is shut where the bound reaches the known cost, and
+/// else forked.
 pub fn settled(
     b: &Blocked,
     turn: &Turn,
@@ -212,7 +220,8 @@ pub fn settled(
     }
 }
 
-// A leaf forked in a variable's span: at a number, or the nearest that leaves both parts one, and from depth 64 on at the middle.
+// A leaf forked in a variable's span: at a number, or the nearest that leaves both parts one, and from depth 64 on at
+// the middle.
 fn forked(b: &Blocked, turn: &Turn, shown: Shown, known: Option<i64>, var: u32, at: i64) -> Next
     requires turn { IsTurn b.now turn.now }
     requires open { IsOpen turn.now.zone var }
@@ -222,6 +231,7 @@ fn forked(b: &Blocked, turn: &Turn, shown: Shown, known: Option<i64>, var: u32, 
     ensures thorough { IsThorough b.now.blocking turn.now.zone result }
     ensures next { IsNext b.now.blocking turn.now.depth turn.now.zone turn.now.bound known result }
 {
+    // For the proof alone: `b` and `known` stand in the contract.
     let _ = b;
     let _ = known;
     let span = turn.zone.span(var);

@@ -34,8 +34,10 @@ pub fn lone_points(
     requires turn { IsTurn b.now turn.now }
     requires open { IsOpen turn.now.zone var }
     requires rowless { AreRowless b.now.blocking }
-    ensures verdict { IfOk result (IsVerdict b.now.named.program b.now.blocking turn.now.depth turn.now.zone turn.now.bound best) }
-    ensures thorough { IfOk result (λ verdict. IsThorough b.now.blocking turn.now.zone verdict.next) }
+    ensures verdict { IfOk result (IsVerdict b.now.named.program b.now.blocking turn.now.depth
+        turn.now.zone turn.now.bound best) }
+    ensures thorough { IfOk result (λ verdict. IsThorough b.now.blocking turn.now.zone
+        verdict.next) }
     ensures made_for { AreMadeFor b.now pools.new }
 {
     let shown = boxed(alloc, b, turn)?;
@@ -66,9 +68,11 @@ pub fn lone_points(
 fn boxed(alloc: Global, b: &Blocked, turn: &Turn) -> Result<Shown, AllocError>
     requires turn { IsTurn b.now turn.now }
     requires rowless { AreRowless b.now.blocking }
-    ensures shown { IfOk result (λ shown. IsShown b.now.blocking turn.now.zone turn.now.bound shown.proof shown.bound) }
+    ensures shown { IfOk result (λ shown. IsShown b.now.blocking turn.now.zone turn.now.bound
+        shown.proof shown.bound) }
     ensures strong { IfOk result (λ shown. IsStrong b.now.blocking turn.now.zone shown.bound) }
 {
+    // For the proof alone: `b` is formed.
     let _ = b.blocks();
     let own = inherited(alloc, b, turn)?;
     let proof = plain(alloc);
@@ -81,7 +85,8 @@ fn raised_by_box(b: &Blocked, zone: &Zone, shown: Shown, proof: Proof) -> Shown
     requires zone { IsZone b.now.named.program.spans zone.now }
     requires size { unsigned_abs shown.bound < 2 ^ 62 }
     requires picked { proof.picked ≡ These [] }
-    ensures shown { (least : ℤ) → IsShown b.now.blocking zone.now least shown.proof shown.bound → IsShown b.now.blocking zone.now least result.proof result.bound }
+    ensures shown { (least : ℤ) → IsShown b.now.blocking zone.now least shown.proof shown.bound →
+        IsShown b.now.blocking zone.now least result.proof result.bound }
     ensures no_less { shown.bound ≤ℤ result.bound }
 {
     if proof.scale == 0 || !is_sound(b, &proof) {

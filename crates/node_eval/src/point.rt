@@ -27,8 +27,10 @@ pub fn one_point(
     requires formed { IsFormed b.now }
     requires turn { IsTurn b.now turn.now }
     requires one { IsOnePoint turn.now.zone }
-    ensures verdict { IfOk result (IsVerdict b.now.named.program b.now.blocking turn.now.depth turn.now.zone turn.now.bound best) }
-    ensures thorough { IfOk result (λ verdict. IsThorough b.now.blocking turn.now.zone verdict.next) }
+    ensures verdict { IfOk result (IsVerdict b.now.named.program b.now.blocking turn.now.depth
+        turn.now.zone turn.now.bound best) }
+    ensures thorough { IfOk result (λ verdict. IsThorough b.now.blocking turn.now.zone
+        verdict.next) }
 {
     let point = low_ends(alloc, turn.zone.spans())?;
     match missed_row(b, point.as_slice()) {
@@ -48,7 +50,8 @@ fn reached(alloc: Global, b: &Blocked, turn: &Turn, point: Items<i64>, best: Opt
     requires formed { IsFormed b.now }
     requires feasible { IsFeasible b.now.named.program point }
     requires one { turn.now.zone ≡ zone_of point }
-    ensures verdict { IsVerdict b.now.named.program b.now.blocking turn.now.depth turn.now.zone turn.now.bound best result }
+    ensures verdict { IsVerdict b.now.named.program b.now.blocking turn.now.depth turn.now.zone
+        turn.now.bound best result }
     ensures thorough { IsThorough b.now.blocking turn.now.zone result.next }
 {
     Verdict {
@@ -61,7 +64,8 @@ fn reached(alloc: Global, b: &Blocked, turn: &Turn, point: Items<i64>, best: Opt
 pub fn if_better(b: &Blocked, point: Items<i64>, best: Option<i64>) -> Option<Items<i64>>
     requires { IsFeasible b.now.named.program point }
     ensures better { IfSome result (IsBetter b.now.named.program best) }
-    ensures known { IsNoDearer (cheaper_cost (best_cost b.now.named.program result) best) (Some (cost b.now.named.program point)) }
+    ensures known { IsNoDearer (cheaper_cost (best_cost b.now.named.program result) best)
+        (Some (cost b.now.named.program point)) }
 {
     let cost = b.model().cost(point.as_slice());
     match best {
@@ -80,7 +84,8 @@ fn low_ends(alloc: Global, spans: &[Span]) -> Result<Vec<i64>, AllocError>
 // The first row that a point within the spans misses.
 fn missed_row(b: &Blocked, point: &[i64]) -> Option<u32>
     requires { IsInside b.now.named.program.spans point.now }
-    ensures { MatchOption result (IsFeasible b.now.named.program point.now) (IsMissed b.now.named.program point.now) }
+    ensures { MatchOption result (IsFeasible b.now.named.program point.now)
+        (IsMissed b.now.named.program point.now) }
 {
     match b.model().misses(point) {
         None => None,

@@ -44,8 +44,8 @@ pub fn by_row(alloc: Global, row: u32, mult: i64) -> Result<Proof, AllocError>
     })
 }
 
-/// The proof of multipliers by row at the greatest scale, each rounded to the nearest at a scale, that picks no block; at scale 0 they are
-/// taken as they are.
+/// The proof of multipliers by row at the greatest scale, each rounded to the nearest at a scale, that picks no block;
+/// at scale 0 they are taken as they are.
 pub fn by_scaled(alloc: Global, mults: &[i64], scale: u32) -> Result<Proof, AllocError>
     ensures picked { IfOk result (λ proof. proof.picked ≡ These []) }
 {

@@ -62,6 +62,7 @@ pub fn opened(
     ensures opening { IfOk result (IsOpening b.now.blocking turn.now.zone turn.now.bound) }
     ensures made_for { forms_of bench.new.work ≡ forms_of bench.old.work }
 {
+    // For the proof alone: `b` is formed.
     let _ = b.blocks();
     let own = inherited(alloc, b, turn)?;
     if let Some(_) = bench.first_wide(alloc, b, &turn.zone)? {
@@ -101,7 +102,8 @@ pub fn strongest(
     requires classes { AreSameClasses zone.now b.now.blocking classes.now }
     requires zone { IsZone b.now.named.program.spans zone.now }
     requires size { unsigned_abs shown.bound < 2 ^ 62 }
-    ensures shown { (least : ℤ) → IsShown b.now.blocking zone.now least shown.proof shown.bound → IsShown b.now.blocking zone.now least result.proof result.bound }
+    ensures shown { (least : ℤ) → IsShown b.now.blocking zone.now least shown.proof shown.bound →
+        IsShown b.now.blocking zone.now least result.proof result.bound }
     ensures no_less { shown.bound ≤ℤ result.bound }
     ensures short { IsReached b.now.blocking zone.now result.bound scaled.short }
     ensures full { IsReached b.now.blocking zone.now result.bound scaled.full }
@@ -114,8 +116,10 @@ pub fn strongest(
 /// The bound that a leaf's own proof shows.
 pub fn inherited(alloc: Global, b: &Blocked, turn: &Turn) -> Result<Shown, AllocError>
     requires { IsTurn b.now turn.now }
-    ensures { IfOk result (λ shown. IsShown b.now.blocking turn.now.zone turn.now.bound shown.proof shown.bound) }
+    ensures { IfOk result (λ shown. IsShown b.now.blocking turn.now.zone turn.now.bound shown.proof
+        shown.bound) }
 {
+    // For the proof alone: `b` stands in the contract.
     let _ = b;
     let proof = copied(alloc, &turn.proof)?;
     Ok(Shown {
@@ -137,7 +141,8 @@ fn raised(
     requires classes { AreSameClasses zone.now b.now.blocking classes.now }
     requires zone { IsZone b.now.named.program.spans zone.now }
     requires size { unsigned_abs shown.bound < 2 ^ 62 }
-    ensures shown { (least : ℤ) → IsShown b.now.blocking zone.now least shown.proof shown.bound → IsShown b.now.blocking zone.now least result.proof result.bound }
+    ensures shown { (least : ℤ) → IsShown b.now.blocking zone.now least shown.proof shown.bound →
+        IsShown b.now.blocking zone.now least result.proof result.bound }
     ensures size { unsigned_abs result.bound < 2 ^ 62 }
     ensures no_less { shown.bound ≤ℤ result.bound }
     ensures reached { IsReached b.now.blocking zone.now result.bound proof }
@@ -159,11 +164,14 @@ pub fn raised_to(b: &Blocked, zone: &Zone, shown: Shown, proof: Proof, whole: i1
     requires positive { 0 < proof.scale }
     requires whole { IsBound b.now.blocking zone.now proof whole }
     requires size { unsigned_abs shown.bound < 2 ^ 62 }
-    ensures shown { (least : ℤ) → IsShown b.now.blocking zone.now least shown.proof shown.bound → IsShown b.now.blocking zone.now least result.proof result.bound }
+    ensures shown { (least : ℤ) → IsShown b.now.blocking zone.now least shown.proof shown.bound →
+        IsShown b.now.blocking zone.now least result.proof result.bound }
     ensures size { unsigned_abs result.bound < 2 ^ 62 }
     ensures no_less { shown.bound ≤ℤ result.bound }
-    ensures reached { (whole ≤ℤ (pos proof.scale *ℤ result.bound)) ⊎ (result.bound ≡ pos (2 ^ 62 - 1)) }
+    ensures reached { (whole ≤ℤ (pos proof.scale *ℤ result.bound)) ⊎
+        (result.bound ≡ pos (2 ^ 62 - 1)) }
 {
+    // For the proof alone: `b` and `zone` stand in the contract.
     let _ = b;
     let _ = zone;
     if !exceeds(proof.scale, &shown.bound, &whole) {
@@ -182,7 +190,9 @@ pub fn emptied(
     mult: i64,
 ) -> Result<Option<Proof>, AllocError>
     requires { IsZone b.now.named.program.spans zone.now }
-    ensures { IfOk result (λ found. MatchOption found (ShutsOff b.now.blocking zone.now (row_proof row mult) → ⊥) (ShutsOff b.now.blocking zone.now)) }
+    ensures { IfOk result (λ found.
+        MatchOption found (ShutsOff b.now.blocking zone.now (row_proof row mult) → ⊥)
+        (ShutsOff b.now.blocking zone.now)) }
 {
     let proof = by_row(alloc, row, mult)?;
     if !shuts_off(b, zone, &proof) {
@@ -202,7 +212,8 @@ pub fn emptied_by(
     requires made_for { forms_of work.old ≡ forms_in b.now }
     requires classes { AreSameClasses zone.now b.now.blocking classes.now }
     requires zone { IsZone b.now.named.program.spans zone.now }
-    ensures off { MatchOption result (IsOfNoUse b.now.blocking zone.now scaled.short × IsOfNoUse b.now.blocking zone.now scaled.full) (ShutsOff b.now.blocking zone.now) }
+    ensures off { MatchOption result (IsOfNoUse b.now.blocking zone.now scaled.short ×
+        IsOfNoUse b.now.blocking zone.now scaled.full) (ShutsOff b.now.blocking zone.now) }
     ensures made_for { forms_of work.new ≡ forms_of work.old }
 {
     match if_off(b, classes, work, zone, scaled.short) {
@@ -222,7 +233,8 @@ fn if_off(
     requires made_for { forms_of work.old ≡ forms_in b.now }
     requires classes { AreSameClasses zone.now b.now.blocking classes.now }
     requires zone { IsZone b.now.named.program.spans zone.now }
-    ensures off { MatchOption result (IsOfNoUse b.now.blocking zone.now scaled) (ShutsOff b.now.blocking zone.now) }
+    ensures off { MatchOption result (IsOfNoUse b.now.blocking zone.now scaled)
+        (ShutsOff b.now.blocking zone.now) }
     ensures made_for { forms_of work.new ≡ forms_of work.old }
 {
     let proof = Proof {

@@ -35,9 +35,9 @@ pub struct Hint {
     pub split: Split,
 }
 
-/// Multipliers with a great bound in a leaf's zone, a point that is cheaper than the best cost, where one was found, and a split
-/// of the variable that the columns, or else the mean of the priced points, leave farthest from whole. Dives keep columns without
-/// numbers for last at every other leaf.
+/// Multipliers with a great bound in a leaf's zone, a point that is cheaper than the best cost, where one was found,
+/// and a split of the variable that the columns, or else the mean of the priced points, leave farthest from whole.
+/// Dives keep columns without numbers for last at every other leaf.
 pub fn hinted(
     alloc: Global,
     b: &Blocked,
@@ -84,7 +84,8 @@ pub fn hinted(
     })
 }
 
-/// What is known before multipliers are searched for. At the root, and where no point is known, a search by plain costs is made.
+/// What is known before multipliers are searched for. At the root, and where no point is known, a search by plain costs
+/// is made.
 pub fn first_incumbent(
     alloc: Global,
     b: &Blocked,
@@ -104,7 +105,8 @@ pub fn first_incumbent(
     Ok(incumbent)
 }
 
-// The known cost, or else one above that of each point of the leaf's spans: a bound that reaches it shows that there is none.
+// The known cost, or else one above that of each point of the leaf's spans: a bound that reaches it shows that there is
+// none.
 fn limit_of(b: &Blocked, turn: &Turn, known: Option<i64>) -> Option<i64> {
     match known {
         Some(cost) => Some(cost),
@@ -132,8 +134,8 @@ fn probed_point(
     search_point(alloc, b, turn, &guide, known)
 }
 
-// Column generation from a centre, and points from its columns, where columns serve and the centre has a bound that doesn't reach what
-// is known; the split that they want.
+// Column generation from a centre, and points from its columns, where columns serve and the centre has a bound that
+// doesn't reach what is known; the split that they want.
 fn search_columns(
     alloc: Global,
     b: &Blocked,
@@ -219,7 +221,8 @@ fn used_columns(
     pools: &Pools,
     weighted: &[Weighted],
 ) -> Result<Vec<UsedColumn>, AllocError>
-    ensures { IfOk result (λ used. All (λ (u : AUsed). u.class < length classes.now.firsts) used.items) }
+    ensures { IfOk result (λ used. All (λ (u : AUsed). u.class < length classes.now.firsts)
+        used.items) }
 {
     let mut used = Vec::new(alloc);
     for column in weighted {

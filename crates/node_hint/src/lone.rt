@@ -8,8 +8,8 @@ use column_hint::Pools;
 use lone_leaf::LoneHint;
 use std::alloc::{AllocError, Global};
 
-/// Multipliers, a point that is cheaper than the best cost, where one was found, and a split, by the relaxation of the program's
-/// rows; where there is none, only what a search by plain costs finds.
+/// Multipliers, a point that is cheaper than the best cost, where one was found, and a split, by the relaxation of the
+/// program's rows; where there is none, only what a search by plain costs finds.
 pub fn lone_hinted(
     alloc: Global,
     b: &Blocked,

@@ -1,5 +1,6 @@
-// Points from the columns of a leaf's master: exchanges between identical blocks, dives by columns, each mended by exchanges where it fails,
-// dives by variables where each block differs, and a search that the mean of the columns guides.
+// Points from the columns of a leaf's master: exchanges between identical blocks, dives by columns, each mended by
+// exchanges where it fails, dives by variables where each block differs, and a search that the mean of the columns
+// guides.
 ghost use Rattle.std.specs.Prelude.{◌≡◌};
 ghost use Rattle.bp_theory.specs.Trees.{IsZone};
 ghost use Rattle.column_hint.specs.Pools.{AreMadeFor};
@@ -30,7 +31,8 @@ const MOVES: u32 = 1_500;
 /// The width of the box in dives by variables over the mean magnitude of multipliers.
 const DIVE_BOX: f64 = 0.5;
 
-/// A point that is cheaper than what is known, where blocks differ and a search that the mean of weighted columns guides finds one.
+/// A point that is cheaper than what is known, where blocks differ and a search that the mean of weighted columns
+/// guides finds one.
 pub fn point_by_mean(
     alloc: Global,
     b: &Blocked,

@@ -3,8 +3,8 @@ use bp_words::{Order, Text, WordFault, read_words};
 use std::alloc::{AllocError, Global};
 use std::test::Fail;
 
-/// Lines of an order and of the words that give it, with ` @ ` between them. A dash stands for what isn't given, and `''` for a word
-/// without letters. Other lines are headings.
+/// Lines of an order and of the words that give it, with ` @ ` between them. A dash stands for what isn't given, and
+/// `''` for a word without letters. Other lines are headings.
 const LINES: &str = "\
 # Files, joined to their options and apart.
 solve a.lp - - - - - - - @ solve a.lp
