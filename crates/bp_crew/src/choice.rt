@@ -19,7 +19,8 @@ pub struct Choice {
     pub task: Task,
 }
 
-/// The state behind one more draw.
+/// The state behind one more draw, modulo 2^64, by a linear congruential generator: the multiplier and the increment are
+/// those of MMIX. (Knuth, The Art of Computer Programming, volume 2: Seminumerical algorithms, 1997.)
 pub fn next_state(state: u64) -> u64
     ensures { result ≡ next_state state }
 {

@@ -54,14 +54,14 @@ pub fn fault_text(
     Ok(text)
 }
 
-// A count more.
+// Adds a count in decimal digits.
 pub fn push_count(text: &mut Vec<u8>, count: u64) -> Result<(), AllocError>
     ensures { OnOk result (text.new.items ≡ text.old.items ++ decimal count) }
 {
     text.extend_from_slice(Buffer::new().format(count).as_bytes())
 }
 
-// A whole number more.
+// Adds a whole number in decimal digits, with a sign below 0 alone.
 pub fn push_value(text: &mut Vec<u8>, value: &i64) -> Result<(), AllocError>
     ensures { OnOk result (text.new.items ≡ text.old.items ++ signed_decimal value.now) }
 {

@@ -1,5 +1,7 @@
 //! The search for a best point of a program in blocks: the live leaf of least bound is evaluated, and shut or forked, until
-//! no leaf is live or the given steps are taken. The tree at the end is the certificate of what is claimed.
+//! no leaf is live or the given steps are taken. The tree at the end is the certificate of what is claimed. (Land and
+//! Doig, An automatic method of solving discrete programming problems, 1960; Barnhart, Johnson, Nemhauser, Savelsbergh
+//! and Vance, Branch-and-price: column generation for solving huge integer programs, 1998.)
 #![tactic(auto)]
 
 mod below;
@@ -31,7 +33,8 @@ pub const MAX_STEPS: u64 = 1 << 60;
 /// kept, and `Budget` exactly where all steps are taken and a leaf is live. Each outcome may be written as a
 /// certificate. The only error is want of memory.
 ///
-/// Vanderbeck, Branching in branch-and-price: a generic scheme; Desaulniers, Desrosiers and Solomon, Column generation.
+/// Vanderbeck, Branching in branch-and-price: a generic scheme, 2011; Desaulniers, Desrosiers and Solomon, Column
+/// generation, 2005.
 pub fn search(alloc: Global, b: &Blocked, steps: Option<u64>) -> Result<Outcome, AllocError>
     requires { IfSome steps (λ n. n ≤ 2 ^ 60) }
     ensures ends { IfOk result (IsOutcome b.now steps) }

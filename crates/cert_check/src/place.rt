@@ -9,7 +9,7 @@ pub struct NodePlace {
     pub line: u64,
 }
 
-/// A line at fault.
+/// The first line at fault, from 1, and what is wrong with it.
 #[derive(Clone, Copy)]
 pub struct Rejection {
     pub line: u64,

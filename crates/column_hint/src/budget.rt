@@ -168,7 +168,7 @@ impl PricingBudget {
         }
     }
 
-    /// Whether hints leave out a block.
+    /// Whether any block was left out of what hints price.
     pub fn leaves_out(&self) -> bool {
         self.picks.is_some()
     }

@@ -1,5 +1,6 @@
 // Dives for a point by columns: columns of great weight are fixed in blocks of their classes, all spans are tightened,
-// and the master of the rest is settled again with a few rounds of pricing. A hint, which the model judges.
+// and the master of the rest is settled again with a few rounds of pricing. A hint, which the model judges. (Joncour,
+// Michel, Sadykov, Sverdlov and Vanderbeck, Column generation based primal heuristics, 2010.)
 ghost use Rattle.std.specs.Prelude.{◌≡◌, length};
 ghost use Rattle.bp_theory.specs.Trees.{IsZone};
 ghost use Rattle.column_hint.specs.Pools.{AreMadeFor};

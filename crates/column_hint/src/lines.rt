@@ -29,7 +29,7 @@ pub struct Lines {
     by_row: Vec<(u32, u32)>,
 }
 
-/// A place as it is kept.
+/// A place in 32 bits; the greatest number stands for all beyond.
 pub fn place_of(index: usize) -> u32 {
     match u32::try_from(index) {
         Ok(place) => place,
@@ -93,7 +93,7 @@ impl Lines {
         self.lines.len()
     }
 
-    /// Whether there are none.
+    /// Whether the program has no master row with a side to keep.
     pub fn is_empty(&self) -> bool {
         self.lines.is_empty()
     }

@@ -316,7 +316,7 @@ impl RestrictedMaster {
         self.lines.write_mults(b, &self.program, mults);
     }
 
-    /// Whether rows are missed.
+    /// Whether the weights miss rows or counts of blocks by more than rounding may.
     pub fn is_short(&self) -> bool {
         let mut missed = self.lines.missed(&self.program);
         for number in 0..self.sizes.len() {
@@ -396,12 +396,12 @@ impl RestrictedMaster {
         }
     }
 
-    /// Switches a column off.
+    /// Lets a column have no weight until `go_back`.
     pub fn switch_off(&mut self, number: usize) {
         self.program.switch_off(place_of(number));
     }
 
-    /// Whether a column is switched off.
+    /// Whether a column may have no weight.
     pub fn is_off(&self, number: usize) -> bool {
         self.program.is_off(place_of(number))
     }

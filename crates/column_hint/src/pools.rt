@@ -125,7 +125,7 @@ impl Pools {
         }
     }
 
-    /// The columns of a pool.
+    /// The pool of this number, where there is one.
     pub fn pool(&self, home: u32) -> Option<&Pool> {
         match self.stores.as_slice().get(home as usize) {
             None => None,
@@ -133,7 +133,7 @@ impl Pools {
         }
     }
 
-    /// The column at a place.
+    /// The column at a place, where its pool has so many.
     pub fn column(&self, place: Place) -> Option<&Column> {
         match self.pool(place.home) {
             Some(pool) if place.id < pool.len() => Some(pool.column(place.id)),

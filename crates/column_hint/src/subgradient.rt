@@ -1,8 +1,9 @@
 // Multipliers by subgradient steps in whole numbers: hints, which exact bounds judge. A step goes along what the newest
 // point leaves open, from its multipliers, with Polyak's length to a level above the best bound. Where blocks are
 // alike, one priced point counts for many blocks and leaves far too much open: there a step goes from the best
-// multipliers along what the mean of the priced points leaves open, as the volume algorithm takes it. (Polyak; Barahona
-// and Anbil.)
+// multipliers along what the mean of the priced points leaves open, as the volume algorithm takes it. (Polyak,
+// Minimization of unsmooth functionals, 1969; Barahona and Anbil, The volume algorithm: producing primal solutions with
+// a subgradient method, 2000.)
 ghost use Rattle.std.specs.Prelude.{◌≡◌};
 ghost use Rattle.bp_theory.specs.Trees.{IsZone};
 ghost use Rattle.block_class.specs.Classes.{AreSameClasses};

@@ -31,7 +31,8 @@ impl Desk {
     ghost use Rattle.lagr_bound.specs.Forms.{form_in};
     ghost use Rattle.lagr_bound.specs.Desks.{form_of, priced_point};
 
-    /// The desk of a block.
+    /// Made of a block's rows and of its spans at the root: it prices all blocks that have these, whatever their costs.
+    /// A graph of states takes from what may be spent on such.
     pub fn make(alloc: Global, block: &Block, room: &mut GraphRoom) -> Result<Desk, AllocError>
         requires { IsForm block.now.block.rows block.now.spans }
         ensures form { IfOk result (λ desk. form_of desk ≡ form_in block.now) }

@@ -1,5 +1,7 @@
 //! Weak Lagrangian bounds of proofs in zones, exactly: what a proof gives before the blocks, the reduced costs of a
-//! block's copies, and the least of these over a block's box. (Vanderbeck, on column generation for integer programs.)
+//! block's copies, and the least of these over a block's box. (Geoffrion, Lagrangean relaxation for integer programming,
+//! 1974; Vanderbeck, On Dantzig-Wolfe decomposition in integer programming and ways to perform branching in a
+//! branch-and-price algorithm, 2000.)
 #![tactic(auto)]
 
 mod alike;

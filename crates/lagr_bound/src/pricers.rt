@@ -62,7 +62,8 @@ impl BlockPricer {
     ghost use Rattle.pricing.specs.Priced.{IsPriced};
     ghost use Rattle.lagr_bound.specs.Pricers.{rows_of, spans_of, kept_point, IsEnough, IsFitting};
 
-    /// The pricer of a block.
+    /// Made of a block's rows and of its spans at the root. A graph that is tried takes from what may be spent, whether it
+    /// suits the block or not. The only error is want of memory.
     pub fn make(
         alloc: Global,
         block: &Block,

@@ -45,7 +45,7 @@ impl Told {
         self.tells = false;
     }
 
-    /// The point that is told.
+    /// The point, as long as it is told.
     pub fn point(&self) -> Option<&[i64]>
         ensures { MatchOption result (told_point self.now ≡ None)
             (λ y. told_point self.now ≡ Some y.now) }
@@ -58,7 +58,7 @@ impl Told {
     }
 }
 
-/// Lets nothing be told.
+/// Tells no point of any block from now on; their room stays.
 pub fn silence(told: &mut Vec<Told>)
     ensures rooms { map room_of told.new.items ≡ map room_of told.old.items }
     ensures silent { (k : ℕ) → slice_index_or (map told_point told.new.items) k None ≡ None }
