@@ -108,7 +108,7 @@ fn reads_what_is_written_and_writes_what_is_read(rt: HostRuntime) -> Result<(), 
 }
 
 #[test]
-fn answers_the_first_fault(rt: HostRuntime) -> Result<(), Fail> {
+fn answers_the_first_fault_of_leaves(rt: HostRuntime) -> Result<(), Fail> {
     let alloc = rt.alloc();
     let frame = two_rows(alloc)?;
     let head = "bpcert 1\nclaim optimal 8\npoint 2 1\n";
@@ -140,6 +140,13 @@ fn answers_the_first_fault(rt: HostRuntime) -> Result<(), Fail> {
             "{lines}"
         );
     }
+    Ok(())
+}
+
+#[test]
+fn answers_the_first_fault_of_numbers_points_and_trees(rt: HostRuntime) -> Result<(), Fail> {
+    let alloc = rt.alloc();
+    let frame = two_rows(alloc)?;
     let text = repeated(alloc, "bpcert 1\nclaim optimal ", "9", 5000, "\n")?;
     assert_eq!(rt;
         fault_of(read(alloc, &frame, text.as_slice())),
