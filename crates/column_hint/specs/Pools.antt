@@ -14,5 +14,5 @@ pub record IsStoreOf (b : BlockedProgram) (s : Store) : Type 0 where
 
 -- the pricers are those of a program's blocks, and each column of each pool is a point of its block
 pub record AreMadeFor (b : BlockedProgram) (p : Pools) : Type 0 where
-  pub pricers : forms_of p.bench.work ≡ forms_in b
+  pub pricers : forms_of p.budget.work ≡ forms_in b
   pub stores : All (IsStoreOf b) p.stores.items

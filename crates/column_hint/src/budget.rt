@@ -47,7 +47,7 @@ impl PricingBudget {
 
     /// The pricers of a program's blocks, where hints price all.
     pub fn make(alloc: Global, b: &Blocked) -> Result<PricingBudget, AllocError>
-        ensures { IfOk result (λ bench. forms_of bench.work ≡ forms_in b.now) }
+        ensures { IfOk result (λ budget. forms_of budget.work ≡ forms_in b.now) }
     {
         let work = Work::make(alloc, b)?;
         Ok(PricingBudget {

@@ -26,7 +26,7 @@ pub struct Store {
 /// relaxation of the program's rows too.
 #[derive(Drop)]
 pub struct Pools {
-    pub bench: PricingBudget,
+    pub budget: PricingBudget,
     pub stores: Vec<Store>,
     pub lone: Option<LoneLeaves>,
     homes: Vec<u32>,
@@ -51,11 +51,11 @@ impl Pools {
     pub fn make(alloc: Global, b: &Blocked) -> Result<Pools, AllocError>
         ensures { IfOk result (AreMadeFor b.now) }
     {
-        let bench = PricingBudget::make(alloc, b)?;
+        let budget = PricingBudget::make(alloc, b)?;
         let zone = Zone::root(alloc, b)?;
         let classes = Classes::of(alloc, b, &zone)?;
         Ok(Pools {
-            bench,
+            budget,
             stores: stores_of(alloc, b, &classes)?,
             lone: lone_leaves(alloc, b)?,
             homes: homes_of(alloc, b, &classes)?,
@@ -70,7 +70,7 @@ impl Pools {
         requires made_for { AreMadeFor b.now self.old }
         ensures made_for { AreMadeFor b.now self.new }
     {
-        self.bench.begin();
+        self.budget.begin();
         if self.size > MOST_NUMBERS {
             self.size = 0;
             empty_all(alloc, b, &mut self.stores)?;
@@ -95,7 +95,7 @@ impl Pools {
         requires zone { IsZone b.now.named.program.spans zone.now }
         ensures made_for { AreMadeFor b.now self.new }
     {
-        self.bench.round(alloc, b, classes, zone, mults, point)
+        self.budget.round(alloc, b, classes, zone, mults, point)
     }
 
     /// Adds the points that the last bound told.
@@ -160,7 +160,7 @@ impl Pools {
         if place >= self.stores.len() {
             return Ok(None);
         }
-        let Some(point) = self.bench.work.point(block) else {
+        let Some(point) = self.budget.work.point(block) else {
             return Ok(None);
         };
         self.size = self.size.saturating_add(point.len());

@@ -288,7 +288,7 @@ fn priced(
     requires zone { IsZone b.now.named.program.spans turn.now.zone }
     ensures made_for { AreMadeFor b.now pools.new }
 {
-    if pools.bench.leaves_out() {
+    if pools.budget.leaves_out() {
         write_ends(alloc, b, turn.zone.spans(), steps)?;
     }
     let mults = steps.mults.as_slice();

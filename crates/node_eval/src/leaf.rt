@@ -76,7 +76,7 @@ fn many_points(
     }
     let classes = Classes::of(alloc, b, &turn.zone)?;
     let is_even = pools.begin(alloc, b)?;
-    match opened(alloc, b, &classes, &mut pools.bench, turn)? {
+    match opened(alloc, b, &classes, &mut pools.budget, turn)? {
         Opening::Empty(proof) => Ok(Verdict {
             point: None,
             next: Next::Shut(proof),
@@ -136,8 +136,15 @@ fn searched(
             next: Next::Shut(proof),
         });
     }
-    let proofs = at_both_scales(alloc, &pools.bench, mults)?;
-    let shown = strongest(b, classes, &mut pools.bench.work, &turn.zone, shown, proofs);
+    let proofs = at_both_scales(alloc, &pools.budget, mults)?;
+    let shown = strongest(
+        b,
+        classes,
+        &mut pools.budget.work,
+        &turn.zone,
+        shown,
+        proofs,
+    );
     let var = open_or(&turn.zone, split.var, var);
     let next = settled(b, turn, shown, known, var, split.at);
     Ok(Verdict { point, next })
@@ -162,8 +169,8 @@ fn left_empty(
     if known.is_some() {
         return Ok(None);
     }
-    let proofs = at_both_scales(alloc, &pools.bench, mults)?;
-    Ok(emptied_by(b, classes, &mut pools.bench.work, &turn.zone, proofs))
+    let proofs = at_both_scales(alloc, &pools.budget, mults)?;
+    Ok(emptied_by(b, classes, &mut pools.budget.work, &turn.zone, proofs))
 }
 
 /// A point, where one was found, if it is feasible and cheaper than a given cost.

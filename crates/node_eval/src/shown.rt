@@ -17,7 +17,7 @@ use block_form::{Blocked, MAX_SCALE, Zone, fits, signs_fit};
 use bp_theory::Proof;
 use branch_tree::Turn;
 use lagr_bound::{Bounded, Work, bound, box_bound, round};
-use node_hint::{MOST_VISITS, PricingBudget as Bench};
+use node_hint::{MOST_VISITS, PricingBudget};
 use pricing::Cap;
 use std::alloc::{AllocError, Global};
 
@@ -53,39 +53,43 @@ pub fn opened(
     alloc: Global,
     b: &Blocked,
     classes: &Classes,
-    bench: &mut Bench,
+    budget: &mut PricingBudget,
     turn: &Turn,
 ) -> Result<Opening, AllocError>
     requires turn { IsTurn b.now turn.now }
-    requires made_for { forms_of bench.old.work ≡ forms_in b.now }
+    requires made_for { forms_of budget.old.work ≡ forms_in b.now }
     requires classes { AreSameClasses turn.now.zone b.now.blocking classes.now }
     ensures opening { IfOk result (IsOpening b.now.blocking turn.now.zone turn.now.bound) }
-    ensures made_for { forms_of bench.new.work ≡ forms_of bench.old.work }
+    ensures made_for { forms_of budget.new.work ≡ forms_of budget.old.work }
 {
     // For the proof alone: `b` is formed.
     let _ = b.blocks();
     let own = inherited(alloc, b, turn)?;
-    if let Some(_) = bench.first_wide(alloc, b, &turn.zone)? {
-        bench.leave_out_wide(alloc, b, &turn.zone)?;
+    if let Some(_) = budget.first_wide(alloc, b, &turn.zone)? {
+        budget.leave_out_wide(alloc, b, &turn.zone)?;
         return Ok(Opening::Open(own));
     }
     let proof = every(alloc);
     let cap = Cap::At(MOST_VISITS);
-    match bound(&mut bench.work, b, classes, &turn.zone, &proof, cap) {
+    match bound(&mut budget.work, b, classes, &turn.zone, &proof, cap) {
         Bounded::Endless => Ok(Opening::Empty(proof)),
         Bounded::Whole(whole) => Ok(Opening::Open(raised_to(b, &turn.zone, own, proof, whole))),
         Bounded::Cut(block) => {
-            bench.leave_out(alloc, b, classes, block)?;
+            budget.leave_out(alloc, b, classes, block)?;
             Ok(Opening::Open(own))
         }
     }
 }
 
 /// The proofs of multipliers by row, which price the blocks that hints price.
-pub fn at_both_scales(alloc: Global, bench: &Bench, mults: &[i64]) -> Result<Scaled, AllocError> {
+pub fn at_both_scales(
+    alloc: Global,
+    budget: &PricingBudget,
+    mults: &[i64],
+) -> Result<Scaled, AllocError> {
     Ok(Scaled {
-        short: bench.proof_at(alloc, mults, SHORT_SCALE)?,
-        full: bench.proof_at(alloc, mults, MAX_SCALE)?,
+        short: budget.proof_at(alloc, mults, SHORT_SCALE)?,
+        full: budget.proof_at(alloc, mults, MAX_SCALE)?,
     })
 }
 

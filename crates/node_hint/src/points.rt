@@ -155,7 +155,7 @@ fn dive_single(
 {
     let mut seed = None;
     for dive in 0..dives {
-        if pools.bench.is_spent() || is_reached(centre.value, incumbent.known) {
+        if pools.budget.is_spent() || is_reached(centre.value, incumbent.known) {
             break;
         }
         let known = incumbent.known;
@@ -189,7 +189,7 @@ fn dive_alike(
         seed: None,
     };
     for dive in 0..dives {
-        if pools.bench.is_spent() || is_reached(centre.value, incumbent.known) {
+        if pools.budget.is_spent() || is_reached(centre.value, incumbent.known) {
             break;
         }
         let known = incumbent.known;
