@@ -95,6 +95,12 @@ def test_decompositions(room):
     status, out, err = told("show", "m.lp", "--dec", "d", room=room)
     assert (status, out) == (3, "refused dec 3 unknown-row\n")
     assert err.startswith("d:3:5: unknown-row: no row of the model has the name 'c9' here; ")
+    (room / "m.lp").write_text(FIRST.replace("Bounds", " c2: x <= 3\nBounds"))
+    for lists in ("BLOCKVARS 2 x\n", "MASTERVARS x\n"):
+        (room / "d").write_text("NBLOCKS 2\nBLOCK 1\n c1\nMASTERCONSS\n c2\n" + lists)
+        status, out, err = told("show", "m.lp", "--dec", "d", room=room)
+        assert (status, out) == (3, "refused blocks var-place x\n")
+        assert err.startswith("d: var-place: the variable 'x' stands in a row of a block, and is listed with another block or with the master; ")
     (room / "rows").write_text("c1\nc1\n")
     status, out, err = told("detect", "m.lp", "rows", "new", room=room)
     assert (status, out) == (3, "refused rows 2 row-twice\n")

@@ -255,6 +255,6 @@ fn put_blocks(note: &mut Vec<u8>, seen: &Seen, line: &str) -> Result<(), AllocEr
     }
     put(
         note,
-        " is listed where no row of it stands; list it with the block of its rows, or in no list\n",
+        " stands in a row of a block, and is listed with another block or with the master; list it with the block in whose rows it stands, or in no list\n",
     )
 }

@@ -53,7 +53,8 @@ solve m.lp --dec o @ 3 refused dec 1 syntax @ Max| x|st| cap1: x <= 3|End @ NBLO
 solve m.lp --dec o @ 3 refused dec 3 unknown-row @ Max| x|st| cap1: x <= 3|End @ NBLOCKS 1|BLOCK 1| cap1 cap9 @ o:3:7: unknown-row: no row of the model has the name 'cap9' here; an unnamed row is called c and its place, as c3|
 solve m.lp --dec o @ 3 refused dec 4 row-twice @ Max| x|st| cap1: x <= 3|End @ NBLOCKS 1|BLOCK 1| cap1|MASTERCONSS cap1 @ o:4:13: row-twice: the row 'cap1' is listed a second time; keep one of the two places|
 solve m.lp --dec o @ 3 refused blocks linking x r1 r2 @ Max @ NBLOCKS 2 @ o: linking: the variable 'x' stands in rows of two blocks, 'r1' and 'r2'; put one of the two rows under MASTERCONSS, or both in one block|
-solve m.lp --dec o @ 3 refused blocks var-place x @ Max @ NBLOCKS 2 @ o: var-place: the variable 'x' is listed where no row of it stands; list it with the block of its rows, or in no list|
+solve m.lp --dec o @ 3 refused blocks var-place x @ Max| x|st| cap1: x <= 3|Binaries| x|End @ NBLOCKS 2|BLOCK 1| cap1|BLOCKVARS 2 x @ o: var-place: the variable 'x' stands in a row of a block, and is listed with another block or with the master; list it with the block in whose rows it stands, or in no list|
+show m.lp --dec o @ 3 refused blocks var-place x @ Max| x|st| cap1: x <= 3| job1: x <= 2|Binaries| x|End @ NBLOCKS 1|BLOCK 1| cap1|MASTERCONSS job1|MASTERVARS x @ o: var-place: the variable 'x' stands in a row of a block, and is listed with another block or with the master; list it with the block in whose rows it stands, or in no list|
 detect m.lp o d @ 3 refused rows 2 unknown-row @ Max| x|st| x <= 3|End @ c1|c2 @ o:2:1: unknown-row: no row of the model has the name 'c2' here; an unnamed row is called c and its place, as c3|
 check m.lp o @ 3 refused cert 3 syntax @ Max @ bpcert 1|claim infeasible|leaf 05 rows 0 priced 0|end| @ o:3: syntax: this is not the form*
 check m.lp o @ 6 rejected 4 weak @ Max @ bpcert 1| @ o:4: weak: the bound that this leaf's multipliers prove does not reach what the claim needs; the claim is not proved*
@@ -150,6 +151,6 @@ fn notes_are_as_written(rt: HostRuntime) -> Result<(), Fail> {
         }
     }
     assert_eq!(rt; String::from_utf8_lossy(rt.alloc(), &wrong)?.as_str(), "");
-    assert_eq!(rt; count, 51);
+    assert_eq!(rt; count, 52);
     Ok(())
 }
