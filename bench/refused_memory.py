@@ -1,12 +1,20 @@
 #!/usr/bin/env python3
 """Refuses each request for memory of small runs of the program in turn, one in each run.
 
-    bench/refused_memory.py [PROGRAM]       PROGRAM is the program to run, or else release/bprice; wants a C compiler, `cc`
+    bench/refused_memory.py [PROGRAM [CALLS]]
+
+PROGRAM is the program to run, or else release/bprice; CALLS is the program of crates/calls, as the gate leaves it in
+crates/calls/out/calls. The script wants a C compiler, `cc`.
 
 A run whose Nth request is refused must either end as it ends with ample memory, with the same status, output and files, or with status 9,
-nothing printed, and its files as they were before; of `gen` the LP file may hold its whole text. The line of each run tells its
+nothing printed, and its files as they were before; of `gen` the LP file may hold its whole text. A run that ended with status 9 is
+begun again over what it left, with nothing refused, and must then end as it ends with ample memory. The line of each run tells its
 requests, and how many of them, refused, led to status 9 and how many to the answer. The last line tells the sums, and the
 script ends with status 1 where a run did anything else.
+
+CALLS tries a call of a pool or of a tree a second time where memory was short. So where the refused request is one of these calls', it
+must print what it prints with ample memory, which is crates/calls/stdout; where it is another, it may end with an error and nothing
+printed. It fills a pool by many thousand calls: its first and last requests are refused, and of those between one in so many.
 """
 
 import os
@@ -125,6 +133,12 @@ RUNS = [
     ("solve two.lp --from open.cert --leaf 1 --cert more.cert", []),
 ]
 
+# The number of a request that no run comes to.
+NEVER = 10**15
+
+# Of the calls of the libraries: how many requests are refused at the front and at the end, and about how many between.
+ENDS, BETWEEN = 300, 400
+
 
 def files_of(folder):
     """The files of a folder, by their names."""
@@ -135,14 +149,9 @@ def files_of(folder):
     return found
 
 
-def run(program, refuser, words, call):
-    """Runs in a folder of its own with this request refused: the status, the output, the files behind it and its requests."""
+def run_in(folder, program, refuser, words, call):
+    """Runs in a folder with this request refused: the status, the output and the files behind it; and its requests."""
     with tempfile.TemporaryDirectory() as place:
-        folder = os.path.join(place, "files")
-        os.mkdir(folder)
-        for name, text in FILES.items():
-            with open(os.path.join(folder, name), "w") as file:
-                file.write(text)
         count = os.path.join(place, "count")
         env = dict(os.environ, LD_PRELOAD=refuser, REFUSED_CALL=str(call), REFUSED_COUNT=count)
         ended = subprocess.run(
@@ -151,6 +160,20 @@ def run(program, refuser, words, call):
         with open(count) as file:
             calls = int(file.read())
         return (ended.returncode, ended.stdout, files_of(folder)), calls
+
+
+def run(program, refuser, words, call):
+    """Runs in a folder of its own with this request refused: how it ended, how it ended when it was begun again behind status 9, and
+    its requests."""
+    with tempfile.TemporaryDirectory() as place:
+        folder = os.path.join(place, "files")
+        os.mkdir(folder)
+        for name, text in FILES.items():
+            with open(os.path.join(folder, name), "w") as file:
+                file.write(text)
+        ended, calls = run_in(folder, program, refuser, words, call)
+        again = run_in(folder, program, refuser, words, NEVER)[0] if ended[0] == 9 else ended
+        return ended, again, calls
 
 
 def stands(before, answer, now, partly):
@@ -164,14 +187,14 @@ def stands(before, answer, now, partly):
 def try_all(program, refuser, text, partly):
     """Refuses each request of a run in turn: how many requests, how often status 9 and the answer came, and what was odd."""
     words = text.split()
-    answer, calls = run(program, refuser, words, 10**15)
+    answer, _, calls = run(program, refuser, words, NEVER)
     before = {name: text.encode() for name, text in FILES.items()}
     wants, same, odd = 0, 0, []
     for call in range(1, calls + 1):
-        ended, _ = run(program, refuser, words, call)
+        ended, again, _ = run(program, refuser, words, call)
         if ended == answer:
             same += 1
-        elif ended[0] == 9 and ended[1] == b"" and stands(before, answer[2], ended[2], partly):
+        elif ended[0] == 9 and ended[1] == b"" and stands(before, answer[2], ended[2], partly) and again == answer:
             wants += 1
         else:
             odd.append((call, ended[0]))
@@ -181,10 +204,48 @@ def try_all(program, refuser, text, partly):
     return calls, wants, same, len(odd)
 
 
+def run_calls(calls, refuser, data, call):
+    """Runs the calls of the libraries with this request refused: the status, the output and the requests."""
+    with tempfile.TemporaryDirectory() as place:
+        count = os.path.join(place, "count")
+        env = dict(os.environ, LD_PRELOAD=refuser, REFUSED_CALL=str(call), REFUSED_COUNT=count)
+        ended = subprocess.run([calls], cwd=data, env=env, stdout=subprocess.PIPE, stderr=subprocess.DEVNULL, timeout=120)
+        with open(count) as file:
+            return ended.returncode, ended.stdout, int(file.read())
+
+
+def try_calls(calls, refuser, crate):
+    """Refuses requests of the calls of the libraries: whether each led to the answer, or to an error with nothing printed."""
+    data = os.path.join(crate, "data")
+    with open(os.path.join(crate, "stdout"), "rb") as file:
+        wanted = file.read()
+    status, out, requests = run_calls(calls, refuser, data, NEVER)
+    if (status, out) != (0, wanted):
+        print(f"calls: status {status}, and not what stands in {crate}/stdout")
+        return False
+    ends = set(range(1, ENDS + 1)) | set(range(requests - ENDS + 1, requests + 1))
+    chosen = sorted(n for n in ends | set(range(1, requests + 1, max(1, requests // BETWEEN))) if 1 <= n <= requests)
+    same, errors, odd = 0, 0, []
+    for call in chosen:
+        status, out, _ = run_calls(calls, refuser, data, call)
+        if (status, out) == (0, wanted):
+            same += 1
+        elif status != 0 and out == b"":
+            errors += 1
+        else:
+            odd.append((call, status))
+    print(f"calls: {requests} requests, {len(chosen)} refused: {same} the answer, {errors} an error, {len(odd)} anything else")
+    for call, status in odd:
+        print(f"  request {call}: status {status}, and not what must stand", flush=True)
+    return not odd
+
+
 def main():
     here = os.path.dirname(os.path.abspath(__file__))
     program = os.path.abspath(sys.argv[1]) if len(sys.argv) > 1 else os.path.join(here, "../release/bprice")
+    calls = os.path.abspath(sys.argv[2]) if len(sys.argv) > 2 else None
     sums = [0, 0, 0, 0]
+    well = True
     with tempfile.TemporaryDirectory() as place:
         source = os.path.join(place, "refuser.c")
         refuser = os.path.join(place, "refuser.so")
@@ -193,8 +254,10 @@ def main():
         subprocess.run(["cc", "-shared", "-fPIC", "-O1", "-o", refuser, source, "-ldl"], check=True)
         for text, partly in RUNS:
             sums = [a + b for a, b in zip(sums, try_all(program, refuser, text, partly))]
+        if calls:
+            well = try_calls(calls, refuser, os.path.join(here, "../crates/calls"))
     print(f"{len(RUNS)} runs, {sums[0]} requests, refused: {sums[1]} want of memory, {sums[2]} the answer, {sums[3]} anything else")
-    sys.exit(1 if sums[3] else 0)
+    sys.exit(1 if sums[3] or not well else 0)
 
 
 if __name__ == "__main__":
