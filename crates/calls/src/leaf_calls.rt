@@ -104,7 +104,8 @@ fn next_turn(alloc: Global, b: &Blocked, grove: &Grove) -> Result<Option<Turn>, 
     grove.take(alloc)
 }
 
-// Forks a live leaf behind a number, where its zone, its depth and the count of the tree's steps allow it.
+// Forks a live leaf behind a number, where its zone, its depth and the count of the tree's steps allow it; a second time where
+// memory was short, since the grove is then as it was.
 fn fork_leaf(
     alloc: Global,
     b: &Blocked,
@@ -125,7 +126,11 @@ fn fork_leaf(
         return told.line("fork: not tried, the tree is too deep or has too many steps");
     }
     let proof = proof_copy(alloc, &turn.proof)?;
-    grove.fork(alloc, b, turn, VAR, at, proof, turn.bound)
+    let again = proof_copy(alloc, &turn.proof)?;
+    match grove.fork(alloc, b, turn, VAR, at, proof, turn.bound) {
+        Ok(()) => Ok(()),
+        Err(_) => grove.fork(alloc, b, turn, VAR, at, again, turn.bound),
+    }
 }
 
 // A proof once more.

@@ -67,7 +67,7 @@ fn is_added(alloc: Global, block: &Block, pool: &mut Pool, number: u32) -> bool
     requires one { length block.now.block.copies ≡ 1 }
     ensures pool { IsPoolOf block.now pool.new }
 {
-    match pool.add(alloc, block, &[i64::from(number)]) {
+    match added(alloc, block, pool, i64::from(number)) {
         Ok(Added::New(id)) => id == number,
         _ => false,
     }
@@ -85,8 +85,20 @@ fn tell_added(
     requires one { length block.now.block.copies ≡ 1 }
     ensures pool { IsPoolOf block.now pool.new }
 {
-    let answer = pool.add(alloc, block, &[number]);
+    let answer = added(alloc, block, pool, number);
     tell_answer(number, answer, told)
+}
+
+// Adds a number, a second time where memory was short: the pool is then as it was.
+fn added(alloc: Global, block: &Block, pool: &mut Pool, number: i64) -> Result<Added, PoolFault>
+    requires pool { IsPoolOf block.now pool.old }
+    requires one { length block.now.block.copies ≡ 1 }
+    ensures pool { IsPoolOf block.now pool.new }
+{
+    match pool.add(alloc, block, &[number]) {
+        Err(PoolFault::NoMemory) => pool.add(alloc, block, &[number]),
+        answer => answer,
+    }
 }
 
 // A number and the answer to adding it.
