@@ -14,7 +14,5 @@ mod order;
 mod partition;
 mod peel;
 mod score;
-#[cfg(test)]
-mod tests;
 
 pub use choose::guess;

@@ -1,6 +1,6 @@
 // Models of few rows, and the places that are chosen for their rows.
-use super::*;
 use bp_model::{Items, Model, Names, Parts, Row, Sense, Span, Term};
+use dec_guess::guess;
 use std::alloc::{AllocError, Global};
 
 // A row: its name, its sense, its side, and its terms.
