@@ -15,6 +15,3 @@ mod watched;
 
 pub use note::explain;
 pub use watched::{Files, Seen, Watched, WatchedSink};
-
-#[cfg(test)]
-mod tests;

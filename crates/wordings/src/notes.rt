@@ -1,5 +1,5 @@
 // Notes on runs, written by hand.
-use super::*;
+use bp_reason::{Files, explain};
 use std::alloc::{AllocError, Global};
 use std::test::Fail;
 
