@@ -1,29 +1,41 @@
 """What the driver knows of certificates: the tree, the parts of it that workers begin with, and how what they bring back is put into it. It
-judges nothing."""
+reads both versions of the text, writes version 1, where no line rests on another one, and judges nothing."""
 import re
 
 TRIVIAL = b"open 1 rows 0 priced 0\n"  # an open leaf with no multipliers
 
 
+def whole(line, had):
+    """A leaf's line of version 2 as version 1 has it, behind a leaf with these multipliers by their rows; and its own multipliers."""
+    words = line.split(b" ")
+    behind = 4 + 2 * int(words[3])
+    rows = {**had, **{int(row): p for row, p in zip(words[4:behind:2], words[5:behind:2])}}
+    rows = {row: rows[row] for row in sorted(rows) if rows[row] != b"0"}
+    return b" ".join([*words[:2], b"rows", b"%d" % len(rows), *(b"%d %b" % pair for pair in rows.items()), *words[behind:]]), rows
+
+
 class Tree:
-    """A certificate: its claim, the line of its point, empty where there is none, the lines of its nodes by their ways, the ways of its open
-    leaves, and how many splits and shut leaves it has. A way is a 1, and then a binary digit for each split, 0 for its low part and 1 for its
+    """A certificate: its claim, the line of its point, empty where there is none, the lines of its nodes by their ways as version 1 has them, the
+    ways of its open leaves, and how many splits and shut leaves it has. A way is a 1, and then a binary digit for each split, 0 for its low part and 1 for its
     high part."""
 
     def __init__(self, name):
-        self.lines, self.open, ways = {}, set(), [1]
+        self.lines, self.open, ways, had = {}, set(), [1], {}
         with open(name, "rb") as lines:
-            self.claim = [next(lines), next(lines)][1][6:-1].decode("ascii")
+            version, claim = next(lines), next(lines)
+            self.claim = claim[6:-1].decode("ascii")
             self.point = b"" if self.value is None else next(lines)
             for line in lines:
                 if line == b"end\n":
                     break
                 way = ways.pop()
-                self.lines[way] = line
                 if line.startswith(b"split "):
                     ways += [2 * way + 1, 2 * way]
-                elif line.startswith(b"open "):
+                elif version == b"bpcert 2\n":
+                    line, had = whole(line, had)
+                if line.startswith(b"open "):
                     self.open.add(way)
+                self.lines[way] = line
 
     @property
     def value(self):

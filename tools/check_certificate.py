@@ -230,10 +230,10 @@ def form_blocks(model, block_of, count):
 
 
 class Certificate:
-    """A claim, its point if it has one, and the tree's nodes in the order of their lines."""
+    """A claim, its point if it has one, and the tree's nodes in the order of their lines; while it is read, the last leaf's multipliers."""
     def __init__(self, text, variables, block_of, blocks):
-        self.text, self.at, self.line, self.value, self.bound, self.nodes = text, 0, 1, None, None, []
-        self.take(b"bpcert 1\n"), self.take(b"claim ")
+        self.text, self.at, self.line, self.value, self.bound, self.nodes, self.had = text, 0, 1, None, None, [], {}
+        self.take(b"bpcert 1\n", b"bpcert 2\n"), self.take(b"claim ")
         begin, self.word = self.at, self.take(b"optimal ", b"infeasible", b"bound ")
         if self.word == b"bound ":
             self.bound = self.number(LARGEST)
@@ -289,15 +289,15 @@ class Certificate:
         return point
 
     def read_proof(self, block_of, blocks):
-        rows = []
-        self.take(b" rows ")
+        had = self.had if self.take(b" change " if self.text.startswith(b"bpcert 2") else b" rows ") == b" change " else {}
+        rows = dict(had)
         for row in self.ascending(self.number(INFINITE, 0), len(block_of)):
             need(block_of[row] == 0, "refused cert", self.line, "number")
-            self.take(b" ")
-            rows.append((row, self.number(MULTIPLIER)))
-            need(rows[-1][1] != 0, "refused cert", self.line, "number")
+            rows[row] = self.take(b" ") and self.number(MULTIPLIER)
+            need(rows[row] != had.get(row, 0), "refused cert", self.line, "number")
         self.take(b" priced ")
-        return rows, set(range(blocks) if self.take(b"all", b"") else self.ascending(self.number(INFINITE, 0), blocks))
+        self.had = {row: p for row, p in rows.items() if p}
+        return list(self.had.items()), set(range(blocks) if self.take(b"all", b"") else self.ascending(self.number(INFINITE, 0), blocks))
 
 
 class Judge:

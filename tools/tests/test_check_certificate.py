@@ -179,7 +179,7 @@ def mutated(draw, text):
     return text
 
 
-WORDS = [b"leaf", b"open", b"split", b"optimal", b"infeasible", b"bound", b"value", b"rows", b"priced all", b"priced 0", b" ", b"<=", b">=", b"=",
+WORDS = [b"leaf", b"open", b"split", b"optimal", b"infeasible", b"bound", b"value", b"rows", b"change", b"priced all", b"priced 0", b" ", b"<=", b">=", b"=",
          b"Bounds", b"Generals", b"Binaries", b"+", b"-", b"BLOCK", b"MASTERCONSS", b"NBLOCKS", b"free", b"inf"]
 
 

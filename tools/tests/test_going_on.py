@@ -123,7 +123,7 @@ def test_stopped_again_and_again(tmp_path, seed, has_dec):
 def room_fixture(tmp_path, request):
     """A model of which a point is known after fourteen steps, and leaves are open."""
     room = Room(tmp_path, drawn(29), request.param)
-    assert re.match(rb"bpcert 1\nclaim bound -?[0-9]+ value -?[0-9]+\npoint ", room.stopped(14))
+    assert re.match(rb"bpcert 2\nclaim bound -?[0-9]+ value -?[0-9]+\npoint ", room.stopped(14))
     assert b"\nopen " in room.cert("part")
     return room
 

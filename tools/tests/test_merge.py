@@ -50,17 +50,19 @@ def merged(room, first, second, new):
 
 
 def open_leaves(text):
-    """The way to each open leaf of a certificate, each split with the part that is taken there, and the leaf itself."""
-    leaves, below = [], [[]]
+    """The way to each open leaf of a certificate, each split with the part that is taken there, and the leaf with all its multipliers."""
+    leaves, below, had = [], [[]], {}
     for line in text.split("\n"):
         word = line.split(" ", 1)[0]
         if word == "split":
             path = below.pop()
             below += [[*path, (line, 2)], [*path, (line, 1)]]
         elif word in ("leaf", "open"):
-            path = below.pop()
+            path, words = below.pop(), line.split(" ")
+            behind = 4 + 2 * int(words[3])
+            had.update(zip(words[4:behind:2], words[5:behind:2]))
             if word == "open":
-                leaves.append((path, line))
+                leaves.append((path, words[1], sorted(pair for pair in had.items() if pair[1] != "0"), words[behind:]))
     assert not below
     return leaves
 

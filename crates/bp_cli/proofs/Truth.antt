@@ -312,7 +312,7 @@ writes_certificate before now lp cert dec o has others ended apart away =
     let end = ended b has.1 in (
       c.claim,
       went_on b (files_move before now lp dec (blocked b) (others lp (λ e. apart (sym e))) (λ name is. others name (λ e. away (is ∙ ap (λ (t : List ℕ). Some t) e))) has.1)
-          (checks.accepted has.2.0 c has.2.1 has.2.2.spelled has.2.2.valid (outcome_true b end.0 o end.1) refl refl),
+          (checks.accepted has.2.0 c has.2.1 (_, has.2.2.spelled) has.2.2.valid (outcome_true b end.0 o end.1) refl refl),
     )
 
 -- ---- what `check` accepts

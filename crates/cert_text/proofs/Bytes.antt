@@ -1,24 +1,25 @@
 -- Bytes of words and numbers, the lines that they end, and numbers that are too great to be kept.
-use Rattle.std.proofs.Common.{◌≡◌, ◌≢◌, ◌⊎◌, ℕ, zero, suc, ◌+◌, ◌-◌, ◌*◌, ◌^◌, ◌<◌, ◌≤◌, Bool, true, false, not, ◌&&◌, ◌||◌, min, List, [], ◌∷◌, ◌++◌, length, Option, Some, None, ℤ, pos, negsuc, nat_abs, refl, sym, ap, ◌∙◌, subst, inl, inr, ⊎_elim, arith, nat_eq, nat_lt, nat_le, count_by, cond, ◌==◌, length-append, if◌then◌else◌}
+use Rattle.std.proofs.Common.{◌≡◌, ◌≢◌, ◌⊎◌, ℕ, zero, suc, ◌+◌, ◌-◌, ◌^◌, ◌<◌, ◌≤◌, Bool, true, false, not, ◌&&◌, ◌||◌, min, List, [], ◌∷◌, ◌++◌, length, Option, Some, None, ℤ, nat_abs, refl, sym, ap, ◌∙◌, subst, inl, inr, ⊎_elim, arith, nat_lt, nat_le, cond, ◌==◌}
 use Rattle.std.specs.Prelude.{slice_index_or}
 use Rattle.std.specs.Ordering.{int_eq}
 use Rattle.std.proofs.lemmas.List.Sums.{sum_by-append}
 use Rattle.std.proofs.lemmas.Bool.{cases_lt}
 use Rattle.std.proofs.lemmas.Bool.Decides.{nat_tests}
 use Rattle.cert_text.specs.Cert as texts
-use Rattle.cert_text.specs.Text.{Kind, first_kind, is_past, is_deep, value_fault, coordinate_fault, row_fault, multiplier_fault, block_fault, scale_fault, variable_fault, may_name}
+use Rattle.cert_text.specs.Cert.{multiplier}
+use Rattle.cert_text.specs.Text.{Kind, first_kind, is_past, is_deep, value_fault, coordinate_fault}
 use Rattle.cert_text.specs.Fault.{line_behind}
 use Rattle.cert_text.specs.Words.{word_text}
 use Rattle.cert_text.specs.Spots.{spot_sort}
-use Rattle.cert_text.specs.Frames.{is_master, frame_of}
+use Rattle.cert_text.specs.Frames.{frame_of}
 use Rattle.cert_text.specs.Signed.{signed}
 use Rattle.cert_text.specs.Readers.{place_of, IsCount, slack}
-use Rattle.cert_text.specs.Stages.{at_bpcert, at_one, at_first_end, at_claim, at_kind, at_optimal, infeasible_end, at_bound, after_bound, at_value, claim_end, at_point, at_values, at_coordinate, at_node, at_scale, at_rows, at_count, at_pairs, at_row, row_gap, at_multiplier, at_priced, at_blocks, at_block, leaf_end, at_variable, variable_gap, at_place, split_end, at_end, last_end, over}
-use Rattle.cert_text.specs.Stages.{Stage, words, sort, IsOfSort, number_fault, behind_number}
+use Rattle.cert_text.specs.Stages.{at_bpcert, at_version, at_first_end, at_claim, at_kind, at_optimal, infeasible_end, at_bound, after_bound, at_value, claim_end, at_point, at_values, at_coordinate, at_node, at_scale, at_rows, at_count, at_pairs, at_row, row_gap, at_multiplier, at_priced, at_blocks, at_block, leaf_end, at_variable, variable_gap, at_place, split_end, at_end, last_end, over}
+use Rattle.cert_text.specs.Stages.{Stage, sort, IsOfSort, number_fault, behind_number}
 use Rattle.cert_text.specs.declared.fault.CertKind.TheVariants.{TooLarge, Number, Length, Depth}
 use Rattle.cert_text.specs.declared.frame.Frame.{Frame}
 use Rattle.cert_text.specs.declared.reader.Reader.{Reader}
-use Rattle.cert_text.specs.declared.spots.Sort.TheVariants.{Wordy, Natural, Whole}
+use Rattle.cert_text.specs.declared.spots.Sort.TheVariants.{Wordy}
 use Rattle.cert_text.specs.declared.spots.Spot.{Spot}
 use Rattle.cert_text.specs.declared.spots.Spot.TheVariants as s
 use Rattle.cert_text.specs.declared.words.Word.{Word}
@@ -33,6 +34,7 @@ no_line : (word : Word) → (word ≡ w.LineEnd) ⊎ NoLine (word_text word)
 no_line w.LineEnd = inl refl
 no_line w.Bpcert = inr ((λ e. omega arith), ((λ e. omega arith), ((λ e. omega arith), ((λ e. omega arith), ((λ e. omega arith), ((λ e. omega arith), ((λ e. omega arith), tt)))))))
 no_line w.One = inr ((λ e. omega arith), tt)
+no_line w.Two = inr ((λ e. omega arith), tt)
 no_line w.Claim = inr ((λ e. omega arith), ((λ e. omega arith), ((λ e. omega arith), ((λ e. omega arith), ((λ e. omega arith), ((λ e. omega arith), tt))))))
 no_line w.Optimal = inr ((λ e. omega arith), ((λ e. omega arith), ((λ e. omega arith), ((λ e. omega arith), ((λ e. omega arith), ((λ e. omega arith), ((λ e. omega arith), ((λ e. omega arith), tt))))))))
 no_line w.Infeasible = inr ((λ e. omega arith), ((λ e. omega arith), ((λ e. omega arith), ((λ e. omega arith), ((λ e. omega arith), ((λ e. omega arith), ((λ e. omega arith), ((λ e. omega arith), ((λ e. omega arith), ((λ e. omega arith), tt))))))))))
@@ -44,6 +46,7 @@ no_line w.Leaf = inr ((λ e. omega arith), ((λ e. omega arith), ((λ e. omega a
 no_line w.Open = inr ((λ e. omega arith), ((λ e. omega arith), ((λ e. omega arith), ((λ e. omega arith), ((λ e. omega arith), tt)))))
 no_line w.Split = inr ((λ e. omega arith), ((λ e. omega arith), ((λ e. omega arith), ((λ e. omega arith), ((λ e. omega arith), ((λ e. omega arith), tt))))))
 no_line w.Rows = inr ((λ e. omega arith), ((λ e. omega arith), ((λ e. omega arith), ((λ e. omega arith), ((λ e. omega arith), ((λ e. omega arith), tt))))))
+no_line w.Change = inr ((λ e. omega arith), ((λ e. omega arith), ((λ e. omega arith), ((λ e. omega arith), ((λ e. omega arith), ((λ e. omega arith), ((λ e. omega arith), ((λ e. omega arith), tt))))))))
 no_line w.Priced = inr ((λ e. omega arith), ((λ e. omega arith), ((λ e. omega arith), ((λ e. omega arith), ((λ e. omega arith), ((λ e. omega arith), ((λ e. omega arith), ((λ e. omega arith), tt))))))))
 no_line w.All = inr ((λ e. omega arith), ((λ e. omega arith), ((λ e. omega arith), tt)))
 no_line w.End = inr ((λ e. omega arith), ((λ e. omega arith), ((λ e. omega arith), tt)))
@@ -75,7 +78,7 @@ line_first byte other = line_same [] byte other
 -- the sort of a reader's place
 pub sort_is : (r : Reader) (n : ℕ) (spot : Spot) → sort (place_of r n spot) ≡ spot_sort spot
 sort_is r n s.Bpcert = refl
-sort_is r n s.One = refl
+sort_is r n s.Version = refl
 sort_is r n s.FirstEnd = refl
 sort_is r n s.Claim = refl
 sort_is r n s.Kind = refl
@@ -110,7 +113,7 @@ sort_is r n s.Over = refl
 
 pub slack_small : (spot : Spot) → slack spot ≤ 1
 slack_small s.Bpcert = omega arith
-slack_small s.One = omega arith
+slack_small s.Version = omega arith
 slack_small s.FirstEnd = omega arith
 slack_small s.Claim = omega arith
 slack_small s.Kind = omega arith
@@ -145,10 +148,10 @@ slack_small s.Over = omega arith
 
 -- behind a number comes a word
 pub behind_wordy : (stage : Stage) (z : ℤ) → IsOfSort (sort stage) z → sort (behind_number stage z) ≡ Wordy
-behind_wordy at_optimal z of_sort = refl
-behind_wordy at_bound z of_sort = refl
-behind_wordy (at_value b) z of_sort = refl
-behind_wordy (at_coordinate k zs) z of_sort = refl
+behind_wordy (at_optimal v) z of_sort = refl
+behind_wordy (at_bound v) z of_sort = refl
+behind_wordy (at_value v b) z of_sort = refl
+behind_wordy (at_coordinate v k zs) z of_sort = refl
 behind_wordy (at_scale a ws o) z of_sort = refl
 behind_wordy (at_count a ws o s) z of_sort = refl
 behind_wordy (at_row a ws o s ps last n) z of_sort = refl
@@ -158,15 +161,15 @@ behind_wordy (at_block a ws o s ps ks last n) z of_sort = refl
 behind_wordy (at_variable a ws) z of_sort = refl
 behind_wordy (at_place a ws i) z of_sort = refl
 behind_wordy at_bpcert z of_sort = absurd of_sort
-behind_wordy at_one z of_sort = absurd of_sort
-behind_wordy at_first_end z of_sort = absurd of_sort
-behind_wordy at_claim z of_sort = absurd of_sort
-behind_wordy at_kind z of_sort = absurd of_sort
-behind_wordy infeasible_end z of_sort = absurd of_sort
-behind_wordy (after_bound b) z of_sort = absurd of_sort
-behind_wordy (claim_end k) z of_sort = absurd of_sort
-behind_wordy (at_point k) z of_sort = absurd of_sort
-behind_wordy (at_values k zs) z of_sort = absurd of_sort
+behind_wordy at_version z of_sort = absurd of_sort
+behind_wordy (at_first_end v) z of_sort = absurd of_sort
+behind_wordy (at_claim v) z of_sort = absurd of_sort
+behind_wordy (at_kind v) z of_sort = absurd of_sort
+behind_wordy (infeasible_end v) z of_sort = absurd of_sort
+behind_wordy (after_bound v b) z of_sort = absurd of_sort
+behind_wordy (claim_end v k) z of_sort = absurd of_sort
+behind_wordy (at_point v k) z of_sort = absurd of_sort
+behind_wordy (at_values v k zs) z of_sort = absurd of_sort
 behind_wordy (at_node a ws) z of_sort = absurd of_sort
 behind_wordy (at_rows a ws o s) z of_sort = absurd of_sort
 behind_wordy (at_pairs a ws o s ps last n) z of_sort = absurd of_sort
@@ -193,7 +196,7 @@ IsCounting _ = ⊥
 
 pub counting_is : (r : Reader) (n : ℕ) (spot : Spot) → IsCounting (place_of r n spot) → IsCount spot
 counting_is r n s.Bpcert is = is
-counting_is r n s.One is = is
+counting_is r n s.Version is = is
 counting_is r n s.FirstEnd is = is
 counting_is r n s.Claim is = is
 counting_is r n s.Kind is = is
@@ -228,7 +231,7 @@ counting_is r n s.Over is = is
 
 pub is_counting : (r : Reader) (n : ℕ) (spot : Spot) → IsCount spot → IsCounting (place_of r n spot)
 is_counting r n s.Bpcert is = is
-is_counting r n s.One is = is
+is_counting r n s.Version is = is
 is_counting r n s.FirstEnd is = is
 is_counting r n s.Claim is = is
 is_counting r n s.Kind is = is
@@ -264,7 +267,7 @@ is_counting r n s.Over is = is
 -- whether a number of pairs or blocks comes
 pub count_cases : (spot : Spot) → IsCount spot ⊎ (IsCount spot → ⊥)
 count_cases s.Bpcert = inr (λ e. e)
-count_cases s.One = inr (λ e. e)
+count_cases s.Version = inr (λ e. e)
 count_cases s.FirstEnd = inr (λ e. e)
 count_cases s.Claim = inr (λ e. e)
 count_cases s.Kind = inr (λ e. e)
@@ -354,11 +357,11 @@ big_fault frame stage = Some TooLarge
 
 big_is : (frame : texts.Frame) (stage : Stage) (z : ℤ) → IsSmall frame → IsOfSort (sort stage) z → 2 ^ 63 ≤ nat_abs z → number_fault frame stage z ≡ big_fault frame stage
 unfolding big_fault
-big_is frame at_optimal z small of_sort big = big_value z big
-big_is frame at_bound z small of_sort big = big_value z big
-big_is frame (at_value b) z small of_sort big = big_value z big
+big_is frame (at_optimal v) z small of_sort big = big_value z big
+big_is frame (at_bound v) z small of_sort big = big_value z big
+big_is frame (at_value v b) z small of_sort big = big_value z big
 big_is frame (at_place a ws i) z small of_sort big = big_value z big
-big_is frame (at_coordinate k zs) z small of_sort big = big_coordinate frame (length zs + 1) z big
+big_is frame (at_coordinate v k zs) z small of_sort big = big_coordinate frame (length zs + 1) z big
 big_is frame (at_scale a ws o) z small of_sort big = big_scale (is_deep (length ws)) (nat_abs z) big
 big_is frame (at_count a ws o s) z small of_sort big = refl
 big_is frame (at_priced a ws o s ps) z small of_sort big = refl
@@ -367,20 +370,20 @@ big_is frame (at_row a ws o s ps last n) z small of_sort big =
     let named = frame.is_master (nat_abs z) in
     let P : ℕ → Type 0 = λ links. (below && ((nat_le (nat_abs z) frame.rows && named) || (nat_lt frame.rows (nat_abs z) && nat_le (nat_abs z) (frame.rows + links + 0)))) ≡ false in
     ap (λ (t : Bool). first_kind ((not t, Number) ∷ [])) (subst P (sym small.links) (big_row named below frame.rows (nat_abs z) small.rows big))
-big_is frame (at_multiplier a ws o s ps r n) z small of_sort big = big_multiplier [] r z (int_eq z (pos 0)) big
+big_is frame (at_multiplier a ws o s ps r n) z small of_sort big = big_multiplier a.had r z (int_eq z (multiplier a.had r)) big
 big_is frame (at_block a ws o s ps ks last n) z small of_sort big = ap (λ (t : Bool). first_kind ((not t, Number) ∷ [])) (big_block (nat_lt last (nat_abs z)) frame.blocks (nat_abs z) small.blocks big)
 big_is frame (at_variable a ws) z small of_sort big =
     ap (λ (t : Bool). first_kind ((is_deep (length ws), Depth) ∷ (not t, Number) ∷ [])) (big_block (nat_lt 0 (nat_abs z)) frame.variables (nat_abs z) small.variables big)
 big_is frame at_bpcert z small of_sort big = absurd of_sort
-big_is frame at_one z small of_sort big = absurd of_sort
-big_is frame at_first_end z small of_sort big = absurd of_sort
-big_is frame at_claim z small of_sort big = absurd of_sort
-big_is frame at_kind z small of_sort big = absurd of_sort
-big_is frame infeasible_end z small of_sort big = absurd of_sort
-big_is frame (after_bound b) z small of_sort big = absurd of_sort
-big_is frame (claim_end k) z small of_sort big = absurd of_sort
-big_is frame (at_point k) z small of_sort big = absurd of_sort
-big_is frame (at_values k zs) z small of_sort big = absurd of_sort
+big_is frame at_version z small of_sort big = absurd of_sort
+big_is frame (at_first_end v) z small of_sort big = absurd of_sort
+big_is frame (at_claim v) z small of_sort big = absurd of_sort
+big_is frame (at_kind v) z small of_sort big = absurd of_sort
+big_is frame (infeasible_end v) z small of_sort big = absurd of_sort
+big_is frame (after_bound v b) z small of_sort big = absurd of_sort
+big_is frame (claim_end v k) z small of_sort big = absurd of_sort
+big_is frame (at_point v k) z small of_sort big = absurd of_sort
+big_is frame (at_values v k zs) z small of_sort big = absurd of_sort
 big_is frame (at_node a ws) z small of_sort big = absurd of_sort
 big_is frame (at_rows a ws o s) z small of_sort big = absurd of_sort
 big_is frame (at_pairs a ws o s ps last n) z small of_sort big = absurd of_sort
@@ -400,11 +403,11 @@ some_first false k l none = cc
 -- only a number of pairs or blocks may be so great
 big_faulty : (frame : texts.Frame) (stage : Stage) (z : ℤ) → IsOfSort (sort stage) z → big_fault frame stage ≡ None → IsCounting stage
 unfolding big_fault
-big_faulty frame at_optimal z of_sort none = absurd (cc)
-big_faulty frame at_bound z of_sort none = absurd (cc)
-big_faulty frame (at_value b) z of_sort none = absurd (cc)
+big_faulty frame (at_optimal v) z of_sort none = absurd (cc)
+big_faulty frame (at_bound v) z of_sort none = absurd (cc)
+big_faulty frame (at_value v b) z of_sort none = absurd (cc)
 big_faulty frame (at_place a ws i) z of_sort none = absurd (cc)
-big_faulty frame (at_coordinate k zs) z of_sort none = absurd (cc)
+big_faulty frame (at_coordinate v k zs) z of_sort none = absurd (cc)
 big_faulty frame (at_scale a ws o) z of_sort none = absurd (some_first (is_deep (length ws)) Depth TooLarge none)
 big_faulty frame (at_count a ws o s) z of_sort none = tt
 big_faulty frame (at_priced a ws o s ps) z of_sort none = tt
@@ -413,15 +416,15 @@ big_faulty frame (at_multiplier a ws o s ps r n) z of_sort none = absurd (cc)
 big_faulty frame (at_block a ws o s ps ks last n) z of_sort none = absurd (cc)
 big_faulty frame (at_variable a ws) z of_sort none = absurd (some_first (is_deep (length ws)) Depth Number none)
 big_faulty frame at_bpcert z of_sort none = absurd of_sort
-big_faulty frame at_one z of_sort none = absurd of_sort
-big_faulty frame at_first_end z of_sort none = absurd of_sort
-big_faulty frame at_claim z of_sort none = absurd of_sort
-big_faulty frame at_kind z of_sort none = absurd of_sort
-big_faulty frame infeasible_end z of_sort none = absurd of_sort
-big_faulty frame (after_bound b) z of_sort none = absurd of_sort
-big_faulty frame (claim_end k) z of_sort none = absurd of_sort
-big_faulty frame (at_point k) z of_sort none = absurd of_sort
-big_faulty frame (at_values k zs) z of_sort none = absurd of_sort
+big_faulty frame at_version z of_sort none = absurd of_sort
+big_faulty frame (at_first_end v) z of_sort none = absurd of_sort
+big_faulty frame (at_claim v) z of_sort none = absurd of_sort
+big_faulty frame (at_kind v) z of_sort none = absurd of_sort
+big_faulty frame (infeasible_end v) z of_sort none = absurd of_sort
+big_faulty frame (after_bound v b) z of_sort none = absurd of_sort
+big_faulty frame (claim_end v k) z of_sort none = absurd of_sort
+big_faulty frame (at_point v k) z of_sort none = absurd of_sort
+big_faulty frame (at_values v k zs) z of_sort none = absurd of_sort
 big_faulty frame (at_node a ws) z of_sort none = absurd of_sort
 big_faulty frame (at_rows a ws o s) z of_sort none = absurd of_sort
 big_faulty frame (at_pairs a ws o s ps last n) z of_sort none = absurd of_sort

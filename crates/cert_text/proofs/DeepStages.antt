@@ -8,7 +8,7 @@ use Rattle.cert_text.specs.declared.words.Word.{Word}
 use Rattle.cert_text.specs.declared.words.Word.TheVariants as w
 use Rattle.cert_text.specs.Text.{Kind, fault_of, first_kind, is_deep}
 use Rattle.cert_text.specs.Words.{word_token}
-use Rattle.cert_text.specs.Stages.{at_bpcert, at_one, at_first_end, at_claim, at_kind, at_optimal, infeasible_end, at_bound, after_bound, at_value, claim_end, at_point, at_values, at_coordinate, at_node, at_scale, at_rows, at_count, at_pairs, at_row, row_gap, at_multiplier, at_priced, at_blocks, at_block, leaf_end, at_variable, variable_gap, at_place, split_end, at_end, last_end, over}
+use Rattle.cert_text.specs.Stages.{at_bpcert, at_version, at_first_end, at_claim, at_kind, at_optimal, infeasible_end, at_bound, after_bound, at_value, claim_end, at_point, at_values, at_coordinate, at_node, at_scale, at_rows, at_count, at_pairs, at_row, row_gap, at_multiplier, at_priced, at_blocks, at_block, leaf_end, at_variable, variable_gap, at_place, split_end, at_end, last_end, over}
 use Rattle.cert_text.specs.Stages.{Stage, words, line_fault, sort, IsOfSort, is_deep_stage, number_fault}
 use Rattle.cert_text.specs.Standing.{Comes}
 use Rattle.cert_text.proofs.Coherent.{none_other, one_other, two_other, large_other, number_other, length_other}
@@ -23,19 +23,19 @@ deep_first false c k apart e = absurd (one_other c k apart e)
 -- a number that is at fault for its depth
 pub number_deep : (frame : Frame) (stage : Stage) (z : ℤ) → number_fault frame stage z ≡ Some Depth → (is_deep_stage stage ≡ true) × (words stage ≡ []) × (sort stage ≡ Natural)
 number_deep frame at_bpcert z e = absurd (none_other e)
-number_deep frame at_one z e = absurd (none_other e)
-number_deep frame at_first_end z e = absurd (none_other e)
-number_deep frame at_claim z e = absurd (none_other e)
-number_deep frame at_kind z e = absurd (none_other e)
-number_deep frame at_optimal z e = absurd (one_other _ TooLarge large_other e)
-number_deep frame infeasible_end z e = absurd (none_other e)
-number_deep frame at_bound z e = absurd (one_other _ TooLarge large_other e)
-number_deep frame (after_bound b) z e = absurd (none_other e)
-number_deep frame (at_value b) z e = absurd (one_other _ TooLarge large_other e)
-number_deep frame (claim_end k) z e = absurd (none_other e)
-number_deep frame (at_point k) z e = absurd (none_other e)
-number_deep frame (at_values k zs) z e = absurd (none_other e)
-number_deep frame (at_coordinate k zs) z e = absurd (two_other _ _ TooLarge Length large_other length_other e)
+number_deep frame at_version z e = absurd (none_other e)
+number_deep frame (at_first_end v) z e = absurd (none_other e)
+number_deep frame (at_claim v) z e = absurd (none_other e)
+number_deep frame (at_kind v) z e = absurd (none_other e)
+number_deep frame (at_optimal v) z e = absurd (one_other _ TooLarge large_other e)
+number_deep frame (infeasible_end v) z e = absurd (none_other e)
+number_deep frame (at_bound v) z e = absurd (one_other _ TooLarge large_other e)
+number_deep frame (after_bound v b) z e = absurd (none_other e)
+number_deep frame (at_value v b) z e = absurd (one_other _ TooLarge large_other e)
+number_deep frame (claim_end v k) z e = absurd (none_other e)
+number_deep frame (at_point v k) z e = absurd (none_other e)
+number_deep frame (at_values v k zs) z e = absurd (none_other e)
+number_deep frame (at_coordinate v k zs) z e = absurd (two_other _ _ TooLarge Length large_other length_other e)
 number_deep frame (at_node a ws) z e = absurd (none_other e)
 number_deep frame (at_scale a ws o) z e = (deep_first (is_deep (length ws)) _ TooLarge large_other e, refl, refl)
 number_deep frame (at_rows a ws o s) z e = absurd (none_other e)
@@ -59,19 +59,19 @@ number_deep frame (over a t) z e = absurd (none_other e)
 -- where such a number comes, each is at fault so
 pub deep_number : (frame : Frame) (stage : Stage) → is_deep_stage stage ≡ true → (number_fault frame stage (pos 0) ≡ Some Depth) × (words stage ≡ []) × (sort stage ≡ Natural)
 deep_number frame at_bpcert is = absurd (cc)
-deep_number frame at_one is = absurd (cc)
-deep_number frame at_first_end is = absurd (cc)
-deep_number frame at_claim is = absurd (cc)
-deep_number frame at_kind is = absurd (cc)
-deep_number frame at_optimal is = absurd (cc)
-deep_number frame infeasible_end is = absurd (cc)
-deep_number frame at_bound is = absurd (cc)
-deep_number frame (after_bound b) is = absurd (cc)
-deep_number frame (at_value b) is = absurd (cc)
-deep_number frame (claim_end k) is = absurd (cc)
-deep_number frame (at_point k) is = absurd (cc)
-deep_number frame (at_values k zs) is = absurd (cc)
-deep_number frame (at_coordinate k zs) is = absurd (cc)
+deep_number frame at_version is = absurd (cc)
+deep_number frame (at_first_end v) is = absurd (cc)
+deep_number frame (at_claim v) is = absurd (cc)
+deep_number frame (at_kind v) is = absurd (cc)
+deep_number frame (at_optimal v) is = absurd (cc)
+deep_number frame (infeasible_end v) is = absurd (cc)
+deep_number frame (at_bound v) is = absurd (cc)
+deep_number frame (after_bound v b) is = absurd (cc)
+deep_number frame (at_value v b) is = absurd (cc)
+deep_number frame (claim_end v k) is = absurd (cc)
+deep_number frame (at_point v k) is = absurd (cc)
+deep_number frame (at_values v k zs) is = absurd (cc)
+deep_number frame (at_coordinate v k zs) is = absurd (cc)
 deep_number frame (at_node a ws) is = absurd (cc)
 deep_number frame (at_scale a ws o) is = (rw is refl, refl, refl)
 deep_number frame (at_rows a ws o s) is = absurd (cc)
@@ -96,6 +96,7 @@ deep_number frame (over a t) is = absurd (cc)
 word_other : (f : Option Kind) (v : Word) → deep ≡ word_token f v → ⊥
 word_other f w.Bpcert is = cc
 word_other f w.One is = cc
+word_other f w.Two is = cc
 word_other f w.LineEnd is = cc
 word_other f w.Claim is = cc
 word_other f w.Optimal is = cc
@@ -108,6 +109,7 @@ word_other f w.Leaf is = cc
 word_other f w.Open is = cc
 word_other f w.Split is = cc
 word_other f w.Rows is = cc
+word_other f w.Change is = cc
 word_other f w.Priced is = cc
 word_other f w.All is = cc
 word_other f w.End is = cc

@@ -1,12 +1,10 @@
 -- A text that is fed byte by byte.
-use Rattle.std.proofs.Common.{◌≡◌, ℕ, ◌+◌, ◌^◌, ◌<◌, ◌≤◌, List, [], ◌∷◌, ◌++◌, length, take, Result, Ok, Err, refl, sym, ap, ◌∙◌, subst, arith, append_assoc, length-append, get_or}
+use Rattle.std.proofs.Common.{◌≡◌, ℕ, ◌+◌, ◌^◌, ◌<◌, List, [], ◌∷◌, ◌++◌, length, take, Result, Err, sym, ap, ◌∙◌, subst, arith, append_assoc, length-append, get_or}
 use Rattle.std.proofs.lemmas.List.{take_more}
 use Rattle.cert_text.specs.Text.{Kind}
 use Rattle.cert_text.specs.Fault.{IsSeenFault, IsFirstCertFault}
 use Rattle.cert_text.specs.Frames.{frame_of}
-use Rattle.cert_text.specs.Standing.{StandsFor, Steps, Feeds, EndsTextAt, EndsWell, ReadsCertificate}
-use Rattle.cert_text.specs.declared.cert.Cert.{Cert as Kept}
-use Rattle.cert_text.specs.declared.fault.CertKind.TheVariants.{Syntax}
+use Rattle.cert_text.specs.Standing.{Steps, Feeds, EndsTextAt, EndsWell, ReadsCertificate}
 use Rattle.cert_text.specs.declared.fault.CertFault.{CertFault}
 use Rattle.cert_text.specs.declared.fault.CertFault.TheVariants.{At, NoMemory}
 use Rattle.cert_text.specs.declared.frame.Frame.{Frame}

@@ -1,12 +1,12 @@
 -- A reader that has read nothing, and a reader at the text's end.
-use Rattle.std.proofs.Common.{◌≡◌, ◌≢◌, ℕ, ◌+◌, ◌^◌, ◌<◌, ◌≤◌, Bool, true, false, List, [], ◌∷◌, ◌++◌, length, take, codes, None, ℤ, pos, negsuc, refl, sym, ap, ◌∙◌, subst, inl, arith, append_assoc, append-nil, if◌then◌else◌}
+use Rattle.std.proofs.Common.{◌≡◌, ◌≢◌, ℕ, ◌+◌, ◌^◌, ◌<◌, ◌≤◌, Bool, true, false, List, [], ◌∷◌, ◌++◌, length, take, codes, None, ℤ, pos, negsuc, refl, sym, ap, ◌∙◌, subst, inl, inr, ⊎_elim, arith, append_assoc, append-nil, if◌then◌else◌}
 use Rattle.std.proofs.lemmas.Bool.{lt-ltb}
 use Rattle.std.specs.Cmp.{signed_Decides}
 use Rattle.std.specs.Ordering.{int_eq}
 use Rattle.cert_text.specs.Cert.{Proof, Tree, Shut, Open, Split, Cut, Cert, multiplier, with_pair, put, changed}
 use Rattle.cert_text.specs.Cert as texts
-use Rattle.cert_text.specs.Text.{Token, Words, LineEnd, One, cut_lines, text_of, may_name, leaf_line, tree_lines, kept_behind, claim_lines, tokens_of, meant, meant_proof, meant_tree}
-use Rattle.cert_text.specs.Fault.{AreClean, IsText, IsFirstCertFault, line_behind}
+use Rattle.cert_text.specs.Text.{Token, Words, LineEnd, Version, One, Two, Three, version_word, HasForm, cut_lines, text_of, may_name, leaf_line, tree_lines, kept_behind, claim_lines, tokens_of, meant, meant_proof, meant_tree}
+use Rattle.cert_text.specs.Fault.{AreClean, IsCertText, IsFirstCertFault, line_behind}
 use Rattle.std.specs.Prelude.{unwrap_or}
 use Rattle.std.specs.Option.{option_map}
 use Rattle.bp_theory.specs.Judgement.{named_value}
@@ -16,8 +16,9 @@ use Rattle.cert_text.specs.Words.{word_text}
 use Rattle.cert_text.specs.Frames.{frame_of}
 use Rattle.cert_text.specs.Written.{written_claim, written_tree}
 use Rattle.cert_text.specs.Sketch.{tree_of}
-use Rattle.cert_text.specs.Readers.{place_of, stage_of, root_of}
-use Rattle.cert_text.specs.Stages.{plain_of, at_bpcert, IsOfSort, IsOf, Follows, AtNode, over}
+use Rattle.cert_text.specs.Readers.{told_of, place_of, stage_of, root_of}
+use Rattle.cert_text.specs.Stages.{plain_of, told, at_bpcert, IsOfSort, IsOf, Follows, AtNode, AtClaim, AtFirstEnd, over}
+use Rattle.cert_text.specs.Grammar.{Prefixed}
 use Rattle.cert_text.specs.Standing.{MayStand, Reached, IsInWord, IsBehindMinus, IsPart, StandsFor, Between}
 use Rattle.cert_text.specs.Kept.{kept_cert}
 use Rattle.cert_text.specs.declared.cert.Cert.{Cert as Kept}
@@ -32,10 +33,9 @@ use Rattle.cert_text.specs.declared.spots.Spot.TheVariants as s
 use Rattle.cert_text.specs.declared.words.Word.{Word}
 use Rattle.cert_text.proofs.Changes.{AscendAbove, Differ}
 use Rattle.cert_text.proofs.Coherent.{proof_one, cert_one}
-use Rattle.cert_text.proofs.Meaning.{clean_front, clean_back, pairs_ascend, pairs_differ, leaf_pairs, tree_clean}
-use Rattle.cert_text.proofs.Claims.{last_line, last_to, last_from, tokens_split, claim_to, claim_from}
+use Rattle.cert_text.proofs.Meaning.{kept_none, clean_front, clean_back, pairs_ascend, pairs_differ, leaf_pairs, tree_clean}
+use Rattle.cert_text.proofs.Claims.{IsRead, last_line, last_to, last_from, tokens_split, claim_to, claim_from}
 use Rattle.cert_text.proofs.PlainProof.{same_claim}
-use Rattle.cert_text.proofs.StageProofs.{kept_none}
 use Rattle.cert_text.proofs.StageMoves.{IsOver}
 use Rattle.cert_text.proofs.Reaching.{leaves_first}
 use Rattle.cert_text.proofs.Leaving.{leaves_fresh, leaves_word, leaves_minus}
@@ -97,28 +97,54 @@ tree_means frame depth (Split i z low high) clean =
 pub cert_means : (frame : texts.Frame) (a : texts.Claim) (t : Tree) → AreClean (tokens_of frame One (plain_of a t)) → meant One (plain_of a t) ≡ plain_of a t
 cert_means frame a t clean = cert_one (meant One (plain_of a t)) (plain_of a t) refl refl (tree_means frame 0 t (tree_clean frame One (plain_of a t) clean))
 
+-- the lines behind the first one
+claims_from : (frame : texts.Frame) (v : Version) (w : Cert) → w.cuts ≡ [] → AtClaim frame (meant v w) v (claim_lines frame w.claim ++ (tree_lines frame v 0 0 [] w.tree ++ last_line))
+claims_from frame v w cuts =
+    let c = meant v w in
+    let same : c ≡ plain_of w.claim (meant_tree v [] w.tree) = cert_one c (plain_of w.claim (meant_tree v [] w.tree)) refl cuts refl in
+    let last = last_from in
+    claim_from frame (λ a. AtNode frame c (told v a) []) w.claim (tree_lines frame v 0 0 [] w.tree ++ last_line) _ (w.tree, last_line, (last.0, last.1, (last.2.0, last.2.1, (last.2.2, same))), refl) refl
+
+first_lines : (frame : texts.Frame) (v : Version) (w : Cert) (ts : List Token) → w.cuts ≡ [] → ts ≡ tokens_of frame v w
+    → ts ≡ Words (codes "bpcert ") ∷ Words (version_word v) ∷ LineEnd None ∷ (claim_lines frame w.claim ++ (tree_lines frame v 0 0 [] w.tree ++ last_line))
+first_lines frame v w ts cuts is =
+    let P : List Cut → Type 0 = λ cs. ts ≡ Words (codes "bpcert ") ∷ Words (version_word v) ∷ LineEnd None ∷ (claim_lines frame w.claim ++ (cut_lines frame 0 cs ++ (tree_lines frame v (length cs) 0 [] w.tree ++ last_line))) in
+    subst P cuts (is ∙ tokens_split frame v w)
+
 -- the tokens of a certificate are what follows at the beginning
-start_follow : (frame : texts.Frame) (c : Cert) (ts : List Token) → (IsOf frame c ts → Follows frame c at_bpcert ts) × (Follows frame c at_bpcert ts → IsOf frame c ts)
-start_follow frame c ts = (
-  λ m.
-      let tail = tree_lines frame One 0 0 [] c.tree ++ last_line in
-      let P : List Cut → Type 0 = λ cuts. ts ≡ Words (codes "bpcert ") ∷ Words (codes "1") ∷ LineEnd None ∷ (claim_lines frame c.claim ++ (cut_lines frame 0 cuts ++ (tree_lines frame One (length cuts) 0 [] c.tree ++ last_line))) in
-      let split = m.1 ∙ tokens_split frame One c in
-      let bytes = subst P m.0 split in
-      let same : c ≡ plain_of c.claim c.tree = cert_one c (plain_of c.claim c.tree) refl m.0 refl in
-      let last = last_from in
-      (_, bytes, (_, refl, (_, refl, claim_from frame (λ a. AtNode frame c a []) c.claim tail _ (c.tree, last_line, (last.0, last.1, (last.2.0, last.2.1, (last.2.2, same))), refl) refl))),
-  λ m.
-      let one = m.2 in
-      let two = one.2 in
-      let claim = claim_to frame (λ a. AtNode frame c a []) two.0 two.2 in
+start_from : (frame : texts.Frame) (v : Version) (w : Cert) (ts : List Token) → HasForm v w → ts ≡ tokens_of frame v w → Follows frame (meant v w) at_bpcert ts
+start_from frame One w ts form is = (_, first_lines frame One w ts form is, inl (_, refl, (_, refl, claims_from frame One w form)))
+start_from frame Two w ts form is = (_, first_lines frame Two w ts form is, inr (_, refl, (_, refl, claims_from frame Two w form)))
+start_from frame Three w ts form is = absurd form
+
+plain_form : (v : Version) (a : texts.Claim) (t : Tree) → IsRead v → HasForm v (plain_of a t)
+plain_form One a t is = refl
+plain_form Two a t is = refl
+plain_form Three a t is = is
+
+start_to : (frame : texts.Frame) (c : Cert) (ts : List Token) → Follows frame c at_bpcert ts → IsOf frame c ts
+start_to frame c ts m = ⊎_elim (λ i. one One tt i) (λ i. one Two tt i) m.2 where
+  one : (v : Version) → IsRead v → Prefixed (Words (version_word v)) (AtFirstEnd frame c v) m.0 → IsOf frame c ts
+  one v is i =
+      let two = i.2 in
+      let claim = claim_to frame (λ a. AtNode frame c (told v a) []) two.0 two.2 in
       let node = claim.2 in
       let end = node.2 in
       let ended : node.1 ≡ last_line = last_to node.1 (end.0, end.1, (end.2.0, end.2.1, end.2.2.0)) in
-      let same : c ≡ plain_of claim.0 node.0 = end.2.2.1 in
-      let whole = m.1 ∙ ap (λ (xs : List Token). Words (codes "bpcert ") ∷ xs) (one.1 ∙ ap (λ (xs : List Token). Words (codes "1") ∷ xs) (two.1 ∙ ap (λ (xs : List Token). LineEnd None ∷ xs) (claim.3 ∙ ap (λ (xs : List Token). claim_lines frame claim.0 ++ xs) (node.3 ∙ ap (λ (xs : List Token). tree_lines frame One 0 0 [] node.0 ++ xs) ended)))) in
-      let Q : Cert → Type 0 = λ d. IsOf frame d ts in
-      subst Q (sym same) (refl, whole ∙ sym (tokens_split frame One (plain_of claim.0 node.0))),
+      let same : c ≡ plain_of claim.0 (meant_tree v [] node.0) = end.2.2.1 in
+      let whole = m.1 ∙ ap (λ (xs : List Token). Words (codes "bpcert ") ∷ xs) (i.1 ∙ ap (λ (xs : List Token). Words (version_word v) ∷ xs) (two.1 ∙ ap (λ (xs : List Token). LineEnd None ∷ xs) (claim.3 ∙ ap (λ (xs : List Token). claim_lines frame claim.0 ++ xs) (node.3 ∙ ap (λ (xs : List Token). tree_lines frame v 0 0 [] node.0 ++ xs) ended)))) in
+      record {
+        version = v;
+        written = plain_of claim.0 node.0;
+        form = plain_form v claim.0 node.0 is;
+        means = sym same;
+        tokens = whole ∙ sym (tokens_split frame v (plain_of claim.0 node.0));
+      }
+
+start_follow : (frame : texts.Frame) (c : Cert) (ts : List Token) → (IsOf frame c ts → Follows frame c at_bpcert ts) × (Follows frame c at_bpcert ts → IsOf frame c ts)
+start_follow frame c ts = (
+  λ m. let Q : Cert → Type 0 = λ d. Follows frame d at_bpcert ts in subst Q m.means (start_from frame m.version m.written ts m.form m.tokens),
+  λ m. start_to frame c ts m,
 )
 
 -- a reader that has read nothing
@@ -136,7 +162,7 @@ begins_well frame r spot part line left =
 -- only behind the last line is the text over
 over_spot : (frame : texts.Frame) (d : Cert) (r : Reader) (n : ℕ) (spot : Spot) → IsOver frame d (place_of r n spot) → spot ≡ s.Over
 over_spot frame d r n s.Bpcert is = absurd is
-over_spot frame d r n s.One is = absurd is
+over_spot frame d r n s.Version is = absurd is
 over_spot frame d r n s.FirstEnd is = absurd is
 over_spot frame d r n s.Claim is = absurd is
 over_spot frame d r n s.Kind is = absurd is
@@ -209,15 +235,15 @@ cut_minus frame r text line stands is at_line =
     (leaves_minus (frame_of frame) (stage_of r stands.count) part.done [] [] part.reached (subst S (sym part.of_sort) tt) tt (λ e. e))))
 
 -- the certificate that was read
-pub taken_well : (frame : Frame) (r : Reader) (text : List ℕ) (cert : Kept) → StandsFor frame r text → r.part ≡ Fresh → r.spot ≡ s.Over → cert.claim ≡ r.claim → cert.point ≡ r.point → cert.tree ≡ r.root → IsText (frame_of frame) One (kept_cert cert) text
+pub taken_well : (frame : Frame) (r : Reader) (text : List ℕ) (cert : Kept) → StandsFor frame r text → r.part ≡ Fresh → r.spot ≡ s.Over → cert.claim ≡ r.claim → cert.point ≡ r.point → cert.tree ≡ r.root → IsCertText (frame_of frame) (kept_cert cert) text
 taken_well frame r text cert stands fresh ended claim point tree =
     let a = written_claim r.claim r.point in
     let t = root_of r.root in
     let Q : Part → Type 0 = λ p. IsPart (frame_of frame) (stage_of r stands.count) p text in
     let P : Spot → Type 0 = λ x. Reached (frame_of frame) (place_of r stands.count x) false text in
-    let reached : Reached (frame_of frame) (over a t) false text = subst P ended (subst Q fresh stands.part) in
+    let reached : Reached (frame_of frame) (over (told_of r) t) false text = subst P ended (subst Q fresh stands.part) in
     let whole = (reached.follow (plain_of a t) []).1 (refl, refl) in
-    let same : reached.before ≡ tokens_of (frame_of frame) One (plain_of a t) = sym (append-nil reached.before) ∙ whole.1 in
+    let same : reached.before ≡ tokens_of (frame_of frame) whole.version whole.written = sym (append-nil reached.before) ∙ whole.tokens in
     let C : List Token → Type 0 = AreClean in
     let clean = subst C same reached.clean in
     let kept : plain_of a t ≡ kept_cert cert =
@@ -225,4 +251,4 @@ taken_well frame r text cert stands fresh ended claim point tree =
     ∙ ap (λ (k : Claim). plain_of (written_claim k (unwrap_or (option_map (λ _. r.point) (named_value k)) [])) t) (sym claim)
     ∙ ap (λ (zs : List ℤ). plain_of (written_claim cert.claim (unwrap_or (option_map (λ _. zs) (named_value cert.claim)) [])) t) (sym point)
     ∙ ap (λ (x : Sketch). plain_of (written_claim cert.claim (unwrap_or (option_map (λ _. cert.point) (named_value cert.claim)) [])) (written_tree (tree_of x))) (sym tree) in
-    record { written = plain_of a t; form = refl; clean = clean; bytes = reached.bytes ∙ ap text_of same; means = cert_means (frame_of frame) a t clean ∙ kept }
+    (whole.version, record { written = whole.written; form = whole.form; clean = clean; bytes = reached.bytes ∙ ap text_of same; means = whole.means ∙ kept })

@@ -5,7 +5,7 @@ use Rattle.cert_text.specs.Cert.{Cert, Frame}
 use Rattle.cert_text.specs.Text.{Kind, Token, Figure, numeral, signed_numeral, token_text, text_of}
 use Rattle.cert_text.specs.Fault.{EndsNumber, EndsToken, BeginsNumber, line_behind}
 use Rattle.cert_text.specs.Words.{word_text, word_token}
-use Rattle.cert_text.specs.Stages.{after_bound, at_block, at_blocks, at_bound, at_bpcert, at_claim, at_coordinate, at_count, at_end, at_first_end, at_kind, at_multiplier, at_node, at_one, at_optimal, at_pairs, at_place, at_point, at_priced, at_row, at_rows, at_scale, at_value, at_values, at_variable, claim_end, infeasible_end, last_end, leaf_end, row_gap, split_end, variable_gap, over}
+use Rattle.cert_text.specs.Stages.{after_bound, at_block, at_blocks, at_bound, at_bpcert, at_claim, at_coordinate, at_count, at_end, at_first_end, at_kind, at_multiplier, at_node, at_version, at_optimal, at_pairs, at_place, at_point, at_priced, at_row, at_rows, at_scale, at_value, at_values, at_variable, claim_end, infeasible_end, last_end, leaf_end, row_gap, split_end, variable_gap, over}
 use Rattle.cert_text.specs.Stages.{Stage, words, after, line_fault, sort, IsOfSort, is_deep_stage, number_fault, behind_number, Follows}
 use Rattle.cert_text.specs.Standing.{MayStand, Reached, Comes}
 use Rattle.cert_text.specs.declared.words.Word.{Word}
@@ -92,19 +92,19 @@ take_some word b (suc count) bs is some = (take count bs, ap (λ (xs : List ℕ)
 over_words : (frame : Frame) (d : Cert) (word : Word) (stage : Stage) → Comes word (words stage) → IsOver frame d stage → ⊥
 over_words frame d word (over a t) comes e = comes
 over_words frame d word at_bpcert comes e = e
-over_words frame d word at_one comes e = e
-over_words frame d word at_first_end comes e = e
-over_words frame d word at_claim comes e = e
-over_words frame d word at_kind comes e = e
-over_words frame d word at_optimal comes e = e
-over_words frame d word infeasible_end comes e = e
-over_words frame d word at_bound comes e = e
-over_words frame d word (after_bound b) comes e = e
-over_words frame d word (at_value b) comes e = e
-over_words frame d word (claim_end k) comes e = e
-over_words frame d word (at_point k) comes e = e
-over_words frame d word (at_values k zs) comes e = e
-over_words frame d word (at_coordinate k zs) comes e = e
+over_words frame d word at_version comes e = e
+over_words frame d word (at_first_end v) comes e = e
+over_words frame d word (at_claim v) comes e = e
+over_words frame d word (at_kind v) comes e = e
+over_words frame d word (at_optimal v) comes e = e
+over_words frame d word (infeasible_end v) comes e = e
+over_words frame d word (at_bound v) comes e = e
+over_words frame d word (after_bound v b) comes e = e
+over_words frame d word (at_value v b) comes e = e
+over_words frame d word (claim_end v k) comes e = e
+over_words frame d word (at_point v k) comes e = e
+over_words frame d word (at_values v k zs) comes e = e
+over_words frame d word (at_coordinate v k zs) comes e = e
 over_words frame d word (at_node a ws) comes e = e
 over_words frame d word (at_scale a ws o) comes e = e
 over_words frame d word (at_rows a ws o s) comes e = e
@@ -127,19 +127,19 @@ over_words frame d word (last_end a t) comes e = e
 over_numbers : (frame : Frame) (d : Cert) (stage : Stage) (z : ℤ) → IsOfSort (sort stage) z → IsOver frame d stage → ⊥
 over_numbers frame d (over a t) z of_sort e = of_sort
 over_numbers frame d at_bpcert z of_sort e = e
-over_numbers frame d at_one z of_sort e = e
-over_numbers frame d at_first_end z of_sort e = e
-over_numbers frame d at_claim z of_sort e = e
-over_numbers frame d at_kind z of_sort e = e
-over_numbers frame d at_optimal z of_sort e = e
-over_numbers frame d infeasible_end z of_sort e = e
-over_numbers frame d at_bound z of_sort e = e
-over_numbers frame d (after_bound b) z of_sort e = e
-over_numbers frame d (at_value b) z of_sort e = e
-over_numbers frame d (claim_end k) z of_sort e = e
-over_numbers frame d (at_point k) z of_sort e = e
-over_numbers frame d (at_values k zs) z of_sort e = e
-over_numbers frame d (at_coordinate k zs) z of_sort e = e
+over_numbers frame d at_version z of_sort e = e
+over_numbers frame d (at_first_end v) z of_sort e = e
+over_numbers frame d (at_claim v) z of_sort e = e
+over_numbers frame d (at_kind v) z of_sort e = e
+over_numbers frame d (at_optimal v) z of_sort e = e
+over_numbers frame d (infeasible_end v) z of_sort e = e
+over_numbers frame d (at_bound v) z of_sort e = e
+over_numbers frame d (after_bound v b) z of_sort e = e
+over_numbers frame d (at_value v b) z of_sort e = e
+over_numbers frame d (claim_end v k) z of_sort e = e
+over_numbers frame d (at_point v k) z of_sort e = e
+over_numbers frame d (at_values v k zs) z of_sort e = e
+over_numbers frame d (at_coordinate v k zs) z of_sort e = e
 over_numbers frame d (at_node a ws) z of_sort e = e
 over_numbers frame d (at_scale a ws o) z of_sort e = e
 over_numbers frame d (at_rows a ws o s) z of_sort e = e

@@ -1,6 +1,6 @@
 -- Proofs may name the master rows of a program in blocks, and no others.
-use Rattle.std.proofs.Common.{◌≡◌, ℕ, zero, suc, ◌+◌, ◌<◌, ◌≤◌, Bool, true, false, not, if◌then◌else◌, List, [], ◌∷◌, ◌++◌, map, filter, drop, length, get_or, Option, Some, None, refl, sym, ap, subst, ◌∙◌, arith}
-use Rattle.std.specs.Prelude.{is_none, is_some, option_map, IsSome}
+use Rattle.std.proofs.Common.{◌≡◌, ℕ, zero, suc, ◌+◌, ◌<◌, ◌≤◌, Bool, true, false, if◌then◌else◌, List, [], ◌∷◌, ◌++◌, map, filter, drop, length, get_or, Option, Some, None, refl, sym, ap, subst, ◌∙◌, arith}
+use Rattle.std.specs.Prelude.{is_none, option_map, IsSome}
 use Rattle.std.specs.List.{range_with_len, zip, flat_map}
 use Rattle.bp_theory.specs.Program.{Program}
 use Rattle.bp_theory.specs.Blocking.{Blocking, row_at, sides_of}

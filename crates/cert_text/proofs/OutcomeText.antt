@@ -1,12 +1,12 @@
 -- The text of a search's outcome.
-use Rattle.std.proofs.Common.{◌≡◌, refl, sym, ap, subst, ◌∙◌, ℕ, ◌<◌, ◌^◌, Bool, true, false, List, [], ◌∷◌, ◌++◌, length, Option, Some, None, arith}
+use Rattle.std.proofs.Common.{◌≡◌, sym, ap, subst, ◌∙◌, ℕ, ◌<◌, ◌^◌, Bool, true, false, List, [], ◌++◌, length, Some, None, arith}
 use Rattle.std.proofs.Math.IntN.{ℤ}
-use Rattle.std.specs.Prelude.{All, IfSome, unsigned_abs, unwrap_or}
+use Rattle.std.specs.Prelude.{IfSome, unsigned_abs, unwrap_or}
 use Rattle.std.specs.Option.{option_map}
 use Rattle.std.proofs.lemmas.Int.{ints}
 use Rattle.bp_theory.specs.Program.{in_sense}
 use Rattle.bp_theory.specs.Bound.{Fits}
-use Rattle.bp_theory.specs.Trees.{Tree, Leaf, HasSoundSplits}
+use Rattle.bp_theory.specs.Trees.{Tree, Leaf}
 use Rattle.bp_theory.specs.Judgement.{named_value}
 use Rattle.bp_theory.specs.declared.Span.{Span}
 use Rattle.bp_theory.specs.declared.Claim.{Claim}
@@ -15,17 +15,19 @@ use Rattle.search_laws.specs.Grove.{GrowingTree, certificate_tree}
 use Rattle.search_laws.specs.GroveFacts.{IsGrove}
 use Rattle.search_laws.specs.Outcomes.{read_off}
 use Rattle.search_laws.proofs.OutcomeProof.{of_leaves}
-use Rattle.branch_tree.specs.Groves.{GroveState, IsStanding, IsGroveOf}
+use Rattle.branch_tree.specs.Groves.{IsStanding}
 use Rattle.branch_tree.specs.declared.outcome.Outcome.{Outcome}
 use Rattle.branch_tree.specs.declared.outcome.Outcome.TheVariants.{Optimal, Infeasible, Budget}
 use Rattle.cert_text.specs.Cert as texts
-use Rattle.cert_text.specs.Text.{One}
+use Rattle.cert_text.specs.Text.{Version, One, Two}
 use Rattle.cert_text.specs.Fault.{IsText}
 use Rattle.cert_text.specs.Written.{written_tree, cert_of, certificate}
 use Rattle.cert_text.specs.Plain.{plain_text}
 use Rattle.cert_text.specs.Programs.{frame_for, IsSmall, IsSmallClaim, IsSmallPoint, CanWrite}
 use Rattle.cert_text.specs.Outcomes.{grove_of, claim_of, point_of, HasSmallNumbers, IsWritable}
 use Rattle.cert_text.proofs.PlainProof.{same_claim}
+use Rattle.cert_text.specs.Changes.{changing_nodes}
+use Rattle.cert_text.proofs.ChangeText.{rewritten}
 use Rattle.cert_text.proofs.WritesProof.{has_text}
 
 small_sense : (m : Bool) (z : ℤ) → unsigned_abs z < 2 ^ 62 → IsSmall (in_sense m z)
@@ -58,21 +60,22 @@ can_write b o writable standing =
       shallow = standing.deep;
     }
 
--- what is written of an outcome is the text of its certificate
+-- what is written of an outcome is the text of its certificate in version 2
 pub outcome_text : (b : BlockedProgram) → IsFormed b → (o : Outcome) (text : List ℕ) → IsWritable b o → IsStanding (grove_of o)
-    → text ≡ plain_text (claim_of b.named.program.maximises o) (unwrap_or (point_of o) []) (certificate_tree (grove_of o).tree)
-    → IsText (frame_for b) One (cert_of (read_off (claim_of b.named.program.maximises o) (point_of o) [] (grove_of o).tree)) text
+    → text ≡ plain_text Two (claim_of b.named.program.maximises o) (unwrap_or (point_of o) []) (changing_nodes [] (certificate_tree (grove_of o).tree))
+    → IsText (frame_for b) Two (cert_of (read_off (claim_of b.named.program.maximises o) (point_of o) [] (grove_of o).tree)) text
 outcome_text b formed o text writable standing is =
     let k : Claim = claim_of b.named.program.maximises o in
     let zs : List ℤ = unwrap_or (point_of o) [] in
     let t : Tree = certificate_tree (grove_of o).tree in
     let same : cert_of (certificate k zs t) ≡ cert_of (read_off k (point_of o) [] (grove_of o).tree) =
     ap (λ (c : texts.Claim). record { claim = c; cuts = []; tree = written_tree t }) (same_claim k zs) in
-    subst (λ (s : List ℕ). IsText (frame_for b) One (cert_of (read_off k (point_of o) [] (grove_of o).tree)) s) (sym is)
-    (subst (λ (c : texts.Cert). IsText (frame_for b) One c (plain_text k zs t)) same (has_text b formed k zs t (can_write b o writable standing)))
+    let new = rewritten (frame_for b) One k zs t (plain_text One k zs t) (has_text b formed k zs t (can_write b o writable standing)) in
+    subst (λ (s : List ℕ). IsText (frame_for b) Two (cert_of (read_off k (point_of o) [] (grove_of o).tree)) s) (sym is)
+    (subst (λ (c : texts.Cert). IsText (frame_for b) Two c (plain_text Two k zs (changing_nodes [] t))) same new)
 
 -- a text from its parts
-pub text_is : (k l : Claim) (zs ys : List ℤ) (t u : Tree) (old text : List ℕ) → old ≡ [] → k ≡ l → zs ≡ ys → t ≡ u → text ≡ old ++ plain_text k zs t → text ≡ plain_text l ys u
-text_is k l zs ys t u old text none claim point tree is =
-    is ∙ ap (λ (xs : List ℕ). xs ++ plain_text k zs t) none ∙ ap (λ (x : Claim). plain_text x zs t) claim ∙ ap (λ (xs : List ℤ). plain_text l xs t) point
-    ∙ ap (λ (x : Tree). plain_text l ys x) tree
+pub text_is : (version : Version) (k l : Claim) (zs ys : List ℤ) (t u : Tree) (old text : List ℕ) → old ≡ [] → k ≡ l → zs ≡ ys → t ≡ u → text ≡ old ++ plain_text version k zs t → text ≡ plain_text version l ys u
+text_is version k l zs ys t u old text none claim point tree is =
+    is ∙ ap (λ (xs : List ℕ). xs ++ plain_text version k zs t) none ∙ ap (λ (x : Claim). plain_text version x zs t) claim ∙ ap (λ (xs : List ℤ). plain_text version l xs t) point
+    ∙ ap (λ (x : Tree). plain_text version l ys x) tree

@@ -2,7 +2,7 @@
 use Rattle.std.proofs.Common.{◌≡◌, ℕ, Bool, true, false, List, [], ◌∷◌, ◌++◌, Option, Some, None, ℤ, pos, refl, sym, ap, ◌∙◌, subst, inl, inr, append_assoc, append-nil}
 use Rattle.std.proofs.lemmas.Grind.{flat_map-append}
 use Rattle.cert_text.specs.Cert.{Cert, Frame}
-use Rattle.cert_text.specs.Text.{Kind, Token, Words, Figure, LineEnd, One, Two, Three, numeral, signed_numeral, token_text, text_of, fault_of, tokens_of}
+use Rattle.cert_text.specs.Text.{Kind, Token, Words, Figure, LineEnd, meant, signed_numeral, token_text, text_of, fault_of, tokens_of}
 use Rattle.cert_text.specs.Fault.{AreClean, EndsNumber, EndsToken, EndIsSeen, HasFaultyToken, HasNoFaultyToken, BeginsNumber, HasDeepNumber, HasNoDeepNumber, LeavesGrammar, IsFollowed, IsFirstCertFault, IsSeenFault, line_behind}
 use Rattle.cert_text.specs.declared.fault.CertKind.TheVariants.{Syntax}
 use Rattle.cert_text.specs.Words.{word_text, word_token}
@@ -83,14 +83,14 @@ token_faulty frame stage next number done rest x line kind r fault leads ends at
     let more = goes_on_from frame next in
     let whole = (r.follow more.0 (x ∷ more.1)).1 ((leads more.0 more.1).1 more.2) in (
       record {
-        version = One;
-        written = more.0;
-        form = whole.0;
+        version = whole.version;
+        written = whole.written;
+        form = whole.form;
         before = r.before;
         token = x;
         after = more.1;
         rest = rest;
-        tokens = sym whole.1;
+        tokens = sym whole.tokens;
         clean = r.clean;
         fault = fault;
         bytes = sym (append_assoc done (token_text x) rest) ∙ ap (λ (t : List ℕ). t ++ rest) (ap (λ (t : List ℕ). t ++ token_text x) r.bytes ∙ sym (text_push r.before x));
@@ -128,13 +128,9 @@ number_seen_faulty frame stage done rest byte z line kind r of_sort fault ends a
       seen (Figure y f) [] is = cc
       seen (Figure y f) (b ∷ s) is = tt
 
--- a certificate is one of version 1
+-- a text's tokens are those of the certificate that it means
 of_version : (frame : Frame) (ts : List Token) → Certificates frame ts → (c : Cert) × IsOf frame c ts
-of_version frame ts m = opened m.0 m.1 m.2 m.3 where
-  opened : (v : Rattle.cert_text.specs.Text.Version) (c : Cert) → Rattle.cert_text.specs.Text.HasForm v c → ts ≡ tokens_of frame v c → (d : Cert) × IsOf frame d ts
-  opened One c form is = (c, (form, is))
-  opened Two c form is = absurd form
-  opened Three c form is = absurd form
+of_version frame ts m = (meant m.0 m.1, record { version = m.0; written = m.1; form = m.2; means = refl; tokens = m.3 })
 
 -- the number of a node that is too deep, behind a text that is reached
 pub deep_there : (frame : Frame) (stage : Stage) (done rest : List ℕ) (line : ℕ) → Reached frame stage false done → is_deep_stage stage ≡ true → BeginsNumber rest → line ≡ line_behind done
@@ -147,13 +143,13 @@ deep_there frame stage done rest line r is number at_line =
     let follows : Follows frame more.0 stage (deep ∷ more.1) = subst F about.0 ((number_leads frame more.0 stage (pos 0) (subst S (sym about.2) refl) more.1).1 more.2) in
     let whole = (r.follow more.0 (deep ∷ more.1)).1 follows in
     record {
-      version = One;
-      written = more.0;
-      form = whole.0;
+      version = whole.version;
+      written = whole.written;
+      form = whole.form;
       before = r.before;
       after = more.1;
       rest = rest;
-      tokens = sym whole.1;
+      tokens = sym whole.tokens;
       clean = r.clean;
       bytes = ap (λ (t : List ℕ). t ++ rest) r.bytes;
       number = number;
@@ -179,12 +175,12 @@ pub none_there : (frame : Frame) (stage : Stage) (number : Bool) (done p rest mo
 none_there frame stage number done p rest more r stands fits c us follows barred dry line a =
     let whole = (r.follow c us).1 follows in
     let P : List Token → Type 0 = λ ts. AreCoherent (Unit {0}) ts (a.before ++ deep ∷ a.after) in
-    let Q : List Token → Type 0 = λ ts. AreCoherent (Unit {0}) (tokens_of frame One c) ts in
+    let Q : List Token → Type 0 = λ ts. AreCoherent (Unit {0}) (tokens_of frame whole.version whole.written) ts in
     let w : List ℕ = p ++ (rest ++ more) in
     let bytes : (done ++ (p ++ rest)) ++ more ≡ done ++ w = append_assoc done (p ++ rest) more ∙ ap (λ (xs : List ℕ). done ++ xs) (append_assoc p rest more) in
     let same : text_of r.before ++ w ≡ text_of a.before ++ a.rest = sym (ap (λ (xs : List ℕ). xs ++ w) r.bytes) ∙ sym bytes ∙ a.bytes in
     let found = deep_behind (Unit {0}) r.before us a.before a.after w a.rest
-    (subst P (sym whole.1) (subst Q a.tokens (tokens_coherent (Unit {0}) frame One a.version c a.written (λ _ _. tt))))
+    (subst P (sym whole.tokens) (subst Q a.tokens (tokens_coherent (Unit {0}) frame whole.version a.version whole.written a.written (λ _ _. tt))))
     (subst (λ (ts : List Token). AreSpaced ts) a.tokens (tokens_spaced frame a.version a.written)) r.clean (r.read w (may_more number p rest more fits stands)) same in
     by found.0 found.1 found.3 found.4
   where
@@ -217,7 +213,7 @@ leaves_there frame stage number done p rest r stands c us more follows begins ba
       partial = p;
       rest = rest;
       more = more;
-      member = (One, c, whole.0, whole.1);
+      member = (whole.version, whole.written, whole.form, whole.tokens);
       clean = r.clean;
       bytes = ap (λ (t : List ℕ). t ++ (p ++ rest)) r.bytes;
       begins = begins;

@@ -9,7 +9,7 @@ use Rattle.cert_text.specs.Spots.{spot_sort}
 use Rattle.cert_text.specs.Frames.{frame_of}
 use Rattle.cert_text.specs.Signed.{signed}
 use Rattle.cert_text.specs.Readers.{IsBehind, IsCount, slack, count_behind, place_of, stage_of, TakesNatural, TakesWhole}
-use Rattle.cert_text.specs.Stages.{at_bpcert, at_one, at_first_end, at_claim, at_kind, at_optimal, infeasible_end, at_bound, after_bound, at_value, claim_end, at_point, at_values, at_coordinate, at_node, at_scale, at_rows, at_count, at_pairs, at_row, row_gap, at_multiplier, at_priced, at_blocks, at_block, leaf_end, at_variable, variable_gap, at_place, split_end, at_end, last_end, over}
+use Rattle.cert_text.specs.Stages.{at_bpcert, at_version, at_first_end, at_claim, at_kind, at_optimal, infeasible_end, at_bound, after_bound, at_value, claim_end, at_point, at_values, at_coordinate, at_node, at_scale, at_rows, at_count, at_pairs, at_row, row_gap, at_multiplier, at_priced, at_blocks, at_block, leaf_end, at_variable, variable_gap, at_place, split_end, at_end, last_end, over}
 use Rattle.cert_text.specs.Stages.{Stage, words, sort, IsOfSort, is_deep_stage, number_fault, behind_number}
 use Rattle.cert_text.specs.Standing.{MayStand, Reached, Comes, IsInNumber, IsBehindMinus, IsBehindDeepMinus, IsPart, CountFits, IsShort, KeepsCounts, StandsFor, Between, EndsNumberAt, EndsTextAt, is_digit}
 use Rattle.cert_text.specs.declared.fault.CertKind.TheVariants.{Syntax, Depth}
@@ -34,7 +34,7 @@ use Rattle.cert_text.proofs.Bytes.{line_same, sort_is, behind_wordy, IsCounting,
 -- how much of a token has come, and the line, are no part of the place
 pub same_place : (r : Reader) (p : Part) (l n : ℕ) (spot : Spot) → place_of (record r { part = p; line = l }) n spot ≡ place_of r n spot
 same_place r p l n s.Bpcert = refl
-same_place r p l n s.One = refl
+same_place r p l n s.Version = refl
 same_place r p l n s.FirstEnd = refl
 same_place r p l n s.Claim = refl
 same_place r p l n s.Kind = refl
@@ -412,19 +412,19 @@ of_kept Natural true (suc n) value kept is = absurd (cc)
 -- a number of pairs or blocks has no sign
 counting_sort : (stage : Stage) (z : ℤ) → IsCounting stage → IsOfSort (sort stage) z → z ≡ pos (nat_abs z)
 counting_sort at_bpcert z counts of_sort = absurd counts
-counting_sort at_one z counts of_sort = absurd counts
-counting_sort at_first_end z counts of_sort = absurd counts
-counting_sort at_claim z counts of_sort = absurd counts
-counting_sort at_kind z counts of_sort = absurd counts
-counting_sort at_optimal z counts of_sort = absurd counts
-counting_sort infeasible_end z counts of_sort = absurd counts
-counting_sort at_bound z counts of_sort = absurd counts
-counting_sort (after_bound b) z counts of_sort = absurd counts
-counting_sort (at_value b) z counts of_sort = absurd counts
-counting_sort (claim_end k) z counts of_sort = absurd counts
-counting_sort (at_point k) z counts of_sort = absurd counts
-counting_sort (at_values k zs) z counts of_sort = absurd counts
-counting_sort (at_coordinate k zs) z counts of_sort = absurd counts
+counting_sort at_version z counts of_sort = absurd counts
+counting_sort (at_first_end v) z counts of_sort = absurd counts
+counting_sort (at_claim v) z counts of_sort = absurd counts
+counting_sort (at_kind v) z counts of_sort = absurd counts
+counting_sort (at_optimal v) z counts of_sort = absurd counts
+counting_sort (infeasible_end v) z counts of_sort = absurd counts
+counting_sort (at_bound v) z counts of_sort = absurd counts
+counting_sort (after_bound v b) z counts of_sort = absurd counts
+counting_sort (at_value v b) z counts of_sort = absurd counts
+counting_sort (claim_end v k) z counts of_sort = absurd counts
+counting_sort (at_point v k) z counts of_sort = absurd counts
+counting_sort (at_values v k zs) z counts of_sort = absurd counts
+counting_sort (at_coordinate v k zs) z counts of_sort = absurd counts
 counting_sort (at_node a ws) z counts of_sort = absurd counts
 counting_sort (at_scale a ws o) z counts of_sort = absurd counts
 counting_sort (at_rows a ws o s) z counts of_sort = absurd counts
@@ -447,7 +447,7 @@ counting_sort (over a t) z counts of_sort = absurd counts
 
 count_behind-le : (spot : Spot) (a b v : ℕ) → a ≤ b → count_behind spot a v ≤ count_behind spot b v
 count_behind-le s.Bpcert a b v less = omega arith
-count_behind-le s.One a b v less = omega arith
+count_behind-le s.Version a b v less = omega arith
 count_behind-le s.FirstEnd a b v less = omega arith
 count_behind-le s.Claim a b v less = omega arith
 count_behind-le s.Kind a b v less = omega arith
@@ -482,7 +482,7 @@ count_behind-le s.Over a b v less = omega arith
 
 count_behind-count : (spot : Spot) (a v : ℕ) → IsCount spot → count_behind spot a v ≡ v
 count_behind-count s.Bpcert a v is = absurd is
-count_behind-count s.One a v is = absurd is
+count_behind-count s.Version a v is = absurd is
 count_behind-count s.FirstEnd a v is = absurd is
 count_behind-count s.Claim a v is = absurd is
 count_behind-count s.Kind a v is = absurd is

@@ -1,15 +1,14 @@
 -- Every place of a reader: the tokens that may come there, and what is left behind each.
-use Rattle.std.proofs.Common.{◌≡◌, ◌⊎◌, ℕ, zero, suc, ◌+◌, ◌-◌, ◌^◌, ◌<◌, Bool, true, false, List, [], ◌∷◌, ◌++◌, length, codes, Option, None, ℤ, pos, nat_abs, refl, sym, ap, ◌∙◌, subst, inl, inr, ⊎_elim, arith, append_assoc, append-nil, nat_eq, if◌then◌else◌}
-use Rattle.cert_text.specs.Cert.{Picked, Every, These, Proof, Tree, Shut, Open, Split, Claim, Optimal, Infeasible, Bound, BoundValue, Cert, Frame}
-use Rattle.cert_text.specs.Text.{Kind, Token, Words, Figure, LineEnd, One, value_fault, coordinate_fault, end_fault, row_fault, multiplier_fault, block_fault, scale_fault, variable_fault, may_name, point_values, picked_words, count, tree_lines, tokens_of}
-use Rattle.cert_text.specs.Grammar.{Prefixed, Numbered, Valued, Pairs, Blocks, Priced, Trees}
-use Rattle.cert_text.specs.Words.{word_token}
-use Rattle.cert_text.specs.declared.words.Word.{Word}
+use Rattle.std.proofs.Common.{◌≡◌, ◌⊎◌, ℕ, zero, suc, ◌+◌, ◌-◌, ◌^◌, Bool, List, [], ◌∷◌, ◌++◌, length, codes, Option, None, ℤ, pos, nat_abs, refl, sym, ◌∙◌, subst, inl, inr, ⊎_elim, arith, if◌then◌else◌}
+use Rattle.cert_text.specs.Cert.{Every, These, Proof, Tree, Shut, Split, Infeasible, Bound, Cert, Frame}
+use Rattle.cert_text.specs.Text.{Kind, Token, Words, Figure, LineEnd, Version, One, Two, may_name, tree_lines, meant_proof}
+use Rattle.cert_text.specs.Grammar.{Prefixed, Numbered, Valued}
+use Rattle.cert_text.specs.Words.{word_token, change_word}
 use Rattle.cert_text.specs.declared.words.Word.TheVariants as w
-use Rattle.cert_text.specs.Stages.{Wait, low_of, high_of, Known, optimal_of, bound_of, claim_with, leaf_of, proof_of, plain_of, Stage, at_bpcert, at_one, at_first_end, at_claim, at_kind, at_optimal, infeasible_end, at_bound, after_bound, at_value, claim_end, at_point, at_values, at_coordinate, at_node, at_scale, at_rows, at_count, at_pairs, at_row, row_gap, at_multiplier, at_priced, at_blocks, at_block, leaf_end, at_variable, variable_gap, at_place, split_end, at_end, last_end, over, behind, words, line_fault, sort, IsOfSort, number_fault, behind_number, Over, AfterTree, Behind, AtNode, LeafEnd, AtBlocks, AtPriced, AtPairs, AtMultiplier, RowGap, AtRow, AtBlock, AtCount, AtRows, AtScale, SplitEnd, AtPlace, VariableGap, AtVariable, AtValues, AtCoordinate, AtPoint, ClaimEnd, AtValue, AfterBound, AtBound, InfeasibleEnd, AtOptimal, AtKind, AtClaim, AtFirstEnd, AtOne, Follows}
+use Rattle.cert_text.specs.Stages.{Wait, low_of, high_of, Known, optimal_of, bound_of, claim_with, leaf_of, proof_of, plain_of, Told, told, past, passed, meaning, behind_leaf, Stage, at_bpcert, at_version, at_first_end, at_claim, at_kind, at_optimal, infeasible_end, at_bound, after_bound, at_value, claim_end, at_point, at_values, at_coordinate, at_node, at_scale, at_rows, at_count, at_pairs, at_row, row_gap, at_multiplier, at_priced, at_blocks, at_block, leaf_end, at_variable, variable_gap, at_place, split_end, at_end, last_end, over, words, line_fault, sort, IsOfSort, number_fault, behind_number, AfterTree, Behind, BehindLeaf, BehindTree, AtNode, LeafEnd, AtBlocks, AtPriced, AtPairs, AtMultiplier, RowGap, AtCount, AtRows, SplitEnd, AtPlace, VariableGap, AtValues, AtPoint, ClaimEnd, AtValue, AfterBound, AtBound, InfeasibleEnd, AtOptimal, AtKind, AtClaim, AtFirstEnd, AtVersion, Follows}
 use Rattle.cert_text.proofs.Productions.{points_first, points_over, first_pair, no_pairs, filler, first_block, no_blocks, block_filler, priced_by, priced_first, priced_over}
 use Rattle.cert_text.proofs.Trees.{tree_first, tree_over}
-use Rattle.cert_text.proofs.StageProofs.{Alike, prefixed_alike, natural_alike, valued_alike, same_head, no_tokens, ForEach, ForSomeOf, by_zero, Leads, leaf_end_alike, node_by, node_leaf, node_open, node_split, values_end, values_more, PairsG, pairs_end, pairs_more, BlocksG, blocks_end, blocks_more, PricedG, priced_every, priced_these}
+use Rattle.cert_text.proofs.StageProofs.{Alike, prefixed_alike, natural_alike, valued_alike, same_head, no_tokens, ForEach, ForSomeOf, by_zero, Leads, change_token, leaf_end_alike, node_by, node_leaf, node_open, node_split, values_end, values_more, PairsG, pairs_end, pairs_more, BlocksG, blocks_end, blocks_more, PricedG, priced_every, priced_these}
 
 module _ (frame : Frame) (c : Cert) where
   -- one of several words in front
@@ -30,49 +29,61 @@ module _ (frame : Frame) (c : Cert) where
   line_apart : (f : Option Kind) (xs : List ℕ) → LineEnd f ≡ Words xs → ⊥
   line_apart f xs same = cc
 
-  kind_optimal : (ts : List Token) → Alike (AtKind frame c (Words (codes "optimal ") ∷ ts)) (AtOptimal frame c ts)
-  kind_optimal ts = under_first (Words (codes "optimal ")) (AtOptimal frame c) (λ us. Prefixed (Words (codes "infeasible")) (InfeasibleEnd frame c) us ⊎ Prefixed (Words (codes "bound ")) (AtBound frame c) us) ts
+  kind_optimal : (v : Version) (ts : List Token) → Alike (AtKind frame c v (Words (codes "optimal ") ∷ ts)) (AtOptimal frame c v ts)
+  kind_optimal v ts = under_first (Words (codes "optimal ")) (AtOptimal frame c v) (λ us. Prefixed (Words (codes "infeasible")) (InfeasibleEnd frame c v) us ⊎ Prefixed (Words (codes "bound ")) (AtBound frame c v) us) ts
       (λ m. ⊎_elim (not_prefixed _ _ _ _ (words_apart 111 105 _ _ (λ e. omega arith))) (not_prefixed _ _ _ _ (words_apart 111 98 _ _ (λ e. omega arith))) m)
 
-  kind_infeasible : (ts : List Token) → Alike (AtKind frame c (Words (codes "infeasible") ∷ ts)) (InfeasibleEnd frame c ts)
-  kind_infeasible ts =
-      let inner = under_first (Words (codes "infeasible")) (InfeasibleEnd frame c) (λ us. Prefixed (Words (codes "bound ")) (AtBound frame c) us) ts (not_prefixed _ _ _ _ (words_apart 105 98 _ _ (λ e. omega arith))) in (
+  kind_infeasible : (v : Version) (ts : List Token) → Alike (AtKind frame c v (Words (codes "infeasible") ∷ ts)) (InfeasibleEnd frame c v ts)
+  kind_infeasible v ts =
+      let inner = under_first (Words (codes "infeasible")) (InfeasibleEnd frame c v) (λ us. Prefixed (Words (codes "bound ")) (AtBound frame c v) us) ts (not_prefixed _ _ _ _ (words_apart 105 98 _ _ (λ e. omega arith))) in (
         λ m. ⊎_elim (λ n. absurd (not_prefixed (Words (codes "optimal ")) _ _ _ (words_apart 105 111 _ _ (λ e. omega arith)) n)) inner.0 m,
         λ m. inr (inner.1 m),
       )
 
-  kind_bound : (ts : List Token) → Alike (AtKind frame c (Words (codes "bound ") ∷ ts)) (AtBound frame c ts)
-  kind_bound ts =
-      let inner = under_second (Words (codes "bound ")) (AtBound frame c) (λ us. Prefixed (Words (codes "infeasible")) (InfeasibleEnd frame c) us) ts (not_prefixed _ _ _ _ (words_apart 98 105 _ _ (λ e. omega arith))) in (
+  kind_bound : (v : Version) (ts : List Token) → Alike (AtKind frame c v (Words (codes "bound ") ∷ ts)) (AtBound frame c v ts)
+  kind_bound v ts =
+      let inner = under_second (Words (codes "bound ")) (AtBound frame c v) (λ us. Prefixed (Words (codes "infeasible")) (InfeasibleEnd frame c v) us) ts (not_prefixed _ _ _ _ (words_apart 98 105 _ _ (λ e. omega arith))) in (
         λ m. ⊎_elim (λ n. absurd (not_prefixed (Words (codes "optimal ")) _ _ _ (words_apart 98 111 _ _ (λ e. omega arith)) n)) inner.0 m,
         λ m. inr (inner.1 m),
       )
 
-  bound_ends : (b : ℤ) (ts : List Token) → Alike (AfterBound frame c b (LineEnd None ∷ ts)) (AtNode frame c (Bound b) [] ts)
-  bound_ends b ts = under_first (LineEnd None) (AtNode frame c (Bound b) []) (λ us. Prefixed (Words (codes " value ")) (AtValue frame c b) us) ts (not_prefixed _ _ _ _ (line_apart None _))
+  bound_ends : (v : Version) (b : ℤ) (ts : List Token) → Alike (AfterBound frame c v b (LineEnd None ∷ ts)) (AtNode frame c (told v (Bound b)) [] ts)
+  bound_ends v b ts = under_first (LineEnd None) (AtNode frame c (told v (Bound b)) []) (λ us. Prefixed (Words (codes " value ")) (AtValue frame c v b) us) ts (not_prefixed _ _ _ _ (line_apart None _))
 
-  bound_goes_on : (b : ℤ) (ts : List Token) → Alike (AfterBound frame c b (Words (codes " value ") ∷ ts)) (AtValue frame c b ts)
-  bound_goes_on b ts = under_second (Words (codes " value ")) (AtValue frame c b) (λ us. Prefixed (LineEnd None) (AtNode frame c (Bound b) []) us) ts (not_prefixed _ _ _ _ (λ e. line_apart None _ (sym e)))
+  bound_goes_on : (v : Version) (b : ℤ) (ts : List Token) → Alike (AfterBound frame c v b (Words (codes " value ") ∷ ts)) (AtValue frame c v b ts)
+  bound_goes_on v b ts = under_second (Words (codes " value ")) (AtValue frame c v b) (λ us. Prefixed (LineEnd None) (AtNode frame c (told v (Bound b)) []) us) ts (not_prefixed _ _ _ _ (λ e. line_apart None _ (sym e)))
+
+  version_one : (ts : List Token) → Alike (AtVersion frame c (Words (codes "1") ∷ ts)) (AtFirstEnd frame c One ts)
+  version_one ts = under_first (Words (codes "1")) (AtFirstEnd frame c One) (λ us. Prefixed (Words (codes "2")) (AtFirstEnd frame c Two) us) ts (not_prefixed _ _ _ _ (words_apart 49 50 _ _ (λ e. omega arith)))
+
+  version_two : (ts : List Token) → Alike (AtVersion frame c (Words (codes "2") ∷ ts)) (AtFirstEnd frame c Two ts)
+  version_two ts = under_second (Words (codes "2")) (AtFirstEnd frame c Two) (λ us. Prefixed (Words (codes "1")) (AtFirstEnd frame c One) us) ts (not_prefixed _ _ _ _ (words_apart 50 49 _ _ (λ e. omega arith)))
+
+  -- the word before a leaf's multipliers
+  rows_begin : (a : Told) (ws : List Wait) (o : Bool) (s : ℕ) → Leads frame c (at_rows a ws o s) (change_word a.version) (at_count a ws o s)
+  rows_begin a ws o s =
+      let P : Token → Type 0 = λ x. (ts : List Token) → Alike (AtRows frame c a ws o s (x ∷ ts)) (AtCount frame c a ws o s ts) in
+      subst P (change_token None a.version) (λ ts. prefixed_alike _ _ ts)
 
   -- each word that may come leads on
   pub word_leads : (stage : Stage) → ForEach (Leads frame c stage) (words stage)
   word_leads at_bpcert = (λ ts. prefixed_alike _ _ ts, tt)
-  word_leads at_one = (λ ts. prefixed_alike _ _ ts, tt)
-  word_leads at_first_end = (λ ts. prefixed_alike _ _ ts, tt)
-  word_leads at_claim = (λ ts. prefixed_alike _ _ ts, tt)
-  word_leads at_kind = (kind_optimal, (kind_infeasible, (kind_bound, tt)))
-  word_leads at_optimal = tt
-  word_leads infeasible_end = (λ ts. prefixed_alike _ _ ts, tt)
-  word_leads at_bound = tt
-  word_leads (after_bound b) = (bound_ends b, (bound_goes_on b, tt))
-  word_leads (at_value b) = tt
-  word_leads (claim_end k) = (λ ts. prefixed_alike _ _ ts, tt)
-  word_leads (at_point k) = (λ ts. prefixed_alike _ _ ts, tt)
-  word_leads (at_values k zs) = (values_end frame c k zs, (values_more frame c k zs, tt))
-  word_leads (at_coordinate k zs) = tt
+  word_leads at_version = (version_one, (version_two, tt))
+  word_leads (at_first_end v) = (λ ts. prefixed_alike _ _ ts, tt)
+  word_leads (at_claim v) = (λ ts. prefixed_alike _ _ ts, tt)
+  word_leads (at_kind v) = (kind_optimal v, (kind_infeasible v, (kind_bound v, tt)))
+  word_leads (at_optimal v) = tt
+  word_leads (infeasible_end v) = (λ ts. prefixed_alike _ _ ts, tt)
+  word_leads (at_bound v) = tt
+  word_leads (after_bound v b) = (bound_ends v b, (bound_goes_on v b, tt))
+  word_leads (at_value v b) = tt
+  word_leads (claim_end v k) = (λ ts. prefixed_alike _ _ ts, tt)
+  word_leads (at_point v k) = (λ ts. prefixed_alike _ _ ts, tt)
+  word_leads (at_values v k zs) = (values_end frame c v k zs, (values_more frame c v k zs, tt))
+  word_leads (at_coordinate v k zs) = tt
   word_leads (at_node a ws) = (node_leaf frame c a ws, (node_open frame c a ws, (node_split frame c a ws, tt)))
   word_leads (at_scale a ws o) = tt
-  word_leads (at_rows a ws o s) = (λ ts. prefixed_alike _ _ ts, tt)
+  word_leads (at_rows a ws o s) = (rows_begin a ws o s, tt)
   word_leads (at_count a ws o s) = tt
   word_leads (at_pairs a ws o s ps last n) =
       by_zero (λ t. ForEach (Leads frame c (at_pairs a ws o s ps last n)) (if t then (w.Priced, at_priced a ws o s ps) ∷ [] else (w.Space, at_row a ws o s ps last n) ∷ [])) n
@@ -83,8 +94,8 @@ module _ (frame : Frame) (c : Cert) where
   word_leads (at_multiplier a ws o s ps r n) = tt
   word_leads (at_priced a ws o s ps) = (priced_every frame c a ws o s ps, tt)
   word_leads (at_blocks a ws o s ps ks last n) =
-      by_zero (λ t. ForEach (Leads frame c (at_blocks a ws o s ps ks last n)) (if t then (w.LineEnd, behind a ws (leaf_of o (proof_of s ps (These ks)))) ∷ [] else (w.Space, at_block a ws o s ps ks last n) ∷ [])) n
-      (λ none. (let P : ℕ → Type 0 = λ k. Leads frame c (at_blocks a ws o s ps ks last k) w.LineEnd (behind a ws (leaf_of o (proof_of s ps (These ks)))) in subst P (sym none) (blocks_end frame c a ws o s ps ks last), tt))
+      by_zero (λ t. ForEach (Leads frame c (at_blocks a ws o s ps ks last n)) (if t then (w.LineEnd, behind_leaf a ws o (proof_of s ps (These ks))) ∷ [] else (w.Space, at_block a ws o s ps ks last n) ∷ [])) n
+      (λ none. (let P : ℕ → Type 0 = λ k. Leads frame c (at_blocks a ws o s ps ks last k) w.LineEnd (behind_leaf a ws o (proof_of s ps (These ks))) in subst P (sym none) (blocks_end frame c a ws o s ps ks last), tt))
       (λ m some. (blocks_more frame c a ws o s ps ks last n m some, tt))
   word_leads (at_block a ws o s ps ks last n) = tt
   word_leads (leaf_end a ws o p) = (leaf_end_alike frame c a ws o p, tt)
@@ -98,10 +109,10 @@ module _ (frame : Frame) (c : Cert) where
 
   -- each number that may come leads on
   pub number_leads : (stage : Stage) (z : ℤ) → IsOfSort (sort stage) z → (ts : List Token) → Alike (Follows frame c stage (Figure z (number_fault frame stage z) ∷ ts)) (Follows frame c (behind_number stage z) ts)
-  number_leads at_optimal z is ts = valued_alike _ _ z ts
-  number_leads at_bound z is ts = valued_alike _ _ z ts
-  number_leads (at_value b) z is ts = valued_alike _ _ z ts
-  number_leads (at_coordinate k zs) z is ts = valued_alike _ _ z ts
+  number_leads (at_optimal v) z is ts = valued_alike _ _ z ts
+  number_leads (at_bound v) z is ts = valued_alike _ _ z ts
+  number_leads (at_value v b) z is ts = valued_alike _ _ z ts
+  number_leads (at_coordinate v k zs) z is ts = valued_alike _ _ z ts
   number_leads (at_scale a ws o) z is ts = natural_alike _ _ z ts is
   number_leads (at_count a ws o s) z is ts = natural_alike _ _ z ts is
   number_leads (at_row a ws o s ps last n) z is ts = natural_alike _ _ z ts is
@@ -113,15 +124,15 @@ module _ (frame : Frame) (c : Cert) where
   number_leads (at_variable a ws) z is ts = natural_alike _ _ z ts is
   number_leads (at_place a ws i) z is ts = valued_alike _ _ z ts
   number_leads at_bpcert z is ts = absurd is
-  number_leads at_one z is ts = absurd is
-  number_leads at_first_end z is ts = absurd is
-  number_leads at_claim z is ts = absurd is
-  number_leads at_kind z is ts = absurd is
-  number_leads infeasible_end z is ts = absurd is
-  number_leads (after_bound b) z is ts = absurd is
-  number_leads (claim_end k) z is ts = absurd is
-  number_leads (at_point k) z is ts = absurd is
-  number_leads (at_values k zs) z is ts = absurd is
+  number_leads at_version z is ts = absurd is
+  number_leads (at_first_end v) z is ts = absurd is
+  number_leads (at_claim v) z is ts = absurd is
+  number_leads (at_kind v) z is ts = absurd is
+  number_leads (infeasible_end v) z is ts = absurd is
+  number_leads (after_bound v b) z is ts = absurd is
+  number_leads (claim_end v k) z is ts = absurd is
+  number_leads (at_point v k) z is ts = absurd is
+  number_leads (at_values v k zs) z is ts = absurd is
   number_leads (at_node a ws) z is ts = absurd is
   number_leads (at_rows a ws o s) z is ts = absurd is
   number_leads (at_pairs a ws o s ps last n) z is ts = absurd is
@@ -151,34 +162,34 @@ module _ (frame : Frame) (c : Cert) where
 
   pub first_token : (stage : Stage) (y : Token) (ys : List Token) → Follows frame c stage (y ∷ ys) → IsFirst frame stage y
   first_token at_bpcert y ys m = inl (inl (first_word _ _ y ys m))
-  first_token at_one y ys m = inl (inl (first_word _ _ y ys m))
-  first_token at_first_end y ys m = inl (inl (first_word _ _ y ys m))
-  first_token at_claim y ys m = inl (inl (first_word _ _ y ys m))
-  first_token at_kind y ys m = inl (⊎_elim (λ n. inl (first_word _ _ y ys n)) (λ n. inr (⊎_elim (λ o. inl (first_word _ _ y ys o)) (λ o. inr (inl (first_word _ _ y ys o))) n)) m)
-  first_token at_optimal y ys m = inr (first_whole _ _ y ys m)
-  first_token infeasible_end y ys m = inl (inl (first_word _ _ y ys m))
-  first_token at_bound y ys m = inr (first_whole _ _ y ys m)
-  first_token (after_bound b) y ys m = inl (⊎_elim (λ n. inl (first_word _ _ y ys n)) (λ n. inr (inl (first_word _ _ y ys n))) m)
-  first_token (at_value b) y ys m = inr (first_whole _ _ y ys m)
-  first_token (claim_end k) y ys m = inl (inl (first_word _ _ y ys m))
-  first_token (at_point k) y ys m = inl (inl (first_word _ _ y ys m))
-  first_token (at_values k zs) y ys m = inl (⊎_elim (λ e. inl e) (λ e. inr (inl e)) (points_first frame (length zs + 1) m.0 m.1 y ys m.3))
-  first_token (at_coordinate k zs) y ys m = inr (first_whole _ _ y ys m)
-  first_token (at_node a ws) y ys m = inl (⊎_elim (λ e. inl e) (λ n. inr (⊎_elim (λ e. inl e) (λ e. inr (inl e)) n)) (tree_first frame One 0 (length ws) [] (Behind frame c a ws) y ys (node_by frame c a ws (y ∷ ys) m)))
+  first_token at_version y ys m = inl (⊎_elim (λ n. inl (first_word _ _ y ys n)) (λ n. inr (inl (first_word _ _ y ys n))) m)
+  first_token (at_first_end v) y ys m = inl (inl (first_word _ _ y ys m))
+  first_token (at_claim v) y ys m = inl (inl (first_word _ _ y ys m))
+  first_token (at_kind v) y ys m = inl (⊎_elim (λ n. inl (first_word _ _ y ys n)) (λ n. inr (⊎_elim (λ o. inl (first_word _ _ y ys o)) (λ o. inr (inl (first_word _ _ y ys o))) n)) m)
+  first_token (at_optimal v) y ys m = inr (first_whole _ _ y ys m)
+  first_token (infeasible_end v) y ys m = inl (inl (first_word _ _ y ys m))
+  first_token (at_bound v) y ys m = inr (first_whole _ _ y ys m)
+  first_token (after_bound v b) y ys m = inl (⊎_elim (λ n. inl (first_word _ _ y ys n)) (λ n. inr (inl (first_word _ _ y ys n))) m)
+  first_token (at_value v b) y ys m = inr (first_whole _ _ y ys m)
+  first_token (claim_end v k) y ys m = inl (inl (first_word _ _ y ys m))
+  first_token (at_point v k) y ys m = inl (inl (first_word _ _ y ys m))
+  first_token (at_values v k zs) y ys m = inl (⊎_elim (λ e. inl e) (λ e. inr (inl e)) (points_first frame (length zs + 1) m.0 m.1 y ys m.3))
+  first_token (at_coordinate v k zs) y ys m = inr (first_whole _ _ y ys m)
+  first_token (at_node a ws) y ys m = inl (⊎_elim (λ e. inl e) (λ n. inr (⊎_elim (λ e. inl e) (λ e. inr (inl e)) n)) (tree_first frame a.version 0 (length ws) a.had (BehindTree frame c a ws) y ys (node_by frame c a ws (y ∷ ys) m)))
   first_token (at_scale a ws o) y ys m = inr (first_natural _ _ y ys m)
-  first_token (at_rows a ws o s) y ys m = inl (inl (first_word _ _ y ys m))
+  first_token (at_rows a ws o s) y ys m = inl (inl (first_word _ _ y ys m ∙ change_token None a.version))
   first_token (at_count a ws o s) y ys m = inr (first_natural _ _ y ys m)
   first_token (at_pairs a ws o s ps last n) y ys m =
       inl (by_zero (λ t. ForSomeOf (λ word next. y ≡ word_token None word) (if t then (w.Priced, at_priced a ws o s ps) ∷ [] else (w.Space, at_row a ws o s ps last n) ∷ [])) n
-      (λ none. inl (first_word _ _ y ys (no_pairs (may_name frame 0) (2 ^ 40) [] last (PairsG frame c a ws o s ps) m.0 m.1 (y ∷ ys) (m.2 ∙ none) m.3 m.4)))
-      (λ k some. let i = first_pair (may_name frame 0) (2 ^ 40) [] last k (PairsG frame c a ws o s ps) m.0 m.1 (y ∷ ys) (m.2 ∙ some) m.3 m.4 in inl (same_head _ _ _ _ i.is)))
+      (λ none. inl (first_word _ _ y ys (no_pairs (may_name frame 0) (2 ^ 40) a.had last (PairsG frame c a ws o s ps) m.0 m.1 (y ∷ ys) (m.2 ∙ none) m.3 m.4)))
+      (λ k some. let i = first_pair (may_name frame 0) (2 ^ 40) a.had last k (PairsG frame c a ws o s ps) m.0 m.1 (y ∷ ys) (m.2 ∙ some) m.3 m.4 in inl (same_head _ _ _ _ i.is)))
   first_token (at_row a ws o s ps last n) y ys m = inr (first_natural _ _ y ys m)
   first_token (row_gap a ws o s ps r n) y ys m = inl (inl (first_word _ _ y ys m))
   first_token (at_multiplier a ws o s ps r n) y ys m = inr (first_whole _ _ y ys m)
   first_token (at_priced a ws o s ps) y ys m =
       ⊎_elim (λ e. inl (inl e)) (λ n. inr (pos n.0, refl, n.1)) (priced_first frame (PricedG frame c a ws o s ps) y ys (priced_by frame (PricedG frame c a ws o s ps) m.0 m.1 (y ∷ ys) m.2 m.3))
   first_token (at_blocks a ws o s ps ks last n) y ys m =
-      inl (by_zero (λ t. ForSomeOf (λ word next. y ≡ word_token None word) (if t then (w.LineEnd, behind a ws (leaf_of o (proof_of s ps (These ks)))) ∷ [] else (w.Space, at_block a ws o s ps ks last n) ∷ [])) n
+      inl (by_zero (λ t. ForSomeOf (λ word next. y ≡ word_token None word) (if t then (w.LineEnd, behind_leaf a ws o (proof_of s ps (These ks))) ∷ [] else (w.Space, at_block a ws o s ps ks last n) ∷ [])) n
       (λ none. inl (first_word _ _ y ys (no_blocks frame last (BlocksG frame c a ws o s ps ks) m.0 m.1 (y ∷ ys) (m.2 ∙ none) m.3 m.4)))
       (λ k some. let i = first_block frame last k (BlocksG frame c a ws o s ps ks) m.0 m.1 (y ∷ ys) (m.2 ∙ some) m.3 m.4 in inl (same_head _ _ _ _ i.is)))
   first_token (at_block a ws o s ps ks last n) y ys m = inr (first_natural _ _ y ys m)
@@ -202,30 +213,30 @@ module _ (frame : Frame) (c : Cert) where
 
   -- only behind the last token may nothing follow
   abbrev pub IsOver : Stage → Type 0
-  IsOver (over a t) = c ≡ plain_of a t
+  IsOver (over a t) = c ≡ plain_of a.claim t
   IsOver _ = ⊥
 
   pub only_over : (stage : Stage) → Follows frame c stage [] → IsOver stage
   only_over at_bpcert m = no_prefixed _ _ m
-  only_over at_one m = no_prefixed _ _ m
-  only_over at_first_end m = no_prefixed _ _ m
-  only_over at_claim m = no_prefixed _ _ m
-  only_over at_kind m = ⊎_elim (no_prefixed _ _) (λ n. ⊎_elim (no_prefixed _ _) (no_prefixed _ _) n) m
-  only_over at_optimal m = no_valued _ _ m
-  only_over infeasible_end m = no_prefixed _ _ m
-  only_over at_bound m = no_valued _ _ m
-  only_over (after_bound b) m = ⊎_elim (no_prefixed _ _) (no_prefixed _ _) m
-  only_over (at_value b) m = no_valued _ _ m
-  only_over (claim_end k) m = no_prefixed _ _ m
-  only_over (at_point k) m = no_prefixed _ _ m
-  only_over (at_values k zs) m = points_over frame (length zs + 1) m.0 m.1 m.3
-  only_over (at_coordinate k zs) m = no_valued _ _ m
-  only_over (at_node a ws) m = tree_over frame One 0 (length ws) [] (Behind frame c a ws) (node_by frame c a ws [] m)
+  only_over at_version m = ⊎_elim (no_prefixed _ _) (no_prefixed _ _) m
+  only_over (at_first_end v) m = no_prefixed _ _ m
+  only_over (at_claim v) m = no_prefixed _ _ m
+  only_over (at_kind v) m = ⊎_elim (no_prefixed _ _) (λ n. ⊎_elim (no_prefixed _ _) (no_prefixed _ _) n) m
+  only_over (at_optimal v) m = no_valued _ _ m
+  only_over (infeasible_end v) m = no_prefixed _ _ m
+  only_over (at_bound v) m = no_valued _ _ m
+  only_over (after_bound v b) m = ⊎_elim (no_prefixed _ _) (no_prefixed _ _) m
+  only_over (at_value v b) m = no_valued _ _ m
+  only_over (claim_end v k) m = no_prefixed _ _ m
+  only_over (at_point v k) m = no_prefixed _ _ m
+  only_over (at_values v k zs) m = points_over frame (length zs + 1) m.0 m.1 m.3
+  only_over (at_coordinate v k zs) m = no_valued _ _ m
+  only_over (at_node a ws) m = tree_over frame a.version 0 (length ws) a.had (BehindTree frame c a ws) (node_by frame c a ws [] m)
   only_over (at_scale a ws o) m = no_numbered _ _ m
   only_over (at_rows a ws o s) m = no_prefixed _ _ m
   only_over (at_count a ws o s) m = no_numbered _ _ m
-  only_over (at_pairs a ws o s ps last zero) m = no_prefixed _ _ (no_pairs (may_name frame 0) (2 ^ 40) [] last (PairsG frame c a ws o s ps) m.0 m.1 [] m.2 m.3 m.4)
-  only_over (at_pairs a ws o s ps last (suc n)) m = let i = first_pair (may_name frame 0) (2 ^ 40) [] last n (PairsG frame c a ws o s ps) m.0 m.1 [] m.2 m.3 m.4 in no_tokens _ _ i.is
+  only_over (at_pairs a ws o s ps last zero) m = no_prefixed _ _ (no_pairs (may_name frame 0) (2 ^ 40) a.had last (PairsG frame c a ws o s ps) m.0 m.1 [] m.2 m.3 m.4)
+  only_over (at_pairs a ws o s ps last (suc n)) m = let i = first_pair (may_name frame 0) (2 ^ 40) a.had last n (PairsG frame c a ws o s ps) m.0 m.1 [] m.2 m.3 m.4 in no_tokens _ _ i.is
   only_over (at_row a ws o s ps last n) m = no_numbered _ _ m
   only_over (row_gap a ws o s ps r n) m = no_prefixed _ _ m
   only_over (at_multiplier a ws o s ps r n) m = no_valued _ _ m
@@ -259,99 +270,99 @@ module _ (frame : Frame) where
   valued_some : (f : ℤ → Option Kind) (M : ℤ → Cert → List Token → Type 0) → Some' (M (pos 0)) → Some' (λ c. Valued f (λ z. M z c))
   valued_some f M m = (m.0, Figure (pos 0) (f (pos 0)) ∷ m.1, (pos 0, m.1, refl, m.2))
 
-  after_tree_some : (a : Claim) (t : Tree) → Some' (λ c. AfterTree frame c a t)
-  after_tree_some a t = (plain_of a t, _, (_, refl, (_, refl, (refl, refl))))
+  after_tree_some : (a : Told) (t : Tree) → Some' (λ c. AfterTree frame c a t)
+  after_tree_some a t = (plain_of a.claim t, _, (_, refl, (_, refl, (refl, refl))))
 
-  behind_some : (a : Claim) (ws : List Wait) (t : Tree) → Some' (λ c. Behind frame c a ws t)
+  behind_some : (a : Told) (ws : List Wait) (t : Tree) → Some' (λ c. Behind frame c a ws t)
   behind_some a [] t = after_tree_some a t
-  behind_some a (low_of i z ∷ ws) t = let m = behind_some a ws (Split i z t simple) in (m.0, tree_lines frame One 0 (length (low_of i z ∷ ws)) [] simple ++ m.1, (simple, m.1, m.2, refl))
+  behind_some a (low_of i z ∷ ws) t = let m = behind_some (passed a simple) ws (Split i z t (meaning a simple)) in (m.0, tree_lines frame a.version 0 (length (low_of i z ∷ ws)) a.had simple ++ m.1, (simple, m.1, m.2, refl))
   behind_some a (high_of i z low ∷ ws) t = behind_some a ws (Split i z low t)
 
-  node_some : (a : Claim) (ws : List Wait) → Some' (λ c. AtNode frame c a ws)
-  node_some a ws = let m = behind_some a ws simple in (m.0, tree_lines frame One 0 (length ws) [] simple ++ m.1, (simple, m.1, m.2, refl))
+  node_some : (a : Told) (ws : List Wait) → Some' (λ c. AtNode frame c a ws)
+  node_some a ws = let m = behind_some (passed a simple) ws (meaning a simple) in (m.0, tree_lines frame a.version 0 (length ws) a.had simple ++ m.1, (simple, m.1, m.2, refl))
 
-  leaf_end_some : (a : Claim) (ws : List Wait) (o : Bool) (p : Proof) → Some' (λ c. LeafEnd frame c a ws o p)
-  leaf_end_some a ws o p = prefixed_some (LineEnd None) (λ c. Behind frame c a ws (leaf_of o p)) (behind_some a ws (leaf_of o p))
+  leaf_end_some : (a : Told) (ws : List Wait) (o : Bool) (p : Proof) → Some' (λ c. LeafEnd frame c a ws o p)
+  leaf_end_some a ws o p = prefixed_some (LineEnd None) (λ c. BehindLeaf frame c a ws o p) (behind_some (past a p) ws (leaf_of o (meant_proof a.had p)))
 
-  blocks_some : (a : Claim) (ws : List Wait) (o : Bool) (s : ℕ) (ps : List (ℕ × ℤ)) (ks : List ℕ) (last n : ℕ) → Some' (λ c. AtBlocks frame c a ws o s ps ks last n)
+  blocks_some : (a : Told) (ws : List Wait) (o : Bool) (s : ℕ) (ps : List (ℕ × ℤ)) (ks : List ℕ) (last n : ℕ) → Some' (λ c. AtBlocks frame c a ws o s ps ks last n)
   blocks_some a ws o s ps ks last n = let fill = block_filler n in let m = leaf_end_some a ws o (proof_of s ps (These (ks ++ fill.0))) in (m.0, _, (fill.0, m.1, fill.1, m.2, refl))
 
-  priced_some : (a : Claim) (ws : List Wait) (o : Bool) (s : ℕ) (ps : List (ℕ × ℤ)) → Some' (λ c. AtPriced frame c a ws o s ps)
+  priced_some : (a : Told) (ws : List Wait) (o : Bool) (s : ℕ) (ps : List (ℕ × ℤ)) → Some' (λ c. AtPriced frame c a ws o s ps)
   priced_some a ws o s ps = let m = leaf_end_some a ws o (proof_of s ps Every) in (m.0, _, (Every, m.1, m.2, refl))
 
-  pairs_some : (a : Claim) (ws : List Wait) (o : Bool) (s : ℕ) (ps : List (ℕ × ℤ)) (last n : ℕ) → Some' (λ c. AtPairs frame c a ws o s ps last n)
+  pairs_some : (a : Told) (ws : List Wait) (o : Bool) (s : ℕ) (ps : List (ℕ × ℤ)) (last n : ℕ) → Some' (λ c. AtPairs frame c a ws o s ps last n)
   pairs_some a ws o s ps last n =
       let fill = filler n in
       let m = prefixed_some (Words (codes " priced ")) (λ c. AtPriced frame c a ws o s (ps ++ fill.0)) (priced_some a ws o s (ps ++ fill.0)) in
       (m.0, _, (fill.0, m.1, fill.1, m.2, refl))
 
-  values_some : (k : Known) (zs : List ℤ) → Some' (λ c. AtValues frame c k zs)
-  values_some k zs = let m = node_some (claim_with k (zs ++ [])) [] in (m.0, _, ([], m.1, m.2, refl))
+  values_some : (v : Version) (k : Known) (zs : List ℤ) → Some' (λ c. AtValues frame c v k zs)
+  values_some v k zs = let m = node_some (told v (claim_with k (zs ++ []))) [] in (m.0, _, ([], m.1, m.2, refl))
 
-  point_some : (k : Known) → Some' (λ c. AtPoint frame c k)
-  point_some k = prefixed_some _ (λ c. AtValues frame c k []) (values_some k [])
+  point_some : (v : Version) (k : Known) → Some' (λ c. AtPoint frame c v k)
+  point_some v k = prefixed_some _ (λ c. AtValues frame c v k []) (values_some v k [])
 
-  claim_end_some : (k : Known) → Some' (λ c. ClaimEnd frame c k)
-  claim_end_some k = prefixed_some _ (λ c. AtPoint frame c k) (point_some k)
+  claim_end_some : (v : Version) (k : Known) → Some' (λ c. ClaimEnd frame c v k)
+  claim_end_some v k = prefixed_some _ (λ c. AtPoint frame c v k) (point_some v k)
 
-  value_some : (b : ℤ) → Some' (λ c. AtValue frame c b)
-  value_some b = valued_some _ (λ v c. ClaimEnd frame c (bound_of b v)) (claim_end_some (bound_of b (pos 0)))
+  value_some : (v : Version) (b : ℤ) → Some' (λ c. AtValue frame c v b)
+  value_some v b = valued_some _ (λ z c. ClaimEnd frame c v (bound_of b z)) (claim_end_some v (bound_of b (pos 0)))
 
-  after_bound_some : (b : ℤ) → Some' (λ c. AfterBound frame c b)
-  after_bound_some b = let m = prefixed_some (LineEnd None) (λ c. AtNode frame c (Bound b) []) (node_some (Bound b) []) in (m.0, m.1, inl m.2)
+  after_bound_some : (v : Version) (b : ℤ) → Some' (λ c. AfterBound frame c v b)
+  after_bound_some v b = let m = prefixed_some (LineEnd None) (λ c. AtNode frame c (told v (Bound b)) []) (node_some (told v (Bound b)) []) in (m.0, m.1, inl m.2)
 
-  optimal_some : Some' (λ c. AtOptimal frame c)
-  optimal_some = valued_some _ (λ v c. ClaimEnd frame c (optimal_of v)) (claim_end_some (optimal_of (pos 0)))
+  optimal_some : (v : Version) → Some' (λ c. AtOptimal frame c v)
+  optimal_some v = valued_some _ (λ z c. ClaimEnd frame c v (optimal_of z)) (claim_end_some v (optimal_of (pos 0)))
 
-  kind_some : Some' (λ c. AtKind frame c)
-  kind_some = let m = prefixed_some (Words (codes "optimal ")) (λ c. AtOptimal frame c) optimal_some in (m.0, m.1, inl m.2)
+  kind_some : (v : Version) → Some' (λ c. AtKind frame c v)
+  kind_some v = let m = prefixed_some (Words (codes "optimal ")) (λ c. AtOptimal frame c v) (optimal_some v) in (m.0, m.1, inl m.2)
 
-  multiplier_some : (a : Claim) (ws : List Wait) (o : Bool) (s : ℕ) (ps : List (ℕ × ℤ)) (r n : ℕ) → Some' (λ c. AtMultiplier frame c a ws o s ps r n)
+  multiplier_some : (a : Told) (ws : List Wait) (o : Bool) (s : ℕ) (ps : List (ℕ × ℤ)) (r n : ℕ) → Some' (λ c. AtMultiplier frame c a ws o s ps r n)
   multiplier_some a ws o s ps r n = valued_some _ (λ z c. AtPairs frame c a ws o s (ps ++ (r, z) ∷ []) r (n - 1)) (pairs_some a ws o s (ps ++ (r, pos 0) ∷ []) r (n - 1))
 
-  row_gap_some : (a : Claim) (ws : List Wait) (o : Bool) (s : ℕ) (ps : List (ℕ × ℤ)) (r n : ℕ) → Some' (λ c. RowGap frame c a ws o s ps r n)
+  row_gap_some : (a : Told) (ws : List Wait) (o : Bool) (s : ℕ) (ps : List (ℕ × ℤ)) (r n : ℕ) → Some' (λ c. RowGap frame c a ws o s ps r n)
   row_gap_some a ws o s ps r n = prefixed_some _ (λ c. AtMultiplier frame c a ws o s ps r n) (multiplier_some a ws o s ps r n)
 
-  count_some : (a : Claim) (ws : List Wait) (o : Bool) (s : ℕ) → Some' (λ c. AtCount frame c a ws o s)
+  count_some : (a : Told) (ws : List Wait) (o : Bool) (s : ℕ) → Some' (λ c. AtCount frame c a ws o s)
   count_some a ws o s = numbered_some (λ _. None) (λ n c. AtPairs frame c a ws o s [] 0 n) (pairs_some a ws o s [] 0 0)
 
-  rows_some : (a : Claim) (ws : List Wait) (o : Bool) (s : ℕ) → Some' (λ c. AtRows frame c a ws o s)
+  rows_some : (a : Told) (ws : List Wait) (o : Bool) (s : ℕ) → Some' (λ c. AtRows frame c a ws o s)
   rows_some a ws o s = prefixed_some _ (λ c. AtCount frame c a ws o s) (count_some a ws o s)
 
-  split_end_some : (a : Claim) (ws : List Wait) (i : ℕ) (z : ℤ) → Some' (λ c. SplitEnd frame c a ws i z)
+  split_end_some : (a : Told) (ws : List Wait) (i : ℕ) (z : ℤ) → Some' (λ c. SplitEnd frame c a ws i z)
   split_end_some a ws i z = prefixed_some _ (λ c. AtNode frame c a (low_of i z ∷ ws)) (node_some a (low_of i z ∷ ws))
 
-  place_some : (a : Claim) (ws : List Wait) (i : ℕ) → Some' (λ c. AtPlace frame c a ws i)
+  place_some : (a : Told) (ws : List Wait) (i : ℕ) → Some' (λ c. AtPlace frame c a ws i)
   place_some a ws i = valued_some _ (λ z c. SplitEnd frame c a ws i z) (split_end_some a ws i (pos 0))
 
-  gap_some : (a : Claim) (ws : List Wait) (i : ℕ) → Some' (λ c. VariableGap frame c a ws i)
+  gap_some : (a : Told) (ws : List Wait) (i : ℕ) → Some' (λ c. VariableGap frame c a ws i)
   gap_some a ws i = prefixed_some _ (λ c. AtPlace frame c a ws i) (place_some a ws i)
 
-  claim_some : Some' (λ c. AtClaim frame c)
-  claim_some = prefixed_some _ (λ c. AtKind frame c) kind_some
+  claim_some : (v : Version) → Some' (λ c. AtClaim frame c v)
+  claim_some v = prefixed_some _ (λ c. AtKind frame c v) (kind_some v)
 
-  first_end_some : Some' (λ c. AtFirstEnd frame c)
-  first_end_some = prefixed_some _ (λ c. AtClaim frame c) claim_some
+  first_end_some : (v : Version) → Some' (λ c. AtFirstEnd frame c v)
+  first_end_some v = prefixed_some _ (λ c. AtClaim frame c v) (claim_some v)
 
-  one_some : Some' (λ c. AtOne frame c)
-  one_some = prefixed_some _ (λ c. AtFirstEnd frame c) first_end_some
+  version_some : Some' (λ c. AtVersion frame c)
+  version_some = let m = prefixed_some (Words (codes "1")) (λ c. AtFirstEnd frame c One) (first_end_some One) in (m.0, m.1, inl m.2)
 
   -- from each place a certificate goes on
   pub goes_on_from : (stage : Stage) → Some' (λ c. Follows frame c stage)
-  goes_on_from at_bpcert = prefixed_some _ (λ c. AtOne frame c) one_some
-  goes_on_from at_one = one_some
-  goes_on_from at_first_end = first_end_some
-  goes_on_from at_claim = claim_some
-  goes_on_from at_kind = kind_some
-  goes_on_from at_optimal = optimal_some
-  goes_on_from infeasible_end = prefixed_some _ (λ c. AtNode frame c Infeasible []) (node_some Infeasible [])
-  goes_on_from at_bound = valued_some _ (λ b c. AfterBound frame c b) (after_bound_some (pos 0))
-  goes_on_from (after_bound b) = after_bound_some b
-  goes_on_from (at_value b) = value_some b
-  goes_on_from (claim_end k) = claim_end_some k
-  goes_on_from (at_point k) = point_some k
-  goes_on_from (at_values k zs) = values_some k zs
-  goes_on_from (at_coordinate k zs) = valued_some _ (λ z c. AtValues frame c k (zs ++ z ∷ [])) (values_some k (zs ++ pos 0 ∷ []))
+  goes_on_from at_bpcert = prefixed_some _ (λ c. AtVersion frame c) version_some
+  goes_on_from at_version = version_some
+  goes_on_from (at_first_end v) = first_end_some v
+  goes_on_from (at_claim v) = claim_some v
+  goes_on_from (at_kind v) = kind_some v
+  goes_on_from (at_optimal v) = optimal_some v
+  goes_on_from (infeasible_end v) = prefixed_some _ (λ c. AtNode frame c (told v Infeasible) []) (node_some (told v Infeasible) [])
+  goes_on_from (at_bound v) = valued_some _ (λ b c. AfterBound frame c v b) (after_bound_some v (pos 0))
+  goes_on_from (after_bound v b) = after_bound_some v b
+  goes_on_from (at_value v b) = value_some v b
+  goes_on_from (claim_end v k) = claim_end_some v k
+  goes_on_from (at_point v k) = point_some v k
+  goes_on_from (at_values v k zs) = values_some v k zs
+  goes_on_from (at_coordinate v k zs) = valued_some _ (λ z c. AtValues frame c v k (zs ++ z ∷ [])) (values_some v k (zs ++ pos 0 ∷ []))
   goes_on_from (at_node a ws) = node_some a ws
   goes_on_from (at_scale a ws o) = numbered_some _ (λ s c. AtRows frame c a ws o s) (rows_some a ws o 0)
   goes_on_from (at_rows a ws o s) = rows_some a ws o s
@@ -369,5 +380,5 @@ module _ (frame : Frame) where
   goes_on_from (at_place a ws i) = place_some a ws i
   goes_on_from (split_end a ws i z) = split_end_some a ws i z
   goes_on_from (at_end a t) = after_tree_some a t
-  goes_on_from (last_end a t) = (plain_of a t, _, (_, refl, (refl, refl)))
-  goes_on_from (over a t) = (plain_of a t, [], (refl, refl))
+  goes_on_from (last_end a t) = (plain_of a.claim t, _, (_, refl, (refl, refl)))
+  goes_on_from (over a t) = (plain_of a.claim t, [], (refl, refl))

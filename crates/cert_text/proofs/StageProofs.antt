@@ -1,16 +1,14 @@
 -- Each place of a reader: what follows each token that may come, which tokens may come, and that a certificate goes on from there.
-use Rattle.std.proofs.Common.{◌≡◌, ◌⊎◌, ◌↔◌, ℕ, zero, suc, ◌+◌, ◌-◌, ◌^◌, ◌<◌, Bool, true, false, List, [], ◌∷◌, ◌++◌, length, codes, Option, None, ℤ, pos, nat_abs, refl, sym, ap, ◌∙◌, subst, inl, inr, ⊎_elim, arith, append_assoc, append-nil, length-append, nat_eq, if◌then◌else◌}
+use Rattle.std.proofs.Common.{◌≡◌, ◌⊎◌, ℕ, zero, suc, ◌+◌, ◌-◌, ◌^◌, Bool, true, false, List, [], ◌∷◌, ◌++◌, length, codes, Option, None, ℤ, pos, nat_abs, refl, sym, ap, ◌∙◌, subst, arith, append_assoc, append-nil, length-append, nat_eq}
 use Rattle.std.proofs.lemmas.Bool.Decides.{nat_tests}
-use Rattle.cert_text.specs.Cert.{Picked, Every, These, Proof, Tree, Shut, Open, Split, Claim, Optimal, Infeasible, Bound, BoundValue, Cert, Frame}
-use Rattle.cert_text.specs.Text.{Kind, Token, Words, Figure, LineEnd, Version, One, value, value_fault, coordinate_fault, end_fault, row_fault, multiplier_fault, block_fault, scale_fault, variable_fault, may_name, point_values, pairs_behind, blocks_behind, picked_words, count, leaf_line, tree_lines, kept_behind, claim_lines, tokens_of, HasForm}
-use Rattle.cert_text.specs.Grammar.{Prefixed, Numbered, Valued, Points, Pairs, Blocks, Priced, Trees}
-use Rattle.cert_text.specs.Words.{word_token}
+use Rattle.cert_text.specs.Cert.{Picked, Every, These, Proof, Tree, Shut, Open, Split, Cert, Frame}
+use Rattle.cert_text.specs.Text.{Kind, Token, Words, Figure, LineEnd, Version, One, Two, Three, pairs_word, value_fault, coordinate_fault, end_fault, row_fault, multiplier_fault, block_fault, variable_fault, may_name, count, kept_behind, meant_proof}
+use Rattle.cert_text.specs.Grammar.{Prefixed, Numbered, Valued, Points, Pairs, Blocks, Trees}
+use Rattle.cert_text.specs.Words.{word_token, change_word}
 use Rattle.cert_text.specs.declared.words.Word.{Word}
-use Rattle.cert_text.specs.declared.words.Word.TheVariants as w
-use Rattle.cert_text.specs.Stages
-use Rattle.cert_text.specs.Stages.{Wait, low_of, high_of, Known, optimal_of, bound_of, claim_with, leaf_of, proof_of, plain_of, Stage, at_bpcert, at_one, at_first_end, at_claim, at_kind, at_optimal, infeasible_end, at_bound, after_bound, at_value, claim_end, at_point, at_values, at_coordinate, at_node, at_scale, at_rows, at_count, at_pairs, at_row, row_gap, at_multiplier, at_priced, at_blocks, at_block, leaf_end, at_variable, variable_gap, at_place, split_end, at_end, last_end, over, behind, words, line_fault, sort, IsOfSort, number_fault, behind_number, Over, AfterTree, Behind, AtNode, LeafEnd, AtBlocks, AtPriced, AtPairs, AtMultiplier, RowGap, AtRow, AtBlock, AtCount, AtRows, AtScale, SplitEnd, AtPlace, VariableGap, AtVariable, AtValues, AtCoordinate, AtPoint, ClaimEnd, AtValue, AfterBound, AtBound, InfeasibleEnd, AtOptimal, AtKind, AtClaim, AtFirstEnd, AtOne, Follows, IsOf}
-use Rattle.cert_text.proofs.Productions.{prefixed_under, numbered_under, valued_under, points_first, points_over, points_end, points_more, points_short, FirstPair, pair_then, first_pair, no_pairs, filler, FirstBlock, block_then, first_block, no_blocks, block_filler, PricedBy, priced_by, priced_first, priced_over, priced_all, priced_list}
-use Rattle.cert_text.proofs.Trees.{words_differ, Leaves, LeafParts, leaf_to, leaf_from, TreeBy, tree_by, tree_first, tree_over, under_leaf, under_open, under_split, split_to, SplitParts}
+use Rattle.cert_text.specs.Stages.{Wait, low_of, high_of, Known, claim_with, leaf_of, proof_of, Told, told, past, behind_leaf, Stage, behind, line_fault, Behind, BehindLeaf, BehindTree, AtNode, LeafEnd, AtBlocks, AtPriced, AtPairs, AtRow, AtBlock, AtScale, SplitEnd, AtPlace, VariableGap, AtVariable, AtValues, AtCoordinate, Follows}
+use Rattle.cert_text.proofs.Productions.{prefixed_under, numbered_under, valued_under, points_end, points_more, points_short, first_pair, no_pairs, first_block, no_blocks, priced_by, priced_all, priced_list}
+use Rattle.cert_text.proofs.Trees.{Leaves, leaf_to, leaf_from, TreeBy, tree_by, under_leaf, under_open, under_split, split_to, SplitParts}
 
 -- both directions
 abbrev pub Alike : Type 0 → Type 0 → Type 0
@@ -63,20 +61,20 @@ module _ (frame : Frame) (c : Cert) where
   Leads stage word next = (ts : List Token) → Alike (Follows frame c stage (word_token (line_fault frame stage) word ∷ ts)) (Follows frame c next ts)
 
   -- behind a whole tree
-  behind_follows : (a : Claim) (ws : List Wait) (t : Tree) (ts : List Token) → Alike (Behind frame c a ws t ts) (Follows frame c (behind a ws t) ts)
+  behind_follows : (a : Told) (ws : List Wait) (t : Tree) (ts : List Token) → Alike (Behind frame c a ws t ts) (Follows frame c (behind a ws t) ts)
   behind_follows a [] t ts = (λ m. m, λ m. m)
   behind_follows a (low_of i z ∷ ws) t ts = (λ m. m, λ m. m)
   behind_follows a (high_of i z low ∷ ws) t ts = behind_follows a ws (Split i z low t) ts
 
-  pub leaf_end_alike : (a : Claim) (ws : List Wait) (o : Bool) (p : Proof) (ts : List Token) → Alike (LeafEnd frame c a ws o p (LineEnd None ∷ ts)) (Follows frame c (behind a ws (leaf_of o p)) ts)
+  pub leaf_end_alike : (a : Told) (ws : List Wait) (o : Bool) (p : Proof) (ts : List Token) → Alike (LeafEnd frame c a ws o p (LineEnd None ∷ ts)) (Follows frame c (behind_leaf a ws o p) ts)
   leaf_end_alike a ws o p ts =
-      let e = prefixed_alike (LineEnd None) (Behind frame c a ws (leaf_of o p)) ts in
-      let b = behind_follows a ws (leaf_of o p) ts in
+      let e = prefixed_alike (LineEnd None) (BehindLeaf frame c a ws o p) ts in
+      let b = behind_follows (past a p) ws (leaf_of o (meant_proof a.had p)) ts in
       (λ m. b.0 (e.0 m), λ m. e.1 (b.1 m))
 
   -- the parts of a leaf's line behind its first word
-  scale_alike : (a : Claim) (ws : List Wait) (o : Bool) (ts : List Token) → Alike (Leaves frame One 0 (length ws) [] (λ p. Behind frame c a ws (leaf_of o p)) ts) (AtScale frame c a ws o ts)
-  scale_alike a ws o ts = (leaf_from frame One 0 (length ws) [] (λ p. Behind frame c a ws (leaf_of o p)) ts, leaf_to frame One 0 (length ws) [] (λ p. Behind frame c a ws (leaf_of o p)) ts)
+  scale_alike : (a : Told) (ws : List Wait) (o : Bool) (ts : List Token) → Alike (Leaves frame a.version 0 (length ws) a.had (BehindLeaf frame c a ws o) ts) (AtScale frame c a ws o ts)
+  scale_alike a ws o ts = (leaf_from frame a.version 0 (length ws) a.had (BehindLeaf frame c a ws o) ts, leaf_to frame a.version 0 (length ws) a.had (BehindLeaf frame c a ws o) ts)
 
 prefixed_map : (x : Token) (M N : List Token → Type 0) → ((ts : List Token) → M ts → N ts) → (ts : List Token) → Prefixed x M ts → Prefixed x N ts
 prefixed_map x M N f ts m = (m.0, m.1, f m.0 m.2)
@@ -93,164 +91,166 @@ pairs_map named limit had last n G H f ts m = (m.0, m.1, m.2, f m.0 m.1 m.3, m.4
 blocks_map : (frame : Frame) (last n : ℕ) (G H : List ℕ → List Token → Type 0) → ((ks : List ℕ) (us : List Token) → G ks us → H ks us) → (ts : List Token) → Blocks frame last n G ts → Blocks frame last n H ts
 blocks_map frame last n G H f ts m = (m.0, m.1, m.2, f m.0 m.1 m.3, m.4)
 
-trees_map : (frame : Frame) (depth : ℕ) (G H : Tree → List Token → Type 0) → ((t : Tree) (us : List Token) → G t us → H t us) → (ts : List Token) → Trees frame One 0 depth [] G ts → Trees frame One 0 depth [] H ts
-trees_map frame depth G H f ts m = (m.0, m.1, f m.0 m.1 m.2, m.3)
+trees_map : (frame : Frame) (v : Version) (depth : ℕ) (had : List (ℕ × ℤ)) (G H : Tree → List Token → Type 0) → ((t : Tree) (us : List Token) → G t us → H t us) → (ts : List Token) → Trees frame v 0 depth had G ts → Trees frame v 0 depth had H ts
+trees_map frame v depth had G H f ts m = (m.0, m.1, f m.0 m.1 m.2, m.3)
 
 points_map : (frame : Frame) (number : ℕ) (G H : List ℤ → List Token → Type 0) → ((zs : List ℤ) (us : List Token) → G zs us → H zs us) → (ts : List Token) → Points frame number G ts → Points frame number H ts
 points_map frame number G H f ts m = (m.0, m.1, f m.0 m.1 m.2, m.3)
 
--- version 1 keeps nothing between leaves
-pub kept_none : (t : Tree) → kept_behind One [] t ≡ []
-kept_none (Shut p) = refl
-kept_none (Open p) = refl
-kept_none (Split i z low high) = ap (λ (had : List (ℕ × ℤ)). kept_behind One had high) (kept_none low) ∙ kept_none high
+-- the word before a leaf's multipliers
+pub change_token : (f : Option Kind) (v : Version) → Words (pairs_word v) ≡ word_token f (change_word v)
+change_token f One = refl
+change_token f Two = refl
+change_token f Three = refl
 
 module _ (frame : Frame) (c : Cert) where
-  -- a tree behind a low part, in two spellings
-  high_to : (a : Claim) (ws : List Wait) (i : ℕ) (z : ℤ) (low : Tree) (us : List Token) → Trees frame One 0 (length ws + 1) (kept_behind One [] low) (λ high. Behind frame c a ws (Split i z low high)) us → Behind frame c a (low_of i z ∷ ws) low us
+  -- a tree behind a low part
+  abbrev HighTree : Told → List Wait → ℕ → ℤ → Tree → List Token → Type 0
+  HighTree a ws i z low = Trees frame a.version 0 (length ws + 1) (kept_behind a.version a.had low) (λ high. BehindTree frame c a ws (Split i z low high))
+
+  -- the same in two spellings
+  high_to : (a : Told) (ws : List Wait) (i : ℕ) (z : ℤ) (low : Tree) (us : List Token) → HighTree a ws i z low us → BehindTree frame c a (low_of i z ∷ ws) low us
   high_to a ws i z low us m =
       let deep : length ws + 1 ≡ length (low_of i z ∷ ws) = omega arith in
-      let P : ℕ → Type 0 = λ d. Trees frame One 0 d [] (λ high. Behind frame c a ws (Split i z low high)) us in
-      let Q : List (ℕ × ℤ) → Type 0 = λ had. Trees frame One 0 (length ws + 1) had (λ high. Behind frame c a ws (Split i z low high)) us in
-      subst P deep (subst Q (kept_none low) m)
+      let P : ℕ → Type 0 = λ d. Trees frame a.version 0 d (kept_behind a.version a.had low) (λ high. BehindTree frame c a ws (Split i z low high)) us in
+      subst P deep m
 
-  high_from : (a : Claim) (ws : List Wait) (i : ℕ) (z : ℤ) (low : Tree) (us : List Token) → Behind frame c a (low_of i z ∷ ws) low us → Trees frame One 0 (length ws + 1) (kept_behind One [] low) (λ high. Behind frame c a ws (Split i z low high)) us
+  high_from : (a : Told) (ws : List Wait) (i : ℕ) (z : ℤ) (low : Tree) (us : List Token) → BehindTree frame c a (low_of i z ∷ ws) low us → HighTree a ws i z low us
   high_from a ws i z low us m =
       let deep : length ws + 1 ≡ length (low_of i z ∷ ws) = omega arith in
-      let P : ℕ → Type 0 = λ d. Trees frame One 0 d [] (λ high. Behind frame c a ws (Split i z low high)) us in
-      let Q : List (ℕ × ℤ) → Type 0 = λ had. Trees frame One 0 (length ws + 1) had (λ high. Behind frame c a ws (Split i z low high)) us in
-      subst Q (sym (kept_none low)) (subst P (sym deep) m)
+      let P : ℕ → Type 0 = λ d. Trees frame a.version 0 d (kept_behind a.version a.had low) (λ high. BehindTree frame c a ws (Split i z low high)) us in
+      subst P (sym deep) m
 
-  abbrev LowTree : Claim → List Wait → ℕ → ℤ → List Token → Type 0
-  LowTree a ws i z = Trees frame One 0 (length ws + 1) [] (λ low us. Trees frame One 0 (length ws + 1) (kept_behind One [] low) (λ high. Behind frame c a ws (Split i z low high)) us)
+  abbrev LowTree : Told → List Wait → ℕ → ℤ → List Token → Type 0
+  LowTree a ws i z = Trees frame a.version 0 (length ws + 1) a.had (HighTree a ws i z)
 
-  low_to : (a : Claim) (ws : List Wait) (i : ℕ) (z : ℤ) (ts : List Token) → LowTree a ws i z ts → AtNode frame c a (low_of i z ∷ ws) ts
+  low_to : (a : Told) (ws : List Wait) (i : ℕ) (z : ℤ) (ts : List Token) → LowTree a ws i z ts → AtNode frame c a (low_of i z ∷ ws) ts
   low_to a ws i z ts m =
       let deep : length ws + 1 ≡ length (low_of i z ∷ ws) = omega arith in
-      let P : ℕ → Type 0 = λ d. Trees frame One 0 d [] (Behind frame c a (low_of i z ∷ ws)) ts in
-      subst P deep (trees_map frame (length ws + 1) (λ low us. Trees frame One 0 (length ws + 1) (kept_behind One [] low) (λ high. Behind frame c a ws (Split i z low high)) us) (Behind frame c a (low_of i z ∷ ws)) (high_to a ws i z) ts m)
+      let P : ℕ → Type 0 = λ d. Trees frame a.version 0 d a.had (BehindTree frame c a (low_of i z ∷ ws)) ts in
+      subst P deep (trees_map frame a.version (length ws + 1) a.had (HighTree a ws i z) (BehindTree frame c a (low_of i z ∷ ws)) (high_to a ws i z) ts m)
 
-  low_from : (a : Claim) (ws : List Wait) (i : ℕ) (z : ℤ) (ts : List Token) → AtNode frame c a (low_of i z ∷ ws) ts → LowTree a ws i z ts
+  low_from : (a : Told) (ws : List Wait) (i : ℕ) (z : ℤ) (ts : List Token) → AtNode frame c a (low_of i z ∷ ws) ts → LowTree a ws i z ts
   low_from a ws i z ts m =
       let deep : length ws + 1 ≡ length (low_of i z ∷ ws) = omega arith in
-      let P : ℕ → Type 0 = λ d. Trees frame One 0 d [] (Behind frame c a (low_of i z ∷ ws)) ts in
-      trees_map frame (length ws + 1) (Behind frame c a (low_of i z ∷ ws)) (λ low us. Trees frame One 0 (length ws + 1) (kept_behind One [] low) (λ high. Behind frame c a ws (Split i z low high)) us) (high_from a ws i z) ts (subst P (sym deep) m)
+      let P : ℕ → Type 0 = λ d. Trees frame a.version 0 d a.had (BehindTree frame c a (low_of i z ∷ ws)) ts in
+      trees_map frame a.version (length ws + 1) a.had (BehindTree frame c a (low_of i z ∷ ws)) (HighTree a ws i z) (high_from a ws i z) ts (subst P (sym deep) m)
 
   -- a split's line behind its first word
-  abbrev AfterPlace : Claim → List Wait → ℕ → ℤ → List Token → Type 0
+  abbrev AfterPlace : Told → List Wait → ℕ → ℤ → List Token → Type 0
   AfterPlace a ws i z = Prefixed (LineEnd None) (LowTree a ws i z)
 
-  place_to : (a : Claim) (ws : List Wait) (i : ℕ) (z : ℤ) (ts : List Token) → AfterPlace a ws i z ts → SplitEnd frame c a ws i z ts
+  place_to : (a : Told) (ws : List Wait) (i : ℕ) (z : ℤ) (ts : List Token) → AfterPlace a ws i z ts → SplitEnd frame c a ws i z ts
   place_to a ws i z ts m = prefixed_map (LineEnd None) (LowTree a ws i z) (AtNode frame c a (low_of i z ∷ ws)) (low_to a ws i z) ts m
 
-  place_from : (a : Claim) (ws : List Wait) (i : ℕ) (z : ℤ) (ts : List Token) → SplitEnd frame c a ws i z ts → AfterPlace a ws i z ts
+  place_from : (a : Told) (ws : List Wait) (i : ℕ) (z : ℤ) (ts : List Token) → SplitEnd frame c a ws i z ts → AfterPlace a ws i z ts
   place_from a ws i z ts m = prefixed_map (LineEnd None) (AtNode frame c a (low_of i z ∷ ws)) (LowTree a ws i z) (low_from a ws i z) ts m
 
-  variable_to : (a : Claim) (ws : List Wait) (i : ℕ) (ts : List Token) → Prefixed (Words (codes " ")) (Valued value_fault (AfterPlace a ws i)) ts → VariableGap frame c a ws i ts
+  variable_to : (a : Told) (ws : List Wait) (i : ℕ) (ts : List Token) → Prefixed (Words (codes " ")) (Valued value_fault (AfterPlace a ws i)) ts → VariableGap frame c a ws i ts
   variable_to a ws i ts m = prefixed_map (Words (codes " ")) (Valued value_fault (AfterPlace a ws i)) (AtPlace frame c a ws i) (valued_map value_fault (AfterPlace a ws i) (SplitEnd frame c a ws i) (place_to a ws i)) ts m
 
-  variable_from : (a : Claim) (ws : List Wait) (i : ℕ) (ts : List Token) → VariableGap frame c a ws i ts → Prefixed (Words (codes " ")) (Valued value_fault (AfterPlace a ws i)) ts
+  variable_from : (a : Told) (ws : List Wait) (i : ℕ) (ts : List Token) → VariableGap frame c a ws i ts → Prefixed (Words (codes " ")) (Valued value_fault (AfterPlace a ws i)) ts
   variable_from a ws i ts m = prefixed_map (Words (codes " ")) (AtPlace frame c a ws i) (Valued value_fault (AfterPlace a ws i)) (valued_map value_fault (SplitEnd frame c a ws i) (AfterPlace a ws i) (place_from a ws i)) ts m
 
-  split_alike : (a : Claim) (ws : List Wait) (ts : List Token) → Alike (SplitParts frame One 0 (length ws) [] (Behind frame c a ws) ts) (AtVariable frame c a ws ts)
+  split_alike : (a : Told) (ws : List Wait) (ts : List Token) → Alike (SplitParts frame a.version 0 (length ws) a.had (BehindTree frame c a ws) ts) (AtVariable frame c a ws ts)
   split_alike a ws ts = (
     λ m. numbered_map (variable_fault frame (length ws)) (λ i. Prefixed (Words (codes " ")) (Valued value_fault (AfterPlace a ws i))) (VariableGap frame c a ws) (variable_to a ws) ts m,
     λ m. numbered_map (variable_fault frame (length ws)) (VariableGap frame c a ws) (λ i. Prefixed (Words (codes " ")) (Valued value_fault (AfterPlace a ws i))) (variable_from a ws) ts m,
   )
 
   -- what a tree begins with
-  pub node_by : (a : Claim) (ws : List Wait) (ts : List Token) → AtNode frame c a ws ts → TreeBy frame One 0 (length ws) [] (Behind frame c a ws) ts
-  node_by a ws ts m = tree_by frame One 0 (length ws) [] (Behind frame c a ws) m.0 m.1 ts m.2 m.3
+  pub node_by : (a : Told) (ws : List Wait) (ts : List Token) → AtNode frame c a ws ts → TreeBy frame a.version 0 (length ws) a.had (BehindTree frame c a ws) ts
+  node_by a ws ts m = tree_by frame a.version 0 (length ws) a.had (BehindTree frame c a ws) m.0 m.1 ts m.2 m.3
 
-  pub node_leaf : (a : Claim) (ws : List Wait) (ts : List Token) → Alike (AtNode frame c a ws (Words (codes "leaf ") ∷ ts)) (AtScale frame c a ws false ts)
+  pub node_leaf : (a : Told) (ws : List Wait) (ts : List Token) → Alike (AtNode frame c a ws (Words (codes "leaf ") ∷ ts)) (AtScale frame c a ws false ts)
   node_leaf a ws ts =
       let s = scale_alike frame c a ws false ts in (
-        λ m. s.0 (under_leaf frame One 0 (length ws) [] (Behind frame c a ws) ts (node_by a ws (Words (codes "leaf ") ∷ ts) m)),
+        λ m. s.0 (under_leaf frame a.version 0 (length ws) a.had (BehindTree frame c a ws) ts (node_by a ws (Words (codes "leaf ") ∷ ts) m)),
         λ m. let l = s.1 m in (Shut l.0, l.1, l.2, ap (λ (xs : List Token). Words (codes "leaf ") ∷ xs) l.3),
       )
 
-  pub node_open : (a : Claim) (ws : List Wait) (ts : List Token) → Alike (AtNode frame c a ws (Words (codes "open ") ∷ ts)) (AtScale frame c a ws true ts)
+  pub node_open : (a : Told) (ws : List Wait) (ts : List Token) → Alike (AtNode frame c a ws (Words (codes "open ") ∷ ts)) (AtScale frame c a ws true ts)
   node_open a ws ts =
       let s = scale_alike frame c a ws true ts in (
-        λ m. s.0 (under_open frame One 0 (length ws) [] (Behind frame c a ws) ts (node_by a ws (Words (codes "open ") ∷ ts) m)),
+        λ m. s.0 (under_open frame a.version 0 (length ws) a.had (BehindTree frame c a ws) ts (node_by a ws (Words (codes "open ") ∷ ts) m)),
         λ m. let l = s.1 m in (Open l.0, l.1, l.2, ap (λ (xs : List Token). Words (codes "open ") ∷ xs) l.3),
       )
 
-  pub node_split : (a : Claim) (ws : List Wait) (ts : List Token) → Alike (AtNode frame c a ws (Words (codes "split ") ∷ ts)) (AtVariable frame c a ws ts)
+  pub node_split : (a : Told) (ws : List Wait) (ts : List Token) → Alike (AtNode frame c a ws (Words (codes "split ") ∷ ts)) (AtVariable frame c a ws ts)
   node_split a ws ts =
       let s = split_alike a ws ts in (
-        λ m. s.0 (under_split frame One 0 (length ws) [] (Behind frame c a ws) ts (node_by a ws (Words (codes "split ") ∷ ts) m)),
-        λ m. split_to frame One 0 (length ws) [] (Behind frame c a ws) ts (s.1 m),
+        λ m. s.0 (under_split frame a.version 0 (length ws) a.had (BehindTree frame c a ws) ts (node_by a ws (Words (codes "split ") ∷ ts) m)),
+        λ m. split_to frame a.version 0 (length ws) a.had (BehindTree frame c a ws) ts (s.1 m),
       )
 
   -- the values of a point
-  abbrev ValuesG : Known → List ℤ → List ℤ → List Token → Type 0
-  ValuesG k zs ys = AtNode frame c (claim_with k (zs ++ ys)) []
+  abbrev ValuesG : Version → Known → List ℤ → List ℤ → List Token → Type 0
+  ValuesG v k zs ys = AtNode frame c (told v (claim_with k (zs ++ ys))) []
 
-  pub values_end : (k : Known) (zs : List ℤ) (ts : List Token) → Alike (AtValues frame c k zs (LineEnd (end_fault frame (length zs + 1)) ∷ ts)) (AtNode frame c (claim_with k zs) [] ts)
-  values_end k zs ts =
-      let P : List ℤ → Type 0 = λ ys. AtNode frame c (claim_with k ys) [] ts in (
-        λ m. subst P (append-nil zs) (points_end frame (length zs + 1) (ValuesG k zs) m.0 m.1 ts m.2 m.3),
+  pub values_end : (v : Version) (k : Known) (zs : List ℤ) (ts : List Token) → Alike (AtValues frame c v k zs (LineEnd (end_fault frame (length zs + 1)) ∷ ts)) (AtNode frame c (told v (claim_with k zs)) [] ts)
+  values_end v k zs ts =
+      let P : List ℤ → Type 0 = λ ys. AtNode frame c (told v (claim_with k ys)) [] ts in (
+        λ m. subst P (append-nil zs) (points_end frame (length zs + 1) (ValuesG v k zs) m.0 m.1 ts m.2 m.3),
         λ m. ([], ts, subst P (sym (append-nil zs)) m, refl),
       )
 
-  more_to : (k : Known) (zs : List ℤ) (z : ℤ) (ts : List Token) → Points frame (length zs + 1 + 1) (λ ys. ValuesG k zs (z ∷ ys)) ts → AtValues frame c k (zs ++ z ∷ []) ts
-  more_to k zs z ts m =
+  more_to : (v : Version) (k : Known) (zs : List ℤ) (z : ℤ) (ts : List Token) → Points frame (length zs + 1 + 1) (λ ys. ValuesG v k zs (z ∷ ys)) ts → AtValues frame c v k (zs ++ z ∷ []) ts
+  more_to v k zs z ts m =
       let long : length zs + 1 + 1 ≡ length (zs ++ z ∷ []) + 1 = omega (arith, length-append zs (z ∷ [])) in
-      let P : ℕ → Type 0 = λ n. Points frame n (ValuesG k (zs ++ z ∷ [])) ts in
-      subst P long (points_map frame (length zs + 1 + 1) (λ ys. ValuesG k zs (z ∷ ys)) (ValuesG k (zs ++ z ∷ []))
-      (λ ys us g. let Q : List ℤ → Type 0 = λ xs. AtNode frame c (claim_with k xs) [] us in subst Q (sym (append_assoc zs (z ∷ []) ys)) g) ts m)
+      let P : ℕ → Type 0 = λ n. Points frame n (ValuesG v k (zs ++ z ∷ [])) ts in
+      subst P long (points_map frame (length zs + 1 + 1) (λ ys. ValuesG v k zs (z ∷ ys)) (ValuesG v k (zs ++ z ∷ []))
+      (λ ys us g. let Q : List ℤ → Type 0 = λ xs. AtNode frame c (told v (claim_with k xs)) [] us in subst Q (sym (append_assoc zs (z ∷ []) ys)) g) ts m)
 
-  more_from : (k : Known) (zs : List ℤ) (z : ℤ) (ts : List Token) → AtValues frame c k (zs ++ z ∷ []) ts → Points frame (length zs + 1 + 1) (λ ys. ValuesG k zs (z ∷ ys)) ts
-  more_from k zs z ts m =
+  more_from : (v : Version) (k : Known) (zs : List ℤ) (z : ℤ) (ts : List Token) → AtValues frame c v k (zs ++ z ∷ []) ts → Points frame (length zs + 1 + 1) (λ ys. ValuesG v k zs (z ∷ ys)) ts
+  more_from v k zs z ts m =
       let long : length zs + 1 + 1 ≡ length (zs ++ z ∷ []) + 1 = omega (arith, length-append zs (z ∷ [])) in
-      let P : ℕ → Type 0 = λ n. Points frame n (ValuesG k (zs ++ z ∷ [])) ts in
-      points_map frame (length zs + 1 + 1) (ValuesG k (zs ++ z ∷ [])) (λ ys. ValuesG k zs (z ∷ ys))
-      (λ ys us g. let Q : List ℤ → Type 0 = λ xs. AtNode frame c (claim_with k xs) [] us in subst Q (append_assoc zs (z ∷ []) ys) g) ts (subst P (sym long) m)
+      let P : ℕ → Type 0 = λ n. Points frame n (ValuesG v k (zs ++ z ∷ [])) ts in
+      points_map frame (length zs + 1 + 1) (ValuesG v k (zs ++ z ∷ [])) (λ ys. ValuesG v k zs (z ∷ ys))
+      (λ ys us g. let Q : List ℤ → Type 0 = λ xs. AtNode frame c (told v (claim_with k xs)) [] us in subst Q (append_assoc zs (z ∷ []) ys) g) ts (subst P (sym long) m)
 
-  pub values_more : (k : Known) (zs : List ℤ) (ts : List Token) → Alike (AtValues frame c k zs (Words (codes " ") ∷ ts)) (AtCoordinate frame c k zs ts)
-  values_more k zs ts = (λ m. forward ts m, λ m. back m) where
-    forward : (ts : List Token) → AtValues frame c k zs (Words (codes " ") ∷ ts) → AtCoordinate frame c k zs ts
-    forward [] m = absurd (points_short frame (length zs + 1) (ValuesG k zs) m.0 m.1 m.3)
+  pub values_more : (v : Version) (k : Known) (zs : List ℤ) (ts : List Token) → Alike (AtValues frame c v k zs (Words (codes " ") ∷ ts)) (AtCoordinate frame c v k zs ts)
+  values_more v k zs ts = (λ m. forward ts m, λ m. back m) where
+    forward : (ts : List Token) → AtValues frame c v k zs (Words (codes " ") ∷ ts) → AtCoordinate frame c v k zs ts
+    forward [] m = absurd (points_short frame (length zs + 1) (ValuesG v k zs) m.0 m.1 m.3)
     forward (y ∷ ys) m =
-        let i = points_more frame (length zs + 1) (ValuesG k zs) m.0 m.1 y ys m.2 m.3 in
-        (i.0, ys, ap (λ (x : Token). x ∷ ys) i.1, more_to k zs i.0 ys i.2)
+        let i = points_more frame (length zs + 1) (ValuesG v k zs) m.0 m.1 y ys m.2 m.3 in
+        (i.0, ys, ap (λ (x : Token). x ∷ ys) i.1, more_to v k zs i.0 ys i.2)
 
-    back : AtCoordinate frame c k zs ts → AtValues frame c k zs (Words (codes " ") ∷ ts)
-    back m = let i = more_from k zs m.0 m.1 m.3 in (m.0 ∷ i.0, i.1, i.2, ap (λ (xs : List Token). Words (codes " ") ∷ xs) (m.2 ∙ ap (λ (xs : List Token). Figure m.0 (coordinate_fault frame (length zs + 1) m.0) ∷ xs) i.3))
+    back : AtCoordinate frame c v k zs ts → AtValues frame c v k zs (Words (codes " ") ∷ ts)
+    back m = let i = more_from v k zs m.0 m.1 m.3 in (m.0 ∷ i.0, i.1, i.2, ap (λ (xs : List Token). Words (codes " ") ∷ xs) (m.2 ∙ ap (λ (xs : List Token). Figure m.0 (coordinate_fault frame (length zs + 1) m.0) ∷ xs) i.3))
 
   -- the pairs of a leaf
-  abbrev pub PairsG : Claim → List Wait → Bool → ℕ → List (ℕ × ℤ) → List (ℕ × ℤ) → List Token → Type 0
+  abbrev pub PairsG : Told → List Wait → Bool → ℕ → List (ℕ × ℤ) → List (ℕ × ℤ) → List Token → Type 0
   PairsG a ws o s ps qs = Prefixed (Words (codes " priced ")) (AtPriced frame c a ws o s (ps ++ qs))
 
-  pub pairs_end : (a : Claim) (ws : List Wait) (o : Bool) (s : ℕ) (ps : List (ℕ × ℤ)) (last : ℕ) (ts : List Token) → Alike (AtPairs frame c a ws o s ps last 0 (Words (codes " priced ") ∷ ts)) (AtPriced frame c a ws o s ps ts)
+  pub pairs_end : (a : Told) (ws : List Wait) (o : Bool) (s : ℕ) (ps : List (ℕ × ℤ)) (last : ℕ) (ts : List Token) → Alike (AtPairs frame c a ws o s ps last 0 (Words (codes " priced ") ∷ ts)) (AtPriced frame c a ws o s ps ts)
   pairs_end a ws o s ps last ts =
       let P : List (ℕ × ℤ) → Type 0 = λ qs. AtPriced frame c a ws o s qs ts in
       let Q : List (ℕ × ℤ) → Type 0 = λ qs. AtPriced frame c a ws o s qs ts in (
-        λ m. subst P (append-nil ps) (prefixed_under (Words (codes " priced ")) (AtPriced frame c a ws o s (ps ++ [])) ts (no_pairs (may_name frame 0) (2 ^ 40) [] last (PairsG a ws o s ps) m.0 m.1 (Words (codes " priced ") ∷ ts) m.2 m.3 m.4)),
+        λ m. subst P (append-nil ps) (prefixed_under (Words (codes " priced ")) (AtPriced frame c a ws o s (ps ++ [])) ts (no_pairs (may_name frame 0) (2 ^ 40) a.had last (PairsG a ws o s ps) m.0 m.1 (Words (codes " priced ") ∷ ts) m.2 m.3 m.4)),
         λ m. ([], Words (codes " priced ") ∷ ts, refl, (ts, refl, subst Q (sym (append-nil ps)) m), refl),
       )
 
-  pair_to : (a : Claim) (ws : List Wait) (o : Bool) (s : ℕ) (ps : List (ℕ × ℤ)) (r : ℕ) (z : ℤ) (n m : ℕ) → n ≡ suc m → (ts : List Token) → Pairs (may_name frame 0) (2 ^ 40) [] r m (λ qs. PairsG a ws o s ps ((r, z) ∷ qs)) ts → AtPairs frame c a ws o s (ps ++ (r, z) ∷ []) r (n - 1) ts
+  pair_to : (a : Told) (ws : List Wait) (o : Bool) (s : ℕ) (ps : List (ℕ × ℤ)) (r : ℕ) (z : ℤ) (n m : ℕ) → n ≡ suc m → (ts : List Token) → Pairs (may_name frame 0) (2 ^ 40) a.had r m (λ qs. PairsG a ws o s ps ((r, z) ∷ qs)) ts → AtPairs frame c a ws o s (ps ++ (r, z) ∷ []) r (n - 1) ts
   pair_to a ws o s ps r z n m is ts x =
       let less : m ≡ n - 1 = omega arith in
       let P : ℕ → Type 0 = λ k. AtPairs frame c a ws o s (ps ++ (r, z) ∷ []) r k ts in
-      subst P less (pairs_map (may_name frame 0) (2 ^ 40) [] r m (λ qs. PairsG a ws o s ps ((r, z) ∷ qs)) (PairsG a ws o s (ps ++ (r, z) ∷ []))
+      subst P less (pairs_map (may_name frame 0) (2 ^ 40) a.had r m (λ qs. PairsG a ws o s ps ((r, z) ∷ qs)) (PairsG a ws o s (ps ++ (r, z) ∷ []))
       (λ qs us g. let Q : List (ℕ × ℤ) → Type 0 = λ xs. Prefixed (Words (codes " priced ")) (AtPriced frame c a ws o s xs) us in subst Q (sym (append_assoc ps ((r, z) ∷ []) qs)) g) ts x)
 
-  pair_from : (a : Claim) (ws : List Wait) (o : Bool) (s : ℕ) (ps : List (ℕ × ℤ)) (r : ℕ) (z : ℤ) (n m : ℕ) → n ≡ suc m → (ts : List Token) → AtPairs frame c a ws o s (ps ++ (r, z) ∷ []) r (n - 1) ts → Pairs (may_name frame 0) (2 ^ 40) [] r m (λ qs. PairsG a ws o s ps ((r, z) ∷ qs)) ts
+  pair_from : (a : Told) (ws : List Wait) (o : Bool) (s : ℕ) (ps : List (ℕ × ℤ)) (r : ℕ) (z : ℤ) (n m : ℕ) → n ≡ suc m → (ts : List Token) → AtPairs frame c a ws o s (ps ++ (r, z) ∷ []) r (n - 1) ts → Pairs (may_name frame 0) (2 ^ 40) a.had r m (λ qs. PairsG a ws o s ps ((r, z) ∷ qs)) ts
   pair_from a ws o s ps r z n m is ts x =
       let less : m ≡ n - 1 = omega arith in
       let P : ℕ → Type 0 = λ k. AtPairs frame c a ws o s (ps ++ (r, z) ∷ []) r k ts in
-      pairs_map (may_name frame 0) (2 ^ 40) [] r m (PairsG a ws o s (ps ++ (r, z) ∷ [])) (λ qs. PairsG a ws o s ps ((r, z) ∷ qs))
+      pairs_map (may_name frame 0) (2 ^ 40) a.had r m (PairsG a ws o s (ps ++ (r, z) ∷ [])) (λ qs. PairsG a ws o s ps ((r, z) ∷ qs))
       (λ qs us g. let Q : List (ℕ × ℤ) → Type 0 = λ xs. Prefixed (Words (codes " priced ")) (AtPriced frame c a ws o s xs) us in subst Q (append_assoc ps ((r, z) ∷ []) qs) g) ts (subst P (sym less) x)
 
-  pub pairs_more : (a : Claim) (ws : List Wait) (o : Bool) (s : ℕ) (ps : List (ℕ × ℤ)) (last n m : ℕ) → n ≡ suc m → (ts : List Token) → Alike (AtPairs frame c a ws o s ps last n (Words (codes " ") ∷ ts)) (AtRow frame c a ws o s ps last n ts)
+  pub pairs_more : (a : Told) (ws : List Wait) (o : Bool) (s : ℕ) (ps : List (ℕ × ℤ)) (last n m : ℕ) → n ≡ suc m → (ts : List Token) → Alike (AtPairs frame c a ws o s ps last n (Words (codes " ") ∷ ts)) (AtRow frame c a ws o s ps last n ts)
   pairs_more a ws o s ps last n m is ts = (λ x. forward x, λ x. back x) where
     forward : AtPairs frame c a ws o s ps last n (Words (codes " ") ∷ ts) → AtRow frame c a ws o s ps last n ts
     forward x =
-        let i = first_pair (may_name frame 0) (2 ^ 40) [] last m (PairsG a ws o s ps) x.0 x.1 (Words (codes " ") ∷ ts) (x.2 ∙ is) x.3 x.4 in
-        let tails : ts ≡ Figure (pos i.row) (row_fault (may_name frame 0) last i.row) ∷ Words (codes " ") ∷ Figure i.by (multiplier_fault (2 ^ 40) [] i.row i.by) ∷ i.tail = same_tail _ _ _ _ i.is in
+        let i = first_pair (may_name frame 0) (2 ^ 40) a.had last m (PairsG a ws o s ps) x.0 x.1 (Words (codes " ") ∷ ts) (x.2 ∙ is) x.3 x.4 in
+        let tails : ts ≡ Figure (pos i.row) (row_fault (may_name frame 0) last i.row) ∷ Words (codes " ") ∷ Figure i.by (multiplier_fault (2 ^ 40) a.had i.row i.by) ∷ i.tail = same_tail _ _ _ _ i.is in
         (i.row, _, tails, (_, refl, (i.by, i.tail, refl, pair_to a ws o s ps i.row i.by n m is i.tail i.rest)))
 
     back : AtRow frame c a ws o s ps last n ts → AtPairs frame c a ws o s ps last n (Words (codes " ") ∷ ts)
@@ -261,21 +261,21 @@ module _ (frame : Frame) (c : Cert) where
         let long : length ((x.0, v.0) ∷ i.0) ≡ n = longer (x.0, v.0) i.0 i.2 in
         let e : ts ≡ Figure (pos x.0) (row_fault (may_name frame 0) last x.0) ∷ x.1 = x.2 in
         let f : x.1 ≡ Words (codes " ") ∷ g.0 = g.1 in
-        let h : g.0 ≡ Figure v.0 (multiplier_fault (2 ^ 40) [] x.0 v.0) ∷ v.1 = v.2 in (
+        let h : g.0 ≡ Figure v.0 (multiplier_fault (2 ^ 40) a.had x.0 v.0) ∷ v.1 = v.2 in (
           (x.0, v.0) ∷ i.0,
           i.1,
           long,
           i.3,
-          ap (λ (xs : List Token). Words (codes " ") ∷ xs) (e ∙ ap (λ (xs : List Token). Figure (pos x.0) (row_fault (may_name frame 0) last x.0) ∷ xs) (f ∙ ap (λ (xs : List Token). Words (codes " ") ∷ xs) (h ∙ ap (λ (xs : List Token). Figure v.0 (multiplier_fault (2 ^ 40) [] x.0 v.0) ∷ xs) i.4))),
+          ap (λ (xs : List Token). Words (codes " ") ∷ xs) (e ∙ ap (λ (xs : List Token). Figure (pos x.0) (row_fault (may_name frame 0) last x.0) ∷ xs) (f ∙ ap (λ (xs : List Token). Words (codes " ") ∷ xs) (h ∙ ap (λ (xs : List Token). Figure v.0 (multiplier_fault (2 ^ 40) a.had x.0 v.0) ∷ xs) i.4))),
         ) where
           longer : (p : ℕ × ℤ) (ps : List (ℕ × ℤ)) → length ps ≡ m → length (p ∷ ps) ≡ n
           longer p ps e = omega arith
 
   -- the priced blocks
-  abbrev pub BlocksG : Claim → List Wait → Bool → ℕ → List (ℕ × ℤ) → List ℕ → List ℕ → List Token → Type 0
+  abbrev pub BlocksG : Told → List Wait → Bool → ℕ → List (ℕ × ℤ) → List ℕ → List ℕ → List Token → Type 0
   BlocksG a ws o s ps ks ls = LeafEnd frame c a ws o (proof_of s ps (These (ks ++ ls)))
 
-  pub blocks_end : (a : Claim) (ws : List Wait) (o : Bool) (s : ℕ) (ps : List (ℕ × ℤ)) (ks : List ℕ) (last : ℕ) (ts : List Token) → Alike (AtBlocks frame c a ws o s ps ks last 0 (LineEnd None ∷ ts)) (Follows frame c (behind a ws (leaf_of o (proof_of s ps (These ks)))) ts)
+  pub blocks_end : (a : Told) (ws : List Wait) (o : Bool) (s : ℕ) (ps : List (ℕ × ℤ)) (ks : List ℕ) (last : ℕ) (ts : List Token) → Alike (AtBlocks frame c a ws o s ps ks last 0 (LineEnd None ∷ ts)) (Follows frame c (behind_leaf a ws o (proof_of s ps (These ks))) ts)
   blocks_end a ws o s ps ks last ts =
       let P : List ℕ → Type 0 = λ ls. LeafEnd frame c a ws o (proof_of s ps (These ls)) (LineEnd None ∷ ts) in
       let e = leaf_end_alike frame c a ws o (proof_of s ps (These ks)) ts in (
@@ -283,21 +283,21 @@ module _ (frame : Frame) (c : Cert) where
         λ m. ([], LineEnd None ∷ ts, refl, subst P (sym (append-nil ks)) (e.1 m), refl),
       )
 
-  block_to : (a : Claim) (ws : List Wait) (o : Bool) (s : ℕ) (ps : List (ℕ × ℤ)) (ks : List ℕ) (k n m : ℕ) → n ≡ suc m → (ts : List Token) → Blocks frame k m (λ ls. BlocksG a ws o s ps ks (k ∷ ls)) ts → AtBlocks frame c a ws o s ps (ks ++ k ∷ []) k (n - 1) ts
+  block_to : (a : Told) (ws : List Wait) (o : Bool) (s : ℕ) (ps : List (ℕ × ℤ)) (ks : List ℕ) (k n m : ℕ) → n ≡ suc m → (ts : List Token) → Blocks frame k m (λ ls. BlocksG a ws o s ps ks (k ∷ ls)) ts → AtBlocks frame c a ws o s ps (ks ++ k ∷ []) k (n - 1) ts
   block_to a ws o s ps ks k n m is ts x =
       let less : m ≡ n - 1 = omega arith in
       let P : ℕ → Type 0 = λ j. AtBlocks frame c a ws o s ps (ks ++ k ∷ []) k j ts in
       subst P less (blocks_map frame k m (λ ls. BlocksG a ws o s ps ks (k ∷ ls)) (BlocksG a ws o s ps (ks ++ k ∷ []))
       (λ ls us g. let Q : List ℕ → Type 0 = λ xs. LeafEnd frame c a ws o (proof_of s ps (These xs)) us in subst Q (sym (append_assoc ks (k ∷ []) ls)) g) ts x)
 
-  block_from : (a : Claim) (ws : List Wait) (o : Bool) (s : ℕ) (ps : List (ℕ × ℤ)) (ks : List ℕ) (k n m : ℕ) → n ≡ suc m → (ts : List Token) → AtBlocks frame c a ws o s ps (ks ++ k ∷ []) k (n - 1) ts → Blocks frame k m (λ ls. BlocksG a ws o s ps ks (k ∷ ls)) ts
+  block_from : (a : Told) (ws : List Wait) (o : Bool) (s : ℕ) (ps : List (ℕ × ℤ)) (ks : List ℕ) (k n m : ℕ) → n ≡ suc m → (ts : List Token) → AtBlocks frame c a ws o s ps (ks ++ k ∷ []) k (n - 1) ts → Blocks frame k m (λ ls. BlocksG a ws o s ps ks (k ∷ ls)) ts
   block_from a ws o s ps ks k n m is ts x =
       let less : m ≡ n - 1 = omega arith in
       let P : ℕ → Type 0 = λ j. AtBlocks frame c a ws o s ps (ks ++ k ∷ []) k j ts in
       blocks_map frame k m (BlocksG a ws o s ps (ks ++ k ∷ [])) (λ ls. BlocksG a ws o s ps ks (k ∷ ls))
       (λ ls us g. let Q : List ℕ → Type 0 = λ xs. LeafEnd frame c a ws o (proof_of s ps (These xs)) us in subst Q (append_assoc ks (k ∷ []) ls) g) ts (subst P (sym less) x)
 
-  pub blocks_more : (a : Claim) (ws : List Wait) (o : Bool) (s : ℕ) (ps : List (ℕ × ℤ)) (ks : List ℕ) (last n m : ℕ) → n ≡ suc m → (ts : List Token) → Alike (AtBlocks frame c a ws o s ps ks last n (Words (codes " ") ∷ ts)) (AtBlock frame c a ws o s ps ks last n ts)
+  pub blocks_more : (a : Told) (ws : List Wait) (o : Bool) (s : ℕ) (ps : List (ℕ × ℤ)) (ks : List ℕ) (last n m : ℕ) → n ≡ suc m → (ts : List Token) → Alike (AtBlocks frame c a ws o s ps ks last n (Words (codes " ") ∷ ts)) (AtBlock frame c a ws o s ps ks last n ts)
   blocks_more a ws o s ps ks last n m is ts = (λ x. forward x, λ x. back x) where
     forward : AtBlocks frame c a ws o s ps ks last n (Words (codes " ") ∷ ts) → AtBlock frame c a ws o s ps ks last n ts
     forward x =
@@ -315,16 +315,16 @@ module _ (frame : Frame) (c : Cert) where
           longer k ks e = omega arith
 
   -- which way the priced blocks are written
-  abbrev pub PricedG : Claim → List Wait → Bool → ℕ → List (ℕ × ℤ) → Picked → List Token → Type 0
+  abbrev pub PricedG : Told → List Wait → Bool → ℕ → List (ℕ × ℤ) → Picked → List Token → Type 0
   PricedG a ws o s ps q = LeafEnd frame c a ws o (proof_of s ps q)
 
-  pub priced_every : (a : Claim) (ws : List Wait) (o : Bool) (s : ℕ) (ps : List (ℕ × ℤ)) (ts : List Token) → Alike (AtPriced frame c a ws o s ps (Words (codes "all") ∷ ts)) (LeafEnd frame c a ws o (proof_of s ps Every) ts)
+  pub priced_every : (a : Told) (ws : List Wait) (o : Bool) (s : ℕ) (ps : List (ℕ × ℤ)) (ts : List Token) → Alike (AtPriced frame c a ws o s ps (Words (codes "all") ∷ ts)) (LeafEnd frame c a ws o (proof_of s ps Every) ts)
   priced_every a ws o s ps ts = (
     λ m. priced_all frame (PricedG a ws o s ps) ts (priced_by frame (PricedG a ws o s ps) m.0 m.1 (Words (codes "all") ∷ ts) m.2 m.3),
     λ m. (Every, ts, m, refl),
   )
 
-  pub priced_these : (a : Claim) (ws : List Wait) (o : Bool) (s : ℕ) (ps : List (ℕ × ℤ)) (n : ℕ) (ts : List Token) → Alike (AtPriced frame c a ws o s ps (count n ∷ ts)) (AtBlocks frame c a ws o s ps [] 0 n ts)
+  pub priced_these : (a : Told) (ws : List Wait) (o : Bool) (s : ℕ) (ps : List (ℕ × ℤ)) (n : ℕ) (ts : List Token) → Alike (AtPriced frame c a ws o s ps (count n ∷ ts)) (AtBlocks frame c a ws o s ps [] 0 n ts)
   priced_these a ws o s ps n ts = (
     λ m. priced_list frame (PricedG a ws o s ps) n ts (priced_by frame (PricedG a ws o s ps) m.0 m.1 (count n ∷ ts) m.2 m.3),
     λ m. let P : ℕ → Type 0 = λ k. count n ∷ ts ≡ count k ∷ ts in

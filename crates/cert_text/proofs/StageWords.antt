@@ -1,10 +1,8 @@
 -- The words that may come at a place: where they lead, and that their first bytes tell them apart.
-use Rattle.std.proofs.Common.{◌≡◌, ◌≢◌, ◌⊎◌, ℕ, zero, suc, ◌≤◌, Bool, true, false, not, List, [], ◌∷◌, ◌++◌, drop, Option, Some, None, ℤ, refl, sym, ap, ◌∙◌, subst, inl, inr, ⊎_elim, arith, nat_eq, if◌then◌else◌}
+use Rattle.std.proofs.Common.{◌≡◌, ◌≢◌, ℕ, ◌≤◌, Bool, true, false, not, List, [], ◌∷◌, drop, Option, Some, None, ℤ, refl, sym, ap, ◌∙◌, subst, inl, inr, ⊎_elim, arith, nat_eq, if◌then◌else◌}
 use Rattle.std.specs.Prelude.{slice_index_or}
-use Rattle.std.proofs.lemmas.Bool.{true≢false}
-use Rattle.std.proofs.lemmas.Bool.Decides.{nat_tests}
-use Rattle.cert_text.specs.Cert.{Every, These, Cert, Frame}
-use Rattle.cert_text.specs.Text.{Kind, Token, token_text}
+use Rattle.cert_text.specs.Cert.{These, Cert, Frame}
+use Rattle.cert_text.specs.Text.{Kind, token_text}
 use Rattle.cert_text.specs.Fault.{EndsToken, EndIsSeen}
 use Rattle.cert_text.specs.Words.{word_text, word_token, word_begins}
 use Rattle.cert_text.specs.Spots.{spot_words, picked_word}
@@ -15,22 +13,22 @@ use Rattle.cert_text.specs.declared.spots.Spot.{Spot}
 use Rattle.cert_text.specs.declared.spots.Spot.TheVariants as s
 use Rattle.cert_text.specs.declared.words.Word.{Word}
 use Rattle.cert_text.specs.declared.words.Word.TheVariants as w
-use Rattle.cert_text.specs.Stages.{leaf_of, proof_of, Stage, at_bpcert, at_one, at_first_end, at_claim, at_kind, at_optimal, infeasible_end, at_bound, after_bound, at_value, claim_end, at_point, at_values, at_coordinate, at_node, at_scale, at_rows, at_count, at_pairs, at_row, row_gap, at_multiplier, at_priced, at_blocks, at_block, leaf_end, at_variable, variable_gap, at_place, split_end, at_end, last_end, over, behind, words, after, sort, IsOfSort}
-use Rattle.cert_text.proofs.StageProofs.{ForEach, by_zero, Leads}
+use Rattle.cert_text.specs.Stages.{proof_of, Stage, at_bpcert, at_version, at_first_end, at_claim, at_kind, at_optimal, infeasible_end, at_bound, after_bound, at_value, claim_end, at_point, at_values, at_coordinate, at_node, at_scale, at_rows, at_count, at_pairs, at_row, row_gap, at_multiplier, at_priced, at_blocks, at_block, leaf_end, at_variable, variable_gap, at_place, split_end, at_end, last_end, over, behind_leaf, words, after, sort, IsOfSort}
+use Rattle.cert_text.proofs.StageProofs.{ForEach, Leads}
 use Rattle.cert_text.proofs.StageMoves.{word_leads}
 
 -- the place behind each word
 words_after : (stage : Stage) → ForEach (λ word next. next ≡ after stage word) (words stage)
 words_after at_bpcert = (refl, tt)
-words_after at_one = (refl, tt)
-words_after at_first_end = (refl, tt)
-words_after at_claim = (refl, tt)
-words_after at_kind = (refl, (refl, (refl, tt)))
-words_after infeasible_end = (refl, tt)
-words_after (after_bound b) = (refl, (refl, tt))
-words_after (claim_end k) = (refl, tt)
-words_after (at_point k) = (refl, tt)
-words_after (at_values k zs) = (refl, (refl, tt))
+words_after at_version = (refl, (refl, tt))
+words_after (at_first_end v) = (refl, tt)
+words_after (at_claim v) = (refl, tt)
+words_after (at_kind v) = (refl, (refl, (refl, tt)))
+words_after (infeasible_end v) = (refl, tt)
+words_after (after_bound v b) = (refl, (refl, tt))
+words_after (claim_end v k) = (refl, tt)
+words_after (at_point v k) = (refl, tt)
+words_after (at_values v k zs) = (refl, (refl, tt))
 words_after (at_node a ws) = (refl, (refl, (refl, tt)))
 words_after (at_rows a ws o s) = (refl, tt)
 words_after (at_pairs a ws o s ps last n) =
@@ -38,16 +36,16 @@ words_after (at_pairs a ws o s ps last n) =
 words_after (row_gap a ws o s ps r n) = (refl, tt)
 words_after (at_priced a ws o s ps) = (refl, tt)
 words_after (at_blocks a ws o s ps ks last n) =
-    elim (nat_eq n 0) as (λ t. ForEach (λ word next. next ≡ after (at_blocks a ws o s ps ks last n) word) (if t then (w.LineEnd, behind a ws (leaf_of o (proof_of s ps (These ks)))) ∷ [] else (w.Space, at_block a ws o s ps ks last n) ∷ [])) [ true ↦ (refl, tt) | false ↦ (refl, tt) ]
+    elim (nat_eq n 0) as (λ t. ForEach (λ word next. next ≡ after (at_blocks a ws o s ps ks last n) word) (if t then (w.LineEnd, behind_leaf a ws o (proof_of s ps (These ks))) ∷ [] else (w.Space, at_block a ws o s ps ks last n) ∷ [])) [ true ↦ (refl, tt) | false ↦ (refl, tt) ]
 words_after (leaf_end a ws o p) = (refl, tt)
 words_after (variable_gap a ws i) = (refl, tt)
 words_after (split_end a ws i z) = (refl, tt)
 words_after (at_end a t) = (refl, tt)
 words_after (last_end a t) = (refl, tt)
-words_after at_optimal = tt
-words_after at_bound = tt
-words_after (at_value b) = tt
-words_after (at_coordinate k zs) = tt
+words_after (at_optimal v) = tt
+words_after (at_bound v) = tt
+words_after (at_value v b) = tt
+words_after (at_coordinate v k zs) = tt
 words_after (at_scale a ws o) = tt
 words_after (at_count a ws o s) = tt
 words_after (at_row a ws o s ps last n) = tt
@@ -81,15 +79,15 @@ AreDistinct (e ∷ es) = ForEach (λ v next. first_byte e.0 ≡ first_byte v →
 
 words_distinct : (stage : Stage) → AreDistinct (words stage)
 words_distinct at_bpcert = (tt, tt)
-words_distinct at_one = (tt, tt)
-words_distinct at_first_end = (tt, tt)
-words_distinct at_claim = (tt, tt)
-words_distinct at_kind = (((λ e. omega arith), ((λ e. omega arith), tt)), (((λ e. omega arith), tt), (tt, tt)))
-words_distinct infeasible_end = (tt, tt)
-words_distinct (after_bound b) = (((λ e. omega arith), tt), (tt, tt))
-words_distinct (claim_end k) = (tt, tt)
-words_distinct (at_point k) = (tt, tt)
-words_distinct (at_values k zs) = (((λ e. omega arith), tt), (tt, tt))
+words_distinct at_version = (((λ e. omega arith), tt), (tt, tt))
+words_distinct (at_first_end v) = (tt, tt)
+words_distinct (at_claim v) = (tt, tt)
+words_distinct (at_kind v) = (((λ e. omega arith), ((λ e. omega arith), tt)), (((λ e. omega arith), tt), (tt, tt)))
+words_distinct (infeasible_end v) = (tt, tt)
+words_distinct (after_bound v b) = (((λ e. omega arith), tt), (tt, tt))
+words_distinct (claim_end v k) = (tt, tt)
+words_distinct (at_point v k) = (tt, tt)
+words_distinct (at_values v k zs) = (((λ e. omega arith), tt), (tt, tt))
 words_distinct (at_node a ws) = (((λ e. omega arith), ((λ e. omega arith), tt)), (((λ e. omega arith), tt), (tt, tt)))
 words_distinct (at_rows a ws o s) = (tt, tt)
 words_distinct (at_pairs a ws o s ps last n) =
@@ -97,16 +95,16 @@ words_distinct (at_pairs a ws o s ps last n) =
 words_distinct (row_gap a ws o s ps r n) = (tt, tt)
 words_distinct (at_priced a ws o s ps) = (tt, tt)
 words_distinct (at_blocks a ws o s ps ks last n) =
-    elim (nat_eq n 0) as (λ t. AreDistinct (if t then (w.LineEnd, behind a ws (leaf_of o (proof_of s ps (These ks)))) ∷ [] else (w.Space, at_block a ws o s ps ks last n) ∷ [])) [ true ↦ (tt, tt) | false ↦ (tt, tt) ]
+    elim (nat_eq n 0) as (λ t. AreDistinct (if t then (w.LineEnd, behind_leaf a ws o (proof_of s ps (These ks))) ∷ [] else (w.Space, at_block a ws o s ps ks last n) ∷ [])) [ true ↦ (tt, tt) | false ↦ (tt, tt) ]
 words_distinct (leaf_end a ws o p) = (tt, tt)
 words_distinct (variable_gap a ws i) = (tt, tt)
 words_distinct (split_end a ws i z) = (tt, tt)
 words_distinct (at_end a t) = (tt, tt)
 words_distinct (last_end a t) = (tt, tt)
-words_distinct at_optimal = tt
-words_distinct at_bound = tt
-words_distinct (at_value b) = tt
-words_distinct (at_coordinate k zs) = tt
+words_distinct (at_optimal v) = tt
+words_distinct (at_bound v) = tt
+words_distinct (at_value v b) = tt
+words_distinct (at_coordinate v k zs) = tt
 words_distinct (at_scale a ws o) = tt
 words_distinct (at_count a ws o s) = tt
 words_distinct (at_row a ws o s ps last n) = tt
@@ -145,10 +143,10 @@ word_number_apart (at_priced a ws o s ps) word z here of_sort = ⊎_elim
     subst P (sym is) ((λ low high. omega arith), (λ e. omega arith)))
     (λ more. absurd more)
     here
-word_number_apart at_optimal word z here of_sort = absurd here
-word_number_apart at_bound word z here of_sort = absurd here
-word_number_apart (at_value b) word z here of_sort = absurd here
-word_number_apart (at_coordinate k zs) word z here of_sort = absurd here
+word_number_apart (at_optimal v) word z here of_sort = absurd here
+word_number_apart (at_bound v) word z here of_sort = absurd here
+word_number_apart (at_value v b) word z here of_sort = absurd here
+word_number_apart (at_coordinate v k zs) word z here of_sort = absurd here
 word_number_apart (at_scale a ws o) word z here of_sort = absurd here
 word_number_apart (at_count a ws o s) word z here of_sort = absurd here
 word_number_apart (at_row a ws o s ps last n) word z here of_sort = absurd here
@@ -157,15 +155,15 @@ word_number_apart (at_block a ws o s ps ks last n) word z here of_sort = absurd 
 word_number_apart (at_variable a ws) word z here of_sort = absurd here
 word_number_apart (at_place a ws i) word z here of_sort = absurd here
 word_number_apart at_bpcert word z here of_sort = absurd of_sort
-word_number_apart at_one word z here of_sort = absurd of_sort
-word_number_apart at_first_end word z here of_sort = absurd of_sort
-word_number_apart at_claim word z here of_sort = absurd of_sort
-word_number_apart at_kind word z here of_sort = absurd of_sort
-word_number_apart infeasible_end word z here of_sort = absurd of_sort
-word_number_apart (after_bound b) word z here of_sort = absurd of_sort
-word_number_apart (claim_end k) word z here of_sort = absurd of_sort
-word_number_apart (at_point k) word z here of_sort = absurd of_sort
-word_number_apart (at_values k zs) word z here of_sort = absurd of_sort
+word_number_apart at_version word z here of_sort = absurd of_sort
+word_number_apart (at_first_end v) word z here of_sort = absurd of_sort
+word_number_apart (at_claim v) word z here of_sort = absurd of_sort
+word_number_apart (at_kind v) word z here of_sort = absurd of_sort
+word_number_apart (infeasible_end v) word z here of_sort = absurd of_sort
+word_number_apart (after_bound v b) word z here of_sort = absurd of_sort
+word_number_apart (claim_end v k) word z here of_sort = absurd of_sort
+word_number_apart (at_point v k) word z here of_sort = absurd of_sort
+word_number_apart (at_values v k zs) word z here of_sort = absurd of_sort
 word_number_apart (at_node a ws) word z here of_sort = absurd of_sort
 word_number_apart (at_rows a ws o s) word z here of_sort = absurd of_sort
 word_number_apart (at_pairs a ws o s ps last n) word z here of_sort = absurd of_sort
@@ -182,6 +180,7 @@ word_number_apart (over a t) word z here of_sort = absurd of_sort
 pub word_token-text : (f : Option Kind) (word : Word) → token_text (word_token f word) ≡ word_text word
 word_token-text f w.Bpcert = refl
 word_token-text f w.One = refl
+word_token-text f w.Two = refl
 word_token-text f w.LineEnd = refl
 word_token-text f w.Claim = refl
 word_token-text f w.Optimal = refl
@@ -194,6 +193,7 @@ word_token-text f w.Leaf = refl
 word_token-text f w.Open = refl
 word_token-text f w.Split = refl
 word_token-text f w.Rows = refl
+word_token-text f w.Change = refl
 word_token-text f w.Priced = refl
 word_token-text f w.All = refl
 word_token-text f w.End = refl
@@ -202,6 +202,7 @@ word_token-text f w.End = refl
 pub word_ends : (f : Option Kind) (word : Word) (rest : List ℕ) → EndsToken (word_token f word) rest
 word_ends f w.Bpcert rest = tt
 word_ends f w.One rest = tt
+word_ends f w.Two rest = tt
 word_ends f w.LineEnd rest = tt
 word_ends f w.Claim rest = tt
 word_ends f w.Optimal rest = tt
@@ -214,6 +215,7 @@ word_ends f w.Leaf rest = tt
 word_ends f w.Open rest = tt
 word_ends f w.Split rest = tt
 word_ends f w.Rows rest = tt
+word_ends f w.Change rest = tt
 word_ends f w.Priced rest = tt
 word_ends f w.All rest = tt
 word_ends f w.End rest = tt
@@ -222,6 +224,7 @@ word_ends f w.End rest = tt
 pub word_seen : (f : Option Kind) (word : Word) (rest : List ℕ) → EndIsSeen (word_token f word) rest
 word_seen f w.Bpcert rest = tt
 word_seen f w.One rest = tt
+word_seen f w.Two rest = tt
 word_seen f w.LineEnd rest = tt
 word_seen f w.Claim rest = tt
 word_seen f w.Optimal rest = tt
@@ -234,6 +237,7 @@ word_seen f w.Leaf rest = tt
 word_seen f w.Open rest = tt
 word_seen f w.Split rest = tt
 word_seen f w.Rows rest = tt
+word_seen f w.Change rest = tt
 word_seen f w.Priced rest = tt
 word_seen f w.All rest = tt
 word_seen f w.End rest = tt
@@ -242,6 +246,7 @@ word_seen f w.End rest = tt
 pub word_split : (word : Word) → word_text word ≡ first_byte word ∷ drop 1 (word_text word)
 word_split w.Bpcert = refl
 word_split w.One = refl
+word_split w.Two = refl
 word_split w.LineEnd = refl
 word_split w.Claim = refl
 word_split w.Optimal = refl
@@ -254,6 +259,7 @@ word_split w.Leaf = refl
 word_split w.Open = refl
 word_split w.Split = refl
 word_split w.Rows = refl
+word_split w.Change = refl
 word_split w.Priced = refl
 word_split w.All = refl
 word_split w.End = refl
@@ -263,9 +269,9 @@ abbrev pub heads : List (Word × Stage) → List Word
 heads [] = []
 heads (e ∷ es) = e.0 ∷ heads es
 
-pub words_are : (r : Reader) (n : ℕ) (spot : Spot) → heads (words (place_of r n spot)) ≡ spot_words spot (not (nat_eq n 0))
+pub words_are : (r : Reader) (n : ℕ) (spot : Spot) → heads (words (place_of r n spot)) ≡ spot_words r.version spot (not (nat_eq n 0))
 words_are r n s.Bpcert = refl
-words_are r n s.One = refl
+words_are r n s.Version = refl
 words_are r n s.FirstEnd = refl
 words_are r n s.Claim = refl
 words_are r n s.Kind = refl

@@ -57,6 +57,7 @@ word_done done text word count byte bytes within last is = word_more done text w
 fault_word : (f : Option Kind) (word : Word) (kind : Kind) → fault_of (word_token f word) ≡ Some kind → word ≡ w.LineEnd
 fault_word f w.Bpcert kind is = absurd (cc)
 fault_word f w.One kind is = absurd (cc)
+fault_word f w.Two kind is = absurd (cc)
 fault_word f w.LineEnd kind is = refl
 fault_word f w.Claim kind is = absurd (cc)
 fault_word f w.Optimal kind is = absurd (cc)
@@ -69,6 +70,7 @@ fault_word f w.Leaf kind is = absurd (cc)
 fault_word f w.Open kind is = absurd (cc)
 fault_word f w.Split kind is = absurd (cc)
 fault_word f w.Rows kind is = absurd (cc)
+fault_word f w.Change kind is = absurd (cc)
 fault_word f w.Priced kind is = absurd (cc)
 fault_word f w.All kind is = absurd (cc)
 fault_word f w.End kind is = absurd (cc)
@@ -76,6 +78,7 @@ fault_word f w.End kind is = absurd (cc)
 line_end_is : (word : Word) → is_line_end word ≡ true → word ≡ w.LineEnd
 line_end_is w.Bpcert is = absurd (cc)
 line_end_is w.One is = absurd (cc)
+line_end_is w.Two is = absurd (cc)
 line_end_is w.LineEnd is = refl
 line_end_is w.Claim is = absurd (cc)
 line_end_is w.Optimal is = absurd (cc)
@@ -88,6 +91,7 @@ line_end_is w.Leaf is = absurd (cc)
 line_end_is w.Open is = absurd (cc)
 line_end_is w.Split is = absurd (cc)
 line_end_is w.Rows is = absurd (cc)
+line_end_is w.Change is = absurd (cc)
 line_end_is w.Priced is = absurd (cc)
 line_end_is w.All is = absurd (cc)
 line_end_is w.End is = absurd (cc)
@@ -247,11 +251,11 @@ more_is spot left count size small fits = ⊎_elim
       positive left count some less = grind (arith, nat_tests)
 
 -- the words of a reader between two tokens
-words_between : (frame : Frame) (r : Reader) (number : Bool) (text : List ℕ) (more : Bool) (between : Between frame r number text) → length text + 1 < 2 ^ 64 → more ≡ nat_lt 0 r.left → spot_words r.spot more ≡ heads (words (stage_of r between.count))
+words_between : (frame : Frame) (r : Reader) (number : Bool) (text : List ℕ) (more : Bool) (between : Between frame r number text) → length text + 1 < 2 ^ 64 → more ≡ nat_lt 0 r.left → spot_words r.version r.spot more ≡ heads (words (stage_of r between.count))
 words_between frame r number text more between small is =
-    ap (λ (t : Bool). spot_words r.spot t) (is ∙ more_is r.spot r.left between.count (length text) small between.counts.counted) ∙ sym (words_are r between.count r.spot)
+    ap (λ (t : Bool). spot_words r.version r.spot t) (is ∙ more_is r.spot r.left between.count (length text) small between.counts.counted) ∙ sym (words_are r between.count r.spot)
 
-pub word_begun : (frame : Frame) (r : Reader) (number : Bool) (text : List ℕ) (more : Bool) (byte : ℕ) (word : Word) → Between frame r number text → length text + 1 < 2 ^ 64 → more ≡ nat_lt 0 r.left → picked_word byte (spot_words r.spot more) ≡ Some word → (number ≡ true → is_digit byte ≡ false)
+pub word_begun : (frame : Frame) (r : Reader) (number : Bool) (text : List ℕ) (more : Bool) (byte : ℕ) (word : Word) → Between frame r number text → length text + 1 < 2 ^ 64 → more ≡ nat_lt 0 r.left → picked_word byte (spot_words r.version r.spot more) ≡ Some word → (number ≡ true → is_digit byte ≡ false)
     → InWordAt frame r word 0 text × (word_begins word byte ≡ true)
 word_begun frame r number text more byte word between small is picked apart =
     let stage = stage_of r between.count in
@@ -288,7 +292,7 @@ word_begun frame r number text more byte word between small is picked apart =
       stands true rest apart [] is same = cc
       stands true rest apart {b} (x ∷ xs) is same = let head : x ≡ b = cc in let none = apart refl in not_digit x byte (head ∙ same) none
 
-pub no_word_begun : (frame : Frame) (r : Reader) (number : Bool) (text : List ℕ) (more : Bool) (byte : ℕ) (between : Between frame r number text) → length text + 1 < 2 ^ 64 → more ≡ nat_lt 0 r.left → picked_word byte (spot_words r.spot more) ≡ None
+pub no_word_begun : (frame : Frame) (r : Reader) (number : Bool) (text : List ℕ) (more : Bool) (byte : ℕ) (between : Between frame r number text) → length text + 1 < 2 ^ 64 → more ≡ nat_lt 0 r.left → picked_word byte (spot_words r.version r.spot more) ≡ None
     → (v : Word) → Comes v (words (stage_of r between.count)) → word_begins v byte ≡ false
 no_word_begun frame r number text more byte between small is picked v here =
     let E : List Word → Type 0 = λ ws. picked_word byte ws ≡ None in

@@ -1,8 +1,8 @@
 -- A certificate within the limits has a text without a fault.
-use Rattle.std.proofs.Common.{◌≡◌, ◌≢◌, refl, sym, ap, subst, ◌∙◌, ℕ, zero, suc, ◌+◌, ◌-◌, ◌<◌, ◌≤◌, ◌^◌, Bool, true, false, not, ◌&&◌, ◌||◌, List, [], ◌∷◌, ◌++◌, map, length, get_or, set, codes, Option, Some, None, arith, add-one, append_assoc, length-append}
+use Rattle.std.proofs.Common.{◌≡◌, ◌≢◌, refl, sym, ap, subst, ◌∙◌, ℕ, zero, suc, ◌+◌, ◌-◌, ◌<◌, ◌≤◌, ◌^◌, Bool, true, false, not, ◌&&◌, ◌||◌, List, [], ◌∷◌, ◌++◌, map, length, get_or, set, codes, Some, None, arith}
 use Rattle.std.proofs.Math.ListN.{length-map}
 use Rattle.std.proofs.Math.IntN.{ℤ, pos, ◌+ℤ◌}
-use Rattle.std.specs.Prelude.{All, IsSome, IfSome, is_none, nat_lt, nat_le, unsigned_abs, unwrap_or, ◌<ℤ◌, ◌≤ℤ◌}
+use Rattle.std.specs.Prelude.{IsSome, IfSome, is_none, nat_lt, nat_le, unsigned_abs, unwrap_or, ◌<ℤ◌, ◌≤ℤ◌}
 use Rattle.std.specs.List.{AllByRecursion}
 use Rattle.std.specs.List.Sorted.{IsStrictlyIncreasing}
 use Rattle.std.specs.Cmp.{signed_Decides}
@@ -12,7 +12,7 @@ use Rattle.std.proofs.lemmas.Bool.{lt-ltb, le-ltb, le-leb, lt-leb, true≢false}
 use Rattle.std.proofs.lemmas.Int.{ints}
 use Rattle.std.proofs.lemmas.List.Elements.{recursion_from_All}
 use Rattle.bp_theory.specs.Program.{span_at}
-use Rattle.bp_theory.specs.Blocking.{Blocking, row_at}
+use Rattle.bp_theory.specs.Blocking.{row_at}
 use Rattle.bp_theory.specs.Bound.{Fits, ArePicked}
 use Rattle.bp_theory.specs.Trees as theory
 use Rattle.bp_theory.specs.Trees.{shut_leaf, open_leaf, split, Leaf, leaves, depth, low_part, high_part, IsSoundSplit, HasSoundSplits}
@@ -26,22 +26,23 @@ use Rattle.bp_theory.specs.declared.Claim.TheVariants.{Optimal, Infeasible, Boun
 use Rattle.bp_model.specs.Named.{HasSmallEnds}
 use Rattle.block_form.specs.Blocked.{BlockedProgram, IsFormed}
 use Rattle.cert_text.specs.Cert as texts
-use Rattle.cert_text.specs.Text.{Kind, Token, Words, LineEnd, text_of, fault_of, first_kind, scale_fault, is_deep, is_past, value, value_fault, coordinate_fault, end_fault, row_fault, multiplier_fault, block_fault, variable_fault, may_name, point_values, claim_lines, cut_lines, pairs_behind, blocks_behind, picked_words, leaf_line, tree_lines, kept_behind, tokens_of, meant, One}
+use Rattle.cert_text.specs.Text.{Kind, Token, Words, LineEnd, first_kind, scale_fault, is_deep, is_past, value_fault, row_fault, multiplier_fault, block_fault, variable_fault, may_name, point_values, claim_lines, pairs_behind, blocks_behind, picked_words, leaf_line, tree_lines, kept_behind, tokens_of, One}
 use Rattle.cert_text.specs.Fault.{AreClean, IsText}
 use Rattle.cert_text.specs.Stages.{plain_of}
 use Rattle.cert_text.specs.Written.{in_text, written_pair, written_picked, written_proof, written_tree, written_claim, cert_of, certificate}
 use Rattle.cert_text.specs.Plain.{plain_text}
 use Rattle.cert_text.specs.Programs.{frame_for, IsSmall, IsSmallClaim, IsSmallPoint, CanWrite}
 use Rattle.cert_text.specs.declared.fault.CertKind.TheVariants.{TooLarge, Number, Depth, Length}
-use Rattle.cert_text.proofs.StageProofs.{kept_none}
 use Rattle.cert_text.proofs.PlainProof.{plain_lem, same_claim}
+use Rattle.cert_text.proofs.Meaning.{kept_none}
 use Rattle.cert_text.proofs.Finishing.{cert_means}
 use Rattle.cert_text.proofs.MasterRows.{named_are_masters}
-use Rattle.cert_text.proofs.GoesWithProof.{Rises, first_all, second_all}
+use Rattle.cert_text.proofs.GoesWithProof.{first_all, second_all}
+use Rattle.cert_text.proofs.Putting.{Rises}
 
 -- ---- numbers
 
-two_none : (a b : Bool) (k l : Kind) → a ≡ false → b ≡ false → first_kind ((a, k) ∷ (b, l) ∷ []) ≡ None
+pub two_none : (a b : Bool) (k l : Kind) → a ≡ false → b ≡ false → first_kind ((a, k) ∷ (b, l) ∷ []) ≡ None
 two_none true b k l p q = absurd (true≢false p)
 two_none false true k l p q = absurd (true≢false q)
 two_none false false k l p q = refl
@@ -68,7 +69,7 @@ small_value z small = one_none (is_past (2 ^ 62 - 1) z) TooLarge (is_small_value
 small_scale : (above s : ℕ) → above ≤ 8256 → s ≤ 2 ^ 20 → scale_fault above s ≡ None
 small_scale above s shallow small = two_none (is_deep above) (nat_lt (2 ^ 20) s) Depth TooLarge (le-ltb 8256 above shallow) (le-ltb (2 ^ 20) s small)
 
-named_row : (named : ℕ → Bool) (last row : ℕ) → last < row → named row ≡ true → row_fault named last row ≡ None
+pub named_row : (named : ℕ → Bool) (last row : ℕ) → last < row → named row ≡ true → row_fault named last row ≡ None
 named_row named last row up is = none_by_both (nat_lt last row) (named row) Number (lt-ltb last row up) is
 
 small_multiplier : (row : ℕ) (p : ℤ) → unsigned_abs p ≤ 2 ^ 40 → p ≢ pos 0 → multiplier_fault (2 ^ 40) [] row p ≡ None
@@ -87,7 +88,7 @@ known_variable frame above v shallow there =
 
 -- ---- lists
 
-clean_both : (u v : List Token) → AreClean u → AreClean v → AreClean (u ++ v)
+pub clean_both : (u v : List Token) → AreClean u → AreClean v → AreClean (u ++ v)
 clean_both [] v h g = g
 clean_both (x ∷ u) v h g = (h.0, clean_both u v h.1 g)
 
@@ -291,7 +292,7 @@ claim_clean_by frame (Bound b (Some v)) zs small point = (
 
 -- a certificate within the limits has its text
 pub has_text : (b : BlockedProgram) → IsFormed b → (claim : Claim) (zs : List ℤ) (t : theory.Tree) → CanWrite b (certificate claim zs t)
-    → IsText (frame_for b) One (cert_of (certificate claim zs t)) (plain_text claim zs t)
+    → IsText (frame_for b) One (cert_of (certificate claim zs t)) (plain_text One claim zs t)
 has_text b formed claim zs t can =
     let frame : texts.Frame = frame_for b in
     let given : texts.Claim = written_claim claim (unwrap_or (option_map (λ _. zs) (named_value claim)) []) in
@@ -303,4 +304,4 @@ has_text b formed claim zs t can =
     (recursion_from_All (λ (leaf : Leaf). Fits b.blocking leaf.proof) (leaves t b.named.program.spans) can.fits) (let low = can.shallow in omega arith) in
     let clean : AreClean (tokens_of frame One (plain_of given (written_tree t))) =
     (refl, (refl, (refl, clean_both ((claims ++ []) ++ tree) end (clean_both (claims ++ []) tree (clean_both claims [] first tt) second) (refl, (refl, tt))))) in
-    record { written = plain_of given (written_tree t); form = refl; clean = clean; bytes = plain_lem frame claim zs t; means = cert_means frame given (written_tree t) clean }
+    record { written = plain_of given (written_tree t); form = refl; clean = clean; bytes = plain_lem frame One claim zs t; means = cert_means frame given (written_tree t) clean }

@@ -1,5 +1,5 @@
 -- Parts of the grammar as sets of token lists, each in front of what may follow it.
-use Rattle.std.specs.Prelude.{◌≡◌, ℕ, Bool, List, [], ◌∷◌, ◌++◌, length, Option, ℤ, pos}
+use Rattle.std.specs.Prelude.{◌≡◌, ℕ, Bool, List, ◌∷◌, ◌++◌, length, Option, ℤ, pos}
 use Rattle.cert_text.specs.Cert.{Picked, Tree, Frame}
 use Rattle.cert_text.specs.Text.{Kind, Token, Figure, Version, point_values, pairs_behind, blocks_behind, picked_words, tree_lines}
 

@@ -1,5 +1,5 @@
 -- The bytes of certificates, part by part, without regard to faults.
-use Rattle.std.specs.Prelude.{ℕ, ◌+◌, List, [], ◌∷◌, ◌++◌, length, codes, Option, Some, None, ℤ, map}
+use Rattle.std.specs.Prelude.{ℕ, ◌+◌, List, ◌++◌, length, codes, Option, Some, None, ℤ}
 use Rattle.std.specs.List.{flat_map}
 use Rattle.bp_theory.specs.declared.Claim.{Claim}
 use Rattle.bp_theory.specs.declared.Claim.TheVariants.{Optimal, Infeasible, Bound}
@@ -7,7 +7,7 @@ use Rattle.bp_theory.specs.declared.Picked.{Picked}
 use Rattle.bp_theory.specs.declared.Picked.TheVariants.{Every, These}
 use Rattle.bp_theory.specs.declared.Proof.{Proof}
 use Rattle.bp_theory.specs.Trees.{Tree, shut_leaf, open_leaf, split}
-use Rattle.cert_text.specs.Text.{numeral, signed_numeral}
+use Rattle.cert_text.specs.Text.{Version, version_word, pairs_word, numeral, signed_numeral}
 
 -- a row and its multiplier
 abbrev pub pair_text : ℕ × ℤ → List ℕ
@@ -26,15 +26,19 @@ abbrev pub picked_text : Picked → List ℕ
 picked_text Every = codes "all"
 picked_text (These ks) = numeral (length ks) ++ flat_map block_text ks
 
--- a leaf's line behind its first word
-abbrev pub proof_text : Proof → List ℕ
-proof_text proof = numeral proof.scale ++ codes " rows " ++ numeral (length proof.mults) ++ flat_map pair_text proof.mults ++ codes " priced " ++ picked_text proof.picked ++ codes "\n"
+-- a leaf's multipliers and the blocks that it prices, to the end of its line
+abbrev pub tail_text : List (ℕ × ℤ) → Picked → List ℕ
+tail_text pairs picked = numeral (length pairs) ++ flat_map pair_text pairs ++ codes " priced " ++ picked_text picked ++ codes "\n"
+
+-- a leaf's line behind its first word, where the proof has the multipliers of the line
+abbrev pub proof_text : Version → Proof → List ℕ
+proof_text version proof = numeral proof.scale ++ pairs_word version ++ tail_text proof.mults proof.picked
 
 -- the lines of a tree
-abbrev pub tree_text : Tree → List ℕ
-tree_text (shut_leaf proof) = codes "leaf " ++ proof_text proof
-tree_text (open_leaf proof) = codes "open " ++ proof_text proof
-tree_text (split v at low high) = codes "split " ++ numeral (v + 1) ++ codes " " ++ signed_numeral at ++ codes "\n" ++ tree_text low ++ tree_text high
+abbrev pub tree_text : Version → Tree → List ℕ
+tree_text version (shut_leaf proof) = codes "leaf " ++ proof_text version proof
+tree_text version (open_leaf proof) = codes "open " ++ proof_text version proof
+tree_text version (split v at low high) = codes "split " ++ numeral (v + 1) ++ codes " " ++ signed_numeral at ++ codes "\n" ++ tree_text version low ++ tree_text version high
 
 -- the line of a point
 abbrev pub point_text : List ℤ → List ℕ
@@ -51,6 +55,10 @@ claim_text (Optimal v) zs = codes "claim optimal " ++ signed_numeral v ++ codes 
 claim_text Infeasible zs = codes "claim infeasible\n"
 claim_text (Bound b v) zs = codes "claim bound " ++ bound_text b v zs
 
--- a whole certificate
-abbrev pub plain_text : Claim → List ℤ → Tree → List ℕ
-plain_text claim zs tree = codes "bpcert 1\n" ++ claim_text claim zs ++ tree_text tree ++ codes "end\n"
+-- a first line
+abbrev pub version_text : Version → List ℕ
+version_text version = codes "bpcert " ++ version_word version ++ codes "\n"
+
+-- a whole certificate, where a leaf's multipliers are those of its line
+abbrev pub plain_text : Version → Claim → List ℤ → Tree → List ℕ
+plain_text version claim zs tree = version_text version ++ claim_text claim zs ++ tree_text version tree ++ codes "end\n"

@@ -10,7 +10,7 @@ use Rattle.block_form.specs.Blocked.{BlockedProgram, IsFormed}
 use Rattle.cert_text.specs.Cert as texts
 use Rattle.bp_theory.specs.Limits.{greatest_depth}
 use Rattle.cert_text.specs.Text.{One}
-use Rattle.cert_text.specs.Fault.{IsText, IsFirstCertFault}
+use Rattle.cert_text.specs.Fault.{IsText, IsCertText, IsFirstCertFault}
 use Rattle.cert_text.specs.Kept.{kept_cert}
 use Rattle.cert_text.specs.Plain.{plain_text}
 use Rattle.cert_text.specs.Written.{cert_of, certificate}
@@ -34,7 +34,7 @@ frame_for b = frame_by (length b.named.program.spans) (map is_none b.dec.places)
 
 -- what is read of a text for a program in blocks: the certificate that the text has, or else its first fault
 abbrev pub ReadsFor : BlockedProgram → List ℕ → Result Kept CertFault → Type 0
-ReadsFor b text (Ok cert) = IsText (frame_for b) One (kept_cert cert) text
+ReadsFor b text (Ok cert) = IsCertText (frame_for b) (kept_cert cert) text
 ReadsFor b text (Err NoMemory) = Unit {0}
 ReadsFor b text (Err (At line kind)) = IsFirstCertFault (frame_for b) text line kind
 
@@ -74,4 +74,4 @@ pub record CanWrite (b : BlockedProgram) (cert : Certificate) : Type 0 where
 -- a certificate within the limits has its text, without a fault
 abbrev pub LimitsSuffice : Type 0
 LimitsSuffice = (b : BlockedProgram) → IsFormed b → (claim : Claim) (zs : List ℤ) (t : Tree) → CanWrite b (certificate claim zs t)
-    → IsText (frame_for b) One (cert_of (certificate claim zs t)) (plain_text claim zs t)
+    → IsText (frame_for b) One (cert_of (certificate claim zs t)) (plain_text One claim zs t)

@@ -1,13 +1,12 @@
 -- The place of a reader, and the texts that it stands for.
-use Rattle.std.specs.Prelude.{◌≡◌, ◌⊎◌, ℕ, ◌+◌, ◌-◌, ◌*◌, ◌^◌, ◌≤◌, ◌<◌, Bool, true, false, List, [], ◌∷◌, ◌++◌, map, length, take, min, Option, Some, None, Result, Ok, Err, IsTrue, ℤ, pos}
-use Rattle.bp_theory.specs.declared.Claim.{Claim}
+use Rattle.std.specs.Prelude.{◌≡◌, ℕ, ◌+◌, ◌-◌, ◌≤◌, Bool, List, [], ◌∷◌, map, Some, None, Result, Ok, Err, ℤ, pos}
 use Rattle.cert_text.specs.Cert as texts
 use Rattle.cert_text.specs.Cert.{Shut, Tree, Every}
-use Rattle.cert_text.specs.Text.{Kind}
+use Rattle.cert_text.specs.Versions.{version_of}
 use Rattle.cert_text.specs.Sketch.{tree_of}
 use Rattle.cert_text.specs.Written.{in_text, written_pair, written_claim, written_tree}
 use Rattle.cert_text.specs.Signed.{signed}
-use Rattle.cert_text.specs.Stages.{Wait, low_of, high_of, proof_of, Stage, at_bpcert, at_one, at_first_end, at_claim, at_kind, at_optimal, infeasible_end, at_bound, after_bound, at_value, claim_end, at_point, at_values, at_coordinate, at_node, at_scale, at_rows, at_count, at_pairs, at_row, row_gap, at_multiplier, at_priced, at_blocks, at_block, leaf_end, at_variable, variable_gap, at_place, split_end, at_end, last_end, over, number_fault, behind_number}
+use Rattle.cert_text.specs.Stages.{Wait, low_of, high_of, proof_of, Told, Stage, at_bpcert, at_version, at_first_end, at_claim, at_kind, at_optimal, infeasible_end, at_bound, after_bound, at_value, claim_end, at_point, at_values, at_coordinate, at_node, at_scale, at_rows, at_count, at_pairs, at_row, row_gap, at_multiplier, at_priced, at_blocks, at_block, leaf_end, at_variable, variable_gap, at_place, split_end, at_end, last_end, over, number_fault, behind_number}
 use Rattle.cert_text.specs.declared.fault.CertFault.{CertFault}
 use Rattle.cert_text.specs.declared.fault.CertFault.TheVariants.{At, NoMemory}
 use Rattle.cert_text.specs.declared.sketch.Sketch.{Sketch}
@@ -34,41 +33,45 @@ waits_of ps = waits_on ps []
 abbrev pub root_of : Sketch → Tree
 root_of tree = written_tree (tree_of tree)
 
+-- what a reader's tree's next line stands behind
+abbrev pub told_of : Reader → Told
+told_of r = record { version = version_of r.version; claim = written_claim r.claim r.point; had = map written_pair r.had.pairs.items }
+
 -- the place of a reader with so many pairs or blocks still to come
 abbrev pub place_of : Reader → ℕ → Spot → Stage
 place_of r n s.Bpcert = at_bpcert
-place_of r n s.One = at_one
-place_of r n s.FirstEnd = at_first_end
-place_of r n s.Claim = at_claim
-place_of r n s.Kind = at_kind
-place_of r n s.OptimalValue = at_optimal
-place_of r n s.InfeasibleEnd = infeasible_end
-place_of r n s.BoundValue = at_bound
-place_of r n s.AfterBound = after_bound r.bound
-place_of r n s.KnownValue = at_value r.bound
-place_of r n s.ClaimEnd = claim_end r.claim
-place_of r n s.Point = at_point r.claim
-place_of r n s.Values = at_values r.claim r.point
-place_of r n s.Coordinate = at_coordinate r.claim r.point
-place_of r n s.Node = at_node (written_claim r.claim r.point) (waits_of r.pending.items)
-place_of r n s.Scale = at_scale (written_claim r.claim r.point) (waits_of r.pending.items) r.is_open
-place_of r n s.Rows = at_rows (written_claim r.claim r.point) (waits_of r.pending.items) r.is_open r.scale
-place_of r n s.Count = at_count (written_claim r.claim r.point) (waits_of r.pending.items) r.is_open r.scale
-place_of r n s.Pairs = at_pairs (written_claim r.claim r.point) (waits_of r.pending.items) r.is_open r.scale (map written_pair r.mults) r.last n
-place_of r n s.Row = at_row (written_claim r.claim r.point) (waits_of r.pending.items) r.is_open r.scale (map written_pair r.mults) r.last n
-place_of r n s.RowGap = row_gap (written_claim r.claim r.point) (waits_of r.pending.items) r.is_open r.scale (map written_pair r.mults) (in_text r.row) n
-place_of r n s.Multiplier = at_multiplier (written_claim r.claim r.point) (waits_of r.pending.items) r.is_open r.scale (map written_pair r.mults) (in_text r.row) n
-place_of r n s.Priced = at_priced (written_claim r.claim r.point) (waits_of r.pending.items) r.is_open r.scale (map written_pair r.mults)
-place_of r n s.Blocks = at_blocks (written_claim r.claim r.point) (waits_of r.pending.items) r.is_open r.scale (map written_pair r.mults) (map in_text r.blocks) r.last n
-place_of r n s.Block = at_block (written_claim r.claim r.point) (waits_of r.pending.items) r.is_open r.scale (map written_pair r.mults) (map in_text r.blocks) r.last n
-place_of r n s.LeafEnd = leaf_end (written_claim r.claim r.point) (waits_of r.pending.items) r.is_open (proof_of r.scale (map written_pair r.mults) Every)
-place_of r n s.Variable = at_variable (written_claim r.claim r.point) (waits_of r.pending.items)
-place_of r n s.VariableGap = variable_gap (written_claim r.claim r.point) (waits_of r.pending.items) (in_text r.place.var)
-place_of r n s.Place = at_place (written_claim r.claim r.point) (waits_of r.pending.items) (in_text r.place.var)
-place_of r n s.SplitEnd = split_end (written_claim r.claim r.point) (waits_of r.pending.items) (in_text r.place.var) r.place.at
-place_of r n s.End = at_end (written_claim r.claim r.point) (root_of r.root)
-place_of r n s.LastEnd = last_end (written_claim r.claim r.point) (root_of r.root)
-place_of r n s.Over = over (written_claim r.claim r.point) (root_of r.root)
+place_of r n s.Version = at_version
+place_of r n s.FirstEnd = at_first_end (version_of r.version)
+place_of r n s.Claim = at_claim (version_of r.version)
+place_of r n s.Kind = at_kind (version_of r.version)
+place_of r n s.OptimalValue = at_optimal (version_of r.version)
+place_of r n s.InfeasibleEnd = infeasible_end (version_of r.version)
+place_of r n s.BoundValue = at_bound (version_of r.version)
+place_of r n s.AfterBound = after_bound (version_of r.version) r.bound
+place_of r n s.KnownValue = at_value (version_of r.version) r.bound
+place_of r n s.ClaimEnd = claim_end (version_of r.version) r.claim
+place_of r n s.Point = at_point (version_of r.version) r.claim
+place_of r n s.Values = at_values (version_of r.version) r.claim r.point
+place_of r n s.Coordinate = at_coordinate (version_of r.version) r.claim r.point
+place_of r n s.Node = at_node (told_of r) (waits_of r.pending.items)
+place_of r n s.Scale = at_scale (told_of r) (waits_of r.pending.items) r.is_open
+place_of r n s.Rows = at_rows (told_of r) (waits_of r.pending.items) r.is_open r.scale
+place_of r n s.Count = at_count (told_of r) (waits_of r.pending.items) r.is_open r.scale
+place_of r n s.Pairs = at_pairs (told_of r) (waits_of r.pending.items) r.is_open r.scale (map written_pair r.mults) r.last n
+place_of r n s.Row = at_row (told_of r) (waits_of r.pending.items) r.is_open r.scale (map written_pair r.mults) r.last n
+place_of r n s.RowGap = row_gap (told_of r) (waits_of r.pending.items) r.is_open r.scale (map written_pair r.mults) (in_text r.row) n
+place_of r n s.Multiplier = at_multiplier (told_of r) (waits_of r.pending.items) r.is_open r.scale (map written_pair r.mults) (in_text r.row) n
+place_of r n s.Priced = at_priced (told_of r) (waits_of r.pending.items) r.is_open r.scale (map written_pair r.mults)
+place_of r n s.Blocks = at_blocks (told_of r) (waits_of r.pending.items) r.is_open r.scale (map written_pair r.mults) (map in_text r.blocks) r.last n
+place_of r n s.Block = at_block (told_of r) (waits_of r.pending.items) r.is_open r.scale (map written_pair r.mults) (map in_text r.blocks) r.last n
+place_of r n s.LeafEnd = leaf_end (told_of r) (waits_of r.pending.items) r.is_open (proof_of r.scale (map written_pair r.mults) Every)
+place_of r n s.Variable = at_variable (told_of r) (waits_of r.pending.items)
+place_of r n s.VariableGap = variable_gap (told_of r) (waits_of r.pending.items) (in_text r.place.var)
+place_of r n s.Place = at_place (told_of r) (waits_of r.pending.items) (in_text r.place.var)
+place_of r n s.SplitEnd = split_end (told_of r) (waits_of r.pending.items) (in_text r.place.var) r.place.at
+place_of r n s.End = at_end (told_of r) (root_of r.root)
+place_of r n s.LastEnd = last_end (told_of r) (root_of r.root)
+place_of r n s.Over = over (told_of r) (root_of r.root)
 
 abbrev pub stage_of : Reader → ℕ → Stage
 stage_of r n = place_of r n r.spot

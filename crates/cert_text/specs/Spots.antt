@@ -1,6 +1,8 @@
 -- What may come at a place between two tokens.
 use Rattle.std.specs.Prelude.{ℕ, Bool, List, [], ◌∷◌, Option, Some, None, if◌then◌else◌}
-use Rattle.cert_text.specs.Words.{word_begins}
+use Rattle.cert_text.specs.Words.{word_begins, change_word}
+use Rattle.cert_text.specs.Versions.{version_of}
+use Rattle.cert_text.specs.declared.version.Version.{Version}
 use Rattle.cert_text.specs.declared.words.Word.{Word}
 use Rattle.cert_text.specs.declared.words.Word.TheVariants as w
 use Rattle.cert_text.specs.declared.spots.Sort.{Sort}
@@ -25,29 +27,29 @@ spot_sort s.Variable = Natural
 spot_sort _ = Wordy
 
 -- the words that may come, where more pairs or blocks are to come or not
-abbrev pub spot_words : Spot → Bool → List Word
-spot_words s.Bpcert more = w.Bpcert ∷ []
-spot_words s.One more = w.One ∷ []
-spot_words s.FirstEnd more = w.LineEnd ∷ []
-spot_words s.InfeasibleEnd more = w.LineEnd ∷ []
-spot_words s.ClaimEnd more = w.LineEnd ∷ []
-spot_words s.LeafEnd more = w.LineEnd ∷ []
-spot_words s.SplitEnd more = w.LineEnd ∷ []
-spot_words s.LastEnd more = w.LineEnd ∷ []
-spot_words s.Claim more = w.Claim ∷ []
-spot_words s.Kind more = w.Optimal ∷ w.Infeasible ∷ w.Bound ∷ []
-spot_words s.AfterBound more = w.LineEnd ∷ w.Value ∷ []
-spot_words s.Point more = w.Point ∷ []
-spot_words s.Values more = w.LineEnd ∷ w.Space ∷ []
-spot_words s.Node more = w.Leaf ∷ w.Open ∷ w.Split ∷ []
-spot_words s.Rows more = w.Rows ∷ []
-spot_words s.Pairs more = if more then w.Space ∷ [] else w.Priced ∷ []
-spot_words s.RowGap more = w.Space ∷ []
-spot_words s.VariableGap more = w.Space ∷ []
-spot_words s.Priced more = w.All ∷ []
-spot_words s.Blocks more = if more then w.Space ∷ [] else w.LineEnd ∷ []
-spot_words s.End more = w.End ∷ []
-spot_words _ more = []
+abbrev pub spot_words : Version → Spot → Bool → List Word
+spot_words v s.Bpcert more = w.Bpcert ∷ []
+spot_words v s.Version more = w.One ∷ w.Two ∷ []
+spot_words v s.FirstEnd more = w.LineEnd ∷ []
+spot_words v s.InfeasibleEnd more = w.LineEnd ∷ []
+spot_words v s.ClaimEnd more = w.LineEnd ∷ []
+spot_words v s.LeafEnd more = w.LineEnd ∷ []
+spot_words v s.SplitEnd more = w.LineEnd ∷ []
+spot_words v s.LastEnd more = w.LineEnd ∷ []
+spot_words v s.Claim more = w.Claim ∷ []
+spot_words v s.Kind more = w.Optimal ∷ w.Infeasible ∷ w.Bound ∷ []
+spot_words v s.AfterBound more = w.LineEnd ∷ w.Value ∷ []
+spot_words v s.Point more = w.Point ∷ []
+spot_words v s.Values more = w.LineEnd ∷ w.Space ∷ []
+spot_words v s.Node more = w.Leaf ∷ w.Open ∷ w.Split ∷ []
+spot_words v s.Rows more = change_word (version_of v) ∷ []
+spot_words v s.Pairs more = if more then w.Space ∷ [] else w.Priced ∷ []
+spot_words v s.RowGap more = w.Space ∷ []
+spot_words v s.VariableGap more = w.Space ∷ []
+spot_words v s.Priced more = w.All ∷ []
+spot_words v s.Blocks more = if more then w.Space ∷ [] else w.LineEnd ∷ []
+spot_words v s.End more = w.End ∷ []
+spot_words v _ more = []
 
 -- the first of some words that begins with a byte
 abbrev pub picked_word : ℕ → List Word → Option Word

@@ -3,10 +3,10 @@ use Rattle.std.specs.Prelude.{◌≡◌, ◌⊎◌, ℕ, ◌+◌, ◌-◌, ◌^�
 use Rattle.bp_theory.specs.declared.Claim as claims
 use Rattle.bp_theory.specs.declared.Claim.TheVariants as variants
 use Rattle.cert_text.specs.Written.{written_claim}
-use Rattle.cert_text.specs.Cert.{Picked, Every, These, Proof, Tree, Shut, Open, Split, Claim, Optimal, Infeasible, Bound, BoundValue, Cert, Frame}
-use Rattle.cert_text.specs.Text.{Kind, Token, Words, LineEnd, One, value_fault, coordinate_fault, end_fault, row_fault, multiplier_fault, block_fault, scale_fault, variable_fault, is_deep, may_name, tokens_of, HasForm}
+use Rattle.cert_text.specs.Cert.{Picked, Every, These, Proof, Tree, Shut, Open, Split, Claim, Infeasible, Bound, Cert, Frame}
+use Rattle.cert_text.specs.Text.{Kind, Token, Words, LineEnd, Version, One, Two, pairs_word, kept, kept_behind, meant, meant_proof, meant_tree, value_fault, coordinate_fault, end_fault, row_fault, multiplier_fault, block_fault, scale_fault, variable_fault, is_deep, may_name, tokens_of, HasForm}
 use Rattle.cert_text.specs.Grammar.{Prefixed, Numbered, Valued, Points, Pairs, Blocks, Priced, Trees}
-use Rattle.cert_text.specs.Words.{word_token}
+use Rattle.cert_text.specs.Words.{change_word}
 use Rattle.cert_text.specs.declared.spots.Sort.{Sort}
 use Rattle.cert_text.specs.declared.spots.Sort.TheVariants.{Wordy, Natural, Whole}
 use Rattle.cert_text.specs.declared.words.Word.{Word}
@@ -44,67 +44,93 @@ proof_of scale pairs picked = record { scale = scale; pairs = pairs; picked = pi
 abbrev pub plain_of : Claim → Tree → Cert
 plain_of claim tree = record { claim = claim; cuts = []; tree = tree }
 
--- the places between two tokens, each with what was read: claim, splits above, whether a leaf is open, its scale, its multipliers, the last row or block, and how many are still to come
+-- what a tree's next line stands behind: the version, the claim, and the multipliers that the next leaf changes
+pub record Told : Type 0 where
+  pub version : Version
+  pub claim : Claim
+  pub had : List (ℕ × ℤ)
+
+-- no leaf has come
+abbrev pub told : Version → Claim → Told
+told v claim = record { version = v; claim = claim; had = [] }
+
+-- a leaf with this proof has come
+abbrev pub past : Told → Proof → Told
+past a p = record { version = a.version; claim = a.claim; had = kept a.version a.had p }
+
+-- a tree has come
+abbrev pub passed : Told → Tree → Told
+passed a t = record { version = a.version; claim = a.claim; had = kept_behind a.version a.had t }
+
+-- the tree that the lines of a tree mean
+abbrev pub meaning : Told → Tree → Tree
+meaning a t = meant_tree a.version a.had t
+
+-- the places between two tokens, each with what was read: version, claim, splits above, whether a leaf is open, its scale, its multipliers, the last row or block, and how many are still to come
 pub data Stage : Type 0 where
   at_bpcert : Stage
-  at_one : Stage
-  at_first_end : Stage
-  at_claim : Stage
-  at_kind : Stage
-  at_optimal : Stage
-  infeasible_end : Stage
-  at_bound : Stage
-  after_bound : ℤ → Stage
-  at_value : ℤ → Stage
-  claim_end : Known → Stage
-  at_point : Known → Stage
-  at_values : Known → List ℤ → Stage
-  at_coordinate : Known → List ℤ → Stage
-  at_node : Claim → List Wait → Stage
-  at_scale : Claim → List Wait → Bool → Stage
-  at_rows : Claim → List Wait → Bool → ℕ → Stage
-  at_count : Claim → List Wait → Bool → ℕ → Stage
-  at_pairs : Claim → List Wait → Bool → ℕ → List (ℕ × ℤ) → ℕ → ℕ → Stage
-  at_row : Claim → List Wait → Bool → ℕ → List (ℕ × ℤ) → ℕ → ℕ → Stage
-  row_gap : Claim → List Wait → Bool → ℕ → List (ℕ × ℤ) → ℕ → ℕ → Stage
-  at_multiplier : Claim → List Wait → Bool → ℕ → List (ℕ × ℤ) → ℕ → ℕ → Stage
-  at_priced : Claim → List Wait → Bool → ℕ → List (ℕ × ℤ) → Stage
-  at_blocks : Claim → List Wait → Bool → ℕ → List (ℕ × ℤ) → List ℕ → ℕ → ℕ → Stage
-  at_block : Claim → List Wait → Bool → ℕ → List (ℕ × ℤ) → List ℕ → ℕ → ℕ → Stage
-  leaf_end : Claim → List Wait → Bool → Proof → Stage
-  at_variable : Claim → List Wait → Stage
-  variable_gap : Claim → List Wait → ℕ → Stage
-  at_place : Claim → List Wait → ℕ → Stage
-  split_end : Claim → List Wait → ℕ → ℤ → Stage
-  at_end : Claim → Tree → Stage
-  last_end : Claim → Tree → Stage
-  over : Claim → Tree → Stage
+  at_version : Stage
+  at_first_end : Version → Stage
+  at_claim : Version → Stage
+  at_kind : Version → Stage
+  at_optimal : Version → Stage
+  infeasible_end : Version → Stage
+  at_bound : Version → Stage
+  after_bound : Version → ℤ → Stage
+  at_value : Version → ℤ → Stage
+  claim_end : Version → Known → Stage
+  at_point : Version → Known → Stage
+  at_values : Version → Known → List ℤ → Stage
+  at_coordinate : Version → Known → List ℤ → Stage
+  at_node : Told → List Wait → Stage
+  at_scale : Told → List Wait → Bool → Stage
+  at_rows : Told → List Wait → Bool → ℕ → Stage
+  at_count : Told → List Wait → Bool → ℕ → Stage
+  at_pairs : Told → List Wait → Bool → ℕ → List (ℕ × ℤ) → ℕ → ℕ → Stage
+  at_row : Told → List Wait → Bool → ℕ → List (ℕ × ℤ) → ℕ → ℕ → Stage
+  row_gap : Told → List Wait → Bool → ℕ → List (ℕ × ℤ) → ℕ → ℕ → Stage
+  at_multiplier : Told → List Wait → Bool → ℕ → List (ℕ × ℤ) → ℕ → ℕ → Stage
+  at_priced : Told → List Wait → Bool → ℕ → List (ℕ × ℤ) → Stage
+  at_blocks : Told → List Wait → Bool → ℕ → List (ℕ × ℤ) → List ℕ → ℕ → ℕ → Stage
+  at_block : Told → List Wait → Bool → ℕ → List (ℕ × ℤ) → List ℕ → ℕ → ℕ → Stage
+  leaf_end : Told → List Wait → Bool → Proof → Stage
+  at_variable : Told → List Wait → Stage
+  variable_gap : Told → List Wait → ℕ → Stage
+  at_place : Told → List Wait → ℕ → Stage
+  split_end : Told → List Wait → ℕ → ℤ → Stage
+  at_end : Told → Tree → Stage
+  last_end : Told → Tree → Stage
+  over : Told → Tree → Stage
 
 -- the place behind a whole tree
-abbrev pub behind : Claim → List Wait → Tree → Stage
+abbrev pub behind : Told → List Wait → Tree → Stage
 behind a [] t = at_end a t
 behind a (low_of i z ∷ ws) t = at_node a (high_of i z t ∷ ws)
 behind a (high_of i z low ∷ ws) t = behind a ws (Split i z low t)
 
+-- the place behind a leaf whose line has this proof
+abbrev pub behind_leaf : Told → List Wait → Bool → Proof → Stage
+behind_leaf a ws o p = behind (past a p) ws (leaf_of o (meant_proof a.had p))
+
 -- the words that may come, each with the place behind it
 abbrev pub words : Stage → List (Word × Stage)
-words at_bpcert = (w.Bpcert, at_one) ∷ []
-words at_one = (w.One, at_first_end) ∷ []
-words at_first_end = (w.LineEnd, at_claim) ∷ []
-words at_claim = (w.Claim, at_kind) ∷ []
-words at_kind = (w.Optimal, at_optimal) ∷ (w.Infeasible, infeasible_end) ∷ (w.Bound, at_bound) ∷ []
-words infeasible_end = (w.LineEnd, at_node Infeasible []) ∷ []
-words (after_bound b) = (w.LineEnd, at_node (Bound b) []) ∷ (w.Value, at_value b) ∷ []
-words (claim_end k) = (w.LineEnd, at_point k) ∷ []
-words (at_point k) = (w.Point, at_values k []) ∷ []
-words (at_values k zs) = (w.LineEnd, at_node (claim_with k zs) []) ∷ (w.Space, at_coordinate k zs) ∷ []
+words at_bpcert = (w.Bpcert, at_version) ∷ []
+words at_version = (w.One, at_first_end One) ∷ (w.Two, at_first_end Two) ∷ []
+words (at_first_end v) = (w.LineEnd, at_claim v) ∷ []
+words (at_claim v) = (w.Claim, at_kind v) ∷ []
+words (at_kind v) = (w.Optimal, at_optimal v) ∷ (w.Infeasible, infeasible_end v) ∷ (w.Bound, at_bound v) ∷ []
+words (infeasible_end v) = (w.LineEnd, at_node (told v Infeasible) []) ∷ []
+words (after_bound v b) = (w.LineEnd, at_node (told v (Bound b)) []) ∷ (w.Value, at_value v b) ∷ []
+words (claim_end v k) = (w.LineEnd, at_point v k) ∷ []
+words (at_point v k) = (w.Point, at_values v k []) ∷ []
+words (at_values v k zs) = (w.LineEnd, at_node (told v (claim_with k zs)) []) ∷ (w.Space, at_coordinate v k zs) ∷ []
 words (at_node a ws) = (w.Leaf, at_scale a ws false) ∷ (w.Open, at_scale a ws true) ∷ (w.Split, at_variable a ws) ∷ []
-words (at_rows a ws o s) = (w.Rows, at_count a ws o s) ∷ []
+words (at_rows a ws o s) = (change_word a.version, at_count a ws o s) ∷ []
 words (at_pairs a ws o s ps last n) = if nat_eq n 0 then (w.Priced, at_priced a ws o s ps) ∷ [] else (w.Space, at_row a ws o s ps last n) ∷ []
 words (row_gap a ws o s ps r n) = (w.Space, at_multiplier a ws o s ps r n) ∷ []
 words (at_priced a ws o s ps) = (w.All, leaf_end a ws o (proof_of s ps Every)) ∷ []
-words (at_blocks a ws o s ps ks last n) = if nat_eq n 0 then (w.LineEnd, behind a ws (leaf_of o (proof_of s ps (These ks)))) ∷ [] else (w.Space, at_block a ws o s ps ks last n) ∷ []
-words (leaf_end a ws o p) = (w.LineEnd, behind a ws (leaf_of o p)) ∷ []
+words (at_blocks a ws o s ps ks last n) = if nat_eq n 0 then (w.LineEnd, behind_leaf a ws o (proof_of s ps (These ks))) ∷ [] else (w.Space, at_block a ws o s ps ks last n) ∷ []
+words (leaf_end a ws o p) = (w.LineEnd, behind_leaf a ws o p) ∷ []
 words (variable_gap a ws i) = (w.Space, at_place a ws i) ∷ []
 words (split_end a ws i z) = (w.LineEnd, at_node a (low_of i z ∷ ws)) ∷ []
 words (at_end a t) = (w.End, last_end a t) ∷ []
@@ -113,20 +139,21 @@ words _ = []
 
 -- the place behind a word that may come
 abbrev pub after : Stage → Word → Stage
-after at_bpcert word = at_one
-after at_one word = at_first_end
-after at_first_end word = at_claim
-after at_claim word = at_kind
-after at_kind w.Optimal = at_optimal
-after at_kind w.Infeasible = infeasible_end
-after at_kind word = at_bound
-after infeasible_end word = at_node Infeasible []
-after (after_bound b) w.Value = at_value b
-after (after_bound b) word = at_node (Bound b) []
-after (claim_end k) word = at_point k
-after (at_point k) word = at_values k []
-after (at_values k zs) w.Space = at_coordinate k zs
-after (at_values k zs) word = at_node (claim_with k zs) []
+after at_bpcert word = at_version
+after at_version w.Two = at_first_end Two
+after at_version word = at_first_end One
+after (at_first_end v) word = at_claim v
+after (at_claim v) word = at_kind v
+after (at_kind v) w.Optimal = at_optimal v
+after (at_kind v) w.Infeasible = infeasible_end v
+after (at_kind v) word = at_bound v
+after (infeasible_end v) word = at_node (told v Infeasible) []
+after (after_bound v b) w.Value = at_value v b
+after (after_bound v b) word = at_node (told v (Bound b)) []
+after (claim_end v k) word = at_point v k
+after (at_point v k) word = at_values v k []
+after (at_values v k zs) w.Space = at_coordinate v k zs
+after (at_values v k zs) word = at_node (told v (claim_with k zs)) []
 after (at_node a ws) w.Leaf = at_scale a ws false
 after (at_node a ws) w.Open = at_scale a ws true
 after (at_node a ws) word = at_variable a ws
@@ -136,8 +163,8 @@ after (at_pairs a ws o s ps last n) word = at_row a ws o s ps last n
 after (row_gap a ws o s ps r n) word = at_multiplier a ws o s ps r n
 after (at_priced a ws o s ps) word = leaf_end a ws o (proof_of s ps Every)
 after (at_blocks a ws o s ps ks last n) w.Space = at_block a ws o s ps ks last n
-after (at_blocks a ws o s ps ks last n) word = behind a ws (leaf_of o (proof_of s ps (These ks)))
-after (leaf_end a ws o p) word = behind a ws (leaf_of o p)
+after (at_blocks a ws o s ps ks last n) word = behind_leaf a ws o (proof_of s ps (These ks))
+after (leaf_end a ws o p) word = behind_leaf a ws o p
 after (variable_gap a ws i) word = at_place a ws i
 after (split_end a ws i z) word = at_node a (low_of i z ∷ ws)
 after (at_end a t) word = last_end a t
@@ -146,15 +173,15 @@ after stage word = stage
 
 -- the fault of a line's end
 abbrev pub line_fault : Frame → Stage → Option Kind
-line_fault frame (at_values k zs) = end_fault frame (length zs + 1)
+line_fault frame (at_values v k zs) = end_fault frame (length zs + 1)
 line_fault frame _ = None
 
 -- whether a number may come, with a sign or without one
 abbrev pub sort : Stage → Sort
-sort at_optimal = Whole
-sort at_bound = Whole
-sort (at_value b) = Whole
-sort (at_coordinate k zs) = Whole
+sort (at_optimal v) = Whole
+sort (at_bound v) = Whole
+sort (at_value v b) = Whole
+sort (at_coordinate v k zs) = Whole
 sort (at_scale a ws o) = Natural
 sort (at_count a ws o s) = Natural
 sort (at_row a ws o s ps last n) = Natural
@@ -179,13 +206,13 @@ is_deep_stage _ = false
 
 -- the fault of a number
 abbrev pub number_fault : Frame → Stage → ℤ → Option Kind
-number_fault frame at_optimal z = value_fault z
-number_fault frame at_bound z = value_fault z
-number_fault frame (at_value b) z = value_fault z
-number_fault frame (at_coordinate k zs) z = coordinate_fault frame (length zs + 1) z
+number_fault frame (at_optimal v) z = value_fault z
+number_fault frame (at_bound v) z = value_fault z
+number_fault frame (at_value v b) z = value_fault z
+number_fault frame (at_coordinate v k zs) z = coordinate_fault frame (length zs + 1) z
 number_fault frame (at_scale a ws o) z = scale_fault (length ws) (nat_abs z)
 number_fault frame (at_row a ws o s ps last n) z = row_fault (may_name frame 0) last (nat_abs z)
-number_fault frame (at_multiplier a ws o s ps r n) z = multiplier_fault (2 ^ 40) [] r z
+number_fault frame (at_multiplier a ws o s ps r n) z = multiplier_fault (2 ^ 40) a.had r z
 number_fault frame (at_block a ws o s ps ks last n) z = block_fault frame last (nat_abs z)
 number_fault frame (at_variable a ws) z = variable_fault frame (length ws) (nat_abs z)
 number_fault frame (at_place a ws i) z = value_fault z
@@ -193,10 +220,10 @@ number_fault frame _ z = None
 
 -- the place behind a number
 abbrev pub behind_number : Stage → ℤ → Stage
-behind_number at_optimal z = claim_end (optimal_of z)
-behind_number at_bound z = after_bound z
-behind_number (at_value b) z = claim_end (bound_of b z)
-behind_number (at_coordinate k zs) z = at_values k (zs ++ z ∷ [])
+behind_number (at_optimal v) z = claim_end v (optimal_of z)
+behind_number (at_bound v) z = after_bound v z
+behind_number (at_value v b) z = claim_end v (bound_of b z)
+behind_number (at_coordinate v k zs) z = at_values v k (zs ++ z ∷ [])
 behind_number (at_scale a ws o) z = at_rows a ws o (nat_abs z)
 behind_number (at_count a ws o s) z = at_pairs a ws o s [] 0 (nat_abs z)
 behind_number (at_row a ws o s ps last n) z = row_gap a ws o s ps (nat_abs z) n
@@ -207,129 +234,141 @@ behind_number (at_variable a ws) z = variable_gap a ws (nat_abs z)
 behind_number (at_place a ws i) z = split_end a ws i z
 behind_number stage z = stage
 
--- the tokens are those of a certificate
-abbrev pub IsOf : Frame → Cert → List Token → Type 0
-IsOf frame c ts = HasForm One c × (ts ≡ tokens_of frame One c)
+-- the tokens are those of a text that means the certificate
+pub record IsOf (frame : Frame) (c : Cert) (ts : List Token) : Type 0 where
+  pub version : Version
+  pub written : Cert
+  pub form : HasForm version written
+  pub means : meant version written ≡ c
+  pub tokens : ts ≡ tokens_of frame version written
 
 module _ (frame : Frame) (c : Cert) where
   -- nothing more, and the certificate is the one that was read
-  abbrev pub Over : Claim → Tree → List Token → Type 0
-  Over a t ts = (ts ≡ []) × (c ≡ plain_of a t)
+  abbrev pub Over : Told → Tree → List Token → Type 0
+  Over a t ts = (ts ≡ []) × (c ≡ plain_of a.claim t)
 
-  abbrev pub AfterTree : Claim → Tree → List Token → Type 0
+  abbrev pub AfterTree : Told → Tree → List Token → Type 0
   AfterTree a t = Prefixed (Words (codes "end")) (Prefixed (LineEnd None) (Over a t))
 
   -- behind a whole tree
-  abbrev pub Behind : Claim → List Wait → Tree → List Token → Type 0
+  abbrev pub Behind : Told → List Wait → Tree → List Token → Type 0
   Behind a [] t = AfterTree a t
-  Behind a (low_of i z ∷ ws) t = Trees frame One 0 (length (low_of i z ∷ ws)) [] (λ high. Behind a ws (Split i z t high))
+  Behind a (low_of i z ∷ ws) t = Trees frame a.version 0 (length (low_of i z ∷ ws)) a.had (λ high. Behind (passed a high) ws (Split i z t (meaning a high)))
   Behind a (high_of i z low ∷ ws) t = Behind a ws (Split i z low t)
 
+  -- behind a leaf whose line has this proof
+  abbrev pub BehindLeaf : Told → List Wait → Bool → Proof → List Token → Type 0
+  BehindLeaf a ws o p = Behind (past a p) ws (leaf_of o (meant_proof a.had p))
+
+  -- behind the lines of a tree
+  abbrev pub BehindTree : Told → List Wait → Tree → List Token → Type 0
+  BehindTree a ws t = Behind (passed a t) ws (meaning a t)
+
   -- a tree
-  abbrev pub AtNode : Claim → List Wait → List Token → Type 0
-  AtNode a ws = Trees frame One 0 (length ws) [] (Behind a ws)
+  abbrev pub AtNode : Told → List Wait → List Token → Type 0
+  AtNode a ws = Trees frame a.version 0 (length ws) a.had (BehindTree a ws)
 
-  abbrev pub LeafEnd : Claim → List Wait → Bool → Proof → List Token → Type 0
-  LeafEnd a ws o p = Prefixed (LineEnd None) (Behind a ws (leaf_of o p))
+  abbrev pub LeafEnd : Told → List Wait → Bool → Proof → List Token → Type 0
+  LeafEnd a ws o p = Prefixed (LineEnd None) (BehindLeaf a ws o p)
 
-  abbrev pub AtBlocks : Claim → List Wait → Bool → ℕ → List (ℕ × ℤ) → List ℕ → ℕ → ℕ → List Token → Type 0
+  abbrev pub AtBlocks : Told → List Wait → Bool → ℕ → List (ℕ × ℤ) → List ℕ → ℕ → ℕ → List Token → Type 0
   AtBlocks a ws o s ps ks last n = Blocks frame last n (λ ls. LeafEnd a ws o (proof_of s ps (These (ks ++ ls))))
 
-  abbrev pub AtPriced : Claim → List Wait → Bool → ℕ → List (ℕ × ℤ) → List Token → Type 0
+  abbrev pub AtPriced : Told → List Wait → Bool → ℕ → List (ℕ × ℤ) → List Token → Type 0
   AtPriced a ws o s ps = Priced frame (λ q. LeafEnd a ws o (proof_of s ps q))
 
-  abbrev pub AtPairs : Claim → List Wait → Bool → ℕ → List (ℕ × ℤ) → ℕ → ℕ → List Token → Type 0
-  AtPairs a ws o s ps last n = Pairs (may_name frame 0) (2 ^ 40) [] last n (λ qs. Prefixed (Words (codes " priced ")) (AtPriced a ws o s (ps ++ qs)))
+  abbrev pub AtPairs : Told → List Wait → Bool → ℕ → List (ℕ × ℤ) → ℕ → ℕ → List Token → Type 0
+  AtPairs a ws o s ps last n = Pairs (may_name frame 0) (2 ^ 40) a.had last n (λ qs. Prefixed (Words (codes " priced ")) (AtPriced a ws o s (ps ++ qs)))
 
   -- one pair or block less is still to come
-  abbrev pub AtMultiplier : Claim → List Wait → Bool → ℕ → List (ℕ × ℤ) → ℕ → ℕ → List Token → Type 0
-  AtMultiplier a ws o s ps r n = Valued (multiplier_fault (2 ^ 40) [] r) (λ z. AtPairs a ws o s (ps ++ (r, z) ∷ []) r (n - 1))
+  abbrev pub AtMultiplier : Told → List Wait → Bool → ℕ → List (ℕ × ℤ) → ℕ → ℕ → List Token → Type 0
+  AtMultiplier a ws o s ps r n = Valued (multiplier_fault (2 ^ 40) a.had r) (λ z. AtPairs a ws o s (ps ++ (r, z) ∷ []) r (n - 1))
 
-  abbrev pub RowGap : Claim → List Wait → Bool → ℕ → List (ℕ × ℤ) → ℕ → ℕ → List Token → Type 0
+  abbrev pub RowGap : Told → List Wait → Bool → ℕ → List (ℕ × ℤ) → ℕ → ℕ → List Token → Type 0
   RowGap a ws o s ps r n = Prefixed (Words (codes " ")) (AtMultiplier a ws o s ps r n)
 
-  abbrev pub AtRow : Claim → List Wait → Bool → ℕ → List (ℕ × ℤ) → ℕ → ℕ → List Token → Type 0
+  abbrev pub AtRow : Told → List Wait → Bool → ℕ → List (ℕ × ℤ) → ℕ → ℕ → List Token → Type 0
   AtRow a ws o s ps last n = Numbered (row_fault (may_name frame 0) last) (λ r. RowGap a ws o s ps r n)
 
-  abbrev pub AtBlock : Claim → List Wait → Bool → ℕ → List (ℕ × ℤ) → List ℕ → ℕ → ℕ → List Token → Type 0
+  abbrev pub AtBlock : Told → List Wait → Bool → ℕ → List (ℕ × ℤ) → List ℕ → ℕ → ℕ → List Token → Type 0
   AtBlock a ws o s ps ks last n = Numbered (block_fault frame last) (λ k. AtBlocks a ws o s ps (ks ++ k ∷ []) k (n - 1))
 
-  abbrev pub AtCount : Claim → List Wait → Bool → ℕ → List Token → Type 0
+  abbrev pub AtCount : Told → List Wait → Bool → ℕ → List Token → Type 0
   AtCount a ws o s = Numbered (λ _. None) (AtPairs a ws o s [] 0)
 
-  abbrev pub AtRows : Claim → List Wait → Bool → ℕ → List Token → Type 0
-  AtRows a ws o s = Prefixed (Words (codes " rows ")) (AtCount a ws o s)
+  abbrev pub AtRows : Told → List Wait → Bool → ℕ → List Token → Type 0
+  AtRows a ws o s = Prefixed (Words (pairs_word a.version)) (AtCount a ws o s)
 
-  abbrev pub AtScale : Claim → List Wait → Bool → List Token → Type 0
+  abbrev pub AtScale : Told → List Wait → Bool → List Token → Type 0
   AtScale a ws o = Numbered (scale_fault (length ws)) (AtRows a ws o)
 
-  abbrev pub SplitEnd : Claim → List Wait → ℕ → ℤ → List Token → Type 0
+  abbrev pub SplitEnd : Told → List Wait → ℕ → ℤ → List Token → Type 0
   SplitEnd a ws i z = Prefixed (LineEnd None) (AtNode a (low_of i z ∷ ws))
 
-  abbrev pub AtPlace : Claim → List Wait → ℕ → List Token → Type 0
+  abbrev pub AtPlace : Told → List Wait → ℕ → List Token → Type 0
   AtPlace a ws i = Valued value_fault (SplitEnd a ws i)
 
-  abbrev pub VariableGap : Claim → List Wait → ℕ → List Token → Type 0
+  abbrev pub VariableGap : Told → List Wait → ℕ → List Token → Type 0
   VariableGap a ws i = Prefixed (Words (codes " ")) (AtPlace a ws i)
 
-  abbrev pub AtVariable : Claim → List Wait → List Token → Type 0
+  abbrev pub AtVariable : Told → List Wait → List Token → Type 0
   AtVariable a ws = Numbered (variable_fault frame (length ws)) (VariableGap a ws)
 
-  abbrev pub AtValues : Known → List ℤ → List Token → Type 0
-  AtValues k zs = Points frame (length zs + 1) (λ ys. AtNode (claim_with k (zs ++ ys)) [])
+  abbrev pub AtValues : Version → Known → List ℤ → List Token → Type 0
+  AtValues v k zs = Points frame (length zs + 1) (λ ys. AtNode (told v (claim_with k (zs ++ ys))) [])
 
-  abbrev pub AtCoordinate : Known → List ℤ → List Token → Type 0
-  AtCoordinate k zs = Valued (coordinate_fault frame (length zs + 1)) (λ z. AtValues k (zs ++ z ∷ []))
+  abbrev pub AtCoordinate : Version → Known → List ℤ → List Token → Type 0
+  AtCoordinate v k zs = Valued (coordinate_fault frame (length zs + 1)) (λ z. AtValues v k (zs ++ z ∷ []))
 
-  abbrev pub AtPoint : Known → List Token → Type 0
-  AtPoint k = Prefixed (Words (codes "point")) (AtValues k [])
+  abbrev pub AtPoint : Version → Known → List Token → Type 0
+  AtPoint v k = Prefixed (Words (codes "point")) (AtValues v k [])
 
-  abbrev pub ClaimEnd : Known → List Token → Type 0
-  ClaimEnd k = Prefixed (LineEnd None) (AtPoint k)
+  abbrev pub ClaimEnd : Version → Known → List Token → Type 0
+  ClaimEnd v k = Prefixed (LineEnd None) (AtPoint v k)
 
-  abbrev pub AtValue : ℤ → List Token → Type 0
-  AtValue b = Valued value_fault (λ v. ClaimEnd (bound_of b v))
+  abbrev pub AtValue : Version → ℤ → List Token → Type 0
+  AtValue v b = Valued value_fault (λ z. ClaimEnd v (bound_of b z))
 
-  abbrev pub AfterBound : ℤ → List Token → Type 0
-  AfterBound b ts = Prefixed (LineEnd None) (AtNode (Bound b) []) ts ⊎ Prefixed (Words (codes " value ")) (AtValue b) ts
+  abbrev pub AfterBound : Version → ℤ → List Token → Type 0
+  AfterBound v b ts = Prefixed (LineEnd None) (AtNode (told v (Bound b)) []) ts ⊎ Prefixed (Words (codes " value ")) (AtValue v b) ts
 
-  abbrev pub AtBound : List Token → Type 0
-  AtBound = Valued value_fault AfterBound
+  abbrev pub AtBound : Version → List Token → Type 0
+  AtBound v = Valued value_fault (AfterBound v)
 
-  abbrev pub InfeasibleEnd : List Token → Type 0
-  InfeasibleEnd = Prefixed (LineEnd None) (AtNode Infeasible [])
+  abbrev pub InfeasibleEnd : Version → List Token → Type 0
+  InfeasibleEnd v = Prefixed (LineEnd None) (AtNode (told v Infeasible) [])
 
-  abbrev pub AtOptimal : List Token → Type 0
-  AtOptimal = Valued value_fault (λ v. ClaimEnd (optimal_of v))
+  abbrev pub AtOptimal : Version → List Token → Type 0
+  AtOptimal v = Valued value_fault (λ z. ClaimEnd v (optimal_of z))
 
-  abbrev pub AtKind : List Token → Type 0
-  AtKind ts = Prefixed (Words (codes "optimal ")) AtOptimal ts ⊎ (Prefixed (Words (codes "infeasible")) InfeasibleEnd ts ⊎ Prefixed (Words (codes "bound ")) AtBound ts)
+  abbrev pub AtKind : Version → List Token → Type 0
+  AtKind v ts = Prefixed (Words (codes "optimal ")) (AtOptimal v) ts ⊎ (Prefixed (Words (codes "infeasible")) (InfeasibleEnd v) ts ⊎ Prefixed (Words (codes "bound ")) (AtBound v) ts)
 
-  abbrev pub AtClaim : List Token → Type 0
-  AtClaim = Prefixed (Words (codes "claim ")) AtKind
+  abbrev pub AtClaim : Version → List Token → Type 0
+  AtClaim v = Prefixed (Words (codes "claim ")) (AtKind v)
 
-  abbrev pub AtFirstEnd : List Token → Type 0
-  AtFirstEnd = Prefixed (LineEnd None) AtClaim
+  abbrev pub AtFirstEnd : Version → List Token → Type 0
+  AtFirstEnd v = Prefixed (LineEnd None) (AtClaim v)
 
-  abbrev pub AtOne : List Token → Type 0
-  AtOne = Prefixed (Words (codes "1")) AtFirstEnd
+  abbrev pub AtVersion : List Token → Type 0
+  AtVersion ts = Prefixed (Words (codes "1")) (AtFirstEnd One) ts ⊎ Prefixed (Words (codes "2")) (AtFirstEnd Two) ts
 
   -- the tokens that may follow at a place, where the whole is to be the certificate
   abbrev pub Follows : Stage → List Token → Type 0
-  Follows at_bpcert = Prefixed (Words (codes "bpcert ")) AtOne
-  Follows at_one = AtOne
-  Follows at_first_end = AtFirstEnd
-  Follows at_claim = AtClaim
-  Follows at_kind = AtKind
-  Follows at_optimal = AtOptimal
-  Follows infeasible_end = InfeasibleEnd
-  Follows at_bound = AtBound
-  Follows (after_bound b) = AfterBound b
-  Follows (at_value b) = AtValue b
-  Follows (claim_end k) = ClaimEnd k
-  Follows (at_point k) = AtPoint k
-  Follows (at_values k zs) = AtValues k zs
-  Follows (at_coordinate k zs) = AtCoordinate k zs
+  Follows at_bpcert = Prefixed (Words (codes "bpcert ")) AtVersion
+  Follows at_version = AtVersion
+  Follows (at_first_end v) = AtFirstEnd v
+  Follows (at_claim v) = AtClaim v
+  Follows (at_kind v) = AtKind v
+  Follows (at_optimal v) = AtOptimal v
+  Follows (infeasible_end v) = InfeasibleEnd v
+  Follows (at_bound v) = AtBound v
+  Follows (after_bound v b) = AfterBound v b
+  Follows (at_value v b) = AtValue v b
+  Follows (claim_end v k) = ClaimEnd v k
+  Follows (at_point v k) = AtPoint v k
+  Follows (at_values v k zs) = AtValues v k zs
+  Follows (at_coordinate v k zs) = AtCoordinate v k zs
   Follows (at_node a ws) = AtNode a ws
   Follows (at_scale a ws o) = AtScale a ws o
   Follows (at_rows a ws o s) = AtRows a ws o s

@@ -1,9 +1,9 @@
 -- The texts that a reader stands for: what has come of a certificate, and how far.
-use Rattle.std.specs.Prelude.{◌≡◌, ◌⊎◌, ℕ, ◌+◌, ◌-◌, ◌*◌, ◌^◌, ◌≤◌, ◌<◌, Bool, true, false, IsTrue, List, [], ◌∷◌, ◌++◌, length, take, min, Result, Ok, Err, ℤ, nat_le, ◌&&◌}
+use Rattle.std.specs.Prelude.{◌≡◌, ◌⊎◌, ℕ, ◌+◌, ◌-◌, ◌^◌, ◌≤◌, ◌<◌, Bool, true, false, IsTrue, List, [], ◌∷◌, ◌++◌, length, take, min, Result, Ok, Err, nat_le, ◌&&◌}
 use Rattle.cert_text.specs.Cert as texts
 use Rattle.cert_text.specs.Cert.{Cert}
-use Rattle.cert_text.specs.Text.{Token, text_of, signed_numeral, One}
-use Rattle.cert_text.specs.Fault.{AreClean, EndsNumber, EndsToken, line_behind, IsText, IsSeenFault, IsFirstCertFault}
+use Rattle.cert_text.specs.Text.{Token, text_of, signed_numeral}
+use Rattle.cert_text.specs.Fault.{AreClean, EndsNumber, EndsToken, line_behind, IsCertText, IsSeenFault, IsFirstCertFault}
 use Rattle.cert_text.specs.Words.{word_text}
 use Rattle.cert_text.specs.Signed.{signed}
 use Rattle.cert_text.specs.Frames.{frame_of}
@@ -158,7 +158,7 @@ EndsWell frame new text (Err (At line kind)) = IsFirstCertFault (frame_of frame)
 
 -- what is read of a text
 abbrev pub ReadsCertificate : Frame → List ℕ → Result Kept CertFault → Type 0
-ReadsCertificate frame text (Ok cert) = IsText (frame_of frame) One (kept_cert cert) text
+ReadsCertificate frame text (Ok cert) = IsCertText (frame_of frame) (kept_cert cert) text
 ReadsCertificate frame text (Err NoMemory) = Unit {0}
 ReadsCertificate frame text (Err (At line kind)) = IsFirstCertFault (frame_of frame) text line kind
 

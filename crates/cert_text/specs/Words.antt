@@ -2,12 +2,13 @@
 use Rattle.std.specs.Prelude.{ℕ, Bool, true, false, List, [], ◌∷◌, codes, Option, nat_eq, slice_index_or}
 use Rattle.cert_text.specs.Text as texts
 use Rattle.cert_text.specs.declared.words.Word.{Word}
-use Rattle.cert_text.specs.declared.words.Word.TheVariants.{Bpcert, One, LineEnd, Claim, Optimal, Infeasible, Bound, Value, Point, Space, Leaf, Open, Split, Rows, Priced, All, End}
+use Rattle.cert_text.specs.declared.words.Word.TheVariants.{Bpcert, One, Two, LineEnd, Claim, Optimal, Infeasible, Bound, Value, Point, Space, Leaf, Open, Split, Rows, Change, Priced, All, End}
 
 -- the bytes of a word
 abbrev pub word_text : Word → List ℕ
 word_text Bpcert = codes "bpcert "
 word_text One = codes "1"
+word_text Two = codes "2"
 word_text LineEnd = 10 ∷ []
 word_text Claim = codes "claim "
 word_text Optimal = codes "optimal "
@@ -20,6 +21,7 @@ word_text Leaf = codes "leaf "
 word_text Open = codes "open "
 word_text Split = codes "split "
 word_text Rows = codes " rows "
+word_text Change = codes " change "
 word_text Priced = codes " priced "
 word_text All = codes "all"
 word_text End = codes "end"
@@ -37,3 +39,9 @@ word_begins word byte = nat_eq (slice_index_or (word_text word) 0 0) byte
 abbrev pub is_line_end : Word → Bool
 is_line_end LineEnd = true
 is_line_end _ = false
+
+-- the word before a leaf's multipliers
+abbrev pub change_word : texts.Version → Word
+change_word texts.One = Rows
+change_word texts.Two = Change
+change_word texts.Three = Change

@@ -1,5 +1,5 @@
 -- Certificates as their texts have them: variables, rows and blocks go by their numbers from 1.
-use Rattle.std.specs.Prelude.{ℕ, ◌+◌, List, [], map, Option, Some, None, ℤ, unwrap_or}
+use Rattle.std.specs.Prelude.{ℕ, ◌+◌, List, [], map, Some, None, ℤ, unwrap_or}
 use Rattle.std.specs.Option.{option_map}
 use Rattle.bp_theory.specs.declared.Claim.{Claim}
 use Rattle.bp_theory.specs.declared.Claim.TheVariants as claims

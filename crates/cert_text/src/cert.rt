@@ -1,5 +1,7 @@
-ghost use Rattle.std.specs.Prelude.{◌≡◌, MatchOption, None, Some};
-ghost use Rattle.cert_text.specs.Kept.{certificate_of};
+ghost use Rattle.std.specs.Prelude.{◌≡◌, ◌-◌, ◌^◌, min, MatchOption, None, Some};
+ghost use Rattle.cert_text.specs.Kept.{certificate_of, kept_cert};
+ghost use Rattle.cert_text.specs.Nodes.{nodes};
+ghost use Rattle.cert_text.specs.Written.{written_tree};
 ghost use Rattle.cert_text.specs.Sketch.{tree_of};
 
 use crate::sketch::Sketch;
@@ -39,5 +41,25 @@ impl Cert {
         ensures { tree_of result.now ≡ (certificate_of self.now).tree }
     {
         &self.tree
+    }
+
+    /// How many nodes the tree has: as many lines of a text. More than a u64 can hold are its greatest number.
+    pub fn nodes(&self) -> u64
+        ensures { result ≡ min (nodes (kept_cert self.now).tree) (2 ^ 64 - 1) }
+    {
+        count(&self.tree)
+    }
+}
+
+// How many nodes a tree has.
+fn count(tree: &Sketch) -> u64
+    ensures { result ≡ min (nodes (written_tree (tree_of tree.now))) (2 ^ 64 - 1) }
+{
+    match tree {
+        Sketch::Leaf(_) | Sketch::Open(_) => 1,
+        Sketch::Fork { low, high, .. } => {
+            let below = count(low).saturating_add(count(high));
+            below.saturating_add(1)
+        }
     }
 }

@@ -7,7 +7,7 @@ pub enum CertKind {
     Syntax,
     /// A number is past its limit.
     TooLarge,
-    /// A variable, row or block isn't there or out of order, or a multiplier is 0.
+    /// A variable, row or block isn't there or out of order, or a multiplier is what the row has without it.
     Number,
     /// A point has fewer or more values than there are variables.
     Length,

@@ -1,6 +1,7 @@
 ghost use Rattle.std.specs.Prelude.{◌≡◌, ◌+◌, ◌<◌, ◌^◌, [], MatchResult, None, Some};
-ghost use Rattle.cert_text.specs.Text.{value_fault, coordinate_fault, row_fault, multiplier_fault, block_fault, scale_fault, variable_fault, is_deep, may_name};
+ghost use Rattle.cert_text.specs.Text.{value_fault, coordinate_fault, row_fault, block_fault, scale_fault, variable_fault, is_deep, may_name};
 ghost use Rattle.cert_text.specs.Frames.{frame_of};
+ghost use Rattle.cert_text.specs.Versions.{changed_fault};
 ghost use Rattle.cert_text.specs.Signed.{signed};
 
 use crate::fault::CertKind;
@@ -52,17 +53,18 @@ pub fn judge_coordinate(
     Ok(signed_of(negative, value))
 }
 
-// A row's multiplier.
-pub fn judge_multiplier(row: u32, negative: bool, value: u64) -> Result<i64, CertKind>
-    ensures { MatchResult result (λ z. (multiplier_fault (2 ^ 40) [] (row + 1) (signed negative value) ≡ None) × (z ≡ signed negative value)) (λ kind. multiplier_fault (2 ^ 40) [] (row + 1) (signed negative value) ≡ Some kind) }
+// The multiplier of a row that had another one.
+pub fn judge_multiplier(had: &i64, negative: bool, value: u64) -> Result<i64, CertKind>
+    ensures { MatchResult result (λ z. (changed_fault had.now (signed negative value) ≡ None) × (z ≡ signed negative value)) (λ kind. changed_fault had.now (signed negative value) ≡ Some kind) }
 {
     if value > MULTIPLIER {
         return Err(CertKind::TooLarge);
     }
-    if value == 0 {
+    let z = signed_of(negative, value);
+    if z == *had {
         return Err(CertKind::Number);
     }
-    Ok(signed_of(negative, value))
+    Ok(z)
 }
 
 // Whether a node at a depth is too deep.

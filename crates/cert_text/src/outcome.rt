@@ -5,63 +5,65 @@ ghost use Rattle.search_laws.specs.Grove.{certificate_tree};
 ghost use Rattle.search_laws.specs.Outcomes.{read_off};
 ghost use Rattle.branch_tree.specs.Trees.{tree_of};
 ghost use Rattle.cert_text.specs.Fault.{IsText};
-ghost use Rattle.cert_text.specs.Text.{One};
+ghost use Rattle.cert_text.specs.Text.{Two};
 ghost use Rattle.cert_text.specs.Written.{cert_of};
 ghost use Rattle.cert_text.specs.Plain.{plain_text, tree_text};
+ghost use Rattle.cert_text.specs.Changes.{changing_nodes, last_mults};
 ghost use Rattle.cert_text.specs.Programs.{frame_for};
 ghost use Rattle.cert_text.specs.Outcomes.{grove_of, claim_of, point_of, HasSmallNumbers, IsWritable};
 
-use crate::writer::{put_claim, put_proof, put_split};
+use crate::writer::{put_changed_leaf, put_claim, put_split};
 use block_form::Blocked;
 use bp_theory::{Claim, Items};
 use branch_tree::{Grove, Outcome, Tree};
 use std::alloc::{AllocError, Global};
 
-/// The text of the certificate of a search's outcome: its claim, its best point where there is one, and its tree, whose
-/// live leaves are open. The text has no fault, so it is read back.
+/// The text of the certificate of a search's outcome in version 2: its claim, its best point where there is one, and its tree,
+/// whose live leaves are open. The text has no fault, so it is read back.
 pub fn write_cert(alloc: Global, b: &Blocked, outcome: &Outcome) -> Result<Vec<u8>, AllocError>
     requires { IsWritable b.now outcome.now }
-    ensures { IfOk result (λ text. IsText (frame_for b.now) One (cert_of (read_off (claim_of b.now.named.program.maximises outcome.now) (point_of outcome.now) [] (grove_of outcome.now).tree)) text.items) }
+    ensures { IfOk result (λ text. IsText (frame_for b.now) Two (cert_of (read_off (claim_of b.now.named.program.maximises outcome.now) (point_of outcome.now) [] (grove_of outcome.now).tree)) text.items) }
 {
     let claim = outcome_claim(b.model().maximises(), outcome);
     let tree = outcome_grove(outcome).tree();
     let mut out = Vec::new(alloc);
-    put_outcome(&mut out, &claim, outcome_point(outcome), tree)?;
+    put_outcome(&mut out, alloc, &claim, outcome_point(outcome), tree)?;
     Ok(out)
 }
 
 // The text of a claim, a point and a tree.
 fn put_outcome(
     out: &mut Vec<u8>,
+    alloc: Global,
     claim: &Claim,
     point: &[i64],
     tree: &Tree,
 ) -> Result<(), AllocError>
-    ensures { OnOk result (out.new.items ≡ out.old.items ++ plain_text claim.now point.now (certificate_tree (tree_of tree.now))) }
+    ensures { OnOk result (out.new.items ≡ out.old.items ++ plain_text Two claim.now point.now (changing_nodes [] (certificate_tree (tree_of tree.now)))) }
 {
-    out.extend_from_slice(b"bpcert 1\n")?;
+    out.extend_from_slice(b"bpcert 2\n")?;
     put_claim(out, claim, point)?;
-    put_nodes(out, tree)?;
+    put_nodes(out, alloc, tree, &[])?;
     out.extend_from_slice(b"end\n")
 }
 
-// The lines of a search's tree.
-fn put_nodes(out: &mut Vec<u8>, tree: &Tree) -> Result<(), AllocError>
-    ensures { OnOk result (out.new.items ≡ out.old.items ++ tree_text (certificate_tree (tree_of tree.now))) }
+// The lines of a search's tree, behind a leaf that has these multipliers; gives those of its last leaf.
+fn put_nodes<'a>(
+    out: &mut Vec<u8>,
+    alloc: Global,
+    tree: &'a Tree,
+    had: &'a [(u32, i64)],
+) -> Result<&'a [(u32, i64)], AllocError>
+    ensures text { OnOk result (out.new.items ≡ out.old.items ++ tree_text Two (changing_nodes had.now (certificate_tree (tree_of tree.now)))) }
+    ensures last { IfOk result (λ last. last.now ≡ last_mults (certificate_tree (tree_of tree.now))) }
 {
     match tree {
-        Tree::Live(proof, _) => {
-            out.extend_from_slice(b"open ")?;
-            put_proof(out, proof)
-        }
-        Tree::Shut(proof) => {
-            out.extend_from_slice(b"leaf ")?;
-            put_proof(out, proof)
-        }
+        Tree::Live(proof, _) => put_changed_leaf(out, alloc, b"open ", had, proof),
+        Tree::Shut(proof) => put_changed_leaf(out, alloc, b"leaf ", had, proof),
         Tree::Fork { var, at, low, high } => {
             put_split(out, *var, at)?;
-            put_nodes(out, low)?;
-            put_nodes(out, high)
+            let last = put_nodes(out, alloc, low, had)?;
+            put_nodes(out, alloc, high, last)
         }
     }
 }

@@ -5,15 +5,16 @@ ghost use Rattle.cert_text.specs.declared.words.Word.{Word};
 ghost use Rattle.cert_text.specs.Written.{in_text, written_claim, written_tree, written_proof};
 ghost use Rattle.cert_text.specs.Cert.{Split};
 ghost use Rattle.bp_theory.specs.declared.Picked.TheVariants.{Every, These};
-ghost use Rattle.cert_text.specs.Stages.{leaf_of, at_node, low_of, words, after, behind, line_fault, is_deep_stage};
-ghost use Rattle.cert_text.specs.Readers.{Keeps, stage_of, waits_of, TakesNatural, TakesWhole};
+ghost use Rattle.cert_text.specs.Stages.{leaf_of, told, at_node, low_of, words, after, behind, behind_leaf, line_fault, is_deep_stage};
+ghost use Rattle.cert_text.specs.Versions.{version_of};
+ghost use Rattle.cert_text.specs.Readers.{Keeps, told_of, stage_of, waits_of, TakesNatural, TakesWhole};
 ghost use Rattle.cert_text.specs.Frames.{frame_of};
 ghost use Rattle.cert_text.specs.Words.{word_text, word_begins, word_token};
 ghost use Rattle.cert_text.specs.Text.{fault_of};
 ghost use Rattle.cert_text.specs.Standing.{StandsFor, Between, InWordAt, MayStand, Comes, Steps, Feeds, EndsNumberAt, EndsTextAt, EndsWell, ReadsCertificate, is_digit};
 ghost use Rattle.cert_text.specs.declared.reader.Part.TheVariants.{Digits, Minus, DeepMinus};
 ghost use Rattle.cert_text.specs.Spots.{spot_sort};
-ghost use Rattle.cert_text.specs.declared.spots.Spot.TheVariants.{Scale, Values, Pairs};
+ghost use Rattle.cert_text.specs.declared.spots.Spot.TheVariants.{FirstEnd, Scale, Values, Pairs};
 ghost use Rattle.cert_text.specs.declared.spots.Sort.TheVariants.{Natural, Whole};
 
 use crate::cert::Cert;
@@ -23,8 +24,10 @@ use crate::judge::{
     is_too_deep, judge_block, judge_coordinate, judge_multiplier, judge_row, judge_scale,
     judge_value, judge_variable,
 };
+use crate::multipliers::Multipliers;
 use crate::sketch::Sketch;
 use crate::spots::{Sort, Spot, pick, sort_of, words_at};
+use crate::version::Version;
 use crate::words::{Word, bytes_of, ends_line};
 use bp_theory::{Claim, Items, Picked, Proof};
 use std::alloc::{AllocError, Global};
@@ -60,10 +63,12 @@ pub struct Reader {
     spot: Spot,
     part: Part,
     line: u64,
+    version: Version,
     claim: Claim,
     bound: i64,
     point: Items<i64>,
     pending: Vec<Pending>,
+    had: Multipliers,
     is_open: bool,
     scale: u32,
     mults: Items<(u32, i64)>,
@@ -110,7 +115,7 @@ fn digit(byte: u8) -> bool
 impl Reader {
     // A tree is whole: it goes into the splits above it.
     fn complete(&mut self, alloc: Global, tree: Sketch) -> Result<(), AllocError>
-        ensures place { OnOk result ((n : ℕ) → stage_of self.new n ≡ behind (written_claim self.old.claim self.old.point) (waits_of self.old.pending.items) (written_tree (tree_of tree))) }
+        ensures place { OnOk result ((n : ℕ) → stage_of self.new n ≡ behind (told_of self.old) (waits_of self.old.pending.items) (written_tree (tree_of tree))) }
         ensures keeps { OnOk result (Keeps self.old self.new) }
     {
         let mut tree = tree;
@@ -131,43 +136,47 @@ impl Reader {
         Ok(())
     }
 
-    // The proof of a leaf, with the blocks that it prices.
-    fn take_proof(&mut self, alloc: Global, picked: Picked) -> Proof
-        ensures proof { result ≡ record { scale = self.old.scale; mults = self.old.mults; picked = picked } }
-        ensures same { self.new ≡ record self.old { mults = [] } }
+    // A leaf is whole.
+    fn end_leaf(
+        &mut self,
+        alloc: Global,
+        mults: Items<(u32, i64)>,
+        picked: Picked,
+    ) -> Result<(), AllocError>
+        ensures place { OnOk result ((n : ℕ) → stage_of self.new n ≡ behind (told_of self.old) (waits_of self.old.pending.items) (leaf_of self.old.is_open (written_proof (record { scale = self.old.scale; mults = mults; picked = picked })))) }
+        ensures keeps { OnOk result (Keeps self.old self.new) }
     {
-        let mults = mem::replace(&mut self.mults, Items::new(alloc));
-        Proof {
+        let proof = Proof {
             scale: self.scale,
             mults,
             picked,
-        }
+        };
+        let tree = leaf(self.is_open, proof);
+        self.complete(alloc, tree)
     }
 
     // A leaf's line ends, where all blocks are priced.
     fn end_every(&mut self, alloc: Global) -> Result<(), AllocError>
-        ensures place { OnOk result ((n : ℕ) → stage_of self.new n ≡ behind (written_claim self.old.claim self.old.point) (waits_of self.old.pending.items) (leaf_of self.old.is_open (written_proof (record { scale = self.old.scale; mults = self.old.mults; picked = Every })))) }
+        ensures place { OnOk result ((n : ℕ) → stage_of self.new n ≡ behind_leaf (told_of self.old) (waits_of self.old.pending.items) self.old.is_open (written_proof (record { scale = self.old.scale; mults = self.old.mults; picked = Every }))) }
         ensures keeps { OnOk result (Keeps self.old self.new) }
     {
-        let proof = self.take_proof(alloc, Picked::Every);
-        let tree = leaf(self.is_open, proof);
-        self.complete(alloc, tree)
+        let mults = self.had.next(alloc, self.version, self.mults.as_slice())?;
+        self.end_leaf(alloc, mults, Picked::Every)
     }
 
     // A leaf's line ends, where the blocks of a list are priced.
     fn end_these(&mut self, alloc: Global) -> Result<(), AllocError>
-        ensures place { OnOk result ((n : ℕ) → stage_of self.new n ≡ behind (written_claim self.old.claim self.old.point) (waits_of self.old.pending.items) (leaf_of self.old.is_open (written_proof (record { scale = self.old.scale; mults = self.old.mults; picked = These self.old.blocks })))) }
+        ensures place { OnOk result ((n : ℕ) → stage_of self.new n ≡ behind_leaf (told_of self.old) (waits_of self.old.pending.items) self.old.is_open (written_proof (record { scale = self.old.scale; mults = self.old.mults; picked = These self.old.blocks }))) }
         ensures keeps { OnOk result (Keeps self.old self.new) }
     {
+        let mults = self.had.next(alloc, self.version, self.mults.as_slice())?;
         let blocks = mem::replace(&mut self.blocks, Items::new(alloc));
-        let proof = self.take_proof(alloc, Picked::These(blocks));
-        let tree = leaf(self.is_open, proof);
-        self.complete(alloc, tree)
+        self.end_leaf(alloc, mults, Picked::These(blocks))
     }
 
     // A split's line ends.
     fn end_split(&mut self) -> Result<(), AllocError>
-        ensures place { OnOk result ((n : ℕ) → stage_of self.new n ≡ at_node (written_claim self.old.claim self.old.point) (low_of (in_text self.old.place.var) self.old.place.at ∷ waits_of self.old.pending.items)) }
+        ensures place { OnOk result ((n : ℕ) → stage_of self.new n ≡ at_node (told_of self.old) (low_of (in_text self.old.place.var) self.old.place.at ∷ waits_of self.old.pending.items)) }
         ensures keeps { OnOk result (Keeps self.old self.new) }
     {
         self.pending.push(Pending::Low(self.place))?;
@@ -184,12 +193,22 @@ impl Reader {
         Ok(())
     }
 
+    // The version is known: the claim comes next.
+    fn begin_claim(&mut self, version: Version) -> Result<(), AllocError>
+        ensures { self.new ≡ record self.old { spot = FirstEnd; version = version } }
+    {
+        self.version = version;
+        self.spot = Spot::FirstEnd;
+        Ok(())
+    }
+
     // A claim is whole: the tree comes next.
     fn begin_tree(&mut self, alloc: Global) -> Result<(), AllocError>
-        ensures place { OnOk result ((n : ℕ) → stage_of self.new n ≡ at_node (written_claim self.old.claim self.old.point) []) }
+        ensures place { OnOk result ((n : ℕ) → stage_of self.new n ≡ at_node (told (version_of self.old.version) (written_claim self.old.claim self.old.point)) []) }
         ensures keeps { OnOk result (Keeps self.old self.new) }
     {
         self.pending = Vec::new(alloc);
+        self.had = Multipliers::new(alloc);
         self.spot = Spot::Node;
         Ok(())
     }
@@ -218,8 +237,11 @@ impl Reader {
         ensures keeps { OnOk result (Keeps self.old self.new) }
     {
         match self.spot {
-            Spot::Bpcert => self.go_to(Spot::One),
-            Spot::One => self.go_to(Spot::FirstEnd),
+            Spot::Bpcert => self.go_to(Spot::Version),
+            Spot::Version => match word {
+                Word::Two => self.begin_claim(Version::Two),
+                _ => self.begin_claim(Version::One),
+            },
             Spot::FirstEnd => self.go_to(Spot::Claim),
             Spot::Claim => self.go_to(Spot::Kind),
             Spot::Kind => match word {
@@ -375,7 +397,7 @@ impl Reader {
                     }
                 }
             }
-            Spot::Multiplier => match judge_multiplier(self.row, negative, value) {
+            Spot::Multiplier => match judge_multiplier(&self.had.get(self.row), negative, value) {
                 Err(kind) => self.fault(kind),
                 Ok(z) => match self.keep_multiplier(&z) {
                     Err(_) => Err(CertFault::NoMemory),
@@ -618,7 +640,7 @@ impl Reader {
     fn begin(&mut self, alloc: Global, frame: &Frame, byte: u8) -> Result<(), CertFault>
         ensures { (text : List ℕ) (number : Bool) → length text + 1 < 2 ^ 64 → Between frame.now self.old number text → (number ≡ true → is_digit byte ≡ false) → Steps frame.now self.new text byte result }
     {
-        match pick(words_at(self.spot, self.left > 0), byte) {
+        match pick(words_at(self.version, self.spot, self.left > 0), byte) {
             Some(word) => self.go_on(alloc, frame, word, 0, byte),
             None => self.begin_number(byte),
         }
@@ -651,10 +673,12 @@ impl Reader {
             spot: Spot::Bpcert,
             part: Part::Fresh,
             line: 1,
+            version: Version::One,
             claim: Claim::Infeasible,
             bound: 0,
             point: Items::new(alloc),
             pending: Vec::new(alloc),
+            had: Multipliers::new(alloc),
             is_open: false,
             scale: 0,
             mults: Items::new(alloc),

@@ -1,13 +1,14 @@
 ghost use Rattle.std.specs.Prelude.{◌≡◌};
 ghost use Rattle.cert_text.specs.Spots.{spot_sort, spot_words, picked_word};
 
+use crate::version::Version;
 use crate::words::{Word, begins};
 
 /// A place between two tokens of a certificate's text.
 #[derive(Clone, Copy)]
 pub enum Spot {
     Bpcert,
-    One,
+    Version,
     FirstEnd,
     Claim,
     Kind,
@@ -66,13 +67,13 @@ pub fn sort_of(spot: Spot) -> Sort
     }
 }
 
-// The words that may come at a place, where more pairs or blocks are to come or not.
-pub fn words_at(spot: Spot, more: bool) -> &'static [Word]
-    ensures { result.now ≡ spot_words spot more }
+// The words that may come at a place of a text in a version, where more pairs or blocks are to come or not.
+pub fn words_at(version: Version, spot: Spot, more: bool) -> &'static [Word]
+    ensures { result.now ≡ spot_words version spot more }
 {
     match spot {
         Spot::Bpcert => &[Word::Bpcert],
-        Spot::One => &[Word::One],
+        Spot::Version => &[Word::One, Word::Two],
         Spot::FirstEnd
         | Spot::InfeasibleEnd
         | Spot::ClaimEnd
@@ -85,7 +86,10 @@ pub fn words_at(spot: Spot, more: bool) -> &'static [Word]
         Spot::Point => &[Word::Point],
         Spot::Values => &[Word::LineEnd, Word::Space],
         Spot::Node => &[Word::Leaf, Word::Open, Word::Split],
-        Spot::Rows => &[Word::Rows],
+        Spot::Rows => match version {
+            Version::One => &[Word::Rows],
+            Version::Two => &[Word::Change],
+        },
         Spot::Pairs => {
             if more {
                 &[Word::Space]

@@ -6,6 +6,7 @@ ghost use Rattle.cert_text.specs.Words.{word_text, word_begins, is_line_end};
 pub enum Word {
     Bpcert,
     One,
+    Two,
     LineEnd,
     Claim,
     Optimal,
@@ -18,6 +19,7 @@ pub enum Word {
     Open,
     Split,
     Rows,
+    Change,
     Priced,
     All,
     End,
@@ -30,6 +32,7 @@ pub fn bytes_of(word: Word) -> &'static [u8]
     match word {
         Word::Bpcert => b"bpcert ",
         Word::One => b"1",
+        Word::Two => b"2",
         Word::LineEnd => b"\n",
         Word::Claim => b"claim ",
         Word::Optimal => b"optimal ",
@@ -42,6 +45,7 @@ pub fn bytes_of(word: Word) -> &'static [u8]
         Word::Open => b"open ",
         Word::Split => b"split ",
         Word::Rows => b" rows ",
+        Word::Change => b" change ",
         Word::Priced => b" priced ",
         Word::All => b"all",
         Word::End => b"end",

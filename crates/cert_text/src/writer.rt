@@ -1,11 +1,16 @@
-ghost use Rattle.std.specs.Prelude.{◌≡◌, ◌+◌, ◌++◌, codes, length, IfOk, OnOk};
+ghost use Rattle.std.specs.Prelude.{◌≡◌, ℕ, ◌+◌, ◌++◌, List, [], codes, length, IfOk, OnOk};
 ghost use Rattle.std.specs.List.{flat_map};
 ghost use Rattle.cert_text.specs.Cert.{Frame};
-ghost use Rattle.cert_text.specs.Text.{numeral, signed_numeral, text_of, tokens_of, One};
-ghost use Rattle.cert_text.specs.Plain.{pair_text, block_text, coordinate_text, picked_text, proof_text, tree_text, point_text, bound_text, claim_text, plain_text};
+ghost use Rattle.cert_text.specs.Text.{numeral, signed_numeral, text_of, tokens_of, One, Two};
+ghost use Rattle.cert_text.specs.Plain.{pair_text, block_text, coordinate_text, picked_text, tail_text, proof_text, tree_text, point_text, bound_text, claim_text, plain_text};
+ghost use Rattle.cert_text.specs.Changes.{changing_proof, changing_nodes, last_mults};
+ghost use Rattle.cert_text.specs.Fault.{IsText, IsCertText};
+ghost use Rattle.cert_text.specs.Kept.{kept_cert};
 ghost use Rattle.cert_text.specs.Sketch.{tree_of};
 ghost use Rattle.cert_text.specs.Written.{cert_of, certificate};
 
+use crate::cert::Cert;
+use crate::differences::differences;
 use crate::sketch::Sketch;
 use bp_theory::{Claim, Picked, Proof};
 use itoa::Buffer;
@@ -96,17 +101,55 @@ fn put_picked(out: &mut Vec<u8>, picked: &Picked) -> Result<(), AllocError>
     }
 }
 
-// A leaf's line behind its first word.
-pub fn put_proof(out: &mut Vec<u8>, proof: &Proof) -> Result<(), AllocError>
-    ensures { OnOk result (out.new.items ≡ out.old.items ++ proof_text proof.now) }
+// A leaf's multipliers and the blocks that it prices, to the end of its line.
+fn put_tail(out: &mut Vec<u8>, pairs: &[(u32, i64)], picked: &Picked) -> Result<(), AllocError>
+    ensures { OnOk result (out.new.items ≡ out.old.items ++ tail_text pairs.now picked.now) }
+{
+    put_number(out, pairs.len() as u64)?;
+    put_pairs(out, pairs)?;
+    out.extend_from_slice(b" priced ")?;
+    put_picked(out, picked)?;
+    out.extend_from_slice(b"\n")
+}
+
+// A leaf's line behind its first word, with all its multipliers.
+fn put_proof(out: &mut Vec<u8>, proof: &Proof) -> Result<(), AllocError>
+    ensures { OnOk result (out.new.items ≡ out.old.items ++ proof_text One proof.now) }
 {
     put_number(out, u64::from(proof.scale))?;
     out.extend_from_slice(b" rows ")?;
-    put_number(out, proof.mults.len() as u64)?;
-    put_pairs(out, proof.mults.as_slice())?;
-    out.extend_from_slice(b" priced ")?;
-    put_picked(out, &proof.picked)?;
-    out.extend_from_slice(b"\n")
+    put_tail(out, proof.mults.as_slice(), &proof.picked)
+}
+
+// The same with those multipliers that the leaf before has otherwise.
+fn put_changes(
+    out: &mut Vec<u8>,
+    alloc: Global,
+    had: &[(u32, i64)],
+    proof: &Proof,
+) -> Result<(), AllocError>
+    ensures { OnOk result (out.new.items ≡ out.old.items ++ proof_text Two (changing_proof had.now proof.now)) }
+{
+    let changes = differences(alloc, had, proof.mults.as_slice())?;
+    put_number(out, u64::from(proof.scale))?;
+    out.extend_from_slice(b" change ")?;
+    put_tail(out, changes.as_slice(), &proof.picked)
+}
+
+// A leaf's line with its first word, behind a leaf that has these multipliers; gives its own.
+pub fn put_changed_leaf<'a>(
+    out: &mut Vec<u8>,
+    alloc: Global,
+    word: &[u8],
+    had: &[(u32, i64)],
+    proof: &'a Proof,
+) -> Result<&'a [(u32, i64)], AllocError>
+    ensures text { OnOk result (out.new.items ≡ out.old.items ++ (word.now ++ proof_text Two (changing_proof had.now proof.now))) }
+    ensures last { IfOk result (λ last. last.now ≡ proof.now.mults) }
+{
+    out.extend_from_slice(word)?;
+    put_changes(out, alloc, had, proof)?;
+    Ok(proof.mults.as_slice())
 }
 
 // A split's line.
@@ -122,7 +165,7 @@ pub fn put_split(out: &mut Vec<u8>, var: u32, at: &i64) -> Result<(), AllocError
 
 // The lines of a tree.
 fn put_tree(out: &mut Vec<u8>, tree: &Sketch) -> Result<(), AllocError>
-    ensures { OnOk result (out.new.items ≡ out.old.items ++ tree_text (tree_of tree.now)) }
+    ensures { OnOk result (out.new.items ≡ out.old.items ++ tree_text One (tree_of tree.now)) }
 {
     match tree {
         Sketch::Leaf(proof) => {
@@ -197,11 +240,48 @@ fn put_cert(
     point: &[i64],
     tree: &Sketch,
 ) -> Result<(), AllocError>
-    ensures { OnOk result (out.new.items ≡ out.old.items ++ plain_text claim.now point.now (tree_of tree.now)) }
+    ensures { OnOk result (out.new.items ≡ out.old.items ++ plain_text One claim.now point.now (tree_of tree.now)) }
 {
     out.extend_from_slice(b"bpcert 1\n")?;
     put_claim(out, claim, point)?;
     put_tree(out, tree)?;
+    out.extend_from_slice(b"end\n")
+}
+
+// The lines of a tree in version 2, behind a leaf that has these multipliers; gives those of its last leaf.
+fn put_changed_tree<'a>(
+    out: &mut Vec<u8>,
+    alloc: Global,
+    tree: &'a Sketch,
+    had: &'a [(u32, i64)],
+) -> Result<&'a [(u32, i64)], AllocError>
+    ensures text { OnOk result (out.new.items ≡ out.old.items ++ tree_text Two (changing_nodes had.now (tree_of tree.now))) }
+    ensures last { IfOk result (λ last. last.now ≡ last_mults (tree_of tree.now)) }
+{
+    match tree {
+        Sketch::Leaf(proof) => put_changed_leaf(out, alloc, b"leaf ", had, proof),
+        Sketch::Open(proof) => put_changed_leaf(out, alloc, b"open ", had, proof),
+        Sketch::Fork { var, at, low, high } => {
+            put_split(out, *var, at)?;
+            let last = put_changed_tree(out, alloc, low, had)?;
+            put_changed_tree(out, alloc, high, last)
+        }
+    }
+}
+
+// The text of a certificate in version 2.
+fn put_changed_cert(
+    out: &mut Vec<u8>,
+    alloc: Global,
+    claim: &Claim,
+    point: &[i64],
+    tree: &Sketch,
+) -> Result<(), AllocError>
+    ensures { OnOk result (out.new.items ≡ out.old.items ++ plain_text Two claim.now point.now (changing_nodes [] (tree_of tree.now))) }
+{
+    out.extend_from_slice(b"bpcert 2\n")?;
+    put_claim(out, claim, point)?;
+    put_changed_tree(out, alloc, tree, &[])?;
     out.extend_from_slice(b"end\n")
 }
 
@@ -217,5 +297,20 @@ pub fn write(
 {
     let mut out = Vec::new(alloc);
     put_cert(&mut out, claim, point, tree)?;
+    Ok(out)
+}
+
+/// The text of version 2 of a certificate that some text was read of.
+pub fn rewrite(alloc: Global, cert: &Cert) -> Result<Vec<u8>, AllocError>
+    ensures { IfOk result (λ text. (frame : Frame) (old : List ℕ) → IsCertText frame (kept_cert cert.now) old → IsText frame Two (kept_cert cert.now) text.items) }
+{
+    let mut out = Vec::new(alloc);
+    put_changed_cert(
+        &mut out,
+        alloc,
+        &cert.claim,
+        cert.point.as_slice(),
+        &cert.tree,
+    )?;
     Ok(out)
 }

@@ -6,13 +6,12 @@ use Rattle.bp_theory.specs.declared.CheckKind.{CheckKind}
 use Rattle.bp_theory.proofs.JudgeProof.{judged_lem}
 use Rattle.bp_shelf.specs.Shelf.{Files}
 use Rattle.block_form.specs.Blocked.{BlockedProgram}
-use Rattle.cert_text.specs.Text.{One}
-use Rattle.cert_text.specs.Fault.{IsText}
+use Rattle.cert_text.specs.Fault.{IsCertText}
 use Rattle.cert_text.specs.Fault as texts
 use Rattle.cert_text.specs.Written.{cert_of}
 use Rattle.cert_text.specs.Programs.{frame_for}
 use Rattle.cert_text.specs.declared.fault.CertKind.{CertKind}
-use Rattle.cert_text.proofs.LawProofs.{texts_have_one_certificate, certificates_have_no_fault}
+use Rattle.cert_text.proofs.LawProofs.{certificates_are_one, certificates_are_faultless}
 use Rattle.cmd_check.specs.Checks.{ChecksBlocked, missing, faulty, accepted, rejected}
 use Rattle.cmd_check.proofs.Certificates.{one_written, fitting_point}
 
@@ -24,17 +23,17 @@ no_text file t a b = absurd (cc)
 
 -- no text has a certificate and a fault
 read_or_faulty : (b : BlockedProgram) (text other : List ℕ) (c : Certificate) (line : ℕ) (kind : CertKind) → text ≡ other
-    → IsText (frame_for b) One (cert_of c) text → texts.IsFirstCertFault (frame_for b) other line kind → ⊥
+    → IsCertText (frame_for b) (cert_of c) text → texts.IsFirstCertFault (frame_for b) other line kind → ⊥
 read_or_faulty b text other c line kind same spells fault =
-    certificates_have_no_fault (frame_for b) One (cert_of c) other line kind (subst (λ (t : List ℕ). IsText (frame_for b) One (cert_of c) t) same spells) fault
+    certificates_are_faultless (frame_for b) (cert_of c) other line kind (subst (λ (t : List ℕ). IsCertText (frame_for b) (cert_of c) t) same spells) fault
 
 -- no text has a valid certificate and one with a line at fault
 valid_or_faulty : (b : BlockedProgram) (text other : List ℕ) (c d : Certificate) (line : ℕ) (kind : CheckKind) → text ≡ other
-    → IsText (frame_for b) One (cert_of c) text → IsCertified b.named.program b.dec c
-    → IsText (frame_for b) One (cert_of d) other → HasItsPoint (named_value d.claim) d.point → IsFirstFault b.named.program b.dec d line kind → ⊥
+    → IsCertText (frame_for b) (cert_of c) text → IsCertified b.named.program b.dec c
+    → IsCertText (frame_for b) (cert_of d) other → HasItsPoint (named_value d.claim) d.point → IsFirstFault b.named.program b.dec d line kind → ⊥
 valid_or_faulty b text other c d line kind same spells valid spells' has fault =
-    let one : cert_of c ≡ cert_of d = (texts_have_one_certificate (frame_for b) One One (cert_of c) (cert_of d) other
-    (subst (λ (t : List ℕ). IsText (frame_for b) One (cert_of c) t) same spells) spells').1 in
+    let one : cert_of c ≡ cert_of d = certificates_are_one (frame_for b) (cert_of c) (cert_of d) other
+    (subst (λ (t : List ℕ). IsCertText (frame_for b) (cert_of c) t) same spells) spells' in
     let certs : c ≡ d = one_written c d (fitting_point b.named.program c.claim c.point valid.valid.point) has one in
     judged_lem.not_both b.named.program b.dec d line kind (subst (λ (e : Certificate). IsCertified b.named.program b.dec e) certs valid) fault
 

@@ -6,8 +6,7 @@ use Rattle.bp_theory.specs.Judgement.{HasItsPoint, named_value}
 use Rattle.bp_theory.specs.declared.Claim.{Claim}
 use Rattle.bp_shelf.specs.Shelf.{Files, AllShort}
 use Rattle.block_form.specs.Blocked.{BlockedProgram}
-use Rattle.cert_text.specs.Text.{One}
-use Rattle.cert_text.specs.Fault.{IsText}
+use Rattle.cert_text.specs.Fault.{IsCertText}
 use Rattle.cert_text.specs.Written.{cert_of}
 use Rattle.cert_text.specs.Programs.{frame_for}
 use Rattle.cert_check.specs.Judging.{IsJudged, IsTrueIfAccepted}
@@ -20,7 +19,7 @@ use Rattle.cmd_check.specs.Replies.{IsReplyTo, TellsJudged, RepliesFrom}
 
 -- the verdict on the certificate of a text is the right reply to it
 pub verdict_replies : (b : BlockedProgram) (text : List ℕ) (c : Certificate) (judged : Judged) (reply : Reply)
-    → IsText (frame_for b) One (cert_of c) text → HasItsPoint (named_value c.claim) c.point
+    → IsCertText (frame_for b) (cert_of c) text → HasItsPoint (named_value c.claim) c.point
     → IsJudged b c judged → IsTrueIfAccepted b.named.program judged → TellsJudged judged reply → IsReplyTo b text reply
 verdict_replies b text c (Accepted claim) reply spells has is holds v = λ files cert there.
     accepted text c there spells is.1 (subst (λ (k : Claim). IsTrueClaim b.named.program k) is.0 holds) v.ended
@@ -30,7 +29,7 @@ verdict_replies b text c (Rejected line kind) reply spells has is holds v = λ f
 
 -- the same of what may want memory
 pub verdicts_reply : {E : Type 0} (b : BlockedProgram) (text : List ℕ) (c : Certificate) (judged : Judged) (r : Result Reply E)
-    → IsText (frame_for b) One (cert_of c) text → HasItsPoint (named_value c.claim) c.point
+    → IsCertText (frame_for b) (cert_of c) text → HasItsPoint (named_value c.claim) c.point
     → IsJudged b c judged → IsTrueIfAccepted b.named.program judged → IfOk r (TellsJudged judged) → IfOk r (IsReplyTo b text)
 verdicts_reply b text c judged (Ok reply) spells has is holds v = verdict_replies b text c judged reply spells has is holds v
 verdicts_reply b text c judged (Err e) spells has is holds v = tt

@@ -5,8 +5,7 @@ use Rattle.bp_theory.specs.Judgement.{IsFirstFault, HasItsPoint, named_value}
 use Rattle.bp_theory.specs.declared.CheckKind.{CheckKind}
 use Rattle.bp_shelf.specs.Shelf.{Files}
 use Rattle.block_form.specs.Blocked.{BlockedProgram}
-use Rattle.cert_text.specs.Text.{One}
-use Rattle.cert_text.specs.Fault.{IsText}
+use Rattle.cert_text.specs.Fault.{IsCertText}
 use Rattle.cert_text.specs.Fault as texts
 use Rattle.cert_text.specs.Written.{cert_of}
 use Rattle.cert_text.specs.Programs.{frame_for}
@@ -21,10 +20,10 @@ pub data ChecksBlocked (files : Files) (cert : List ℕ) (b : BlockedProgram) (s
   missing : files cert ≡ None → status ≡ 11 → report ≡ [] → ChecksBlocked files cert b status report
   faulty : (text : List ℕ) (line : ℕ) (kind : CertKind) → files cert ≡ Some text → texts.IsFirstCertFault (frame_for b) text line kind
       → status ≡ 3 → report ≡ cert_refusal line kind → ChecksBlocked files cert b status report
-  accepted : (text : List ℕ) (c : Certificate) → files cert ≡ Some text → IsText (frame_for b) One (cert_of c) text
+  accepted : (text : List ℕ) (c : Certificate) → files cert ≡ Some text → IsCertText (frame_for b) (cert_of c) text
       → IsCertified b.named.program b.dec c → IsTrueClaim b.named.program c.claim
       → status ≡ 0 → report ≡ accepted_report c.claim → ChecksBlocked files cert b status report
-  rejected : (text : List ℕ) (c : Certificate) (line : ℕ) (kind : CheckKind) → files cert ≡ Some text → IsText (frame_for b) One (cert_of c) text
+  rejected : (text : List ℕ) (c : Certificate) (line : ℕ) (kind : CheckKind) → files cert ≡ Some text → IsCertText (frame_for b) (cert_of c) text
       → HasItsPoint (named_value c.claim) c.point → IsFirstFault b.named.program b.dec c line kind
       → status ≡ 6 → report ≡ rejected_report line kind → ChecksBlocked files cert b status report
 

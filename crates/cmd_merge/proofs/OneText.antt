@@ -8,11 +8,10 @@ use Rattle.block_form.specs.Blocked.{BlockedProgram, IsFormed}
 use Rattle.branch_tree.specs.declared.loaded.Loaded.{Loaded}
 use Rattle.cert_load.specs.Loadings.{IsTooDeep}
 use Rattle.cert_load.proofs.Reaching.{loaded_is_low}
-use Rattle.cert_text.specs.Text.{One}
-use Rattle.cert_text.specs.Fault.{IsText}
+use Rattle.cert_text.specs.Fault.{IsCertText}
 use Rattle.cert_text.specs.Written.{cert_of}
 use Rattle.cert_text.specs.Programs.{frame_for}
-use Rattle.cert_text.proofs.LawProofs.{texts_have_one_certificate}
+use Rattle.cert_text.proofs.LawProofs.{certificates_are_one}
 use Rattle.bp_report.specs.Report.{accepted_report, rejected_report}
 use Rattle.bp_report.specs.Refusals.{cert_refusal}
 use Rattle.cmd_check.specs.Checks as checks
@@ -34,7 +33,7 @@ record IsChecked (b : BlockedProgram) (text : List ℕ) (status : ℕ) : Type 0 
   report : List ℕ
   answers : checks.ChecksBlocked (file_of text) [] b status report
 
-valid_checked : (b : BlockedProgram) (text : List ℕ) (cert : Certificate) → IsFormed b → IsText (frame_for b) One (cert_of cert) text → IsCertified b.named.program b.dec cert
+valid_checked : (b : BlockedProgram) (text : List ℕ) (cert : Certificate) → IsFormed b → IsCertText (frame_for b) (cert_of cert) text → IsCertified b.named.program b.dec cert
     → IsChecked b text 0
 valid_checked b text cert formed spelled valid = record {
   report = accepted_report cert.claim;
@@ -68,10 +67,10 @@ one_refusal b text s t r q formed h g = by h g (one_status b text _ _ (refused_c
     by (too_deep cert line spelled has valid deep is told) (too_deep cert' line' spelled' has' valid' deep' is' told') e = is ∙ sym is'
 
 -- a text has one certificate
-one_certificate : (b : BlockedProgram) (text : List ℕ) (c d : Certificate) → IsText (frame_for b) One (cert_of c) text → IsText (frame_for b) One (cert_of d) text
+one_certificate : (b : BlockedProgram) (text : List ℕ) (c d : Certificate) → IsCertText (frame_for b) (cert_of c) text → IsCertText (frame_for b) (cert_of d) text
     → HasItsPoint (named_value c.claim) c.point → HasItsPoint (named_value d.claim) d.point → c ≡ d
 one_certificate b text c d spelled spelled' has has' =
-    one_written c d has has' (texts_have_one_certificate (frame_for b) One One (cert_of c) (cert_of d) text spelled spelled').1
+    one_written c d has has' (certificates_are_one (frame_for b) (cert_of c) (cert_of d) text spelled spelled')
 
 -- no text is opened and refused
 pub opened_or_refused : (b : BlockedProgram) (text : List ℕ) (from : Loaded) (s : ℕ) (r : List ℕ) → IsFormed b → IsOpened b text from → RefusesText b text s r → ⊥

@@ -9,8 +9,7 @@ use Rattle.bp_shelf.specs.declared.shelf.ShelfFault.TheVariants.{Missing, Failed
 use Rattle.block_form.specs.Blocked.{BlockedProgram}
 use Rattle.branch_tree.specs.declared.loaded.Loaded.{Loaded}
 use Rattle.cert_load.specs.Loadings.{IsLoadedOf, IsTooDeep}
-use Rattle.cert_text.specs.Text.{One}
-use Rattle.cert_text.specs.Fault.{IsText}
+use Rattle.cert_text.specs.Fault.{IsCertText}
 use Rattle.cert_text.specs.Kept.{certificate_of, kept_cert}
 use Rattle.cert_text.specs.Programs.{GoesWith, frame_for}
 use Rattle.cert_text.specs.declared.cert.Cert.{Cert}
@@ -29,7 +28,7 @@ use Rattle.cmd_merge.proofs.NodeCount.{few_nodes}
 
 -- ---- a text
 
-opened_by : (b : BlockedProgram) (text : List ℕ) (cert : Cert) (from : Loaded) → IsText (frame_for b) One (kept_cert cert) text → GoesWith b (certificate_of cert)
+opened_by : (b : BlockedProgram) (text : List ℕ) (cert : Cert) (from : Loaded) → IsCertText (frame_for b) (kept_cert cert) text → GoesWith b (certificate_of cert)
     → IsCertified b.named.program b.dec (certificate_of cert) → IsLoadedOf b (certificate_of cert) from → IsOpened b text from
 opened_by b text cert from spelled goes valid loaded = record {
   cert = certificate_of cert;
@@ -41,18 +40,18 @@ opened_by b text cert from spelled goes valid loaded = record {
   loaded = loaded;
 }
 
-pub text_opened : (b : BlockedProgram) (text : List ℕ) (cert : Cert) (r : Result Loaded Stop) → IsText (frame_for b) One (kept_cert cert) text → GoesWith b (certificate_of cert)
+pub text_opened : (b : BlockedProgram) (text : List ℕ) (cert : Cert) (r : Result Loaded Stop) → IsCertText (frame_for b) (kept_cert cert) text → GoesWith b (certificate_of cert)
     → IfOk r (IsLoadedOf b (certificate_of cert)) → IfOk r (λ from. IsCertified b.named.program b.dec (certificate_of cert)) → IfOk r (IsOpened b text)
 text_opened b text cert (Ok from) spelled goes loaded valid = opened_by b text cert from spelled goes valid loaded
 text_opened b text cert (Err stop) spelled goes loaded valid = tt
 
-pub text_usable : (b : BlockedProgram) (text : List ℕ) (cert : Cert) (r : Result Loaded Stop) → length text < 2 ^ 64 → IsText (frame_for b) One (kept_cert cert) text
+pub text_usable : (b : BlockedProgram) (text : List ℕ) (cert : Cert) (r : Result Loaded Stop) → length text < 2 ^ 64 → IsCertText (frame_for b) (kept_cert cert) text
     → IfOk r (IsLoadedOf b (certificate_of cert)) → IfOk r (CanMerge b)
 text_usable b text cert (Ok from) short spelled loaded = record { loaded = loaded.loaded; few = few_nodes b cert text from short spelled loaded }
 text_usable b text cert (Err stop) short spelled loaded = tt
 
-pub text_stopped : (b : BlockedProgram) (text : List ℕ) (cert : Cert) (r : Result Loaded Stop) → IsText (frame_for b) One (kept_cert cert) text
-    → IfErr r (λ stop. (t : List ℕ) → IsText (frame_for b) One (kept_cert cert) t → IsTextStop b t stop) → IfErr r (IsTextStop b text)
+pub text_stopped : (b : BlockedProgram) (text : List ℕ) (cert : Cert) (r : Result Loaded Stop) → IsCertText (frame_for b) (kept_cert cert) text
+    → IfErr r (λ stop. (t : List ℕ) → IsCertText (frame_for b) (kept_cert cert) t → IsTextStop b t stop) → IfErr r (IsTextStop b text)
 text_stopped b text cert (Ok from) spelled stopped = tt
 text_stopped b text cert (Err stop) spelled stopped = stopped text spelled
 
@@ -103,12 +102,12 @@ read_stopped files b name fault (Err e) is gone = subst (λ (s : Stop). IsStop (
 -- ---- a certificate
 
 pub cert_deep : (b : BlockedProgram) (cert : Cert) (line : ℕ) (report text : List ℕ) → IsCertified b.named.program b.dec (certificate_of cert)
-    → IsTooDeep b (certificate_of cert) line → report ≡ from_refusal line → IsText (frame_for b) One (kept_cert cert) text → RefusesText b text 3 report
+    → IsTooDeep b (certificate_of cert) line → report ≡ from_refusal line → IsCertText (frame_for b) (kept_cert cert) text → RefusesText b text 3 report
 cert_deep b cert line report text valid deep told spelled =
     too_deep (certificate_of cert) line spelled (kept_point cert.claim cert.point) valid deep refl told
 
 pub cert_rejected : (b : BlockedProgram) (cert : Cert) (judged : Judged) (line : ℕ) (kind : CheckKind) (report text : List ℕ) → judged ≡ Rejected line kind
-    → IsJudged b (certificate_of cert) judged → report ≡ check_report judged → IsText (frame_for b) One (kept_cert cert) text → RefusesText b text 6 report
+    → IsJudged b (certificate_of cert) judged → report ≡ check_report judged → IsCertText (frame_for b) (kept_cert cert) text → RefusesText b text 6 report
 cert_rejected b cert judged line kind report text is judges told spelled =
     let fault : IsJudged b (certificate_of cert) (Rejected line kind) = subst (IsJudged b (certificate_of cert)) is judges in
     rejected (certificate_of cert) line kind spelled (kept_point cert.claim cert.point) fault.0 refl (told ∙ ap check_report is)

@@ -14,7 +14,7 @@ use Rattle.bp_search.specs.Ends.{EndsWithin, HasStopped, grove_in, point_of}
 use Rattle.bp_search.specs.Searches.{kept_point, as_pair, HasItsCost, IsRunning}
 use Rattle.bp_search.specs.declared.kept.Kept.{Kept}
 use Rattle.bp_theory.specs.Program.{Program, cost}
-use Rattle.cert_text.specs.Text.{One}
+use Rattle.cert_text.specs.Text.{Two}
 use Rattle.cert_text.specs.Fault.{IsText}
 use Rattle.cert_text.specs.Written.{cert_of}
 use Rattle.cert_text.specs.Programs.{frame_for}
@@ -57,7 +57,7 @@ few_together m n h g = omega (arith, h, g)
 pub both_answered : (b : BlockedProgram) (text more : List ℕ) (first second from : Loaded) (kept : Option Kept) (o : Outcome) (m : Merged) → IsFormed b → (one : IsOpened b text first)
     → (other : IsOpened b more second) → IsMergedOf first second from → as_pair kept ≡ from.best
     → ((most : ℕ) → HasStopped most from.grove.tree → EndsWithin b most o) → grove_in o ≡ from.grove → point_of o ≡ kept_point kept
-    → IsText (frame_for b) One (cert_of (outcome_certificate b.named.program o)) m.text.items → m.reply.report.items ≡ merged_report b.named.program.maximises o → m.reply.status ≡ 0
+    → IsText (frame_for b) Two (cert_of (outcome_certificate b.named.program o)) m.text.items → m.reply.report.items ≡ merged_report b.named.program.maximises o → m.reply.status ≡ 0
     → AnswersBoth b one.cert other.cert first second (answer_of m)
 both_answered b text more first second from kept o m formed one other is kept_of ended grove point spelled told done =
     let t : GrowingTree = from.grove.tree in

@@ -8,8 +8,7 @@ use Rattle.block_form.specs.Blocked.{BlockedProgram}
 use Rattle.branch_tree.specs.Groves.{made}
 use Rattle.branch_tree.specs.Loads.{IsLoaded}
 use Rattle.branch_tree.specs.declared.loaded.Loaded.{Loaded}
-use Rattle.cert_text.specs.Text.{One}
-use Rattle.cert_text.specs.Fault.{IsText}
+use Rattle.cert_text.specs.Fault.{IsCertText}
 use Rattle.cert_text.specs.Fault as texts
 use Rattle.cert_text.specs.Written.{cert_of}
 use Rattle.cert_text.specs.Programs.{GoesWith, frame_for}
@@ -22,7 +21,7 @@ use Rattle.bp_front.specs.Written.{Answer, stops}
 -- a text spells a valid certificate without cuts that goes with the program, and this is what is loaded of it
 pub record IsOpened (b : BlockedProgram) (text : List ℕ) (from : Loaded) : Type 0 where
   pub cert : Certificate
-  pub spelled : IsText (frame_for b) One (cert_of cert) text
+  pub spelled : IsCertText (frame_for b) (cert_of cert) text
   pub has_point : HasItsPoint (named_value cert.claim) cert.point
   pub uncut : cert.cuts ≡ []
   pub goes_with : GoesWith b cert
@@ -44,10 +43,10 @@ pub record CanMerge (b : BlockedProgram) (from : Loaded) : Type 0 where
 pub data RefusesText (b : BlockedProgram) (text : List ℕ) (status : ℕ) (report : List ℕ) : Type 0 where
   faulty : (line : ℕ) (kind : CertKind) → texts.IsFirstCertFault (frame_for b) text line kind
       → status ≡ 3 → report ≡ cert_refusal line kind → RefusesText b text status report
-  rejected : (cert : Certificate) (line : ℕ) (kind : CheckKind) → IsText (frame_for b) One (cert_of cert) text
+  rejected : (cert : Certificate) (line : ℕ) (kind : CheckKind) → IsCertText (frame_for b) (cert_of cert) text
       → HasItsPoint (named_value cert.claim) cert.point → IsFirstFault b.named.program b.dec cert line kind
       → status ≡ 6 → report ≡ rejected_report line kind → RefusesText b text status report
-  too_deep : (cert : Certificate) (line : ℕ) → IsText (frame_for b) One (cert_of cert) text
+  too_deep : (cert : Certificate) (line : ℕ) → IsCertText (frame_for b) (cert_of cert) text
       → HasItsPoint (named_value cert.claim) cert.point → IsCertified b.named.program b.dec cert → IsTooDeep b cert line
       → status ≡ 3 → report ≡ from_refusal line → RefusesText b text status report
 

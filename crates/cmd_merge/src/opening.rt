@@ -3,10 +3,9 @@ ghost use Rattle.std.specs.Prelude.{◌≡◌, ◌⊎◌, ℕ, List, IfOk, IfErr
 ghost use Rattle.bp_theory.specs.Claims.{IsCertified};
 ghost use Rattle.bp_shelf.specs.declared.shelf.ShelfFault.TheVariants.{NoMemory};
 ghost use Rattle.cert_load.specs.Loadings.{IsLoadedOf};
-ghost use Rattle.cert_text.specs.Fault.{IsText};
+ghost use Rattle.cert_text.specs.Fault.{IsCertText};
 ghost use Rattle.cert_text.specs.Kept.{certificate_of, kept_cert};
 ghost use Rattle.cert_text.specs.Programs.{GoesWith, frame_for};
-ghost use Rattle.cert_text.specs.Text.{One};
 ghost use Rattle.cmd_merge.specs.Opens.{IsOpened, IsOpenedFile, CanMerge, RefusesFile};
 ghost use Rattle.cmd_merge.specs.Stops.{IsStop, IsTextStop, IsRefusal, CountsStopped};
 ghost use Rattle.cmd_merge.specs.declared.opening.Stop.TheVariants.{Stopped};
@@ -99,7 +98,7 @@ fn judged(alloc: Global, b: &Blocked, cert: &Cert) -> Result<Loaded, Stop>
     ensures valid { IfOk result (λ from. IsCertified b.now.named.program b.now.dec
         (certificate_of cert.now)) }
     ensures stopped { IfErr result (λ stop. (text : List ℕ) →
-        IsText (frame_for b.now) One (kept_cert cert.now) text → IsTextStop b.now text stop) }
+        IsCertText (frame_for b.now) (kept_cert cert.now) text → IsTextStop b.now text stop) }
     ensures refusals { IfErr result IsRefusal }
 {
     let judged = judge(alloc, b, cert)?;
@@ -118,7 +117,7 @@ fn loaded(alloc: Global, b: &Blocked, cert: &Cert) -> Result<Loaded, Stop>
     requires valid { IsCertified b.now.named.program b.now.dec (certificate_of cert.now) }
     ensures loaded { IfOk result (IsLoadedOf b.now (certificate_of cert.now)) }
     ensures stopped { IfErr result (λ stop. (text : List ℕ) →
-        IsText (frame_for b.now) One (kept_cert cert.now) text → IsTextStop b.now text stop) }
+        IsCertText (frame_for b.now) (kept_cert cert.now) text → IsTextStop b.now text stop) }
     ensures refusals { IfErr result IsRefusal }
 {
     match load(alloc, b, cert) {

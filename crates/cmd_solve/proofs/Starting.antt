@@ -16,8 +16,7 @@ use Rattle.branch_tree.specs.declared.outcome.Outcome.{Outcome}
 use Rattle.branch_tree.specs.declared.loaded.Loaded.{Loaded}
 use Rattle.cert_load.specs.Loadings.{IsLoadedOf, IsTooDeep}
 use Rattle.cert_load.proofs.Reaching.{loaded_is_low}
-use Rattle.cert_text.specs.Text.{One}
-use Rattle.cert_text.specs.Fault.{IsText}
+use Rattle.cert_text.specs.Fault.{IsCertText}
 use Rattle.cert_text.specs.Written.{cert_of}
 use Rattle.cert_text.specs.Programs.{frame_for}
 use Rattle.cert_text.specs.Kept.{certificate_of, kept_cert}
@@ -27,7 +26,7 @@ use Rattle.cert_check.specs.declared.judge.Judged.{Judged}
 use Rattle.cert_check.specs.declared.judge.Judged.TheVariants.{Accepted, Rejected}
 use Rattle.bp_theory.specs.declared.Claim.{Claim}
 use Rattle.std.proofs.lemmas.List.{take_all}
-use Rattle.cert_text.proofs.LawProofs.{texts_have_one_certificate}
+use Rattle.cert_text.proofs.LawProofs.{certificates_are_one}
 use Rattle.bp_report.specs.Report.{accepted_report, rejected_report, check_report}
 use Rattle.bp_report.specs.Refusals.{cert_refusal, from_refusal, leaf_refusal}
 use Rattle.bp_front.specs.Answers.{AnswersBy, IsOnly, CutsOff}
@@ -76,7 +75,7 @@ record IsChecked (b : BlockedProgram) (text : List ℕ) (status : ℕ) : Type 0 
   report : List ℕ
   answers : checks.ChecksBlocked (file_of text) [] b status report
 
-valid_checked : (b : BlockedProgram) (text : List ℕ) (cert : Certificate) → IsFormed b → IsText (frame_for b) One (cert_of cert) text → IsCertified b.named.program b.dec cert
+valid_checked : (b : BlockedProgram) (text : List ℕ) (cert : Certificate) → IsFormed b → IsCertText (frame_for b) (cert_of cert) text → IsCertified b.named.program b.dec cert
     → IsChecked b text 0
 valid_checked b text cert formed spelled valid = record {
   report = accepted_report cert.claim;
@@ -103,10 +102,10 @@ one_refusal b leaf text s t r q formed h g =
     ∙ sym (status_is b leaf text t q g)
 
 -- a text has one certificate
-one_certificate : (b : BlockedProgram) (text : List ℕ) (c d : Certificate) → IsText (frame_for b) One (cert_of c) text → IsText (frame_for b) One (cert_of d) text
+one_certificate : (b : BlockedProgram) (text : List ℕ) (c d : Certificate) → IsCertText (frame_for b) (cert_of c) text → IsCertText (frame_for b) (cert_of d) text
     → HasItsPoint (named_value c.claim) c.point → HasItsPoint (named_value d.claim) d.point → c ≡ d
 one_certificate b text c d spelled spelled' has has' =
-    one_written c d has has' (texts_have_one_certificate (frame_for b) One One (cert_of c) (cert_of d) text spelled spelled').1
+    one_written c d has has' (certificates_are_one (frame_for b) (cert_of c) (cert_of d) text spelled spelled')
 
 -- where in a tree a search works is one place, and there is none where there is no such leaf
 one_place : (tree : Tree) (leaf : Option ℕ) (x y : Option (List Side)) → IsWorkedOn tree leaf x → IsWorkedOn tree leaf y → x ≡ y
@@ -219,19 +218,19 @@ start_ready b leaf cert from below valid loaded worked = λ text spelled. record
 
 pub start_without : (b : BlockedProgram) (number : ℕ) (cert : Kept) (from : Loaded) (report text : List ℕ) → IsCertified b.named.program b.dec (certificate_of cert)
     → IsLoadedOf b (certificate_of cert) from → open_path (certificate_of cert).tree number ≡ None → report ≡ leaf_refusal number
-    → IsText (frame_for b) One (kept_cert cert) text → RefusesStart b (Some number) text 3 report
+    → IsCertText (frame_for b) (kept_cert cert) text → RefusesStart b (Some number) text 3 report
 start_without b number cert from report text valid loaded none told spelled =
     no_leaf from number
     (record { cert = certificate_of cert; spelled = spelled; has_point = kept_point cert.claim cert.point; valid = valid; loaded = loaded })
     refl none refl told
 
 pub start_deep : (b : BlockedProgram) (leaf : Option ℕ) (cert : Kept) (line : ℕ) (report text : List ℕ) → IsCertified b.named.program b.dec (certificate_of cert)
-    → IsTooDeep b (certificate_of cert) line → report ≡ from_refusal line → IsText (frame_for b) One (kept_cert cert) text → RefusesStart b leaf text 3 report
+    → IsTooDeep b (certificate_of cert) line → report ≡ from_refusal line → IsCertText (frame_for b) (kept_cert cert) text → RefusesStart b leaf text 3 report
 start_deep b leaf cert line report text valid deep told spelled =
     too_deep (certificate_of cert) line spelled (kept_point cert.claim cert.point) valid deep refl told
 
 pub start_rejected : (b : BlockedProgram) (leaf : Option ℕ) (cert : Kept) (judged : Judged) (line : ℕ) (kind : CheckKind) (report text : List ℕ) → judged ≡ Rejected line kind
-    → IsJudged b (certificate_of cert) judged → report ≡ check_report judged → IsText (frame_for b) One (kept_cert cert) text → RefusesStart b leaf text 6 report
+    → IsJudged b (certificate_of cert) judged → report ≡ check_report judged → IsCertText (frame_for b) (kept_cert cert) text → RefusesStart b leaf text 6 report
 start_rejected b leaf cert judged line kind report text is judges told spelled =
     let fault : IsJudged b (certificate_of cert) (Rejected line kind) = subst (IsJudged b (certificate_of cert)) is judges in
     rejected (certificate_of cert) line kind spelled (kept_point cert.claim cert.point) fault.0 refl (told ∙ ap check_report is)
@@ -241,7 +240,7 @@ pub start_valid : (b : BlockedProgram) (cert : Kept) (judged : Judged) (claim : 
 start_valid b cert judged claim is judges = let h : IsJudged b (certificate_of cert) (Accepted claim) = subst (IsJudged b (certificate_of cert)) is judges in h.1
 
 -- the start that a certificate gives is that of its text
-pub text_starts : {E : Type 0} (b : BlockedProgram) (leaf : Option ℕ) (text : List ℕ) (cert : Kept) (start : Result Start E) → IsText (frame_for b) One (kept_cert cert) text
+pub text_starts : {E : Type 0} (b : BlockedProgram) (leaf : Option ℕ) (text : List ℕ) (cert : Kept) (start : Result Start E) → IsCertText (frame_for b) (kept_cert cert) text
     → IfOk start (StartsOf b leaf cert) → IfOk start (StartsBy b leaf text)
 text_starts b leaf text cert (Ok start) spelled starts = starts text spelled
 text_starts b leaf text cert (Err e) spelled starts = tt

@@ -13,7 +13,7 @@ use Rattle.branch_tree.specs.declared.outcome.Outcome.TheVariants.{Optimal, Infe
 use Rattle.branch_tree.specs.declared.loaded.Loaded.{Loaded}
 use Rattle.bp_search.specs.Ends.{EndsWithin, most_steps}
 use Rattle.bp_search.specs.Below.{EndsBelow}
-use Rattle.cert_text.specs.Text.{One}
+use Rattle.cert_text.specs.Text.{Two}
 use Rattle.cert_text.specs.Fault.{IsText}
 use Rattle.cert_text.specs.Written.{cert_of}
 use Rattle.cert_text.specs.Programs.{frame_for}
@@ -34,7 +34,7 @@ outcome_certificate p o = read_off (claim_of p.maximises o) (point_of o) [] (gro
 
 -- a text spells the certificate of an outcome, and it is valid
 pub record IsSpelledOut (b : BlockedProgram) (outcome : Outcome) (text : List ℕ) : Type 0 where
-  pub spelled : IsText (frame_for b) One (cert_of (outcome_certificate b.named.program outcome)) text
+  pub spelled : IsText (frame_for b) Two (cert_of (outcome_certificate b.named.program outcome)) text
   pub valid : IsCertified b.named.program b.dec (outcome_certificate b.named.program outcome)
 
 -- what a program in blocks is answered by `solve`: the outcome of a search whose tree has at most so many steps, which is

@@ -14,8 +14,7 @@ use Rattle.branch_tree.specs.declared.outcome.Outcome.{Outcome}
 use Rattle.bp_search.specs.Ends.{EndsWithin, most_steps}
 use Rattle.bp_search.specs.Below.{EndsBelow}
 use Rattle.cert_load.specs.Loadings.{IsLoadedOf, IsTooDeep}
-use Rattle.cert_text.specs.Text.{One}
-use Rattle.cert_text.specs.Fault.{IsText}
+use Rattle.cert_text.specs.Fault.{IsCertText}
 use Rattle.cert_text.specs.Fault as texts
 use Rattle.cert_text.specs.Written.{cert_of}
 use Rattle.cert_text.specs.Kept.{kept_cert}
@@ -31,7 +30,7 @@ use Rattle.cmd_solve.specs.declared.start.Start.TheVariants.{Fresh, Ready, Refus
 -- a text spells a valid certificate, and this is the tree with the point that is loaded of it
 pub record IsStart (b : BlockedProgram) (text : List ℕ) (from : Loaded) : Type 0 where
   pub cert : Certificate
-  pub spelled : IsText (frame_for b) One (cert_of cert) text
+  pub spelled : IsCertText (frame_for b) (cert_of cert) text
   pub has_point : HasItsPoint (named_value cert.claim) cert.point
   pub valid : IsCertified b.named.program b.dec cert
   pub loaded : IsLoadedOf b cert from
@@ -46,10 +45,10 @@ pub record IsStartAt (b : BlockedProgram) (leaf : Option ℕ) (text : List ℕ) 
 pub data RefusesStart (b : BlockedProgram) (leaf : Option ℕ) (text : List ℕ) (status : ℕ) (report : List ℕ) : Type 0 where
   faulty : (line : ℕ) (kind : CertKind) → texts.IsFirstCertFault (frame_for b) text line kind
       → status ≡ 3 → report ≡ cert_refusal line kind → RefusesStart b leaf text status report
-  rejected : (cert : Certificate) (line : ℕ) (kind : CheckKind) → IsText (frame_for b) One (cert_of cert) text
+  rejected : (cert : Certificate) (line : ℕ) (kind : CheckKind) → IsCertText (frame_for b) (cert_of cert) text
       → HasItsPoint (named_value cert.claim) cert.point → IsFirstFault b.named.program b.dec cert line kind
       → status ≡ 6 → report ≡ rejected_report line kind → RefusesStart b leaf text status report
-  too_deep : (cert : Certificate) (line : ℕ) → IsText (frame_for b) One (cert_of cert) text
+  too_deep : (cert : Certificate) (line : ℕ) → IsCertText (frame_for b) (cert_of cert) text
       → HasItsPoint (named_value cert.claim) cert.point → IsCertified b.named.program b.dec cert → IsTooDeep b cert line
       → status ≡ 3 → report ≡ from_refusal line → RefusesStart b leaf text status report
   no_leaf : (from : Loaded) (number : ℕ) (start : IsStart b text from) → leaf ≡ Some number → open_path start.cert.tree number ≡ None
@@ -63,7 +62,7 @@ StartsBy b leaf text (Refused reply) = RefusesStart b leaf text reply.status rep
 
 -- what a certificate that was read is as a start, whatever text spells it
 abbrev pub StartsOf : BlockedProgram → (leaf : Option ℕ) → Cert → Start → Type 0
-StartsOf b leaf cert start = (text : List ℕ) → IsText (frame_for b) One (kept_cert cert) text → StartsBy b leaf text start
+StartsOf b leaf cert start = (text : List ℕ) → IsCertText (frame_for b) (kept_cert cert) text → StartsBy b leaf text start
 
 -- the start that a named file gives, or that of no file
 abbrev pub HasStart : Files → Option (List ℕ) → (leaf : Option ℕ) → BlockedProgram → Start → Type 0

@@ -1,6 +1,6 @@
 // What texts of certificates read as, and what certificates are written as.
 use bp_theory::{Claim, Items, Picked, Proof};
-use cert_text::{Cert, CertFault, CertKind, Frame, Sketch, read, write};
+use cert_text::{Cert, CertFault, CertKind, Frame, Sketch, read, rewrite, write};
 use std::alloc::{AllocError, Global};
 use std::test::Fail;
 
@@ -310,5 +310,84 @@ fn a_deep_tree_is_read_and_written(rt: HostRuntime) -> Result<(), Fail> {
         again(alloc, &frame, text.as_slice())?.as_slice(),
         text.as_slice()
     );
+    Ok(())
+}
+
+// Texts of version 1, and those of version 2 that mean the same.
+const BOTH: [(&str, &str); 3] = [
+    (
+        ONE_LEAF,
+        "bpcert 2\nclaim optimal 8\npoint 2 1\nleaf 5 change 2 1 -7 2 -1 priced 0\nend\n",
+    ),
+    (
+        "bpcert 1\nclaim bound 3\nsplit 1 0\nleaf 0 rows 1 2 1 priced 0\nsplit 2 2\nleaf 1 rows 1 1 4 priced all\nopen 1 rows 2 1 5 2 -3 priced 1 2\nend\n",
+        "bpcert 2\nclaim bound 3\nsplit 1 0\nleaf 0 change 1 2 1 priced 0\nsplit 2 2\nleaf 1 change 2 1 4 2 0 priced all\nopen 1 change 2 1 5 2 -3 priced 1 2\nend\n",
+    ),
+    (
+        "bpcert 1\nclaim bound 3\nsplit 1 0\nleaf 0 rows 2 1 1 2 1 priced 0\nsplit 2 2\nleaf 1 rows 2 1 1 2 1 priced all\nopen 1 rows 0 priced 1 2\nend\n",
+        "bpcert 2\nclaim bound 3\nsplit 1 0\nleaf 0 change 2 1 1 2 1 priced 0\nsplit 2 2\nleaf 1 change 0 priced all\nopen 1 change 2 1 0 2 0 priced 1 2\nend\n",
+    ),
+];
+
+#[test]
+fn reads_and_writes_changes_between_leaves(rt: HostRuntime) -> Result<(), Fail> {
+    let alloc = rt.alloc();
+    let frame = two_rows(alloc)?;
+    for (text, changes) in BOTH {
+        let cert = read(alloc, &frame, text.as_bytes())?;
+        assert_eq!(rt; rewrite(alloc, &cert)?.as_slice(), changes.as_bytes());
+        assert_eq!(rt;
+            again(alloc, &frame, changes.as_bytes())?.as_slice(),
+            text.as_bytes()
+        );
+        let same = read(alloc, &frame, changes.as_bytes())?;
+        assert_eq!(rt; rewrite(alloc, &same)?.as_slice(), changes.as_bytes());
+    }
+    Ok(())
+}
+
+#[test]
+fn answers_the_first_fault_of_changes(rt: HostRuntime) -> Result<(), Fail> {
+    let alloc = rt.alloc();
+    let frame = two_rows(alloc)?;
+    for (text, line, kind) in [
+        ("bpcert 3\n", 1, CertKind::Syntax),
+        ("bpcert 12\n", 1, CertKind::Syntax),
+        (
+            "bpcert 2\nclaim infeasible\nleaf 0 rows 0 priced 0\nend\n",
+            3,
+            CertKind::Syntax,
+        ),
+        (
+            "bpcert 1\nclaim infeasible\nleaf 0 change 0 priced 0\nend\n",
+            3,
+            CertKind::Syntax,
+        ),
+        (
+            "bpcert 2\nclaim infeasible\nleaf 0 change 1 1 0 priced 0\nend\n",
+            3,
+            CertKind::Number,
+        ),
+        (
+            "bpcert 2\nclaim infeasible\nsplit 1 0\nleaf 0 change 1 1 -1 priced 0\nleaf 0 change 1 1 -1 priced 0\nend\n",
+            5,
+            CertKind::Number,
+        ),
+        (
+            "bpcert 2\nclaim infeasible\nsplit 1 0\nleaf 0 change 1 1 -1 priced 0\nleaf 0 change 2 2 -1 1 3 priced 0\nend\n",
+            5,
+            CertKind::Number,
+        ),
+        (
+            "bpcert 2\nclaim infeasible\nleaf 0 change 1 1 1099511627777 priced 0\nend\n",
+            3,
+            CertKind::TooLarge,
+        ),
+    ] {
+        assert_eq!(rt;
+            fault_of(read(alloc, &frame, text.as_bytes())),
+            Some((line, kind))
+        );
+    }
     Ok(())
 }

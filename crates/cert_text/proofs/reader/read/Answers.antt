@@ -1,4 +1,4 @@
-use Rattle.std.proofs.Common.{refl, arith}
+use Rattle.std.proofs.Common.{arith}
 use Rattle.cert_text.proofs.Feeding.{read_fault}
 use Rattle.cert_text.proofs.reader.read.Goals as goal
 

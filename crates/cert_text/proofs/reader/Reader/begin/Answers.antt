@@ -1,4 +1,4 @@
-use Rattle.std.proofs.Common.{◌≡◌, refl, sym, ap, ◌∙◌}
+use Rattle.std.proofs.Common.{refl, sym, ap, ◌∙◌}
 use Rattle.cert_text.specs.Spots.{picked_word}
 use Rattle.cert_text.proofs.WordSteps.{word_begun, no_word_begun, may_follow}
 use Rattle.cert_text.proofs.reader.Reader.begin.Goals as goal

@@ -1,4 +1,4 @@
-use Rattle.std.proofs.Common.{refl, sym, ap, arith}
+use Rattle.std.proofs.Common.{refl, sym, arith}
 use Rattle.cert_text.specs.declared.fault.CertKind.TheVariants.{Syntax}
 use Rattle.cert_text.proofs.ReaderSteps.{digit_behind_minus, syntax_minus, no_digit}
 use Rattle.cert_text.proofs.WordSteps.{at_fault, at_done}

@@ -1,4 +1,4 @@
-use Rattle.std.proofs.Common.{arith, sym, ◌∙◌, rules}
+use Rattle.std.proofs.Common.{arith}
 use Rattle.cert_text.proofs.ReaderFacts.{length-waits}
 use Rattle.cert_text.proofs.reader.Reader.depth.Goals as goal
 

@@ -1,4 +1,4 @@
-use Rattle.std.proofs.Common.{refl, sym, ap, arith, rules}
+use Rattle.std.proofs.Common.{sym, arith}
 use Rattle.cert_text.proofs.Bytes.{frame_small}
 use Rattle.cert_text.proofs.ReaderSteps.{natural_behind, natural_at_end, whole_behind, whole_at_end}
 use Rattle.cert_text.proofs.reader.Reader.end_number.Goals as goal

@@ -1,5 +1,4 @@
-use Rattle.std.proofs.Common.{List, ℕ, refl, sym, take, ◌++◌, subst, arith}
-use Rattle.std.proofs.lemmas.List.{get_or_read}
+use Rattle.std.proofs.Common.{List, ℕ, refl, take, ◌++◌, subst, arith}
 use Rattle.cert_text.specs.Standing.{StandsFor}
 use Rattle.cert_text.proofs.Feeding.{room, joined, fed_fault}
 use Rattle.cert_text.proofs.reader.Reader.feed.Goals as goal

@@ -1,5 +1,4 @@
-use Rattle.std.proofs.Common.{refl, sym, ap}
-use Rattle.cert_text.specs.declared.cert.Cert.{Cert as Kept}
+use Rattle.std.proofs.Common.{refl}
 use Rattle.cert_text.proofs.Finishing.{taken_well}
 use Rattle.cert_text.proofs.Feeding.{finish_fault}
 use Rattle.cert_text.proofs.reader.Reader.finish.Goals as goal

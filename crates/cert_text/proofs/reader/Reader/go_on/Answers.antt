@@ -1,5 +1,4 @@
-use Rattle.std.proofs.Common.{◌≡◌, ℕ, List, length, refl, sym, ap, ◌∙◌, subst, arith, get_or}
-use Rattle.cert_text.specs.Words.{word_text}
+use Rattle.std.proofs.Common.{◌≡◌, ℕ, List, length, refl, ap, subst, arith, get_or}
 use Rattle.cert_text.specs.declared.fault.CertKind.TheVariants.{Syntax}
 use Rattle.cert_text.proofs.WordSteps.{at_fault, syntax_word, word_goes_on}
 use Rattle.cert_text.proofs.reader.Reader.go_on.Goals as goal

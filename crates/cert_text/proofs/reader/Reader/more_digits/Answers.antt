@@ -1,7 +1,7 @@
-use Rattle.std.proofs.Common.{refl, sym, ap, arith}
+use Rattle.std.proofs.Common.{refl, arith}
 use Rattle.cert_text.specs.declared.fault.CertKind.TheVariants.{Syntax}
 use Rattle.cert_text.proofs.ReaderSteps.{zero_digit, digits_more}
-use Rattle.cert_text.proofs.WordSteps.{at_fault, at_done}
+use Rattle.cert_text.proofs.WordSteps.{at_fault}
 use Rattle.cert_text.proofs.reader.Reader.more_digits.Goals as goal
 
 pub returns-then-value-eq0 : goal.returns-then-value-eq0
