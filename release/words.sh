@@ -34,6 +34,7 @@ stop_on_shared_files() { # WORDS..
     detect) read=("${places[1]-}" "${places[2]-}") written=("${places[3]-}") ;;
     propose) read=("${places[1]-}") written=("${places[2]-}") ;;
     merge) read=("${places[1]-}" "${given[dec]-}") written=("${places[4]-}") ;;
+    migrate) read=("${places[1]-}" "${given[dec]-}") written=("${places[3]-}") ;;
     esac
     for at in "${!written[@]}"; do
         for it in "${read[@]}" "${written[@]:at + 1}"; do

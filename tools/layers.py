@@ -24,7 +24,7 @@ ROOMS = {  # a room's title: its colour, and its crates
     "search": ("#f4cccc", "branch_tree node_eval bp_search bp_crew tree_merge"),
     "certificates": ("#ead1dc", "cert_text cert_check cert_load"),
     "files, words and reports": ("#fce5cd", "bp_shelf bp_real bp_reason bp_words bp_report bp_front"),
-    "commands": ("#d9d2e9", "cmd_show cmd_solve cmd_check cmd_gen cmd_detect cmd_propose cmd_merge cmd_demo bp_cli bprice"),
+    "commands": ("#d9d2e9", "cmd_show cmd_solve cmd_check cmd_gen cmd_detect cmd_propose cmd_merge cmd_migrate cmd_demo bp_cli bprice"),
 }
 TESTS = "readings pricings guesses wordings reportings worked calls".split()  # not drawn
 

@@ -4,7 +4,7 @@ use Rattle.bp_shelf.specs.Shelf.{Files}
 use Rattle.branch_tree.specs.declared.outcome.Outcome.{Outcome}
 use Rattle.bp_words.specs.Orders.{IsOrderOf}
 use Rattle.bp_words.specs.declared.order.Order.{Order}
-use Rattle.bp_words.specs.declared.order.Order.TheVariants.{Solve, Check, Show, Gen, Demo, Detect, Propose, Merge}
+use Rattle.bp_words.specs.declared.order.Order.TheVariants.{Solve, Check, Show, Gen, Demo, Detect, Propose, Merge, Migrate}
 use Rattle.bp_front.specs.Answers.{AnswersBy, IsStatus}
 use Rattle.bp_cli.specs.Running.{Answers, refused, ordered, AnswersOrder, OfOrder, HasWritten}
 use Rattle.bp_cli.specs.Headline.{SolvesTruly, SolvesAccepted, ChecksTruly, IsOutcomeStatus}
@@ -36,6 +36,7 @@ solved words files kept status tells before now answers heard = λ order is. by 
     by (Detect lp list dec) right = tt
     by (Propose lp dec) right = tt
     by (Merge lp one other new dec) right = tt
+    by (Migrate lp cert new dec) right = tt
 
 pub accepts : (words : List (List ℕ)) (files : Files) (kept : Option Outcome) (status : ℕ) (tells : Bool) (before now : List ℕ) → IsStatus status
     → AnswersBy (Answers words files kept) status tells before now → OfOrder words (λ order. SolvesAccepted order files status)
@@ -52,6 +53,7 @@ accepts words files kept status tells before now known answers = λ order is. by
     by (Detect lp list dec) right = tt
     by (Propose lp dec) right = tt
     by (Merge lp one other new dec) right = tt
+    by (Migrate lp cert new dec) right = tt
 
 pub decomposes : (words : List (List ℕ)) (files : Files) (kept : Option Outcome) (status : ℕ) (tells : Bool) (before now : List ℕ) → IsStatus status
     → AnswersBy (Answers words files kept) status tells before now → OfOrder words (λ order. SolvesDecomposed order files status)
@@ -67,6 +69,7 @@ decomposes words files kept status tells before now known answers = λ order is.
     by (Detect lp list dec) right = tt
     by (Propose lp dec) right = tt
     by (Merge lp one other new dec) right = tt
+    by (Migrate lp cert new dec) right = tt
 
 -- a kept outcome has one of its statuses
 its_status : (o : Outcome) (status : ℕ) → ((let x : Option Outcome = Some o in x) ≡ None) ⊎ IsOutcomeStatus status → IsOutcomeStatus status
@@ -92,6 +95,7 @@ certifies words files left kept status tells before now known answers written = 
     by (Detect lp list dec) k shown right has = tt
     by (Propose lp dec) k shown right has = tt
     by (Merge lp one other new dec) k shown right has = tt
+    by (Migrate lp cert new dec) k shown right has = tt
 
 pub checked : (words : List (List ℕ)) (files : Files) (kept : Option Outcome) (status : ℕ) (tells : Bool) (before now : List ℕ)
     → AnswersBy (Answers words files kept) status tells before now → IsTrue tells → OfOrder words (λ order. ChecksTruly order files status before now)
@@ -106,3 +110,4 @@ checked words files kept status tells before now answers heard = λ order is. by
     by (Detect lp list dec) right = tt
     by (Propose lp dec) right = tt
     by (Merge lp one other new dec) right = tt
+    by (Migrate lp cert new dec) right = tt

@@ -7,7 +7,7 @@ use Rattle.clap.specs.Words.{Row, Text, first_of}
 use Rattle.bp_words.specs.CommandLine.{most_steps, most_leaf, most_seed, most_size, most_workers}
 use Rattle.bp_words.specs.Orders.{HasNumber, MayHaveNumber, IsLeafPlaced, HasValues, IsOrderOf, AreRefused}
 use Rattle.bp_words.specs.declared.order.Order.{Order}
-use Rattle.bp_words.specs.declared.order.Order.TheVariants.{Solve, Check, Show, Gen, Demo, Detect, Propose, Merge}
+use Rattle.bp_words.specs.declared.order.Order.TheVariants.{Solve, Check, Show, Gen, Demo, Detect, Propose, Merge, Migrate}
 
 -- a value that is there is one
 one_value : (given : Option Text) (t u : Text) → given ≡ Some t → given ≡ Some u → t ≡ u
@@ -61,6 +61,9 @@ proposes a b c d p q = rw (p, q) refl
 merges : (a b c d e f g h : Text) (i k : Option Text) → a ≡ b → c ≡ d → e ≡ f → g ≡ h → i ≡ k → Merge a c e g i ≡ Merge b d f h k
 merges a b c d e f g h i k p q r s t = rw (p, q, r, s, t) refl
 
+migrates : (a b c d e f : Text) (i k : Option Text) → a ≡ b → c ≡ d → e ≡ f → i ≡ k → Migrate a c e i ≡ Migrate b d f k
+migrates a b c d e f i k p q r s = rw (p, q, r, s) refl
+
 -- a subcommand with its rows states one order
 pub one_stated : (name : Text) (rows : List Row) (o p : Order) → HasValues name rows o → HasValues name rows p → o ≡ p
 one_stated name rows (Solve a b c d i k m o) (Solve e f g h j l n p) x y =
@@ -75,6 +78,7 @@ one_stated name rows (Solve a b c d i k m o) (Demo e f) x y = apart name (codes 
 one_stated name rows (Solve a b c d i k m o) (Detect e f g) x y = apart name (codes "solve") (codes "detect") x.0 y.0 refl refl
 one_stated name rows (Solve a b c d i k m o) (Propose e f) x y = apart name (codes "solve") (codes "propose") x.0 y.0 refl refl
 one_stated name rows (Solve a b c d i k m o) (Merge e f g h j) x y = apart name (codes "solve") (codes "merge") x.0 y.0 refl refl
+one_stated name rows (Solve a b c d i k m o) (Migrate e f g h) x y = apart name (codes "solve") (codes "migrate") x.0 y.0 refl refl
 one_stated name rows (Check a b c) (Solve e f g h j l n p) x y = apart name (codes "check") (codes "solve") x.0 y.0 refl refl
 one_stated name rows (Check a b c) (Check e f g) x y =
     checks a e b f c g (one_value (first_of (codes "lp") rows) a e x.1 y.1) (one_value (first_of (codes "cert") rows) b f x.2 y.2)
@@ -85,6 +89,7 @@ one_stated name rows (Check a b c) (Demo e f) x y = apart name (codes "check") (
 one_stated name rows (Check a b c) (Detect e f g) x y = apart name (codes "check") (codes "detect") x.0 y.0 refl refl
 one_stated name rows (Check a b c) (Propose e f) x y = apart name (codes "check") (codes "propose") x.0 y.0 refl refl
 one_stated name rows (Check a b c) (Merge e f g h j) x y = apart name (codes "check") (codes "merge") x.0 y.0 refl refl
+one_stated name rows (Check a b c) (Migrate e f g h) x y = apart name (codes "check") (codes "migrate") x.0 y.0 refl refl
 one_stated name rows (Show a b c) (Solve e f g h j l n p) x y = apart name (codes "show") (codes "solve") x.0 y.0 refl refl
 one_stated name rows (Show a b c) (Check e f g) x y = apart name (codes "show") (codes "check") x.0 y.0 refl refl
 one_stated name rows (Show a b c) (Show e f g) x y =
@@ -95,6 +100,7 @@ one_stated name rows (Show a b c) (Demo e f) x y = apart name (codes "show") (co
 one_stated name rows (Show a b c) (Detect e f g) x y = apart name (codes "show") (codes "detect") x.0 y.0 refl refl
 one_stated name rows (Show a b c) (Propose e f) x y = apart name (codes "show") (codes "propose") x.0 y.0 refl refl
 one_stated name rows (Show a b c) (Merge e f g h j) x y = apart name (codes "show") (codes "merge") x.0 y.0 refl refl
+one_stated name rows (Show a b c) (Migrate e f g h) x y = apart name (codes "show") (codes "migrate") x.0 y.0 refl refl
 one_stated name rows (Gen a b c d) (Solve e f g h j l n p) x y = apart name (codes "gen") (codes "solve") x.0 y.0 refl refl
 one_stated name rows (Gen a b c d) (Check e f g) x y = apart name (codes "gen") (codes "check") x.0 y.0 refl refl
 one_stated name rows (Gen a b c d) (Show e f g) x y = apart name (codes "gen") (codes "show") x.0 y.0 refl refl
@@ -105,6 +111,7 @@ one_stated name rows (Gen a b c d) (Demo e f) x y = apart name (codes "gen") (co
 one_stated name rows (Gen a b c d) (Detect e f g) x y = apart name (codes "gen") (codes "detect") x.0 y.0 refl refl
 one_stated name rows (Gen a b c d) (Propose e f) x y = apart name (codes "gen") (codes "propose") x.0 y.0 refl refl
 one_stated name rows (Gen a b c d) (Merge e f g h j) x y = apart name (codes "gen") (codes "merge") x.0 y.0 refl refl
+one_stated name rows (Gen a b c d) (Migrate e f g h) x y = apart name (codes "gen") (codes "migrate") x.0 y.0 refl refl
 one_stated name rows (Demo a b) (Solve e f g h j l n p) x y = apart name (codes "demo") (codes "solve") x.0 y.0 refl refl
 one_stated name rows (Demo a b) (Check e f g) x y = apart name (codes "demo") (codes "check") x.0 y.0 refl refl
 one_stated name rows (Demo a b) (Show e f g) x y = apart name (codes "demo") (codes "show") x.0 y.0 refl refl
@@ -114,6 +121,7 @@ one_stated name rows (Demo a b) (Demo e f) x y =
 one_stated name rows (Demo a b) (Detect e f g) x y = apart name (codes "demo") (codes "detect") x.0 y.0 refl refl
 one_stated name rows (Demo a b) (Propose e f) x y = apart name (codes "demo") (codes "propose") x.0 y.0 refl refl
 one_stated name rows (Demo a b) (Merge e f g h j) x y = apart name (codes "demo") (codes "merge") x.0 y.0 refl refl
+one_stated name rows (Demo a b) (Migrate e f g h) x y = apart name (codes "demo") (codes "migrate") x.0 y.0 refl refl
 one_stated name rows (Detect a b c) (Solve e f g h j l n p) x y = apart name (codes "detect") (codes "solve") x.0 y.0 refl refl
 one_stated name rows (Detect a b c) (Check e f g) x y = apart name (codes "detect") (codes "check") x.0 y.0 refl refl
 one_stated name rows (Detect a b c) (Show e f g) x y = apart name (codes "detect") (codes "show") x.0 y.0 refl refl
@@ -124,6 +132,7 @@ one_stated name rows (Detect a b c) (Detect e f g) x y =
     (one_value (first_of (codes "dec") rows) c g x.3 y.3)
 one_stated name rows (Detect a b c) (Propose e f) x y = apart name (codes "detect") (codes "propose") x.0 y.0 refl refl
 one_stated name rows (Detect a b c) (Merge e f g h j) x y = apart name (codes "detect") (codes "merge") x.0 y.0 refl refl
+one_stated name rows (Detect a b c) (Migrate e f g h) x y = apart name (codes "detect") (codes "migrate") x.0 y.0 refl refl
 one_stated name rows (Propose a b) (Solve e f g h j l n p) x y = apart name (codes "propose") (codes "solve") x.0 y.0 refl refl
 one_stated name rows (Propose a b) (Check e f g) x y = apart name (codes "propose") (codes "check") x.0 y.0 refl refl
 one_stated name rows (Propose a b) (Show e f g) x y = apart name (codes "propose") (codes "show") x.0 y.0 refl refl
@@ -133,6 +142,7 @@ one_stated name rows (Propose a b) (Detect e f g) x y = apart name (codes "propo
 one_stated name rows (Propose a b) (Propose e f) x y =
     proposes a e b f (one_value (first_of (codes "lp") rows) a e x.1 y.1) (one_value (first_of (codes "dec") rows) b f x.2 y.2)
 one_stated name rows (Propose a b) (Merge e f g h j) x y = apart name (codes "propose") (codes "merge") x.0 y.0 refl refl
+one_stated name rows (Propose a b) (Migrate e f g h) x y = apart name (codes "propose") (codes "migrate") x.0 y.0 refl refl
 one_stated name rows (Merge a b c d i) (Solve e f g h j l n o) x y = apart name (codes "merge") (codes "solve") x.0 y.0 refl refl
 one_stated name rows (Merge a b c d i) (Check e f g) x y = apart name (codes "merge") (codes "check") x.0 y.0 refl refl
 one_stated name rows (Merge a b c d i) (Show e f g) x y = apart name (codes "merge") (codes "show") x.0 y.0 refl refl
@@ -143,6 +153,18 @@ one_stated name rows (Merge a b c d i) (Propose e f) x y = apart name (codes "me
 one_stated name rows (Merge a b c d i) (Merge e f g h j) x y =
     merges a e b f c g d h i j (one_value (first_of (codes "lp") rows) a e x.1 y.1) (one_value (first_of (codes "first") rows) b f x.2 y.2)
     (one_value (first_of (codes "second") rows) c g x.3 y.3) (one_value (first_of (codes "new") rows) d h x.4 y.4) (sym x.5 ∙ y.5)
+one_stated name rows (Merge a b c d i) (Migrate e f g h) x y = apart name (codes "merge") (codes "migrate") x.0 y.0 refl refl
+one_stated name rows (Migrate a b c d) (Solve e f g h j l n o) x y = apart name (codes "migrate") (codes "solve") x.0 y.0 refl refl
+one_stated name rows (Migrate a b c d) (Check e f g) x y = apart name (codes "migrate") (codes "check") x.0 y.0 refl refl
+one_stated name rows (Migrate a b c d) (Show e f g) x y = apart name (codes "migrate") (codes "show") x.0 y.0 refl refl
+one_stated name rows (Migrate a b c d) (Gen e f g h) x y = apart name (codes "migrate") (codes "gen") x.0 y.0 refl refl
+one_stated name rows (Migrate a b c d) (Demo e f) x y = apart name (codes "migrate") (codes "demo") x.0 y.0 refl refl
+one_stated name rows (Migrate a b c d) (Detect e f g) x y = apart name (codes "migrate") (codes "detect") x.0 y.0 refl refl
+one_stated name rows (Migrate a b c d) (Propose e f) x y = apart name (codes "migrate") (codes "propose") x.0 y.0 refl refl
+one_stated name rows (Migrate a b c d) (Merge e f g h j) x y = apart name (codes "migrate") (codes "merge") x.0 y.0 refl refl
+one_stated name rows (Migrate a b c d) (Migrate e f g h) x y =
+    migrates a e b f c g d h (one_value (first_of (codes "lp") rows) a e x.1 y.1) (one_value (first_of (codes "cert") rows) b f x.2 y.2)
+    (one_value (first_of (codes "new") rows) c g x.3 y.3) (sym x.4 ∙ y.4)
 
 -- what is met is met with one name and rows
 one_met : (met : Option (Text × List Row)) (p q : Text × List Row) → met ≡ Some p → met ≡ Some q → p ≡ q
@@ -165,6 +187,7 @@ solve_is_placed rows (Demo a b) has = apart (codes "solve") (codes "solve") (cod
 solve_is_placed rows (Detect a b c) has = apart (codes "solve") (codes "solve") (codes "detect") refl has.0 refl refl
 solve_is_placed rows (Propose a b) has = apart (codes "solve") (codes "solve") (codes "propose") refl has.0 refl refl
 solve_is_placed rows (Merge a b c d e) has = apart (codes "solve") (codes "solve") (codes "merge") refl has.0 refl refl
+solve_is_placed rows (Migrate a b c d) has = apart (codes "solve") (codes "solve") (codes "migrate") refl has.0 refl refl
 
 -- words that are refused give no order
 pub not_both : (words : List Text) (order : Order) → AreRefused words → IsOrderOf words order → ⊥
@@ -196,3 +219,6 @@ as_propose order a b c d is p q = proposes a b c d p q ∙ sym is
 
 pub as_merge : (order : Order) (a b c d e f g h : Text) (i k : Option Text) → order ≡ Merge b d f h k → a ≡ b → c ≡ d → e ≡ f → g ≡ h → i ≡ k → Merge a c e g i ≡ order
 as_merge order a b c d e f g h i k is p q r s t = merges a b c d e f g h i k p q r s t ∙ sym is
+
+pub as_migrate : (order : Order) (a b c d e f : Text) (i k : Option Text) → order ≡ Migrate b d f k → a ≡ b → c ≡ d → e ≡ f → i ≡ k → Migrate a c e i ≡ order
+as_migrate order a b c d e f i k is p q r s = migrates a b c d e f i k p q r s ∙ sym is

@@ -4,13 +4,14 @@ use Rattle.bp_shelf.specs.Shelf.{Files}
 use Rattle.branch_tree.specs.declared.outcome.Outcome.{Outcome}
 use Rattle.bp_words.specs.Orders.{IsOrderOf, AreRefused}
 use Rattle.bp_words.specs.declared.order.Order.{Order}
-use Rattle.bp_words.specs.declared.order.Order.TheVariants.{Solve, Check, Show, Gen, Demo, Detect, Propose, Merge}
+use Rattle.bp_words.specs.declared.order.Order.TheVariants.{Solve, Check, Show, Gen, Demo, Detect, Propose, Merge, Migrate}
 use Rattle.bp_front.specs.Answers.{AnswersBy, IsOnly, CutsOff}
 use Rattle.bp_cli.specs.Running.{Answers, refused, ordered, AnswersOrder, OfOrder, HasWritten}
 use Rattle.cmd_gen.specs.Generates.{untouched}
 use Rattle.cmd_detect.specs.Files as detected
 use Rattle.cmd_propose.specs.Files as proposed
 use Rattle.cmd_merge.specs.Files as merged
+use Rattle.cmd_migrate.specs.Files as migrated
 use Rattle.bp_cli.proofs.OneOrder.{one_order, not_both}
 
 -- an answer of the order
@@ -71,6 +72,7 @@ nothing_written files (Demo seed size) = refl
 nothing_written files (Detect lp list dec) = detected.untouched refl (inr refl)
 nothing_written files (Propose lp dec) = proposed.untouched refl (inr refl)
 nothing_written files (Merge lp one other new dec) = merged.untouched refl (inr refl)
+nothing_written files (Migrate lp cert new dec) = migrated.untouched refl (inr refl)
 
 -- answers of an order that keeps nothing
 pub kept_answers : (kept : Option Outcome) (Right : ℕ → List ℕ → Type 0) (status : ℕ) (tells : Bool) (before now : List ℕ) → kept ≡ None → AnswersBy Right status tells before now

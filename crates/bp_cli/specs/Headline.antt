@@ -14,7 +14,7 @@ use Rattle.branch_tree.specs.declared.outcome.Outcome.{Outcome}
 use Rattle.branch_tree.specs.declared.outcome.Outcome.TheVariants.{Budget}
 use Rattle.bp_search.specs.Ends.{most_steps}
 use Rattle.bp_words.specs.declared.order.Order.{Order}
-use Rattle.bp_words.specs.declared.order.Order.TheVariants.{Solve, Check, Show, Gen, Demo, Detect, Propose, Merge}
+use Rattle.bp_words.specs.declared.order.Order.TheVariants.{Solve, Check, Show, Gen, Demo, Detect, Propose, Merge, Migrate}
 use Rattle.bp_report.specs.Report.{count_line, value_line, point_lines, known_line, known_lines, accepted_report}
 
 -- A report of `solve` is true of a program: `optimal V`, and behind it a point that meets every row and bound, that has the
@@ -78,6 +78,7 @@ SolvesTruly (Demo seed size) files kept status before now = Unit {0}
 SolvesTruly (Detect lp list dec) files kept status before now = Unit {0}
 SolvesTruly (Propose lp dec) files kept status before now = Unit {0}
 SolvesTruly (Merge lp one other new dec) files kept status before now = Unit {0}
+SolvesTruly (Migrate lp cert new dec) files kept status before now = Unit {0}
 
 -- `solve LP` tells an outcome of each LP text that means a program, unless it was stopped
 abbrev pub SolvesAccepted : Order → Files → (status : ℕ) → Type 0
@@ -91,6 +92,7 @@ SolvesAccepted (Demo seed size) files status = Unit {0}
 SolvesAccepted (Detect lp list dec) files status = Unit {0}
 SolvesAccepted (Propose lp dec) files status = Unit {0}
 SolvesAccepted (Merge lp one other new dec) files status = Unit {0}
+SolvesAccepted (Migrate lp cert new dec) files status = Unit {0}
 
 -- what `check` accepts is true of the program that the LP text means, whoever wrote it
 pub record AcceptsTruly (file : Option (List ℕ)) (before now : List ℕ) : Type 0 where
@@ -109,3 +111,4 @@ ChecksTruly (Demo seed size) files status before now = Unit {0}
 ChecksTruly (Detect lp list dec) files status before now = Unit {0}
 ChecksTruly (Propose lp dec) files status before now = Unit {0}
 ChecksTruly (Merge lp one other new dec) files status before now = Unit {0}
+ChecksTruly (Migrate lp cert new dec) files status before now = Unit {0}

@@ -5,7 +5,7 @@ use Rattle.bp_shelf.specs.Shelf.{Files}
 use Rattle.block_form.specs.Blocked.{BlockedProgram}
 use Rattle.branch_tree.specs.declared.outcome.Outcome.{Outcome}
 use Rattle.bp_words.specs.declared.order.Order.{Order}
-use Rattle.bp_words.specs.declared.order.Order.TheVariants.{Solve, Check, Show, Gen, Demo, Detect, Propose, Merge}
+use Rattle.bp_words.specs.declared.order.Order.TheVariants.{Solve, Check, Show, Gen, Demo, Detect, Propose, Merge, Migrate}
 use Rattle.bp_report.specs.Report.{accepted_report}
 use Rattle.bp_front.specs.Front.{FilesCome, blocked}
 use Rattle.cmd_check.specs.Checks.{AnswersCheck}
@@ -22,6 +22,7 @@ SolvesDecomposed (Demo seed size) files status = Unit {0}
 SolvesDecomposed (Detect lp list dec) files status = Unit {0}
 SolvesDecomposed (Propose lp dec) files status = Unit {0}
 SolvesDecomposed (Merge lp one other new dec) files status = Unit {0}
+SolvesDecomposed (Migrate lp cert new dec) files status = Unit {0}
 
 -- where an outcome is kept, `check` accepts the certificate that was written, if it isn't written over the model or the decomposition
 abbrev pub WritesCertificate : Order → (now : Files) → Option Outcome → Type 0
@@ -36,3 +37,4 @@ WritesCertificate (Demo seed size) now kept = Unit {0}
 WritesCertificate (Detect lp list dec) now kept = Unit {0}
 WritesCertificate (Propose lp dec) now kept = Unit {0}
 WritesCertificate (Merge lp one other new dec) now kept = Unit {0}
+WritesCertificate (Migrate lp cert new dec) now kept = Unit {0}

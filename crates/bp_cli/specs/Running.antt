@@ -5,7 +5,7 @@ use Rattle.search_laws.specs.declared.Event.{Event}
 use Rattle.branch_tree.specs.declared.outcome.Outcome.{Outcome}
 use Rattle.bp_words.specs.Orders.{IsOrderOf, AreRefused}
 use Rattle.bp_words.specs.declared.order.Order.{Order}
-use Rattle.bp_words.specs.declared.order.Order.TheVariants.{Solve, Check, Show, Gen, Demo, Detect, Propose, Merge}
+use Rattle.bp_words.specs.declared.order.Order.TheVariants.{Solve, Check, Show, Gen, Demo, Detect, Propose, Merge, Migrate}
 use Rattle.bp_report.specs.Refusals.{words_refusal}
 use Rattle.bp_front.specs.Answers.{FilesStand, IsUntouched}
 use Rattle.cmd_solve.specs.Solves.{AnswersSolve}
@@ -21,6 +21,8 @@ use Rattle.cmd_propose.specs.Proposes.{AnswersPropose}
 use Rattle.cmd_propose.specs.Files.{ProposeLeaves, ProposeWrites}
 use Rattle.cmd_merge.specs.Merges.{AnswersMerge}
 use Rattle.cmd_merge.specs.Files.{MergeLeaves, MergeWrites}
+use Rattle.cmd_migrate.specs.Migrates.{AnswersMigrate}
+use Rattle.cmd_migrate.specs.Files.{MigrateLeaves, MigrateWrites}
 
 -- what an order is answered by the files, with what is kept
 abbrev pub AnswersOrder : Order → Files → Option Outcome → (status : ℕ) → (report : List ℕ) → Type 0
@@ -32,6 +34,7 @@ AnswersOrder (Demo seed size) files kept status report = AnswersDemo seed size k
 AnswersOrder (Detect lp list dec) files kept status report = (kept ≡ None) × AnswersDetect files lp list status report
 AnswersOrder (Propose lp dec) files kept status report = (kept ≡ None) × AnswersPropose files lp status report
 AnswersOrder (Merge lp one other new dec) files kept status report = (kept ≡ None) × AnswersMerge files lp one other dec status report
+AnswersOrder (Migrate lp cert new dec) files kept status report = (kept ≡ None) × AnswersMigrate files lp cert dec status report
 
 -- what words are answered by the files, with what is kept: words that are no command line are refused
 pub data Answers (words : List (List ℕ)) (files : Files) (kept : Option Outcome) (status : ℕ) (report : List ℕ) : Type 0 where
@@ -40,7 +43,7 @@ pub data Answers (words : List (List ℕ)) (files : Files) (kept : Option Outcom
 
 -- What an order wrote, and what stands of the files: the file of `--cert` holds the certificate of what is kept, and no other
 -- file changed; or both made texts stand, or what a fault left of them; or the text of the decomposition that was found or chosen, or
--- the merged certificate, likewise;
+-- the certificate that was merged or written anew, likewise;
 -- every other order changes no file.
 abbrev pub HasWritten : Order → (before now : Files) → Option Outcome → (status : ℕ) → Type 0
 HasWritten (Solve lp dec steps cert from leaf workers order) before now kept status = HasCertificate before lp dec cert now kept × FilesStand cert before now × (IsUntouched status → now ≡ before)
@@ -51,9 +54,10 @@ HasWritten (Demo seed size) before now kept status = now ≡ before
 HasWritten (Detect lp list dec) before now kept status = DetectLeaves lp list dec before now status
 HasWritten (Propose lp dec) before now kept status = ProposeLeaves lp dec before now status
 HasWritten (Merge lp one other new dec) before now kept status = MergeLeaves lp one other dec new before now status
+HasWritten (Migrate lp cert new dec) before now kept status = MigrateLeaves lp cert dec new before now status
 
 -- What stands where the report could not be put: it is put last, behind the certificate of an outcome of the search, both
--- made texts, the text of the decomposition that was found or chosen or the merged certificate, and nothing is written where the file to go on from is no start.
+-- made texts, the text of the decomposition that was found or chosen or the certificate that was merged or written anew, and nothing is written where the file to go on from is no start.
 abbrev pub HasPutLast : Order → (before now : Files) → Type 0
 HasPutLast (Solve lp dec steps cert from leaf workers order) before now = LeavesCertificate before lp dec steps cert from leaf now
 HasPutLast (Check lp cert dec) before now = now ≡ before
@@ -63,6 +67,7 @@ HasPutLast (Demo seed size) before now = now ≡ before
 HasPutLast (Detect lp list dec) before now = DetectWrites lp list dec before now
 HasPutLast (Propose lp dec) before now = ProposeWrites lp dec before now
 HasPutLast (Merge lp one other new dec) before now = MergeWrites lp one other dec new before now
+HasPutLast (Migrate lp cert new dec) before now = MigrateWrites lp cert dec new before now
 
 -- The events of an order, beside what is kept: those of the crew that solved, where one was ordered and its outcome is kept; and
 -- else none.
@@ -75,6 +80,7 @@ ListsEvents (Demo seed size) before kept events = events ≡ []
 ListsEvents (Detect lp list dec) before kept events = events ≡ []
 ListsEvents (Propose lp dec) before kept events = events ≡ []
 ListsEvents (Merge lp one other new dec) before kept events = events ≡ []
+ListsEvents (Migrate lp cert new dec) before kept events = events ≡ []
 
 -- what is true of the order that the words give, if they give one
 abbrev pub OfOrder : List (List ℕ) → (Order → Type 0) → Type 0

@@ -18,6 +18,7 @@ use cmd_demo::demonstrate;
 use cmd_detect::detect;
 use cmd_gen::generate;
 use cmd_merge::merge;
+use cmd_migrate::migrate;
 use cmd_propose::propose;
 use cmd_show::show;
 use cmd_solve::solve;
@@ -242,6 +243,15 @@ fn obey<F: Shelf, O: Sink>(alloc: Global, order: &Order, shelf: &mut F, out: &mu
             lp.as_str(),
             first.as_str(),
             second.as_str(),
+            new.as_str(),
+            named(dec),
+        ),
+        Order::Migrate { lp, cert, new, dec } => migrate(
+            alloc,
+            shelf,
+            out,
+            lp.as_str(),
+            cert.as_str(),
             new.as_str(),
             named(dec),
         ),

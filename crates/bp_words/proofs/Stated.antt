@@ -1,12 +1,13 @@
 -- What the subcommand that was met states.
-use Rattle.std.proofs.Common.{◌≡◌, refl, subst, ℕ, ◌∷◌, arith, List, Option, Some, None, codes}
+use Rattle.std.proofs.Common.{◌≡◌, ◌∙◌, refl, subst, ap, true, ℕ, ◌∷◌, [], arith, List, Option, Some, None, codes}
 use Rattle.std.specs.Prelude.{◌≤◌, Result, Ok, Err, IfOk, IfSome, IsSome}
-use Rattle.clap.specs.Words.{Row, Text, first_of}
+use Rattle.clap.specs.Words.{App, Row, Text, first_of, fault_of, is_simple_and_free, subcommand_of}
 use Rattle.bp_words.specs.declared.order.Order.{Order}
 use Rattle.bp_words.specs.declared.order.WordFault.{WordFault}
-use Rattle.bp_words.specs.declared.order.Order.TheVariants.{Solve, Check, Show, Gen, Demo, Detect, Propose, Merge}
-use Rattle.bp_words.specs.CommandLine.{most_leaf, most_seed, most_size, most_steps, most_workers}
-use Rattle.bp_words.specs.Orders.{HasNumber, MayHaveNumber, GoTogether, HasValues, IsInRange, IsStated}
+use Rattle.bp_words.specs.declared.order.Order.TheVariants.{Solve, Check, Show, Gen, Demo, Detect, Propose, Merge, Migrate}
+use Rattle.bp_words.specs.CommandLine.{command_line, most_leaf, most_seed, most_size, most_steps, most_workers}
+use Rattle.bp_words.specs.Orders.{HasNumber, MayHaveNumber, GoTogether, HasValues, IsInRange, IsStated, IsOrderOf}
+use Rattle.bp_words.proofs.Line.{line_is_free}
 
 -- words that begin differently differ
 apart : (a b : ℕ) (xs ys : List ℕ) → (a ≡ b → ⊥) → a ∷ xs ≡ b ∷ ys → ⊥
@@ -32,6 +33,7 @@ gen_has rows (Demo seed size) has = absurd (apart 103 100 (codes "en") (codes "e
 gen_has rows (Detect lp list dec) has = absurd (apart 103 100 (codes "en") (codes "etect") (λ e. omega arith) has.0)
 gen_has rows (Propose lp dec) has = absurd (apart 103 112 (codes "en") (codes "ropose") (λ e. omega arith) has.0)
 gen_has rows (Merge lp one other new dec) has = absurd (apart 103 109 (codes "en") (codes "erge") (λ e. omega arith) has.0)
+gen_has rows (Migrate lp cert new dec) has = absurd (apart 103 109 (codes "en") (codes "igrate") (λ e. omega arith) has.0)
 
 pub demo_has : (rows : List Row) (order : Order) → HasValues (codes "demo") rows order → HasSeedAndSize rows
 demo_has rows (Solve lp dec steps cert from leaf workers order) has = absurd (apart 100 115 (codes "emo") (codes "olve") (λ e. omega arith) has.0)
@@ -42,6 +44,7 @@ demo_has rows (Demo seed size) has = record { seed = seed; size = size; seeds = 
 demo_has rows (Detect lp list dec) has = absurd (apart_third 109 116 (codes "o") (codes "ect") (λ e. omega arith) has.0)
 demo_has rows (Propose lp dec) has = absurd (apart 100 112 (codes "emo") (codes "ropose") (λ e. omega arith) has.0)
 demo_has rows (Merge lp one other new dec) has = absurd (apart 100 109 (codes "emo") (codes "erge") (λ e. omega arith) has.0)
+demo_has rows (Migrate lp cert new dec) has = absurd (apart 100 109 (codes "emo") (codes "igrate") (λ e. omega arith) has.0)
 
 -- a number that may be given is in its range
 within : (given : Option Text) (low high : ℕ) (n : Option ℕ) → MayHaveNumber given low high n → IfSome n (λ k. (low ≤ k) × (k ≤ high))
@@ -84,7 +87,22 @@ in_range met (Demo seed size) stated = (stated.values.2.2.least, stated.values.2
 in_range met (Detect lp list dec) stated = tt
 in_range met (Propose lp dec) stated = tt
 in_range met (Merge lp one other new dec) stated = tt
+in_range met (Migrate lp cert new dec) stated = tt
 
 pub in_range_if_ok : (met : Option (Text × List Row)) (r : Result Order WordFault) → IfOk r (IsStated met) → IfOk r IsInRange
 in_range_if_ok met (Ok order) stated = in_range met order stated
 in_range_if_ok met (Err fault) stated = tt
+
+-- what is stated by words without fault is their order
+order_of : (words : List Text) (met : Option (Text × List Row)) (order : Order) → IsStated met order → met ≡ subcommand_of command_line words → fault_of command_line words ≡ []
+    → IsOrderOf words order
+order_of words met order stated same none = record {
+  taken = none;
+  stated = subst (λ (m : Option (Text × List Row)). IsStated m order) same stated;
+}
+
+pub order_if_ok : (app : App) (words : List Text) (met : Option (Text × List Row)) (r : Result Order WordFault) → IfOk r (IsStated met) → app ≡ command_line
+    → met ≡ subcommand_of command_line words → (is_simple_and_free app ≡ true → fault_of app words ≡ []) → IfOk r (IsOrderOf words)
+order_if_ok app words met (Ok order) stated same as_met none =
+    order_of words met order stated as_met (subst (λ (a : App). fault_of a words ≡ []) same (none (ap is_simple_and_free same ∙ line_is_free)))
+order_if_ok app words met (Err fault) stated same as_met none = tt

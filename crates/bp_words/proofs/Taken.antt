@@ -14,8 +14,8 @@ use Rattle.clap.specs.Faults.{check_fault, entered_fault, fault_of, level_fault,
 use Rattle.clap.specs.declared.builder.value_parser.ValueParser.TheVariants.{Unsigned}
 use Rattle.clap.proofs.ValueTestLemmas.{accepts-Accepts}
 use Rattle.bp_words.specs.declared.order.Order.{Order}
-use Rattle.bp_words.specs.declared.order.Order.TheVariants.{Solve, Check, Show, Gen, Demo, Detect, Propose, Merge}
-use Rattle.bp_words.specs.CommandLine.{command_line, solve_words, check_words, show_words, gen_words, demo_words, detect_words, propose_words, merge_words, most_steps, most_leaf, most_seed, most_size, most_workers}
+use Rattle.bp_words.specs.declared.order.Order.TheVariants.{Solve, Check, Show, Gen, Demo, Detect, Propose, Merge, Migrate}
+use Rattle.bp_words.specs.CommandLine.{command_line, solve_words, check_words, show_words, gen_words, demo_words, detect_words, propose_words, merge_words, migrate_words, most_steps, most_leaf, most_seed, most_size, most_workers}
 use Rattle.bp_words.specs.Orders.{IsNumber, MayHaveNumber, is_set, GoTogether, IsLeafPlaced, IsStated, MisplacesLeaf, AreRefused}
 use Rattle.bp_words.proofs.Presence.{Checks, both_parts, full_level, given_has, first_good}
 
@@ -49,6 +49,9 @@ propose_level = level_of propose_words
 
 abbrev merge_level : Shape
 merge_level = level_of merge_words
+
+abbrev migrate_level : Shape
+migrate_level = level_of migrate_words
 
 -- which values an argument may have, by its id
 abbrev good : Text → Text → Bool
@@ -145,6 +148,18 @@ merge_checks = (
         record { wants = inl refl; plain = tt; passes = λ v e. refl },
         (record { wants = inl refl; plain = tt; passes = λ v e. refl }, tt),
       ),
+    ),
+  ),
+)
+
+migrate_checks : AllByRecursion (Checks good) migrate_level.rules
+migrate_checks = (
+  record { wants = inl refl; plain = tt; passes = λ v e. refl },
+  (
+    record { wants = inl refl; plain = tt; passes = λ v e. refl },
+    (
+      record { wants = inl refl; plain = tt; passes = λ v e. refl },
+      (record { wants = inl refl; plain = tt; passes = λ v e. refl }, tt),
     ),
   ),
 )
@@ -359,13 +374,32 @@ merge_states words e =
       },
     )
 
+migrate_states : (words : List Text) → level_fault migrate_level [] nothing_held words false [] ≡ []
+    → (order : Order) × IsStated (Some (rows_at migrate_level words)) order
+migrate_states words e =
+    let rows : List Row = rows_after migrate_level.rules [] words in
+    let level = full_level good migrate_level words migrate_checks e in
+    let all = three_there (is_given (codes "lp") rows) (is_given (codes "cert") rows) (is_given (codes "new") rows) level.1 in
+    let lp = given_has good (codes "lp") rows all.0 level.0 in
+    let cert = given_has good (codes "cert") rows all.1 level.0 in
+    let new = given_has good (codes "new") rows all.2 level.0 in (
+      Migrate lp.0 cert.0 new.0 (first_of (codes "dec") rows),
+      record {
+        name = codes "migrate";
+        rows = rows;
+        subcommand = refl;
+        values = (refl, lp.1, cert.1, new.1, refl);
+      },
+    )
+
 -- the level that is met, by which subcommand's name answers
-abbrev met_level : (t u v w x y z m : Bool) → Option Shape
-met_level t u v w x y z m = if t then Some solve_level
+abbrev met_level : (t u v w x y z m n : Bool) → Option Shape
+met_level t u v w x y z m n = if t then Some solve_level
     else (if u then Some check_level
     else (if v then Some show_level
     else (if w then Some gen_level
-    else (if x then Some demo_level else (if y then Some detect_level else (if z then Some propose_level else (if m then Some merge_level else None)))))))
+    else (if x then Some demo_level else (if y then Some detect_level else (if z then Some propose_level
+    else (if m then Some merge_level else (if n then Some migrate_level else None))))))))
 
 -- the subcommand that was met states an order, or misplaces a leaf
 met_states : (stop : Option (Text × List Text)) → entered_fault line stop ≡ [] → is_some (entered line stop) ≡ true → Gives (entered line stop)
@@ -373,21 +407,22 @@ met_states None e has = absurd (cc)
 met_states (Some p) e has =
     pick (answers_to p.0 (label_of solve_level)) (answers_to p.0 (label_of check_level)) (answers_to p.0 (label_of show_level))
     (answers_to p.0 (label_of gen_level)) (answers_to p.0 (label_of demo_level)) (answers_to p.0 (label_of detect_level))
-    (answers_to p.0 (label_of propose_level)) (answers_to p.0 (label_of merge_level)) e has
+    (answers_to p.0 (label_of propose_level)) (answers_to p.0 (label_of merge_level)) (answers_to p.0 (label_of migrate_level)) e has
   where
-    pick : (t u v w x y z m : Bool)
-        → option_map_or (λ (s : Shape). level_fault s [] nothing_held p.1 false []) (met_level t u v w x y z m) [] ≡ []
-        → is_some (option_map (λ (s : Shape). rows_at s p.1) (met_level t u v w x y z m)) ≡ true
-        → Gives (option_map (λ (s : Shape). rows_at s p.1) (met_level t u v w x y z m))
-    pick true u v w x y z m e has = solve_states p.1 e
-    pick false true v w x y z m e has = inl (check_states p.1 e)
-    pick false false true w x y z m e has = inl (show_states p.1 e)
-    pick false false false true x y z m e has = inl (gen_states p.1 e)
-    pick false false false false true y z m e has = inl (demo_states p.1 e)
-    pick false false false false false true z m e has = inl (detect_states p.1 e)
-    pick false false false false false false true m e has = inl (propose_states p.1 e)
-    pick false false false false false false false true e has = inl (merge_states p.1 e)
-    pick false false false false false false false false e has = absurd (cc)
+    pick : (t u v w x y z m n : Bool)
+        → option_map_or (λ (s : Shape). level_fault s [] nothing_held p.1 false []) (met_level t u v w x y z m n) [] ≡ []
+        → is_some (option_map (λ (s : Shape). rows_at s p.1) (met_level t u v w x y z m n)) ≡ true
+        → Gives (option_map (λ (s : Shape). rows_at s p.1) (met_level t u v w x y z m n))
+    pick true u v w x y z m n e has = solve_states p.1 e
+    pick false true v w x y z m n e has = inl (check_states p.1 e)
+    pick false false true w x y z m n e has = inl (show_states p.1 e)
+    pick false false false true x y z m n e has = inl (gen_states p.1 e)
+    pick false false false false true y z m n e has = inl (demo_states p.1 e)
+    pick false false false false false true z m n e has = inl (detect_states p.1 e)
+    pick false false false false false false true m n e has = inl (propose_states p.1 e)
+    pick false false false false false false false true n e has = inl (merge_states p.1 e)
+    pick false false false false false false false false true e has = inl (migrate_states p.1 e)
+    pick false false false false false false false false false e has = absurd (cc)
 
 -- words without fault give an order, or misplace a leaf
 taken_gives : (words : List Text) → fault_of command_line words ≡ [] → Gives (subcommand_of command_line words)

@@ -77,7 +77,7 @@ cert_word = record (new_rule (codes "cert")) { required = true }
 abbrev pub rows_word : Rule
 rows_word = record (new_rule (codes "rows")) { required = true }
 
--- the certificates to merge, and the file for the merged one, by their places
+-- the certificates to merge, and the file for the one that is written, by their places
 abbrev pub first_word : Rule
 first_word = record (new_rule (codes "first")) { required = true }
 
@@ -133,6 +133,10 @@ both_words = record (new_shape (codes "merge")) { rules = lp_word ∷ first_word
 abbrev pub merge_words : Shape
 merge_words = record (new_shape (codes "merge")) { rules = lp_word ∷ first_word ∷ second_word ∷ new_word ∷ dec_option ∷ [] }
 
+-- `migrate LP CERT NEW [--dec FILE]`
+abbrev pub migrate_words : Shape
+migrate_words = record (new_shape (codes "migrate")) { rules = lp_word ∷ cert_word ∷ new_word ∷ dec_option ∷ [] }
+
 -- the program itself
 abbrev pub program_words : Shape
 program_words = record (new_shape (codes "bprice")) {
@@ -150,11 +154,18 @@ reading_line = record { top = record program_words { is_leaf = false }; subs = s
 abbrev pub making_line : App
 making_line = record { top = record program_words { is_leaf = false }; subs = solve_words ∷ check_words ∷ show_words ∷ gen_words ∷ demo_words ∷ [] }
 
+-- and those that write decompositions
+abbrev pub parting_line : App
+parting_line = record {
+  top = record program_words { is_leaf = false };
+  subs = solve_words ∷ check_words ∷ show_words ∷ gen_words ∷ demo_words ∷ detect_words ∷ propose_words ∷ [];
+}
+
 -- the whole command: the program with its subcommands
 abbrev pub command_line : App
 command_line = record {
   top = record program_words { is_leaf = false };
-  subs = solve_words ∷ check_words ∷ show_words ∷ gen_words ∷ demo_words ∷ detect_words ∷ propose_words ∷ merge_words ∷ [];
+  subs = solve_words ∷ check_words ∷ show_words ∷ gen_words ∷ demo_words ∷ detect_words ∷ propose_words ∷ merge_words ∷ migrate_words ∷ [];
 }
 
 -- a command reads words by a shape, and has no argument that its subcommands take over

@@ -6,7 +6,7 @@ use Rattle.std.specs.Str.Parse.{IsNumeral, digits_value, without_leading_plus}
 use Rattle.clap.specs.Words.{Row, Text, first_of, subcommand_of, fault_of}
 use Rattle.bp_words.specs.CommandLine.{command_line, most_steps, most_leaf, most_seed, most_size, most_workers}
 use Rattle.bp_words.specs.declared.order.Order.{Order}
-use Rattle.bp_words.specs.declared.order.Order.TheVariants.{Solve, Check, Show, Gen, Demo, Detect, Propose, Merge}
+use Rattle.bp_words.specs.declared.order.Order.TheVariants.{Solve, Check, Show, Gen, Demo, Detect, Propose, Merge, Migrate}
 
 -- a text means a number from `low` to `high`: it is decimal digits, before which a plus may stand
 pub record IsNumber (text : Text) (low high n : ℕ) : Type 0 where
@@ -67,6 +67,9 @@ HasValues name rows (Propose lp dec) =
 HasValues name rows (Merge lp one other new dec) =
     (name ≡ codes "merge") × (first_of (codes "lp") rows ≡ Some lp) × (first_of (codes "first") rows ≡ Some one)
     × (first_of (codes "second") rows ≡ Some other) × (first_of (codes "new") rows ≡ Some new) × (first_of (codes "dec") rows ≡ dec)
+HasValues name rows (Migrate lp cert new dec) =
+    (name ≡ codes "migrate") × (first_of (codes "lp") rows ≡ Some lp) × (first_of (codes "cert") rows ≡ Some cert)
+    × (first_of (codes "new") rows ≡ Some new) × (first_of (codes "dec") rows ≡ dec)
 
 -- the numbers of an order are in their ranges, and a leaf goes with a certificate to go on from and without a crew
 abbrev pub IsInRange : Order → Type 0
@@ -80,6 +83,7 @@ IsInRange (Demo seed size) = (1 ≤ size) × (size ≤ most_size)
 IsInRange (Detect lp list dec) = Unit {0}
 IsInRange (Propose lp dec) = Unit {0}
 IsInRange (Merge lp one other new dec) = Unit {0}
+IsInRange (Migrate lp cert new dec) = Unit {0}
 
 -- the subcommand that was met, with its rows, states an order
 pub record IsStated (met : Option (Text × List Row)) (order : Order) : Type 0 where

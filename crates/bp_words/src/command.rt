@@ -1,7 +1,7 @@
 // The command of the program, for the crate that reads words.
 ghost use Rattle.std.specs.Prelude.{◌≡◌, Some, true, false, codes, IfOk};
 ghost use Rattle.clap.specs.Words.{app_of, new_rule, rule_of};
-ghost use Rattle.bp_words.specs.CommandLine.{search_words, kept_words, solve_words, check_words, show_words, gen_words, demo_words, detect_words, propose_words, both_words, merge_words, program_words, reading_line, making_line, command_line, IsShaped};
+ghost use Rattle.bp_words.specs.CommandLine.{search_words, kept_words, solve_words, check_words, show_words, gen_words, demo_words, detect_words, propose_words, both_words, merge_words, migrate_words, program_words, reading_line, making_line, parting_line, command_line, IsShaped};
 
 use clap::builder::ValueParser;
 use clap::{Arg, ArgAction, Command};
@@ -23,13 +23,22 @@ pub const MOST_WORKERS: u64 = 64;
 pub fn make_command<'a>(alloc: Global) -> Result<Command<'a>, AllocError>
     ensures { IfOk result (λ command. app_of command ≡ command_line) }
 {
+    let merge = merge_command(alloc)?;
+    let migrate = migrate_command(alloc)?;
+    parting_command(alloc)?
+        .subcommand(merge)?
+        .subcommand(migrate)
+}
+
+// The program with all subcommands but those that write certificates anew.
+fn parting_command<'a>(alloc: Global) -> Result<Command<'a>, AllocError>
+    ensures { IfOk result (λ command. app_of command ≡ parting_line) }
+{
     let detect = detect_command(alloc)?;
     let propose = propose_command(alloc)?;
-    let merge = merge_command(alloc)?;
     making_command(alloc)?
         .subcommand(detect)?
-        .subcommand(propose)?
-        .subcommand(merge)
+        .subcommand(propose)
 }
 
 // The program with the subcommands that read texts and those that make them.
@@ -177,6 +186,21 @@ fn both_command<'a>(alloc: Global) -> Result<Command<'a>, AllocError>
         .arg(lp)?
         .arg(first)?
         .arg(second)
+}
+
+// `migrate LP CERT NEW [--dec FILE]`
+fn migrate_command<'a>(alloc: Global) -> Result<Command<'a>, AllocError>
+    ensures { IfOk result (λ command. IsShaped command migrate_words) }
+{
+    let lp = file_word(alloc, "lp");
+    let cert = file_word(alloc, "cert");
+    let new = file_word(alloc, "new");
+    let dec = file_option(alloc, "dec");
+    Command::new(alloc, "migrate")
+        .arg(lp)?
+        .arg(cert)?
+        .arg(new)?
+        .arg(dec)
 }
 
 // A number that must be given, by its place.

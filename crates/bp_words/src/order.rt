@@ -95,6 +95,17 @@ pub enum Order {
         /// The decomposition's file, where there is one.
         dec: Option<Text>,
     },
+    /// Write a certificate of the LP file anew, in version 2.
+    Migrate {
+        /// The LP file.
+        lp: Text,
+        /// The certificate's file.
+        cert: Text,
+        /// The file for the certificate that is written.
+        new: Text,
+        /// The decomposition's file, where there is one.
+        dec: Option<Text>,
+    },
 }
 
 /// Why words give no order.

@@ -58,6 +58,9 @@ fn stated_order(alloc: Global, matches: &ArgMatches) -> Result<Order, WordFault>
     if let Some(merge) = matches.subcommand_matches("merge") {
         return merge_order(alloc, merge);
     }
+    if let Some(migrate) = matches.subcommand_matches("migrate") {
+        return migrate_order(alloc, migrate);
+    }
     Err(WordFault::Refused)
 }
 
@@ -212,6 +215,19 @@ fn merge_order(alloc: Global, merge: &ArgMatches) -> Result<Order, WordFault>
         new,
         dec,
     })
+}
+
+// The order to write a certificate anew.
+fn migrate_order(alloc: Global, migrate: &ArgMatches) -> Result<Order, WordFault>
+    ensures order { IfOk result (HasValues (codes "migrate") (rows_of (found_of migrate.now))) }
+    ensures refused { result ≡ Err WordFault.Refused →
+        (order : Order) → HasValues (codes "migrate") (rows_of (found_of migrate.now)) order → ⊥ }
+{
+    let lp = given(alloc, migrate, "lp")?;
+    let cert = given(alloc, migrate, "cert")?;
+    let new = given(alloc, migrate, "new")?;
+    let dec = optional(alloc, migrate, "dec")?;
+    Ok(Order::Migrate { lp, cert, new, dec })
 }
 
 // The number of an argument.

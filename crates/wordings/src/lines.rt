@@ -25,6 +25,8 @@ propose a.lp d @ propose a.lp d
 propose a.lp --dec @ propose a.lp -- --dec
 merge a.lp c d n - @ merge a.lp c d n
 merge a.lp c c c e @ merge a.lp c --dec e c c
+migrate a.lp c n - @ migrate a.lp c n
+migrate a.lp c c e @ migrate a.lp c --dec=e c
 # Numbers.
 solve a.lp - 7 - - - - - @ solve a.lp --steps 007
 solve a.lp - 1152921504606846976 - - - - - @ solve --steps=1152921504606846976 a.lp
@@ -102,6 +104,9 @@ refused @ propose a.lp d --blocks
 refused @ merge a.lp c d
 refused @ merge a.lp c d n e
 refused @ merge a.lp c d n --cert e
+refused @ migrate a.lp c
+refused @ migrate a.lp c n e
+refused @ migrate a.lp c n --steps 1
 ";
 
 /// The words of a line, behind the program's name.
@@ -195,6 +200,10 @@ fn order_line(alloc: Global, order: &Order) -> Result<String, AllocError> {
                 new.as_str()
             )?;
             format!(in alloc; "merge {} {files} {}", lp.as_str(), name_of(dec))
+        }
+        Order::Migrate { lp, cert, new, dec } => {
+            let files = format!(in alloc; "{} {}", cert.as_str(), new.as_str())?;
+            format!(in alloc; "migrate {} {files} {}", lp.as_str(), name_of(dec))
         }
     }
 }

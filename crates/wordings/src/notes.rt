@@ -13,7 +13,7 @@ help demo @ 2 refused words @ - @ - @ usage: bprice demo SEED SIZE|  makes one i
 help show @ 2 refused words @ - @ - @ usage: bprice show LP [--dec DEC] [--blocks]|  the blocks, and which are identical|  --dec DEC      the decomposition of the model, as GCG DEC text|  --blocks       tell the rows and variables of each block|
 check -h @ 2 refused words @ - @ - @ usage: bprice check LP CERT [--dec DEC]|  whether a certificate is valid|*
 --version @ 2 refused words @ - @ - @ bprice, proved with rattle-kit-13f|
-prove m.lp @ 2 refused words @ - @ - @ bprice: 'prove' is no command; the first word is one of solve check show propose detect merge gen demo|usage: bprice COMMAND .., and bprice --help tells more|
+prove m.lp @ 2 refused words @ - @ - @ bprice: 'prove' is no command; the first word is one of solve check show propose detect merge migrate gen demo|usage: bprice COMMAND .., and bprice --help tells more|
 check m.lp @ 2 refused words @ - @ - @ bprice: check wants a further word: CERT|usage: bprice check LP CERT [--dec DEC]|
 demo 1 2 3 @ 2 refused words @ - @ - @ bprice: '3' is one word too many for demo|usage: bprice demo SEED SIZE|
 demo 1 2000 @ 2 refused words @ - @ - @ bprice: SIZE is a whole number from 1 to 1024, and not '2000'|usage: bprice demo SEED SIZE|

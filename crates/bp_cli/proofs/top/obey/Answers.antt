@@ -7,9 +7,10 @@ use Rattle.cmd_show.specs.Shows.{AnswersShow}
 use Rattle.cmd_detect.specs.Detects.{AnswersDetect}
 use Rattle.cmd_propose.specs.Proposes.{AnswersPropose}
 use Rattle.cmd_merge.specs.Merges.{AnswersMerge}
+use Rattle.cmd_migrate.specs.Migrates.{AnswersMigrate}
 use Rattle.bp_front.proofs.Faults.{fails_as, unput_as}
 use Rattle.bp_cli.specs.Running.{AnswersOrder, HasWritten, HasPutLast}
-use Rattle.bp_cli.proofs.OneOrder.{as_solve, as_check, as_show, as_gen, as_detect, as_propose, as_merge}
+use Rattle.bp_cli.proofs.OneOrder.{as_solve, as_check, as_show, as_gen, as_detect, as_propose, as_merge, as_migrate}
 use Rattle.bp_cli.proofs.Words.{kept_answers, kept_only, kept_cut}
 use Rattle.bp_cli.proofs.top.obey.Goals as goal
 
@@ -229,3 +230,34 @@ returns-in-Merge-clause-failed g c = λ is_fault.
     c.as_str-in-Merge-4.result.now c.in-Merge.new (option_map (λ name. name.now) c.named-in-Merge.result) c.in-Merge.dec c.in-Merge.is c.as_str-in-Merge.ensures c.as_str-in-Merge-2.ensures
     c.as_str-in-Merge-3.ensures c.as_str-in-Merge-4.ensures c.named-in-Merge.ensures) (stands told))
     (c.merge.ensures.failed is_fault)
+
+pub returns-in-Migrate-clause-answered : goal.returns-in-Migrate-clause-answered
+returns-in-Migrate-clause-answered g c = λ told.
+    subst (λ (o : Order). AnswersBy (AnswersOrder o (g.F.Shelf.file c.args.shelf.now) c.migrate.result.kept) c.migrate.result.status (g.O.Sink.tells c.args.out.now) (g.O.Sink.taken c.args.out.now)
+    (g.O.Sink.taken c.migrate.new.out)) (as_migrate c.args.order.now c.as_str-in-Migrate.result.now c.in-Migrate.lp c.as_str-in-Migrate-2.result.now c.in-Migrate.cert c.as_str-in-Migrate-3.result.now c.in-Migrate.new
+    (option_map (λ name. name.now) c.named-in-Migrate.result) c.in-Migrate.dec c.in-Migrate.is c.as_str-in-Migrate.ensures c.as_str-in-Migrate-2.ensures c.as_str-in-Migrate-3.ensures c.named-in-Migrate.ensures)
+    (kept_answers c.migrate.result.kept
+    (AnswersMigrate (g.F.Shelf.file c.args.shelf.now) c.as_str-in-Migrate.result.now c.as_str-in-Migrate-2.result.now (option_map (λ name. name.now) c.named-in-Migrate.result))
+    c.migrate.result.status _ _ _ c.migrate.ensures.kept (c.migrate.ensures.answered told))
+
+pub returns-in-Migrate-clause-exact : goal.returns-in-Migrate-clause-exact
+returns-in-Migrate-clause-exact g c = λ told.
+    subst (λ (o : Order). IsOnly (AnswersOrder o (g.F.Shelf.file c.args.shelf.now) c.migrate.result.kept) c.migrate.result.status) (as_migrate c.args.order.now c.as_str-in-Migrate.result.now c.in-Migrate.lp c.as_str-in-Migrate-2.result.now c.in-Migrate.cert c.as_str-in-Migrate-3.result.now c.in-Migrate.new
+    (option_map (λ name. name.now) c.named-in-Migrate.result) c.in-Migrate.dec c.in-Migrate.is c.as_str-in-Migrate.ensures c.as_str-in-Migrate-2.ensures c.as_str-in-Migrate-3.ensures c.named-in-Migrate.ensures)
+    (kept_only c.migrate.result.kept _ c.migrate.result.status (c.migrate.ensures.exact told))
+
+pub returns-in-Migrate-clause-cut_off : goal.returns-in-Migrate-clause-cut_off
+returns-in-Migrate-clause-cut_off g c = λ told heard.
+    subst (λ (o : Order). CutsOff (AnswersOrder o (g.F.Shelf.file c.args.shelf.now)) c.migrate.result.status (g.O.Sink.taken c.args.out.now) (g.O.Sink.taken c.migrate.new.out)) (as_migrate c.args.order.now c.as_str-in-Migrate.result.now c.in-Migrate.lp c.as_str-in-Migrate-2.result.now c.in-Migrate.cert c.as_str-in-Migrate-3.result.now c.in-Migrate.new
+    (option_map (λ name. name.now) c.named-in-Migrate.result) c.in-Migrate.dec c.in-Migrate.is c.as_str-in-Migrate.ensures c.as_str-in-Migrate-2.ensures c.as_str-in-Migrate-3.ensures c.named-in-Migrate.ensures)
+    (kept_cut _ c.migrate.result.status _ _ (c.migrate.ensures.cut_off told heard))
+
+pub returns-in-Migrate-clause-failed : goal.returns-in-Migrate-clause-failed
+returns-in-Migrate-clause-failed g c = λ is_fault.
+    fails_as (g.F.Shelf.write_faults c.args.shelf.now) (g.F.Shelf.write_faults c.args.shelf.now) (g.F.Shelf.write_faults c.migrate.new.shelf)
+    (g.O.Sink.faults c.args.out.now) (g.O.Sink.faults c.migrate.new.out) (g.O.Sink.puts c.args.out.now) (g.O.Sink.puts c.migrate.new.out)
+    (g.O.Sink.taken c.args.out.now) (g.O.Sink.taken c.migrate.new.out) refl
+    (λ stands told. subst (λ (o : Order). HasPutLast o (g.F.Shelf.file c.args.shelf.now) (g.F.Shelf.file c.migrate.new.shelf))
+    (as_migrate c.args.order.now c.as_str-in-Migrate.result.now c.in-Migrate.lp c.as_str-in-Migrate-2.result.now c.in-Migrate.cert c.as_str-in-Migrate-3.result.now c.in-Migrate.new
+    (option_map (λ name. name.now) c.named-in-Migrate.result) c.in-Migrate.dec c.in-Migrate.is c.as_str-in-Migrate.ensures c.as_str-in-Migrate-2.ensures c.as_str-in-Migrate-3.ensures c.named-in-Migrate.ensures) (stands told))
+    (c.migrate.ensures.failed is_fault)

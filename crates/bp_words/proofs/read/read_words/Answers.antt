@@ -4,7 +4,7 @@ use Rattle.bp_words.specs.CommandLine.{command_line}
 use Rattle.bp_words.specs.Orders.{IsStated}
 use Rattle.bp_words.proofs.Line.{line_is_simple}
 use Rattle.bp_words.proofs.Refusal.{error_refused}
-use Rattle.bp_words.proofs.Stated.{in_range_if_ok}
+use Rattle.bp_words.proofs.Stated.{in_range_if_ok, order_if_ok}
 use Rattle.bp_words.proofs.Taken.{refused_words}
 use Rattle.bp_words.proofs.read.read_words.Goals as goal
 
@@ -17,6 +17,14 @@ returns-clause-refused c = λ e.
     ∙ ap (λ (a : App). subcommand_of a words) c.in_ok-command.ensures in
     refused_words words
     (λ order stated. c.stated_order.ensures.refused e order (subst (λ (met : Option (Text × List Row)). IsStated met order) (sym same) stated))
+
+pub returns-clause-order : goal.returns-clause-order
+returns-clause-order c =
+    let words : List Text = map string_bytes c.args.words.now in
+    let same : subcommand_rows_of c.in-Ok.matches ≡ subcommand_of command_line words =
+    (c.in-Ok.ensures.matches (ap is_simple c.in_ok-command.ensures ∙ line_is_simple)).1
+    ∙ ap (λ (a : App). subcommand_of a words) c.in_ok-command.ensures in
+    order_if_ok _ words (subcommand_rows_of c.in-Ok.matches) c.stated_order.result c.stated_order.ensures.order c.in_ok-command.ensures same c.in-Ok.ensures.kinds
 
 pub returns-clause-range : goal.returns-clause-range
 returns-clause-range c = in_range_if_ok (subcommand_rows_of c.in-Ok.matches) c.stated_order.result c.stated_order.ensures.order

@@ -1,0 +1,3 @@
+pub mod OneAnswer
+pub mod Lifted
+pub mod Alike

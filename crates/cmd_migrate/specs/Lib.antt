@@ -1,0 +1,3 @@
+pub mod Migrates
+pub mod Files
+pub mod Laws

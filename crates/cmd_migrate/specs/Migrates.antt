@@ -1,0 +1,41 @@
+-- What `migrate` answers by the files.
+use Rattle.std.specs.Prelude.{◌≡◌, ℕ, ◌++◌, List, [], codes, decimal, Option, Some, None}
+use Rattle.bp_shelf.specs.Shelf.{Files}
+use Rattle.block_form.specs.Blocked.{BlockedProgram}
+use Rattle.cert_text.specs.Cert.{Cert}
+use Rattle.cert_text.specs.Text.{Two}
+use Rattle.cert_text.specs.Fault.{IsText, IsCertText, IsFirstCertFault}
+use Rattle.cert_text.specs.Nodes.{nodes}
+use Rattle.cert_text.specs.Programs.{frame_for}
+use Rattle.cert_text.specs.declared.fault.CertKind.{CertKind}
+use Rattle.bp_report.specs.Refusals.{cert_refusal}
+use Rattle.bp_front.specs.Front.{FilesCome, blocked, ends}
+use Rattle.bp_front.specs.Written.{Answer, stops, Answered}
+use Rattle.cmd_migrate.specs.declared.Migrated.{Migrated}
+
+-- the report on a certificate of so many nodes that was written anew
+abbrev pub migrated_report : (nodes : ℕ) → List ℕ
+migrated_report nodes = codes "migrated " ++ decimal nodes ++ codes "\n"
+
+-- what the file of a certificate is answered, beside a program in blocks: its first fault, or the text of version 2 of the certificate that it
+-- spells, which means the same
+pub data TextMigrates (b : BlockedProgram) (file : Option (List ℕ)) : Answer → Type 0 where
+  missing : file ≡ None → TextMigrates b file (stops 11 [])
+  faulty : (text : List ℕ) (line : ℕ) (kind : CertKind) → file ≡ Some text → IsFirstCertFault (frame_for b) text line kind
+      → TextMigrates b file (stops 3 (cert_refusal line kind))
+  migrated : (text new : List ℕ) (c : Cert) → file ≡ Some text → IsCertText (frame_for b) c text → IsText (frame_for b) Two c new
+      → TextMigrates b file (record { status = 0; report = migrated_report (nodes c.tree); text = Some new })
+
+-- what `migrate` answers: what the model's and the decomposition's files come to where they come to no program in blocks, and else what the
+-- certificate's file is answered
+pub data Migrates (files : Files) (lp cert : List ℕ) (dec : Option (List ℕ)) : Answer → Type 0 where
+  stopped : (status : ℕ) (report : List ℕ) → FilesCome files lp dec (ends status report) → Migrates files lp cert dec (stops status report)
+  went_on : (b : BlockedProgram) (a : Answer) → FilesCome files lp dec (blocked b) → TextMigrates b (files cert) a → Migrates files lp cert dec a
+
+-- the same by its status and report
+abbrev pub AnswersMigrate : Files → (lp cert : List ℕ) → (dec : Option (List ℕ)) → (status : ℕ) → (report : List ℕ) → Type 0
+AnswersMigrate files lp cert dec status report = Answered (Migrates files lp cert dec) status report
+
+-- the text and the report of a migrated certificate
+abbrev pub answer_of : Migrated → Answer
+answer_of m = record { status = m.reply.status; report = m.reply.report.items; text = Some m.text.items }
