@@ -38,7 +38,7 @@ def words(*given, program=PROGRAM, steps=30):
 
 def farm(*given, **options):
     """What the farm prints, its status, and what it tells on standard error."""
-    ran = subprocess.run(words(*given, **options), capture_output=True, text=True, check=False, timeout=60)
+    ran = subprocess.run(words(*given, **options), capture_output=True, text=True, check=False, timeout=300)
     return ran.stdout, ran.returncode, ran.stderr
 
 
@@ -63,8 +63,7 @@ def stand_in(tmp_path, text):
 leaf=0
 if [[ " $* " == *" --leaf "* ]]; then
     leaf=1
-    echo >>"$0.leaves"
-    turn=$(($(wc -l <"$0.leaves") % 3))
+    turn=$(($({ flock 9; echo >>"$0.leaves"; wc -l <"$0.leaves"; } 9>"$0.lock") % 3))
 fi
 """ + text.replace("PROGRAM", str(PROGRAM)))
     program.chmod(0o755)
