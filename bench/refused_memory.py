@@ -128,6 +128,7 @@ RUNS = [
     ("detect agents.lp jobs.txt found.dec", []),
     ("propose agents.lp proposed.dec", []),
     ("merge two.lp open.cert optimal.cert merged.cert", []),
+    ("migrate two.lp open.cert migrated.cert", []),
     ("solve two.lp --from open.cert --cert more.cert", []),
     ("solve agents.lp --dec agents.dec --workers 2 --order 3", []),
     ("solve two.lp --from open.cert --leaf 1 --cert more.cert", []),
