@@ -137,20 +137,23 @@ expect 'words that are no command line' 2 'refused words' 2 'bprice: --steps wan
 cp "$room/user/own.lp" "$room/user/kept.lp"
 ln -s own.lp "$room/user/linked.lp"
 for it in 'solve own.lp --cert own.lp' 'solve --cert=./own.lp own.lp' 'solve linked.lp --cert own.lp' 'solve own.lp --dec linked.lp --cert own.lp' \
-    'detect own.lp linked.lp own.lp' 'propose own.lp linked.lp' 'gen 1 2 linked.lp own.lp' 'gen 1 2 new.lp new.lp'; do
+    'detect own.lp linked.lp own.lp' 'propose own.lp linked.lp' 'gen 1 2 linked.lp own.lp' 'gen 1 2 new.lp new.lp' \
+    'migrate own.lp own.cert own.lp' 'migrate own.lp own.cert linked.lp --dec own.lp'; do
     bare "$clone/bprice" $it
     expect "a file that is read and written: $it" 125 '' 1 'would be written'
 done
 holds 'a file that is read and written stands' cmp -s "$room/user/own.lp" "$room/user/kept.lp"
 bare "$clone/bprice" solve own.lp --from own.cert --cert own.cert
 expect 'one certificate to go on from and to write' 0 "$report" 0
+bare "$clone/bprice" migrate own.lp own.cert own.cert
+expect 'one certificate to read and to write' 0 'migrated 1' 0
 bare "$clone/bprice" solve -- own.lp --cert own.lp
 expect 'words behind two dashes' 2 'refused words' 2 'is one word too many for solve'
 
 # Words that ask for help: the program refuses them as others, and tells its usage on standard error.
 for it in '' -h --help help; do
     bare "$clone/bprice" $it
-    expect "help: '$it'" 2 'refused words' 21 'usage: bprice COMMAND'
+    expect "help: '$it'" 2 'refused words' 22 'usage: bprice COMMAND'
 done
 bare "$clone/bprice" help demo
 expect 'help of a command' 2 'refused words' 2 'usage: bprice demo SEED SIZE'
