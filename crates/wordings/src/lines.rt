@@ -238,7 +238,7 @@ fn wrong(alloc: Global) -> Result<(String, usize), AllocError> {
 fn each_line_gives_its_order_or_is_refused(rt: HostRuntime) -> Result<(), Fail> {
     let (wrong, count) = wrong(rt.alloc())?;
     assert_eq!(rt; wrong.as_str(), "");
-    assert_eq!(rt; count, 93);
+    assert_eq!(rt; count, 98);
     Ok(())
 }
 
