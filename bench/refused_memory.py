@@ -14,7 +14,7 @@ script ends with status 1 where a run did anything else.
 
 CALLS tries a call of a pool or of a tree a second time where memory was short. So where the refused request is one of these calls', it
 must print what it prints with ample memory, which is crates/calls/stdout; where it is another, it may end with an error and nothing
-printed. It fills a pool by many thousand calls: its first and last requests are refused, and of those between one in so many.
+printed, or say of one text that it is not tried, in place of what it tells of it, and print all else. It fills a pool by many thousand calls: its first and last requests are refused, and of those between one in so many.
 """
 
 import os
@@ -215,6 +215,16 @@ def run_calls(calls, refuser, data, call):
             return ended.returncode, ended.stdout, int(file.read())
 
 
+def has_left_out(out, wanted):
+    """Whether an output is what is wanted but for one text, of which it says that it is not tried."""
+    lines, rest = out.split(b"\n"), wanted.split(b"\n")
+    left = [k for k, line in enumerate(lines) if line.endswith(b": not tried, a text is refused")]
+    if len(left) != 1 or len(lines) > len(rest):
+        return False
+    behind = len(lines) - left[0] - 1
+    return lines[:left[0]] == rest[:left[0]] and lines[left[0] + 1:] == rest[len(rest) - behind:]
+
+
 def try_calls(calls, refuser, crate):
     """Refuses requests of the calls of the libraries: whether each led to the answer, or to an error with nothing printed."""
     data = os.path.join(crate, "data")
@@ -226,16 +236,18 @@ def try_calls(calls, refuser, crate):
         return False
     ends = set(range(1, ENDS + 1)) | set(range(requests - ENDS + 1, requests + 1))
     chosen = sorted(n for n in ends | set(range(1, requests + 1, max(1, requests // BETWEEN))) if 1 <= n <= requests)
-    same, errors, odd = 0, 0, []
+    same, errors, left_out, odd = 0, 0, 0, []
     for call in chosen:
         status, out, _ = run_calls(calls, refuser, data, call)
         if (status, out) == (0, wanted):
             same += 1
         elif status != 0 and out == b"":
             errors += 1
+        elif status == 0 and has_left_out(out, wanted):
+            left_out += 1
         else:
             odd.append((call, status))
-    print(f"calls: {requests} requests, {len(chosen)} refused: {same} the answer, {errors} an error, {len(odd)} anything else")
+    print(f"calls: {requests} requests, {len(chosen)} refused: {same} the answer, {errors} an error, {left_out} one text not tried, {len(odd)} anything else")
     for call, status in odd:
         print(f"  request {call}: status {status}, and not what must stand", flush=True)
     return not odd
