@@ -22,7 +22,7 @@ from models import SIZES, make
 HERE = os.path.dirname(os.path.realpath(__file__))
 BPRICE = os.environ.get("BPRICE", f"{HERE}/../bprice")
 PLAIN = os.environ.get("PLAIN", "1") != "0"
-LIMIT = int(sys.argv[1]) if len(sys.argv) > 1 else 10
+LIMIT = int(sys.argv[1]) if len(sys.argv) > 1 and sys.argv[1].isdigit() else 10
 
 
 def run(words):
@@ -95,4 +95,7 @@ def main():
 
 
 if __name__ == "__main__":
+    if {"-h", "--help"} & set(sys.argv[1:]):
+        print(__doc__)
+        sys.exit()
     main()
