@@ -38,7 +38,7 @@ status: 0 done, 2 no command line, 3 a text is refused, 4 infeasible, 5 out of s
 ";
 
 // How far the commands' words reach in the list of them.
-const WIDTH: usize = 26;
+const WIDTH: usize = 28;
 
 /// What is wrong with words.
 #[derive(Clone, Copy, PartialEq, Eq)]

@@ -7,7 +7,7 @@ use std::test::Fail;
 /// was read first, and the one behind it, or dashes; the note. Bars end the lines of texts and notes; a star stands for
 /// the rest of a note.
 const CASES: &str = "\
-- @ 2 refused words @ - @ - @ usage: bprice COMMAND ..|  solve LP [..]           a best point, and a certificate of it|  check LP CERT [..]      whether*
+- @ 2 refused words @ - @ - @ usage: bprice COMMAND ..|  solve LP [..]             a best point, and a certificate of it|  check LP CERT [..]        whether*
 --help @ 2 refused words @ - @ - @ usage: bprice COMMAND ..|*
 help demo @ 2 refused words @ - @ - @ usage: bprice demo SEED SIZE|  makes one in memory, solves it, checks that|
 help show @ 2 refused words @ - @ - @ usage: bprice show LP [--dec DEC] [--blocks]|  the blocks, and which are identical|  --dec DEC      the decomposition of the model, as GCG DEC text|  --blocks       tell the rows and variables of each block|
