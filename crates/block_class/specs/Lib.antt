@@ -1,2 +1,3 @@
+-- Other crates cite Classes. The rest is for contracts here alone.
 pub mod Classes
 pub mod Signatures

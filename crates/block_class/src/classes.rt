@@ -39,7 +39,8 @@ impl Classes {
     pub fn of(alloc: Global, b: &Blocked, zone: &Zone) -> Result<Classes, AllocError>
         requires { IsZone b.now.named.program.spans zone.now }
         ensures classes { IfOk result (λ all. AreSameClasses zone.now b.now.blocking all) }
-        ensures shared { IfOk result (λ all. AreClasses zone.now b.now.blocking all.classes all.firsts) }
+        ensures shared { IfOk result (λ all. AreClasses zone.now b.now.blocking all.classes
+            all.firsts) }
     {
         let (classes, firsts) = grouped(alloc, b, zone)?;
         let members = members_of(alloc, classes.as_slice(), firsts.len())?;

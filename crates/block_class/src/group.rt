@@ -12,7 +12,8 @@ use std::alloc::{AllocError, Global};
 pub fn grouped(alloc: Global, b: &Blocked, zone: &Zone) -> Result<(Vec<u32>, Vec<u32>), AllocError>
     requires { IsZone b.now.named.program.spans zone.now }
     ensures few { IfOk result (λ g. (vec_len g.0 < 2 ^ 32) × (vec_len g.1 < 2 ^ 32)) }
-    ensures classes { IfOk result (λ g. AreSameClasses zone.now b.now.blocking (record { classes = g.0.items; firsts = g.1.items })) }
+    ensures classes { IfOk result (λ g. AreSameClasses zone.now b.now.blocking
+        (record { classes = g.0.items; firsts = g.1.items })) }
 {
     let mut signatures = Signatures::new(alloc);
     let mut classes = Vec::new(alloc);
@@ -28,7 +29,8 @@ pub fn grouped(alloc: Global, b: &Blocked, zone: &Zone) -> Result<(Vec<u32>, Vec
 
 // One number more where it is wanted.
 fn push_if(numbers: &mut Vec<u32>, number: u32, wanted: bool) -> Result<(), AllocError>
-    ensures { OnOk result (numbers.new.items ≡ (if wanted then numbers.old.items ++ number ∷ [] else numbers.old.items)) }
+    ensures { OnOk result (numbers.new.items ≡
+        (if wanted then numbers.old.items ++ number ∷ [] else numbers.old.items)) }
 {
     if wanted {
         numbers.push(number)?;

@@ -14,7 +14,8 @@ pub fn members_of(
 ) -> Result<Vec<Items<u32>>, AllocError>
     requires known { All (λ c. c < count) classes.now }
     requires few { length classes.now < 2 ^ 32 }
-    ensures { IfOk result (λ all. all.items ≡ map (members_of classes.now) (range_with_len 0 count)) }
+    ensures { IfOk result (λ all. all.items ≡ map (members_of classes.now)
+        (range_with_len 0 count)) }
 {
     let mut all = empty(alloc, count)?;
     for k in 0..classes.len() {
@@ -39,7 +40,8 @@ fn empty(alloc: Global, count: usize) -> Result<Vec<Items<u32>>, AllocError>
 fn push_member(all: &mut Vec<Items<u32>>, class: u32, block: u32) -> Result<(), AllocError>
     requires { class < vec_len all.old }
     ensures len { vec_len all.new ≡ vec_len all.old }
-    ensures pushed { OnOk result (all.new.items ≡ slice_set all.old.items class (slice_index_or all.old.items class [] ++ block ∷ [])) }
+    ensures pushed { OnOk result (all.new.items ≡ slice_set all.old.items class
+        (slice_index_or all.old.items class [] ++ block ∷ [])) }
 {
     all[class as usize].push(block)?;
     Ok(())

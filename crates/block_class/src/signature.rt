@@ -33,7 +33,8 @@ fn push_copy(
 ) -> Result<(), AllocError>
     requires place { place < length block.now.block.copies }
     requires below { All (λ (c : Copy). c.var < length zone.now) block.now.block.copies }
-    ensures { (d : Copy) → OnOk result (numbers.new.items ≡ numbers.old.items ++ copy_signature zone.now (slice_index_or block.now.block.copies place d)) }
+    ensures { (d : Copy) → OnOk result (numbers.new.items ≡ numbers.old.items ++
+        copy_signature zone.now (slice_index_or block.now.block.copies place d)) }
 {
     let span = zone.span(block.vars()[place as usize]);
     push_head(numbers, &block.costs()[place as usize], &span)?;
@@ -43,7 +44,8 @@ fn push_copy(
 
 // A copy's cost and its span.
 fn push_head(numbers: &mut Vec<i64>, cost: &i64, span: &Span) -> Result<(), AllocError>
-    ensures { OnOk result (numbers.new.items ≡ numbers.old.items ++ cost.now ∷ span.now.lo ∷ span.now.hi ∷ []) }
+    ensures { OnOk result (numbers.new.items ≡ numbers.old.items ++ cost.now ∷ span.now.lo ∷
+        span.now.hi ∷ []) }
 {
     numbers.push(*cost)?;
     numbers.push(span.lo)?;
@@ -64,7 +66,8 @@ fn push_coefs(numbers: &mut Vec<i64>, coefs: &[(u32, i64)]) -> Result<(), AllocE
 
 // A row's number and a coefficient.
 fn push_entry(numbers: &mut Vec<i64>, entry: &(u32, i64)) -> Result<(), AllocError>
-    ensures { OnOk result (numbers.new.items ≡ numbers.old.items ++ pos entry.now.0 ∷ entry.now.1 ∷ []) }
+    ensures { OnOk result (numbers.new.items ≡ numbers.old.items ++ pos entry.now.0 ∷
+        entry.now.1 ∷ []) }
 {
     numbers.push(i64::from(entry.0))?;
     numbers.push(entry.1)?;
@@ -94,7 +97,8 @@ fn push_terms(numbers: &mut Vec<i64>, terms: &[Term]) -> Result<(), AllocError>
 
 // A term's variable and its coefficient.
 fn push_term(numbers: &mut Vec<i64>, term: &Term) -> Result<(), AllocError>
-    ensures { OnOk result (numbers.new.items ≡ numbers.old.items ++ pos term.now.var ∷ term.now.coef ∷ []) }
+    ensures { OnOk result (numbers.new.items ≡ numbers.old.items ++ pos term.now.var ∷
+        term.now.coef ∷ []) }
 {
     numbers.push(i64::from(term.var))?;
     numbers.push(term.coef)?;

@@ -42,7 +42,8 @@ impl Signatures {
     pub fn add(&mut self, signature: Vec<i64>) -> Result<(u32, bool), AllocError>
         requires { length self.old + 1 < 2 ^ 32 }
         ensures number { IfOk result (λ added. slice_get self.new added.0 ≡ Some signature.items) }
-        ensures kept { IfOk result (λ added. MatchBool added.1 (self.new ≡ self.old ++ signature.items ∷ []) (self.new ≡ self.old)) }
+        ensures kept { IfOk result (λ added.
+            MatchBool added.1 (self.new ≡ self.old ++ signature.items ∷ []) (self.new ≡ self.old)) }
         ensures distinct { IfOk result (λ added. IsDistinct (pointwise int_eq) self.new) }
     {
         let (number, is_new) = self.table.insert_full(signature)?;

@@ -1,3 +1,4 @@
+-- Other crates cite Blocked, Stand, Gather and Checks. The rest are words of contracts here alone.
 pub mod Blocked
 pub mod Fitting
 pub mod Stand

@@ -34,7 +34,9 @@ pub fn home_blocks(
     requires tidy_costs { IsTidyFrom 0 costs.now }
     requires columns { AreColumns rows.now columns.now }
     requires each_column { length columns.now ≡ length spans.now }
-    ensures blocks { IfOk result (λ all. map (λ (k : RootBlock). k.block) all.items ≡ map (λ k. gathered costs.now rows.now places.now k (at_home k homes.now)) (range_with_len 0 blocks)) }
+    ensures blocks { IfOk result (λ all. map (λ (k : RootBlock). k.block) all.items ≡
+        map (λ k. gathered costs.now rows.now places.now k (at_home k homes.now))
+        (range_with_len 0 blocks)) }
     ensures spans { IfOk result (λ all. HaveRootSpans spans.now all.items) }
 {
     let mut all = Vec::new(alloc);
@@ -67,7 +69,9 @@ pub fn push_lone_blocks(
     requires columns { AreColumns rows.now columns.now }
     requires each_column { length columns.now ≡ length spans.now }
     requires spans { HaveRootSpans spans.now all.old.items }
-    ensures blocks { OnOk result (map (λ (k : RootBlock). k.block) all.new.items ≡ map (λ (k : RootBlock). k.block) all.old.items ++ map (λ v. gathered costs.now rows.now places.now blocks (v ∷ [])) (homeless homes.now)) }
+    ensures blocks { OnOk result (map (λ (k : RootBlock). k.block) all.new.items ≡
+        map (λ (k : RootBlock). k.block) all.old.items ++
+        map (λ v. gathered costs.now rows.now places.now blocks (v ∷ [])) (homeless homes.now)) }
     ensures spans { OnOk result (HaveRootSpans spans.now all.new.items) }
 {
     let lone = homeless(alloc, homes)?;
@@ -86,7 +90,8 @@ pub fn named_rows(
     rows: &[Row],
     places: &[Option<u32>],
 ) -> Result<Vec<Option<MasterRow>>, AllocError>
-    ensures { IfOk result (λ all. all.items ≡ map (λ e. named_sides e.0 e.1) (zip rows.now places.now)) }
+    ensures { IfOk result (λ all. all.items ≡ map (λ e. named_sides e.0 e.1)
+        (zip rows.now places.now)) }
 {
     rows.iter()
         .zip(places)
@@ -128,7 +133,8 @@ fn made_block(
     requires tidy_costs { IsTidyFrom 0 costs.now }
     requires columns { AreColumns rows.now columns.now }
     requires each_column { length columns.now ≡ length spans.now }
-    ensures block { IfOk result (λ made. made.block ≡ gathered costs.now rows.now places.now block vars.items) }
+    ensures block { IfOk result (λ made. made.block ≡ gathered costs.now rows.now places.now block
+        vars.items) }
     ensures spans { IfOk result (λ made. made.spans ≡ spans_of spans.now made.block) }
 {
     let root = vars_spans(alloc, vars.as_slice(), spans)?;
@@ -176,7 +182,8 @@ fn vars_masters(
     columns: &[Items<(u32, i64)>],
 ) -> Result<Vec<Items<(u32, i64)>>, AllocError>
     requires { All (λ v. v < length columns.now) vars.now }
-    ensures { IfOk result (λ all. all.items ≡ map (λ v. master_entries places.now (slice_index_or columns.now v [])) vars.now) }
+    ensures { IfOk result (λ all. all.items ≡
+        map (λ v. master_entries places.now (slice_index_or columns.now v [])) vars.now) }
 {
     let mut all = Vec::with_capacity(alloc, vars.len())?;
     for var in vars {

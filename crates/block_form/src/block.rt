@@ -43,7 +43,13 @@ impl Block {
         requires masters { length masters ≡ length vars }
         requires spans { length spans ≡ length vars }
         requires few { length vars < 2 ^ 32 }
-        ensures { result ≡ record { block = record { copies = copies_from vars costs masters; rows = rows }; spans = spans } }
+        ensures { result ≡ record {
+          block = record {
+            copies = copies_from vars costs masters;
+            rows = rows;
+          };
+          spans = spans;
+        } }
     {
         Block {
             vars,
@@ -90,7 +96,8 @@ impl Block {
         self.rows.as_slice()
     }
 
-    /// The coefficients of the variable at a place in the master rows: the rows' numbers, ascending, with coefficients that aren't 0.
+    /// The coefficients of the variable at a place in the master rows: the rows' numbers, ascending, with coefficients
+    /// that aren't 0.
     pub fn master(&self, place: u32) -> &[(u32, i64)]
         requires { place < length self.now.block.copies }
         ensures { (d : Copy) → result.now ≡ (slice_index_or self.now.block.copies place d).coefs }

@@ -49,7 +49,8 @@ impl Blocked {
         places: Items<(u32, u32)>,
     ) -> Blocked
         requires parts { AreParts model dec blocks rows }
-        requires places { ArePlaces (map (λ (k : RootBlock). k.block) blocks) (length model.program.spans) places }
+        requires places { ArePlaces (map (λ (k : RootBlock). k.block) blocks)
+            (length model.program.spans) places }
         ensures named { result.named ≡ model }
         ensures dec { result.dec ≡ dec }
         ensures formed { IsFormed result }
@@ -90,7 +91,8 @@ impl Blocked {
     /// A block.
     pub fn block(&self, number: u32) -> &Block
         requires { number < length self.now.blocking.blocks }
-        ensures block { (d : theory.Block) → result.now.block ≡ slice_index_or self.now.blocking.blocks number d }
+        ensures block { (d : theory.Block) →
+            result.now.block ≡ slice_index_or self.now.blocking.blocks number d }
         ensures spans { result.now.spans ≡ spans_of self.now.named.program.spans result.now.block }
     {
         &self.blocks.as_slice()[number as usize]

@@ -70,7 +70,8 @@ fn parts_of(
     requires places { HasPlaces model.now.program dec.now }
     requires listed { HasListed model.now.program dec.now }
     ensures parts { IfOk result (λ parts. AreParts model.now dec.now parts.0 parts.1) }
-    ensures placed { OnOk result (All (λ e. IsMisplaced model.now.program dec.now e → ⊥) dec.now.listed) }
+    ensures placed { OnOk result (All (λ e. IsMisplaced model.now.program dec.now e → ⊥)
+        dec.now.listed) }
     ensures fault { IfErr result (HasBlockFault model.now.program dec.now) }
 {
     let rows = model.all_rows();

@@ -15,7 +15,8 @@ pub fn columns_of(
     requires few { length rows.now < 2 ^ 32 }
     requires known { All (λ row. HasVariablesBelow vars row.terms) rows.now }
     ensures each { IfOk result (λ columns. vec_len columns ≡ vars) }
-    ensures columns { IfOk result (λ columns. (v : ℕ) → v < vars → slice_index_or columns.items v [] ≡ column_from 0 rows.now v) }
+    ensures columns { IfOk result (λ columns. (v : ℕ) → v < vars →
+        slice_index_or columns.items v [] ≡ column_from 0 rows.now v) }
 {
     let mut columns = empty_columns(alloc, vars as usize)?;
     for (number, row) in rows.iter().enumerate() {
@@ -45,7 +46,8 @@ fn add_terms(
     requires { HasVariablesBelow (vec_len columns.old) terms.now }
     ensures len { vec_len columns.new ≡ vec_len columns.old }
     ensures added { OnOk result ((v : ℕ) → v < vec_len columns.old →
-        slice_index_or columns.new.items v [] ≡ slice_index_or columns.old.items v [] ++ row_entries row v terms.now) }
+        slice_index_or columns.new.items v [] ≡ slice_index_or columns.old.items v [] ++
+        row_entries row v terms.now) }
 {
     for term in terms {
         add_term(columns, row, term)?;
@@ -58,7 +60,8 @@ fn add_term(columns: &mut Vec<Items<(u32, i64)>>, row: u32, term: &Term) -> Resu
     requires { term.now.var < vec_len columns.old }
     ensures len { vec_len columns.new ≡ vec_len columns.old }
     ensures added { OnOk result (columns.new.items ≡ slice_set columns.old.items term.now.var
-        (slice_index_or columns.old.items term.now.var [] ++ row_entries row term.now.var (term.now ∷ []))) }
+        (slice_index_or columns.old.items term.now.var [] ++ row_entries row term.now.var
+        (term.now ∷ []))) }
 {
     columns[term.var as usize].push((row, term.coef))?;
     Ok(())

@@ -39,7 +39,8 @@ pub fn homeless(alloc: Global, homes: &[Option<u32>]) -> Result<Vec<u32>, AllocE
 
 // One number more where it is wanted.
 fn push_if(numbers: &mut Vec<u32>, number: u32, wanted: bool) -> Result<(), AllocError>
-    ensures { OnOk result (numbers.new.items ≡ (if wanted then numbers.old.items ++ number ∷ [] else numbers.old.items)) }
+    ensures { OnOk result (numbers.new.items ≡
+        (if wanted then numbers.old.items ++ number ∷ [] else numbers.old.items)) }
 {
     if wanted {
         numbers.push(number)?;
@@ -87,7 +88,9 @@ fn push_placed_if(
 ) -> Result<(), AllocError>
     requires few { length vars.now < 2 ^ 32 }
     requires ascend { IsStrictlyIncreasing vars.now }
-    ensures { OnOk result (all.new.items ≡ (if wanted then all.old.items ++ row_with_places vars.now row.now ∷ [] else all.old.items)) }
+    ensures { OnOk result (all.new.items ≡
+        (if wanted then all.old.items ++ row_with_places vars.now row.now ∷
+        [] else all.old.items)) }
 {
     if wanted {
         let placed = placed_row(alloc, row, vars)?;
@@ -157,7 +160,8 @@ fn push_entry_if(
     entry: &(u32, i64),
     wanted: bool,
 ) -> Result<(), AllocError>
-    ensures { OnOk result (entries.new.items ≡ (if wanted then entries.old.items ++ entry.now ∷ [] else entries.old.items)) }
+    ensures { OnOk result (entries.new.items ≡
+        (if wanted then entries.old.items ++ entry.now ∷ [] else entries.old.items)) }
 {
     if wanted {
         entries.push(*entry)?;

@@ -22,8 +22,9 @@ pub fn homes_of(
     places: &[Option<u32>],
 ) -> Result<Vec<Option<u32>>, AllocError>
     ensures each { IfOk result (λ homes. length homes.items ≡ length columns.now) }
-    ensures homes { IfOk result (λ homes. (v : ℕ) → v < length columns.now
-        → ShowsHome places.now (slice_index_or columns.now v []) (slice_index_or homes.items v None)) }
+    ensures homes { IfOk result (λ homes. (v : ℕ) → v < length columns.now →
+        ShowsHome places.now (slice_index_or columns.now v [])
+        (slice_index_or homes.items v None)) }
 {
     let mut homes = Vec::with_capacity(alloc, columns.len())?;
     for v in 0..columns.len() {
@@ -46,7 +47,8 @@ fn home_of(column: &[(u32, i64)], places: &[Option<u32>]) -> Option<u32>
 /// another block.
 pub fn first_link(columns: &[Items<(u32, i64)>], places: &[Option<u32>]) -> Option<Link>
     requires { length columns.now < 2 ^ 32 }
-    ensures { MatchOption result ((v : ℕ) → v < length columns.now → IsOfOne places.now (slice_index_or columns.now v []))
+    ensures { MatchOption result ((v : ℕ) → v < length columns.now →
+        IsOfOne places.now (slice_index_or columns.now v []))
         (λ link. IsFirstCrossing places.now columns.now link.var link.row1 link.row2) }
 {
     for v in 0..columns.len() {
@@ -63,7 +65,8 @@ pub fn first_link(columns: &[Items<(u32, i64)>], places: &[Option<u32>]) -> Opti
 
 // The first row of a block in a column and the first of another block, if there are both.
 fn link_of(column: &[(u32, i64)], places: &[Option<u32>]) -> Option<(u32, u32)>
-    ensures { MatchOption result (IsOfOne places.now column.now) (λ link. IsCrossing places.now column.now link.0 link.1) }
+    ensures { MatchOption result (IsOfOne places.now column.now)
+        (λ link. IsCrossing places.now column.now link.0 link.1) }
 {
     let (row1, home) = first_placed(column, places)?;
     let row2 = first_else(column, places, home)?;
@@ -73,7 +76,8 @@ fn link_of(column: &[(u32, i64)], places: &[Option<u32>]) -> Option<(u32, u32)>
 /// The first listed variable whose home isn't that of its list.
 pub fn first_elsewhere(homes: &[Option<u32>], listed: &[(u32, Option<u32>)]) -> Option<u32>
     requires { All (λ e. e.0 < length homes.now) listed.now }
-    ensures { MatchOption result (All (λ e. IsElsewhere homes.now e → ⊥) listed.now) (λ v. IsFirstElsewhere homes.now listed.now v) }
+    ensures { MatchOption result (All (λ e. IsElsewhere homes.now e → ⊥) listed.now)
+        (λ v. IsFirstElsewhere homes.now listed.now v) }
 {
     for i in 0..listed.len() {
         if is_elsewhere(homes, &listed[i]) {
@@ -86,7 +90,8 @@ pub fn first_elsewhere(homes: &[Option<u32>], listed: &[(u32, Option<u32>)]) -> 
 // Whether a listed variable has its home elsewhere.
 fn is_elsewhere(homes: &[Option<u32>], entry: &(u32, Option<u32>)) -> bool
     requires { entry.now.0 < length homes.now }
-    ensures { MatchBool result (IsElsewhere homes.now entry.now) (IsElsewhere homes.now entry.now → ⊥) }
+    ensures { MatchBool result (IsElsewhere homes.now entry.now)
+        (IsElsewhere homes.now entry.now → ⊥) }
 {
     match homes[entry.0 as usize] {
         None => false,

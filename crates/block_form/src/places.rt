@@ -12,8 +12,10 @@ pub fn var_places(alloc: Global, vars: u32, blocks: &[Block]) -> Result<Vec<(u32
     requires few { length blocks.now < 2 ^ 32 }
     requires below { All (λ k. All (λ (c : Copy). c.var < vars) k.block.copies) blocks.now }
     ensures each { IfOk result (λ places. vec_len places ≡ vars) }
-    ensures places { IfOk result (λ places. (v : ℕ) (at : ℕ × ℕ) → v < vars → HasCopyAt (map (λ (k : RootBlock). k.block) blocks.now) v at
-        → HasCopyAt (map (λ (k : RootBlock). k.block) blocks.now) v (slice_index_or places.items v (0, 0))) }
+    ensures places { IfOk result (λ places. (v : ℕ) (at : ℕ × ℕ) → v < vars →
+        HasCopyAt (map (λ (k : RootBlock). k.block) blocks.now) v at →
+        HasCopyAt (map (λ (k : RootBlock). k.block) blocks.now) v
+        (slice_index_or places.items v (0, 0))) }
 {
     let mut places = Vec::from_elem(alloc, (0, 0), vars as usize)?;
     for k in 0..blocks.len() {
@@ -28,7 +30,9 @@ fn note(places: &mut Vec<(u32, u32)>, block: u32, vars: &[u32], count: u32)
     requires below { All (λ v. v < vec_len places.old) vars.now }
     requires count { count ≡ length vars.now }
     ensures each { vec_len places.new ≡ vec_len places.old }
-    ensures noted { (v : ℕ) → v < vec_len places.old → IsNoted block vars.now v (slice_index_or places.old.items v (0, 0)) (slice_index_or places.new.items v (0, 0)) }
+    ensures noted { (v : ℕ) → v < vec_len places.old →
+        IsNoted block vars.now v (slice_index_or places.old.items v (0, 0))
+        (slice_index_or places.new.items v (0, 0)) }
 {
     for i in 0..count {
         places[vars[i as usize] as usize] = (block, i);

@@ -75,7 +75,8 @@ impl Zone {
         requires { IsSoundSplit self.now var at }
         ensures low { IfOk result (λ parts. parts.0 ≡ low_part self.now var at) }
         ensures high { IfOk result (λ parts. parts.1 ≡ high_part self.now var at) }
-        ensures zones { (root : List Span) → IsZone root self.now → IfOk result (λ parts. IsZone root parts.0 × IsZone root parts.1) }
+        ensures zones { (root : List Span) → IsZone root self.now →
+            IfOk result (λ parts. IsZone root parts.0 × IsZone root parts.1) }
     {
         let low = self.copy(alloc)?.into_low(var, &at);
         let high = self.copy(alloc)?.into_high(var, &at);

@@ -1,5 +1,6 @@
 -- What a crew is at one moment, what it keeps, and what each of its calls does.
 use Rattle.std.specs.Prelude.{◌≡◌, ◌+◌, ◌<◌, ◌≤◌, ◌^◌, ℕ, List, [], ◌∷◌, ◌++◌, map, Option, Some, None, option_map, is_some, IfSome, unsigned_abs, slice_index_or, slice_set, replicate, count_by, refl}
+use Rattle.bp_theory.specs.Limits.{number_limit}
 use Rattle.std.specs.Coded.{Coded, code_by, coded×, coded_list, coded_option}
 use Rattle.block_form.specs.Blocked.{BlockedProgram, IsFormed}
 use Rattle.search_laws.specs.declared.Event.{Event}
@@ -46,7 +47,7 @@ pub record IsCrewOf (b : BlockedProgram) (s : CrewState) : Type 0 where
   pub running : IsRunning b s.grove s.best
   pub crew : IsCrew b.named.program b.blocking (crew_of s)
   pub turns : (worker : ℕ) (hand : Hand) → hand_of s worker ≡ Some hand → IsLiveTurn s.grove hand.turn
-  pub small : (worker : ℕ) (hand : Hand) → hand_of s worker ≡ Some hand → IfSome hand.given (λ z. unsigned_abs z < 2 ^ 62)
+  pub small : (worker : ℕ) (hand : Hand) → hand_of s worker ≡ Some hand → IfSome hand.given (λ z. unsigned_abs z < number_limit)
 
 -- a crew of a program in blocks, whichever it is
 abbrev pub IsSomeCrew : CrewState → Type 0

@@ -1,1 +1,2 @@
+-- Other crates cite Generator.
 pub mod Generator

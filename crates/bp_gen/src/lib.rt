@@ -79,7 +79,8 @@ fn push_term(
 ) -> Result<(), AllocError>
     requires agent { agent < 4 }
     requires job { job < 1024 }
-    ensures { OnOk result (text.new.items ≡ text.old.items ++ (plus_before before ++ product number agent job)) }
+    ensures { OnOk result (text.new.items ≡ text.old.items ++
+        (plus_before before ++ product number agent job)) }
 {
     push_plus(text, before)?;
     push_number(text, number)?;
@@ -110,7 +111,8 @@ fn push_costs(
 fn push_objective(text: &mut Vec<u8>, costs: &[u64], size: usize) -> Result<(), AllocError>
     requires size { size ≤ 1024 }
     requires each { length costs.now ≡ 4 * size }
-    ensures { OnOk result (text.new.items ≡ text.old.items ++ flat_map (cost_terms costs.now size) (range_with_len 0 4)) }
+    ensures { OnOk result (text.new.items ≡ text.old.items ++ flat_map (cost_terms costs.now size)
+        (range_with_len 0 4)) }
 {
     for agent in 0..AGENTS {
         push_costs(text, costs, size, agent)?;
@@ -121,7 +123,8 @@ fn push_objective(text: &mut Vec<u8>, costs: &[u64], size: usize) -> Result<(), 
 /// Adds a job's variable of each agent, with a plus between them.
 fn push_choices(text: &mut Vec<u8>, job: usize) -> Result<(), AllocError>
     requires { job < 1024 }
-    ensures { OnOk result (text.new.items ≡ text.old.items ++ flat_map (choice job) (range_with_len 0 4)) }
+    ensures { OnOk result (text.new.items ≡ text.old.items ++ flat_map (choice job)
+        (range_with_len 0 4)) }
 {
     for agent in 0..AGENTS {
         push_plus(text, agent)?;
@@ -145,7 +148,8 @@ fn push_job_line(text: &mut Vec<u8>, job: usize) -> Result<(), AllocError>
 /// Adds the rows of all jobs.
 fn push_job_lines(text: &mut Vec<u8>, size: usize) -> Result<(), AllocError>
     requires { size ≤ 1024 }
-    ensures { OnOk result (text.new.items ≡ text.old.items ++ flat_map job_line (range_with_len 0 size)) }
+    ensures { OnOk result (text.new.items ≡ text.old.items ++
+        flat_map job_line (range_with_len 0 size)) }
 {
     for job in 0..size {
         push_job_line(text, job)?;
@@ -201,7 +205,8 @@ fn push_capacity_line(
     requires size { size ≤ 1024 }
     requires each { length weights.now ≡ 4 * size }
     requires small { All (λ w. w ≤ 25) weights.now }
-    ensures { OnOk result (text.new.items ≡ text.old.items ++ capacity_line weights.now size agent) }
+    ensures { OnOk result (text.new.items ≡ text.old.items ++ capacity_line weights.now
+        size agent) }
 {
     text.extend_from_slice(b" cap")?;
     push_number(text, agent as u64 + 1)?;
@@ -217,7 +222,8 @@ fn push_capacity_lines(text: &mut Vec<u8>, weights: &[u64], size: usize) -> Resu
     requires size { size ≤ 1024 }
     requires each { length weights.now ≡ 4 * size }
     requires small { All (λ w. w ≤ 25) weights.now }
-    ensures { OnOk result (text.new.items ≡ text.old.items ++ flat_map (capacity_line weights.now size) (range_with_len 0 4)) }
+    ensures { OnOk result (text.new.items ≡ text.old.items ++
+        flat_map (capacity_line weights.now size) (range_with_len 0 4)) }
 {
     for agent in 0..AGENTS {
         push_capacity_line(text, weights, size, agent)?;
@@ -229,7 +235,8 @@ fn push_capacity_lines(text: &mut Vec<u8>, weights: &[u64], size: usize) -> Resu
 fn push_names(text: &mut Vec<u8>, size: usize, agent: usize) -> Result<(), AllocError>
     requires agent { agent < 4 }
     requires size { size ≤ 1024 }
-    ensures { OnOk result (text.new.items ≡ text.old.items ++ flat_map (spaced agent) (range_with_len 0 size)) }
+    ensures { OnOk result (text.new.items ≡ text.old.items ++ flat_map (spaced agent)
+        (range_with_len 0 size)) }
 {
     for job in 0..size {
         text.extend_from_slice(b" ")?;
@@ -251,7 +258,8 @@ fn push_names_line(text: &mut Vec<u8>, size: usize, agent: usize) -> Result<(), 
 /// Adds the lines of all agents' variables.
 fn push_names_lines(text: &mut Vec<u8>, size: usize) -> Result<(), AllocError>
     requires { size ≤ 1024 }
-    ensures { OnOk result (text.new.items ≡ text.old.items ++ flat_map (names_line size) (range_with_len 0 4)) }
+    ensures { OnOk result (text.new.items ≡ text.old.items ++ flat_map (names_line size)
+        (range_with_len 0 4)) }
 {
     for agent in 0..AGENTS {
         push_names_line(text, size, agent)?;
@@ -292,7 +300,8 @@ fn push_block(text: &mut Vec<u8>, agent: usize) -> Result<(), AllocError>
 
 /// Adds all agents' blocks.
 fn push_blocks(text: &mut Vec<u8>) -> Result<(), AllocError>
-    ensures { OnOk result (text.new.items ≡ text.old.items ++ flat_map block_lines (range_with_len 0 4)) }
+    ensures { OnOk result (text.new.items ≡ text.old.items ++ flat_map block_lines
+        (range_with_len 0 4)) }
 {
     for agent in 0..AGENTS {
         push_block(text, agent)?;
@@ -303,7 +312,8 @@ fn push_blocks(text: &mut Vec<u8>) -> Result<(), AllocError>
 /// Adds the names of the jobs' rows.
 fn push_masters(text: &mut Vec<u8>, size: usize) -> Result<(), AllocError>
     requires { size ≤ 1024 }
-    ensures { OnOk result (text.new.items ≡ text.old.items ++ flat_map master_line (range_with_len 0 size)) }
+    ensures { OnOk result (text.new.items ≡ text.old.items ++ flat_map master_line
+        (range_with_len 0 size)) }
 {
     for job in 0..size {
         text.extend_from_slice(b"job")?;

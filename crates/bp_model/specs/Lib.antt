@@ -1,3 +1,4 @@
+-- Other crates cite all of these.
 pub mod Named
 pub mod Parts
 pub mod Miss

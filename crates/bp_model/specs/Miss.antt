@@ -1,5 +1,6 @@
 -- What is wrong with a point, first.
 use Rattle.std.specs.Prelude.{◌≡◌, ◌≢◌, ℕ, ◌<◌, ◌^◌, unsigned_abs, sum_by, List, length, ℤ, ◌*ℤ◌, All, slice_index_or}
+use Rattle.bp_theory.specs.Limits.{number_limit}
 use Rattle.bp_theory.specs.Program.{Program, value_at, span_at, IsWithin, IsInside, MeetsRow}
 use Rattle.bp_theory.specs.Decomposition.{HasVariablesBelow}
 use Rattle.bp_theory.specs.declared.Span.{Span}
@@ -29,4 +30,4 @@ IsFirstMiss p x (Row row) = IsInside p.spans x × IsFirstMissed p.rows x row
 -- terms name numbers of a point, and their sum there has fewer than 63 bits
 pub record CanSum (x : List ℤ) (terms : List Term) : Type 0 where
   pub below : HasVariablesBelow (length x) terms
-  pub small : sum_by (λ t. unsigned_abs (t.coef *ℤ value_at x t.var)) terms < 2 ^ 62
+  pub small : sum_by (λ t. unsigned_abs (t.coef *ℤ value_at x t.var)) terms < number_limit

@@ -1,6 +1,6 @@
 -- Programs with the names of their variables and rows, and what a model keeps of one.
 use Rattle.std.specs.Prelude.{◌≡◌, ℕ, ◌+◌, ◌*◌, ◌<◌, ◌≤◌, ◌^◌, unsigned_abs, sum_by, List, length, ℤ, All}
-use Rattle.bp_theory.specs.Limits.{most_digits, most_rows, most_variables}
+use Rattle.bp_theory.specs.Limits.{most_digits, most_rows, most_variables, number_limit}
 use Rattle.std.specs.List.{IsDistinct}
 use Rattle.std.specs.Str.{bytes_eq}
 use Rattle.bp_theory.specs.Program.{Program, KeepsActivity, span_at, reach}
@@ -21,8 +21,8 @@ cost_limit p = unsigned_abs p.constant + sum_by (λ t. unsigned_abs t.coef * rea
 
 -- both ends of a span are numbers of texts
 pub record HasSmallEnds (s : Span) : Type 0 where
-  pub lo : unsigned_abs s.lo < 2 ^ 62
-  pub hi : unsigned_abs s.hi < 2 ^ 62
+  pub lo : unsigned_abs s.lo < number_limit
+  pub hi : unsigned_abs s.hi < number_limit
 
 -- what a model keeps: each variable and row has a name of its own, terms are summed, in order and without zeros,
 -- spans have numbers, and all limits hold
@@ -39,5 +39,5 @@ pub record IsKept (m : NamedProgram) : Type 0 where
   pub closed : IsClosed m.program
   pub tidy_costs : IsTidyFrom 0 m.program.costs
   pub tidy_rows : All (λ row. IsTidyFrom 0 row.terms) m.program.rows
-  pub cost_activity : cost_limit m.program < 2 ^ 62
+  pub cost_activity : cost_limit m.program < number_limit
   pub row_activity : All (KeepsActivity m.program) m.program.rows

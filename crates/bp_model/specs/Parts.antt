@@ -1,6 +1,6 @@
 -- What a model is made of, and what it is refused for.
 use Rattle.std.specs.Prelude.{◌≡◌, ℕ, ◌+◌, ◌<◌, ◌≤◌, ◌^◌, unsigned_abs, sum_by, Bool, List, length, ℤ, pos, ◌≤ℤ◌, ◌<ℤ◌, All, Option, None, Some, slice_index_or}
-use Rattle.bp_theory.specs.Limits.{most_digits, most_rows, most_terms, most_variables}
+use Rattle.bp_theory.specs.Limits.{most_digits, most_rows, most_terms, most_variables, number_limit}
 use Rattle.std.specs.List.{AllZip}
 use Rattle.bp_theory.specs.Program.{Program, coefficient, span_at, KeepsActivity}
 use Rattle.bp_theory.specs.Decomposition.{HasVariablesBelow, IsTidyFrom}
@@ -86,12 +86,12 @@ HasModelFault parts (Crossed v) = IsFirstCrossed parts.spans v
 HasModelFault parts Bits = NoneCrossed parts.spans × (most_digits < zone_bits parts.spans)
 HasModelFault parts (Activity None) =
     NoneCrossed parts.spans × (zone_bits parts.spans ≤ most_digits)
-    × ((m : NamedProgram) × Makes parts m × (2 ^ 62 ≤ cost_limit m.program))
+    × ((m : NamedProgram) × Makes parts m × (number_limit ≤ cost_limit m.program))
 HasModelFault parts (Activity (Some row)) =
     NoneCrossed parts.spans × (zone_bits parts.spans ≤ most_digits)
-    × ((m : NamedProgram) × Makes parts m × (cost_limit m.program < 2 ^ 62) × IsFirstLarge m.program row)
+    × ((m : NamedProgram) × Makes parts m × (cost_limit m.program < number_limit) × IsFirstLarge m.program row)
 HasModelFault parts Limit =
     NoneCrossed parts.spans × (zone_bits parts.spans ≤ most_digits)
-    × ((m : NamedProgram) × Makes parts m × (cost_limit m.program < 2 ^ 62) × All (KeepsActivity m.program) m.program.rows)
+    × ((m : NamedProgram) × Makes parts m × (cost_limit m.program < number_limit) × All (KeepsActivity m.program) m.program.rows)
     × IsOverLimit parts
 HasModelFault parts NoMemory = Unit {0}

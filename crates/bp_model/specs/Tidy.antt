@@ -1,6 +1,6 @@
 -- Terms added up: sums by variable, their limits at spans, and what the steps of making a model tell.
 use Rattle.std.specs.Prelude.{◌≡◌, ℕ, ◌+◌, ◌*◌, ◌<◌, ◌≤◌, ◌^◌, unsigned_abs, sum_by, max, not, List, map, filter, take, length, ℤ, pos, All, Option, None, Some, slice_index_or}
-use Rattle.bp_theory.specs.Limits.{most_digits}
+use Rattle.bp_theory.specs.Limits.{most_digits, number_limit}
 use Rattle.std.specs.List.{AllZip}
 use Rattle.std.specs.Ordering.{int_eq}
 use Rattle.bp_theory.specs.Program.{span_at, reach}
@@ -34,12 +34,12 @@ pair_limit spans sums = sum_by (λ e. unsigned_abs e.1 * reach (span_at spans e.
 pub record IsLarge (spans : List Span) (base : ℕ) (terms : List Term) : Type 0 where
   pub sums : List Term
   pub tidied : IsTidied terms sums
-  pub large : 2 ^ 62 ≤ base + sum_limit spans sums
+  pub large : number_limit ≤ base + sum_limit spans sums
 
 -- the added terms, which together with a magnitude stay within 62 bits
 pub record IsSmall (spans : List Span) (base : ℕ) (terms sums : List Term) : Type 0 where
   pub tidied : IsTidied terms sums
-  pub small : base + sum_limit spans sums < 2 ^ 62
+  pub small : base + sum_limit spans sums < number_limit
 
 -- the greater magnitude of a row's sides
 abbrev pub row_base : Row → ℕ
@@ -48,7 +48,7 @@ row_base row = max (unsigned_abs row.low) (unsigned_abs row.rhs)
 -- a row with its terms added up, which stays within 62 bits
 pub record IsSmallRow (spans : List Span) (row tidy : Row) : Type 0 where
   pub tidied : IsTidiedRow row tidy
-  pub small : row_base tidy + sum_limit spans tidy.terms < 2 ^ 62
+  pub small : row_base tidy + sum_limit spans tidy.terms < number_limit
 
 -- the first row whose sums may leave 62 bits, with the rows before it added up
 pub record IsLargeAt (spans : List Span) (rows : List Row) (row : ℕ) : Type 0 where

@@ -74,6 +74,7 @@ impl Model {
         ensures value { result ≡ assembled parts costs rows }
         ensures kept { IsKept result }
     {
+        // For the proof alone: how many names there can be.
         let _ = parts.names.len();
         let _ = parts.row_names.len();
         let constant = small(&parts.constant);

@@ -74,7 +74,8 @@ impl Names {
     pub fn add(&mut self, alloc: Global, name: &str) -> Result<(u32, bool), AllocError>
         requires { length self.old + 1 < 2 ^ 32 }
         ensures number { IfOk result (λ added. slice_get self.new added.0 ≡ Some name.now) }
-        ensures names { IfOk result (λ added. MatchBool added.1 (self.new ≡ self.old ++ name.now ∷ []) (self.new ≡ self.old)) }
+        ensures names { IfOk result (λ added.
+            MatchBool added.1 (self.new ≡ self.old ++ name.now ∷ []) (self.new ≡ self.old)) }
         ensures is_new { IfOk result (λ added. IsTrue added.1 ↔ (¬ (Contains self.old name.now))) }
         ensures err { OnErr result (self.new ≡ self.old) }
     {

@@ -46,7 +46,8 @@ pub fn meets(row: &Row, sum: i128) -> bool
 pub fn first_outside(spans: &[Span], point: &[i64]) -> Option<u32>
     requires each { length point.now ≡ length spans.now }
     requires few { length spans.now < 2 ^ 32 }
-    ensures { MatchOption result (IsInside spans.now point.now) (IsFirstOutside spans.now point.now) }
+    ensures { MatchOption result (IsInside spans.now point.now)
+        (IsFirstOutside spans.now point.now) }
 {
     for i in 0..spans.len() {
         if !is_within(&spans[i], &point[i]) {
@@ -60,7 +61,8 @@ pub fn first_outside(spans: &[Span], point: &[i64]) -> Option<u32>
 pub fn first_missed(rows: &[Row], point: &[i64]) -> Option<u32>
     requires few { length rows.now < 2 ^ 32 }
     requires sums { All (λ row. CanSum point.now row.terms) rows.now }
-    ensures { MatchOption result (All (MeetsRow point.now) rows.now) (IsFirstMissed rows.now point.now) }
+    ensures { MatchOption result (All (MeetsRow point.now) rows.now)
+        (IsFirstMissed rows.now point.now) }
 {
     for i in 0..rows.len() {
         if !meets_row(&rows[i], point) {

@@ -62,7 +62,8 @@ pub fn tidied_rows(alloc: Global, rows: &[Row], spans: &[Span]) -> Result<Items<
 fn tidied_row(alloc: Global, row: &Row, spans: &[Span]) -> Result<Option<Row>, AllocError>
     requires few { length row.now.terms < 2 ^ 32 }
     requires below { HasVariablesBelow (length spans.now) row.now.terms }
-    ensures { IfOk result (λ tidy. MatchOption tidy (IsLarge spans.now (row_base row.now) row.now.terms) (IsSmallRow spans.now row.now)) }
+    ensures { IfOk result (λ tidy. MatchOption tidy
+        (IsLarge spans.now (row_base row.now) row.now.terms) (IsSmallRow spans.now row.now)) }
 {
     let base = row.low.unsigned_abs().max(row.rhs.unsigned_abs());
     let Some(terms) = tidied(alloc, u128::from(base), row.terms.as_slice(), spans)? else {
@@ -85,7 +86,8 @@ fn tidied(
 ) -> Result<Option<Items<Term>>, AllocError>
     requires few { length terms.now < 2 ^ 32 }
     requires below { HasVariablesBelow (length spans.now) terms.now }
-    ensures { IfOk result (λ tidy. MatchOption tidy (IsLarge spans.now base terms.now) (IsSmall spans.now base terms.now)) }
+    ensures { IfOk result (λ tidy. MatchOption tidy (IsLarge spans.now base terms.now)
+        (IsSmall spans.now base terms.now)) }
 {
     let sums = sums_of(alloc, terms)?;
     if !fits(base, sums.as_slice(), spans) {
@@ -107,7 +109,8 @@ fn sums_of(alloc: Global, terms: &[Term]) -> Result<Vec<(u32, i128)>, AllocError
 // The sums of terms by variable.
 fn added(alloc: Global, terms: &[Term]) -> Result<BTreeMap<u32, i128>, AllocError>
     requires { length terms.now < 2 ^ 32 }
-    ensures sums { IfOk result (λ sums. (v : ℕ) → unwrap_or (get nat_cmp sums v) (pos 0) ≡ coefficient terms.now v) }
+    ensures sums { IfOk result (λ sums. (v : ℕ) → unwrap_or (get nat_cmp sums v) (pos 0) ≡
+        coefficient terms.now v) }
     ensures ordered { IfOk result (IsOrdered nat_cmp) }
 {
     let mut sums = BTreeMap::new(alloc);

@@ -9,7 +9,8 @@ use std::io::Read;
 // it, those that come next, and fewer than the buffer holds only at its end.
 pub(crate) fn fill<F: Read>(file: &mut F, into: &mut [u8]) -> io::Result<usize>
     ensures count { IfOk result (λ count. count ≤ length into.old) }
-    ensures bytes { IfOk result (λ count. Consumes (F.remaining file.old) (F.remaining file.new) (take count into.new)) }
+    ensures bytes { IfOk result (λ count. Consumes (F.remaining file.old) (F.remaining file.new)
+        (take count into.new)) }
     ensures end { IfOk result (λ count. count < length into.old → IsAtEnd (F.remaining file.new)) }
 {
     let mut count = 0;

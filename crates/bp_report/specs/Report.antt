@@ -1,5 +1,6 @@
 -- The bytes of reports: lines of words with single spaces between, each line ended by one line feed.
 use Rattle.std.specs.Prelude.{ℕ, ◌+◌, nat_lt, Bool, if◌then◌else◌, option_map, map, filter, slice_index_or, length, count_by, is_none, List, [], ◌∷◌, ◌++◌, Option, Some, None, ℤ, codes, decimal}
+use Rattle.bp_theory.specs.Limits.{demo_steps}
 use Rattle.std.specs.Fmt.{signed_decimal}
 use Rattle.std.specs.List.{range_with_len, flat_map}
 use Rattle.std.specs.Option.{ForSome}
@@ -227,4 +228,4 @@ demo_line seed size = codes "demo " ++ decimal seed ++ codes " " ++ decimal size
 
 -- the report on such a program: the search is given 2,000 steps, and its point is left out
 abbrev pub demo_report : (seed size : ℕ) → NamedProgram → Outcome → Judged → List ℕ
-demo_report seed size m o j = demo_line seed size ++ outcome_lines m 2000 o ++ check_report j
+demo_report seed size m o j = demo_line seed size ++ outcome_lines m demo_steps o ++ check_report j

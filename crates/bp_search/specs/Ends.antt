@@ -1,5 +1,6 @@
 -- How a search may end.
 use Rattle.std.specs.Prelude.{◌≡◌, ℕ, ◌+◌, ◌<◌, ◌≤◌, ◌^◌, List, [], ◌++◌, Option, Some, None, option_map, option_to_list, IfSome, ℤ, ◌≤ℤ◌}
+use Rattle.bp_theory.specs.Limits.{untold_steps}
 use Rattle.bp_theory.specs.Program.{IsFeasible, IsBest, cost}
 use Rattle.bp_theory.specs.Trees.{steps}
 use Rattle.bp_theory.specs.Claims.{IsCertified}
@@ -16,7 +17,7 @@ use Rattle.bp_search.specs.Searches.{kept_cost, as_pair}
 
 -- the number of steps: 2 to the 60 where none is given
 abbrev pub most_steps : Option ℕ → ℕ
-most_steps None = 2 ^ 60
+most_steps None = untold_steps
 most_steps (Some n) = n
 
 -- a tree that was searched for no more than so many steps: its depth is at most 8,256, its shut leaves are settled against the

@@ -1,6 +1,6 @@
 -- The weak Lagrangian bound of a proof in a zone.
 use Rattle.std.specs.Prelude.{◌≡◌, ◌≢◌, ◌≤◌, ◌^◌, IsSome, unsigned_abs, ℕ, zero, suc, ◌<◌, Bool, true, IsTrue, List, [], ◌∷◌, map, length, Option, Some, None, ℤ, pos, negsuc, ◌+ℤ◌, ◌-ℤ◌, ◌*ℤ◌, ◌<ℤ◌, ◌≤ℤ◌, ◌==◌, if◌then◌else◌, slice_index_or, All}
-use Rattle.bp_theory.specs.Limits.{greatest_scale}
+use Rattle.bp_theory.specs.Limits.{greatest_multiplier, greatest_scale}
 use Rattle.std.specs.List.{list_any}
 use Rattle.std.specs.Int.{int_min}
 use Rattle.std.specs.List.Sorted.{IsStrictlyIncreasing}
@@ -119,7 +119,7 @@ ArePicked blocks (These ks) = IsStrictlyIncreasing ks × All (λ k. k < blocks) 
 -- a proof keeps the limits, and names rows that proofs may name and blocks that are there, each once and in order
 pub record Fits (b : Blocking) (proof : Proof) : Type 0 where
   pub scale : proof.scale ≤ greatest_scale
-  pub sizes : All (λ m. unsigned_abs m.1 ≤ 2 ^ 40) proof.mults
+  pub sizes : All (λ m. unsigned_abs m.1 ≤ greatest_multiplier) proof.mults
   pub nonzero : All (λ m. m.1 ≢ pos 0) proof.mults
   pub rows : All (λ m. IsSome (row_at b m.0)) proof.mults
   pub ascend : IsStrictlyIncreasing (map (λ m. m.0) proof.mults)

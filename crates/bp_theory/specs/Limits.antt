@@ -36,3 +36,35 @@ greatest_depth = 8256
 -- the greatest scale of a proof
 abbrev pub greatest_scale : ℕ
 greatest_scale = 2 ^ 20
+
+-- what the size of a number of a model stays below
+abbrev pub number_limit : ℕ
+number_limit = 2 ^ 62
+
+-- the greatest size of a proof's multiplier
+abbrev pub greatest_multiplier : ℕ
+greatest_multiplier = 2 ^ 40
+
+-- the greatest size of the costs that a block is priced by, over all of its spans
+abbrev pub price_limit : ℕ
+price_limit = 2 ^ 116
+
+-- the greatest weight of a column, and of a class's columns together
+abbrev pub greatest_weight : ℕ
+greatest_weight = 2 ^ 33
+
+-- the most columns that are kept of a block, and that a restricted master has
+abbrev pub most_columns : ℕ
+most_columns = 65536
+
+-- the most bytes of a model's or a decomposition's text
+abbrev pub most_bytes : ℕ
+most_bytes = 2 ^ 24
+
+-- the most steps of a search that is told no number of them
+abbrev pub untold_steps : ℕ
+untold_steps = 2 ^ 60
+
+-- the most steps of each search of the demonstration
+abbrev pub demo_steps : ℕ
+demo_steps = 2000

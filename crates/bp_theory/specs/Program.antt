@@ -1,5 +1,6 @@
 -- Bounded integer programs: spans, rows, points and costs.
 use Rattle.std.specs.Prelude.{ℕ, ◌+◌, ◌*◌, ◌^◌, ◌<◌, max, unsigned_abs, sum_by, Bool, List, ℤ, pos, neg_ℤ, ◌+ℤ◌, ◌*ℤ◌, ◌≤ℤ◌, if◌then◌else◌, slice_index_or, All}
+use Rattle.bp_theory.specs.Limits.{number_limit}
 use Rattle.std.specs.List.{AllZip}
 use Rattle.bp_theory.specs.Sums.{sum_of, sum_at}
 use Rattle.bp_theory.specs.declared.Span.{Span}
@@ -85,4 +86,4 @@ activity_limit p row =
 
 -- a row's sums stay below 2 to the 62
 abbrev pub KeepsActivity : Program → Row → Type 0
-KeepsActivity p row = activity_limit p row < 2 ^ 62
+KeepsActivity p row = activity_limit p row < number_limit

@@ -1,2 +1,3 @@
+-- Other crates cite all of these.
 pub mod CommandLine
 pub mod Orders

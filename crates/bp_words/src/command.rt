@@ -205,7 +205,12 @@ fn migrate_command<'a>(alloc: Global) -> Result<Command<'a>, AllocError>
 
 // A number that must be given, by its place.
 fn number_word<'a>(alloc: Global, id: &'a str, low: u64, high: u64) -> Arg<'a>
-    ensures rule { rule_of result ≡ record (new_rule id.entry.now) { required = true; parser = Some (ValueParser.Unsigned low high) } }
+    ensures rule { rule_of result ≡
+        record (new_rule id.entry.now) {
+          required = true;
+          parser = Some
+              (ValueParser.Unsigned low high);
+        } }
     ensures local { result.global ≡ false }
 {
     Arg::new(alloc, id)
@@ -215,7 +220,12 @@ fn number_word<'a>(alloc: Global, id: &'a str, low: u64, high: u64) -> Arg<'a>
 
 // A number that may be given behind `--` and a word.
 fn number_option<'a>(alloc: Global, id: &'a str, low: u64, high: u64) -> Arg<'a>
-    ensures rule { rule_of result ≡ record (new_rule id.entry.now) { long = Some id.entry.now; parser = Some (ValueParser.Unsigned low high) } }
+    ensures rule { rule_of result ≡
+        record (new_rule id.entry.now) {
+          long = Some id.entry.now;
+          parser = Some
+              (ValueParser.Unsigned low high);
+        } }
     ensures local { result.global ≡ false }
 {
     Arg::new(alloc, id)
@@ -241,7 +251,12 @@ fn file_option<'a>(alloc: Global, id: &'a str) -> Arg<'a>
 
 // A flag behind `--`.
 fn flag<'a>(alloc: Global, id: &'a str) -> Arg<'a>
-    ensures rule { rule_of result ≡ record (new_rule id.entry.now) { long = Some id.entry.now; action = Some ArgAction.SetTrue } }
+    ensures rule { rule_of result ≡
+        record (new_rule id.entry.now) {
+          long = Some id.entry.now;
+          action = Some
+              ArgAction.SetTrue;
+        } }
     ensures local { result.global ≡ false }
 {
     Arg::new(alloc, id).long(id).action(ArgAction::SetTrue)

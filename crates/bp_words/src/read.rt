@@ -13,8 +13,8 @@ use clap::error::ErrorKind;
 use std::alloc::{AllocError, Global};
 
 /// The order that words give, the program's name first. They are refused exactly where the command finds a fault in
-/// them, as the crate that reads words states for such a command, or where they name a leaf without a certificate to go on from
-/// or beside a crew; and the files and numbers are those that it states.
+/// them, as the crate that reads words states for such a command, or where they name a leaf without a certificate to go
+/// on from or beside a crew; and the files and numbers are those that it states.
 pub fn read_words(alloc: Global, words: &[String]) -> Result<Order, WordFault>
     ensures order { IfOk result (IsOrderOf (map string_bytes words.now)) }
     ensures range { IfOk result IsInRange }
@@ -232,7 +232,8 @@ fn migrate_order(alloc: Global, migrate: &ArgMatches) -> Result<Order, WordFault
 
 // The number of an argument.
 fn number(matches: &ArgMatches, id: &str, low: u64, high: u64) -> Result<u64, WordFault>
-    ensures number { IfOk result (HasNumber (first_of id.now (rows_of (found_of matches.now))) low high) }
+    ensures number { IfOk result (HasNumber (first_of id.now (rows_of (found_of matches.now)))
+        low high) }
     ensures refused { result ≡ Err WordFault.Refused →
         (n : ℕ) → HasNumber (first_of id.now (rows_of (found_of matches.now))) low high n → ⊥ }
 {
@@ -246,9 +247,10 @@ fn optional_number(
     low: u64,
     high: u64,
 ) -> Result<Option<u64>, WordFault>
-    ensures number { IfOk result (MayHaveNumber (first_of id.now (rows_of (found_of matches.now))) low high) }
-    ensures refused { result ≡ Err WordFault.Refused →
-        (n : Option ℕ) → MayHaveNumber (first_of id.now (rows_of (found_of matches.now))) low high n → ⊥ }
+    ensures number { IfOk result (MayHaveNumber (first_of id.now (rows_of (found_of matches.now)))
+        low high) }
+    ensures refused { result ≡ Err WordFault.Refused → (n : Option ℕ) →
+        MayHaveNumber (first_of id.now (rows_of (found_of matches.now))) low high n → ⊥ }
 {
     match value_of(matches, id) {
         Some(text) => match number_in(text, low, high) {
@@ -267,9 +269,10 @@ fn optional_count(
     high: u64,
 ) -> Result<Option<u32>, WordFault>
     requires { high < 2 ^ 32 }
-    ensures number { IfOk result (MayHaveNumber (first_of id.now (rows_of (found_of matches.now))) low high) }
-    ensures refused { result ≡ Err WordFault.Refused →
-        (n : Option ℕ) → MayHaveNumber (first_of id.now (rows_of (found_of matches.now))) low high n → ⊥ }
+    ensures number { IfOk result (MayHaveNumber (first_of id.now (rows_of (found_of matches.now)))
+        low high) }
+    ensures refused { result ≡ Err WordFault.Refused → (n : Option ℕ) →
+        MayHaveNumber (first_of id.now (rows_of (found_of matches.now))) low high n → ⊥ }
 {
     match optional_number(matches, id, low, high)? {
         Some(n) => Ok(Some(n as u32)),
@@ -300,8 +303,10 @@ fn flag(matches: &ArgMatches, id: &str) -> bool
 
 // The value of an argument.
 fn given(alloc: Global, matches: &ArgMatches, id: &str) -> Result<Text, WordFault>
-    ensures value { IfOk result (λ text. first_of id.now (rows_of (found_of matches.now)) ≡ Some text) }
-    ensures refused { result ≡ Err WordFault.Refused → first_of id.now (rows_of (found_of matches.now)) ≡ None }
+    ensures value { IfOk result (λ text. first_of id.now (rows_of (found_of matches.now)) ≡
+        Some text) }
+    ensures refused { result ≡ Err WordFault.Refused →
+        first_of id.now (rows_of (found_of matches.now)) ≡ None }
 {
     optional(alloc, matches, id)?.ok_or(WordFault::Refused)
 }

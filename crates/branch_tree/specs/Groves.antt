@@ -1,6 +1,6 @@
 -- What a grove is, what it keeps, and what is done with it.
 use Rattle.std.specs.Prelude.{◌≡◌, ℕ, ◌+◌, ◌<◌, ◌≤◌, ◌^◌, List, [], ◌∷◌, ◌++◌, length, Some, None, ℤ, unsigned_abs, refl}
-use Rattle.bp_theory.specs.Limits.{greatest_depth}
+use Rattle.bp_theory.specs.Limits.{greatest_depth, number_limit}
 use Rattle.std.specs.Coded.{Coded, code_by, coded×, coded_list, coded_ℕ}
 use base.Stored.{coded_ℤ}
 use Rattle.bp_theory.specs.Bound.{IsBound, plain_proof}
@@ -59,7 +59,7 @@ pub record IsGroveOf (b : BlockedProgram) (g : GroveState) : Type 0 where
 pub record IsPlanted (b : BlockedProgram) (g : GroveState) : Type 0 where
   pub bound : ℤ
   pub is_bound : IsBound b.blocking b.named.program.spans plain_proof bound
-  pub small : unsigned_abs bound < 2 ^ 62
+  pub small : unsigned_abs bound < number_limit
   pub tree : g.tree ≡ planted bound
   pub root : g.root ≡ b.named.program.spans
   pub queued : IsWith (λ _ _. None) bound 0 [] (queue_of g.queue)

@@ -23,7 +23,8 @@ pub fn fill(
 ) -> Result<u64, AllocError>
     requires free { IsFreeFrom first (queue_of queue.old) }
     requires few { first + live_count (tree_of tree.now) < 2 ^ 64 }
-    ensures filled { OnOk result (IsFilled (queue_of queue.old) (tree_of tree.now) path.old.items first (queue_of queue.new)) }
+    ensures filled { OnOk result (IsFilled (queue_of queue.old) (tree_of tree.now) path.old.items
+        first (queue_of queue.new)) }
     ensures next { IfOk result (λ next. next ≡ first + live_count (tree_of tree.now)) }
     ensures free { IfOk result (λ next. IsFreeFrom next (queue_of queue.new)) }
     ensures path { OnOk result (path.new.items ≡ path.old.items) }

@@ -107,8 +107,10 @@ impl Grove {
     /// The live leaf that is next: of least bound, and of those the one made first. None where no leaf is live. The
     /// leaf stays live.
     pub fn take(&self, alloc: Global) -> Result<Option<Turn>, AllocError>
-        ensures next { IfOk result (λ turn. MatchOption turn (live_count self.now.tree ≡ 0) (IsNextTurn self.now)) }
-        ensures kept { (b : BlockedProgram) → IsGroveOf b self.now → IfOk result (λ turn. IfSome turn (IsTurn b)) }
+        ensures next { IfOk result (λ turn. MatchOption turn (live_count self.now.tree ≡ 0)
+            (IsNextTurn self.now)) }
+        ensures kept { (b : BlockedProgram) → IsGroveOf b self.now →
+            IfOk result (λ turn. IfSome turn (IsTurn b)) }
         ensures standing { IsStanding self.now }
     {
         let Some((_, path)) = self.queue.first() else {
@@ -123,9 +125,11 @@ impl Grove {
     /// order in which they were made. None exactly where no more than `place` leaves are live. The leaf stays live. The walk
     /// through the queue is `place` entries long.
     pub fn take_at(&self, alloc: Global, place: u64) -> Result<Option<Turn>, AllocError>
-        ensures next { IfOk result (λ turn. MatchOption turn (live_count self.now.tree ≤ place) (IsTurnAt self.now place)) }
+        ensures next { IfOk result (λ turn. MatchOption turn (live_count self.now.tree ≤ place)
+            (IsTurnAt self.now place)) }
         ensures within { IfOk result (λ turn. IfSome turn (λ _. place < live_count self.now.tree)) }
-        ensures kept { (b : BlockedProgram) → IsGroveOf b self.now → IfOk result (λ turn. IfSome turn (IsTurn b)) }
+        ensures kept { (b : BlockedProgram) → IsGroveOf b self.now →
+            IfOk result (λ turn. IfSome turn (IsTurn b)) }
         ensures standing { IsStanding self.now }
     {
         if place >= self.live {
@@ -143,8 +147,10 @@ impl Grove {
     /// exactly where no leaf there is live. The leaf stays live. The walk through the queue passes all live leaves that come
     /// before it.
     pub fn take_below(&self, alloc: Global, above: &[Side]) -> Result<Option<Turn>, AllocError>
-        ensures next { IfOk result (λ turn. MatchOption turn (NoneLiveBelow self.now.tree above.now) (IsTurnBelow self.now above.now)) }
-        ensures kept { (b : BlockedProgram) → IsGroveOf b self.now → IfOk result (λ turn. IfSome turn (IsTurn b)) }
+        ensures next { IfOk result (λ turn. MatchOption turn (NoneLiveBelow self.now.tree above.now)
+            (IsTurnBelow self.now above.now)) }
+        ensures kept { (b : BlockedProgram) → IsGroveOf b self.now →
+            IfOk result (λ turn. IfSome turn (IsTurn b)) }
         ensures standing { IsStanding self.now }
     {
         let Some((_, path)) = self.queue.first_below(above) else {
@@ -166,6 +172,7 @@ impl Grove {
         ensures kept { IsGroveOf b.now self.new }
         ensures standing { IsStanding self.new }
     {
+        // For the proof alone: `b` stands in the contract.
         let _ = b;
         let path = turn.path.as_slice();
         let key = self.queue.key_of(&turn.bound, path);
@@ -195,12 +202,15 @@ impl Grove {
         requires depth { turn.now.depth < 8256 }
         requires count { steps (certificate_tree self.old.tree) < 2 ^ 63 - 1 }
         ensures same { OnErr result (self.new ≡ self.old) }
-        ensures tree { OnOk result (self.new.tree ≡ fork_at self.old.tree turn.now.path var at proof bound) }
+        ensures tree { OnOk result (self.new.tree ≡ fork_at self.old.tree turn.now.path var at
+            proof bound) }
         ensures root { self.new.root ≡ self.old.root }
-        ensures queue { OnOk result (IsForkedQueue (queue_of self.old.queue) turn.now bound (made self.old.tree) (queue_of self.new.queue)) }
+        ensures queue { OnOk result (IsForkedQueue (queue_of self.old.queue) turn.now bound
+            (made self.old.tree) (queue_of self.new.queue)) }
         ensures kept { IsGroveOf b.now self.new }
         ensures standing { IsStanding self.new }
     {
+        // For the proof alone: `b` stands in the contract.
         let _ = b;
         let number = self.live + self.count;
         let path = turn.path.as_slice();
@@ -267,7 +277,8 @@ fn turn_at(alloc: Global, tree: &Tree, path: &[Side], root: Zone) -> Result<Turn
     requires splits { HasSoundSplits (certificate_tree (tree_of tree.now)) root }
     requires live { (leaf : LiveLeaf) × (live_at (tree_of tree.now) path.now ≡ Some leaf) }
     requires deep { length path.now < 2 ^ 32 }
-    ensures live { IfOk result (λ turn. live_at (tree_of tree.now) path.now ≡ Some (record { proof = turn.proof; bound = turn.bound })) }
+    ensures live { IfOk result (λ turn. live_at (tree_of tree.now) path.now ≡
+        Some (record { proof = turn.proof; bound = turn.bound })) }
     ensures zone { IfOk result (λ turn. turn.zone ≡ zone_at (tree_of tree.now) root path.now) }
     ensures path { IfOk result (λ turn. turn.path ≡ path.now) }
     ensures depth { IfOk result (λ turn. turn.depth ≡ length path.now) }

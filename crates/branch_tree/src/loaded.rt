@@ -26,6 +26,7 @@ impl Loaded {
         ensures fresh { IfOk result (IsFresh b.now) }
         ensures loaded { IfOk result (IsLoaded b.now) }
     {
+        // For the proof alone: `b` is formed.
         let _ = b.blocks();
         let grove = Grove::plant(alloc, b)?;
         Ok(Loaded { grove, best: None })

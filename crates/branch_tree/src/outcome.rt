@@ -2,8 +2,9 @@
 use crate::grove::Grove;
 use bp_theory::Items;
 
-/// How a search ends: with a best point and its cost, with no feasible point, or stopped with live leaves left, with the best
-/// point and its cost so far, where there is one, and a bound that no feasible point's cost is below. Each has its tree.
+/// How a search ends: with a best point and its cost, with no feasible point, or stopped with live leaves left, with
+/// the best point and its cost so far, where there is one, and a bound that no feasible point's cost is below. Each has
+/// its tree.
 #[derive(Drop)]
 pub enum Outcome {
     Optimal {

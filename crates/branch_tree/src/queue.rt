@@ -42,7 +42,8 @@ impl LeafQueue {
     /// One entry more, under a key that has none.
     pub fn add(&mut self, key: (i64, u64), path: Items<Side>) -> Result<(), AllocError>
         requires { queue_of self.old key.0 key.1 ≡ None }
-        ensures added { OnOk result (IsWith (queue_of self.old) key.0 key.1 path (queue_of self.new)) }
+        ensures added { OnOk result (IsWith (queue_of self.old) key.0 key.1 path
+            (queue_of self.new)) }
         ensures entries { OnOk result (self.new ≡ insert_entry key_cmp self.old key path) }
         ensures same { OnErr result (self.new ≡ self.old) }
     {
@@ -60,7 +61,8 @@ impl LeafQueue {
 
     /// The first entry: that of least bound, and of those the first made.
     pub fn first(&self) -> Option<(&(i64, u64), &[Side])>
-        ensures some { IfSome result (λ e. IsFirstEntry (queue_of self.now) e.0.now.0 e.0.now.1 e.1.now) }
+        ensures some { IfSome result (λ e. IsFirstEntry (queue_of self.now) e.0.now.0
+            e.0.now.1 e.1.now) }
         ensures none { IfNone result (IsEmptyQueue (queue_of self.now)) }
     {
         match self.entries.first_key_value() {
@@ -84,8 +86,10 @@ impl LeafQueue {
     /// The first of the entries whose leaves lie at or below a path, or None where there is no such entry. The walk from the
     /// front passes all entries before it.
     pub fn first_below(&self, above: &[Side]) -> Option<(&(i64, u64), &[Side])>
-        ensures some { IfSome result (λ e. IsFirstBelow (queue_of self.now) above.now e.0.now.0 e.0.now.1 e.1.now) }
-        ensures none { IfNone result ((z : ℤ) (n : ℕ) (path : List Side) → queue_of self.now z n ≡ Some path → LiesBelow above.now path → ⊥) }
+        ensures some { IfSome result (λ e. IsFirstBelow (queue_of self.now) above.now e.0.now.0
+            e.0.now.1 e.1.now) }
+        ensures none { IfNone result ((z : ℤ) (n : ℕ) (path : List Side) →
+            queue_of self.now z n ≡ Some path → LiesBelow above.now path → ⊥) }
     {
         for (key, path) in self.entries.range(..) {
             if lies_below(path.as_slice(), above) {
@@ -107,7 +111,8 @@ impl LeafQueue {
         requires none { queue_of self.old next.0 next.1 ≡ None }
         requires none_behind { queue_of self.old next.0 (next.1 + 1) ≡ None }
         requires fits { next.1 + 1 < 2 ^ 64 }
-        ensures divided { OnOk result (IsDivided (queue_of self.old) key.now.0 key.now.1 next.0 next.1 low high (queue_of self.new)) }
+        ensures divided { OnOk result (IsDivided (queue_of self.old) key.now.0 key.now.1 next.0
+            next.1 low high (queue_of self.new)) }
         ensures same { OnErr result (self.new ≡ self.old) }
     {
         let behind = key_at(&next.0, next.1 + 1);

@@ -32,7 +32,8 @@ pub(crate) fn forked(
     bound: &i64,
 ) -> Result<Tree, AllocError>
     requires { proofs.0 ≡ proofs.1 }
-    ensures { IfOk result (λ t. tree_of t ≡ fork var at.now (live proofs.0 bound.now) (live proofs.0 bound.now)) }
+    ensures { IfOk result (λ t. tree_of t ≡ fork var at.now (live proofs.0 bound.now)
+        (live proofs.0 bound.now)) }
 {
     let (first, second) = proofs;
     let low = Box::new(alloc, Tree::Live(first, *bound))?;
@@ -67,7 +68,8 @@ pub(crate) fn put(tree: &mut Tree, path: &[Side], new: Tree)
 // The node at a path, or the leaf where a longer path ends, and the zone there.
 pub(crate) fn walk<'a>(tree: &'a Tree, path: &[Side], root: Zone) -> (&'a Tree, Zone)
     requires { HasSoundSplits (certificate_tree (tree_of tree.now)) root }
-    ensures leaf { (leaf : LiveLeaf) → live_at (tree_of tree.now) path.now ≡ Some leaf → tree_of result.0.now ≡ live leaf.proof leaf.bound }
+    ensures leaf { (leaf : LiveLeaf) → live_at (tree_of tree.now) path.now ≡ Some leaf →
+        tree_of result.0.now ≡ live leaf.proof leaf.bound }
     ensures zone { result.1 ≡ zone_at (tree_of tree.now) root path.now }
 {
     let mut node = tree;

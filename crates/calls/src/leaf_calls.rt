@@ -104,8 +104,8 @@ fn next_turn(alloc: Global, b: &Blocked, grove: &Grove) -> Result<Option<Turn>, 
     grove.take(alloc)
 }
 
-// Forks a live leaf behind a number, where its zone, its depth and the count of the tree's steps allow it; a second time where
-// memory was short, since the grove is then as it was.
+// Forks a live leaf behind a number, where its zone, its depth and the count of the tree's steps allow it; a second
+// time where memory was short, since the grove is then as it was.
 fn fork_leaf(
     alloc: Global,
     b: &Blocked,

@@ -1,6 +1,6 @@
 -- The room that the live leaves of a loaded tree need, line by line.
 use Rattle.std.specs.Prelude.{◌≡◌, ℕ, ◌+◌, ◌<◌, ◌≤◌, ◌^◌, List, [], ◌∷◌, ◌++◌, length, Option, Some, None, ℤ, pos, ◌*ℤ◌, ◌-ℤ◌, ◌<ℤ◌, ◌⊎◌, unsigned_abs, slice_index_or, nat_lt, if◌then◌else◌}
-use Rattle.bp_theory.specs.Limits.{greatest_depth}
+use Rattle.bp_theory.specs.Limits.{greatest_depth, number_limit}
 use Rattle.bp_theory.specs.Blocking.{Blocking}
 use Rattle.bp_theory.specs.Bound.{Fits}
 use Rattle.bp_theory.specs.Trees.{Tree, shut_leaf, open_leaf, split, low_part, high_part, depth, IsZone, IsSoundSplit}
@@ -56,7 +56,7 @@ node_count (split v at low high) = 1 + node_count low + node_count high
 pub record CanLoadLeaf (b : Blocking) (best : Option ℤ) (zone : List Span) (proof : Proof) : Type 0 where
   pub fits : Fits b proof
   pub number : ℤ
-  pub small : unsigned_abs number < 2 ^ 62
+  pub small : unsigned_abs number < number_limit
   pub shown : Settles b best zone proof ⊎ Holds b zone proof number
 
 -- the same of all leaves of a tree with sound splits

@@ -1,5 +1,6 @@
 -- The certificate of a search's outcome.
 use Rattle.std.specs.Prelude.{◌<◌, ◌^◌, Bool, List, length, Option, Some, None, IfSome, ℤ, unsigned_abs}
+use Rattle.bp_theory.specs.Limits.{number_limit}
 use Rattle.std.specs.Option.{option_map}
 use Rattle.bp_theory.specs.Program.{in_sense}
 use Rattle.bp_theory.specs.declared.Claim.{Claim}
@@ -30,9 +31,9 @@ point_of (Budget grove best bound) = option_map (λ e. e.0) best
 
 -- the costs and bounds of an outcome are numbers of texts
 abbrev pub HasSmallNumbers : Outcome → Type 0
-HasSmallNumbers (Optimal grove point cost) = unsigned_abs cost < 2 ^ 62
+HasSmallNumbers (Optimal grove point cost) = unsigned_abs cost < number_limit
 HasSmallNumbers (Infeasible grove) = Unit {0}
-HasSmallNumbers (Budget grove best bound) = (unsigned_abs bound < 2 ^ 62) × IfSome best (λ e. unsigned_abs e.1 < 2 ^ 62)
+HasSmallNumbers (Budget grove best bound) = (unsigned_abs bound < number_limit) × IfSome best (λ e. unsigned_abs e.1 < number_limit)
 
 -- an outcome of a program that may be written: its tree is one of the program, and its numbers are those of texts, one
 -- for each variable in a point

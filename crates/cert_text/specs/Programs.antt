@@ -8,7 +8,7 @@ use Rattle.bp_theory.specs.declared.Claim.{Claim}
 use Rattle.bp_theory.specs.declared.Claim.TheVariants.{Optimal, Infeasible, Bound}
 use Rattle.block_form.specs.Blocked.{BlockedProgram, IsFormed}
 use Rattle.cert_text.specs.Cert as texts
-use Rattle.bp_theory.specs.Limits.{greatest_depth}
+use Rattle.bp_theory.specs.Limits.{greatest_depth, number_limit}
 use Rattle.cert_text.specs.Text.{One}
 use Rattle.cert_text.specs.Fault.{IsText, IsCertText, IsFirstCertFault}
 use Rattle.cert_text.specs.Kept.{kept_cert}
@@ -40,7 +40,7 @@ ReadsFor b text (Err (At line kind)) = IsFirstCertFault (frame_for b) text line 
 
 -- a number of texts
 abbrev pub IsSmall : ℤ → Type 0
-IsSmall z = unsigned_abs z < 2 ^ 62
+IsSmall z = unsigned_abs z < number_limit
 
 -- the numbers of a claim are those of texts
 abbrev pub IsSmallClaim : Claim → Type 0
@@ -55,7 +55,7 @@ pub record GoesWith (b : BlockedProgram) (cert : Certificate) : Type 0 where
   pub claim : IsSmallClaim cert.claim
   pub fits : All (λ leaf. Fits b.blocking leaf.proof) (leaves cert.tree b.named.program.spans)
   pub shallow : depth cert.tree ≤ greatest_depth
-  pub lines : 3 + length (judged_lines b.named.program b.dec cert) ≤ 2 ^ 62
+  pub lines : 3 + length (judged_lines b.named.program b.dec cert) ≤ number_limit
 
 -- so many numbers of texts
 pub record IsSmallPoint (count : ℕ) (zs : List ℤ) : Type 0 where

@@ -1,5 +1,6 @@
 -- Where a reader is in a certificate: which tokens may come next, and what follows each of them.
 use Rattle.std.specs.Prelude.{◌≡◌, ◌⊎◌, ℕ, ◌+◌, ◌-◌, ◌^◌, Bool, true, false, List, [], ◌∷◌, ◌++◌, length, codes, Option, Some, None, ℤ, pos, nat_abs, nat_eq, if◌then◌else◌}
+use Rattle.bp_theory.specs.Limits.{greatest_multiplier}
 use Rattle.bp_theory.specs.declared.Claim as claims
 use Rattle.bp_theory.specs.declared.Claim.TheVariants as variants
 use Rattle.cert_text.specs.Written.{written_claim}
@@ -212,7 +213,7 @@ number_fault frame (at_value v b) z = value_fault z
 number_fault frame (at_coordinate v k zs) z = coordinate_fault frame (length zs + 1) z
 number_fault frame (at_scale a ws o) z = scale_fault (length ws) (nat_abs z)
 number_fault frame (at_row a ws o s ps last n) z = row_fault (may_name frame 0) last (nat_abs z)
-number_fault frame (at_multiplier a ws o s ps r n) z = multiplier_fault (2 ^ 40) a.had r z
+number_fault frame (at_multiplier a ws o s ps r n) z = multiplier_fault (greatest_multiplier) a.had r z
 number_fault frame (at_block a ws o s ps ks last n) z = block_fault frame last (nat_abs z)
 number_fault frame (at_variable a ws) z = variable_fault frame (length ws) (nat_abs z)
 number_fault frame (at_place a ws i) z = value_fault z
@@ -278,11 +279,11 @@ module _ (frame : Frame) (c : Cert) where
   AtPriced a ws o s ps = Priced frame (λ q. LeafEnd a ws o (proof_of s ps q))
 
   abbrev pub AtPairs : Told → List Wait → Bool → ℕ → List (ℕ × ℤ) → ℕ → ℕ → List Token → Type 0
-  AtPairs a ws o s ps last n = Pairs (may_name frame 0) (2 ^ 40) a.had last n (λ qs. Prefixed (Words (codes " priced ")) (AtPriced a ws o s (ps ++ qs)))
+  AtPairs a ws o s ps last n = Pairs (may_name frame 0) (greatest_multiplier) a.had last n (λ qs. Prefixed (Words (codes " priced ")) (AtPriced a ws o s (ps ++ qs)))
 
   -- one pair or block less is still to come
   abbrev pub AtMultiplier : Told → List Wait → Bool → ℕ → List (ℕ × ℤ) → ℕ → ℕ → List Token → Type 0
-  AtMultiplier a ws o s ps r n = Valued (multiplier_fault (2 ^ 40) a.had r) (λ z. AtPairs a ws o s (ps ++ (r, z) ∷ []) r (n - 1))
+  AtMultiplier a ws o s ps r n = Valued (multiplier_fault (greatest_multiplier) a.had r) (λ z. AtPairs a ws o s (ps ++ (r, z) ∷ []) r (n - 1))
 
   abbrev pub RowGap : Told → List Wait → Bool → ℕ → List (ℕ × ℤ) → ℕ → ℕ → List Token → Type 0
   RowGap a ws o s ps r n = Prefixed (Words (codes " ")) (AtMultiplier a ws o s ps r n)

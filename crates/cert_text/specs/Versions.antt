@@ -1,5 +1,6 @@
 -- The versions that a program reads.
 use Rattle.std.specs.Prelude.{◌^◌, ℕ, List, [], ◌∷◌, Option, ℤ}
+use Rattle.bp_theory.specs.Limits.{greatest_multiplier}
 use Rattle.std.specs.Ordering.{int_eq}
 use Rattle.cert_text.specs.Cert.{changed}
 use Rattle.cert_text.specs.Text as texts
@@ -20,4 +21,4 @@ had_behind Two had changes = changed had changes
 
 -- what is wrong with a multiplier of a row that had another one
 abbrev pub changed_fault : ℤ → ℤ → Option Kind
-changed_fault had z = first_kind ((is_past (2 ^ 40) z, TooLarge) ∷ (int_eq z had, Number) ∷ [])
+changed_fault had z = first_kind ((is_past (greatest_multiplier) z, TooLarge) ∷ (int_eq z had, Number) ∷ [])

@@ -1,3 +1,4 @@
+// A certificate as it is kept: its claim, the point of its value, and its tree of proofs.
 ghost use Rattle.std.specs.Prelude.{◌≡◌, ◌-◌, ◌^◌, min, MatchOption, None, Some};
 ghost use Rattle.cert_text.specs.Kept.{certificate_of, kept_cert};
 ghost use Rattle.cert_text.specs.Nodes.{nodes};
@@ -25,7 +26,8 @@ impl Cert {
 
     /// The point of the claimed value, where there is one.
     pub fn point(&self) -> Option<&[i64]>
-        ensures { MatchOption result ((certificate_of self.now).point ≡ None) (λ point. (certificate_of self.now).point ≡ Some point.now) }
+        ensures { MatchOption result ((certificate_of self.now).point ≡ None)
+            (λ point. (certificate_of self.now).point ≡ Some point.now) }
     {
         match self.claim {
             Claim::Optimal(_) => Some(self.point.as_slice()),

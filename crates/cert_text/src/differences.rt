@@ -1,3 +1,4 @@
+// The rows whose multipliers differ between two leaves.
 ghost use Rattle.std.specs.Prelude.{◌≡◌, ◌+◌, ◌<◌, ◌++◌, length, IfOk};
 ghost use Rattle.cert_text.specs.Differences.{difference};
 
@@ -11,8 +12,10 @@ fn step<'a>(
     now: &'a [(u32, i64)],
 ) -> Result<(&'a [(u32, i64)], &'a [(u32, i64)]), AllocError>
     requires { 0 < length had.now + length now.now }
-    ensures made { IfOk result (λ rest. changes.new ++ difference rest.0.now rest.1.now ≡ changes.old ++ difference had.now now.now) }
-    ensures fewer { IfOk result (λ rest. length rest.0.now + length rest.1.now < length had.now + length now.now) }
+    ensures made { IfOk result (λ rest. changes.new ++ difference rest.0.now rest.1.now ≡
+        changes.old ++ difference had.now now.now) }
+    ensures fewer { IfOk result (λ rest. length rest.0.now + length rest.1.now < length had.now +
+        length now.now) }
 {
     match had {
         [] => match now {

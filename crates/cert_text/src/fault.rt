@@ -1,3 +1,4 @@
+// What is wrong with the text of a certificate, by line and kind.
 use thiserror::Error;
 
 /// What is wrong with the text of a certificate.

@@ -1,3 +1,4 @@
+// What reading a certificate needs to know of a model and its blocks.
 ghost use Rattle.std.specs.Prelude.{length, ◌≤◌, ◌<◌, ◌^◌};
 
 use bp_theory::Items;

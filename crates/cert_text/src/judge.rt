@@ -1,3 +1,4 @@
+// Numbers of a certificate, tested against their limits in their places.
 ghost use Rattle.std.specs.Prelude.{◌≡◌, ◌+◌, ◌<◌, ◌^◌, [], MatchResult, None, Some};
 ghost use Rattle.cert_text.specs.Text.{value_fault, coordinate_fault, row_fault, block_fault, scale_fault, variable_fault, is_deep, may_name};
 ghost use Rattle.cert_text.specs.Frames.{frame_of};
@@ -27,7 +28,8 @@ pub fn signed_of(negative: bool, value: u64) -> i64
 
 // A value of the objective or a split's place.
 pub fn judge_value(negative: bool, value: u64) -> Result<i64, CertKind>
-    ensures { MatchResult result (λ z. (value_fault (signed negative value) ≡ None) × (z ≡ signed negative value)) (λ kind. value_fault (signed negative value) ≡ Some kind) }
+    ensures { MatchResult result (λ z. (value_fault (signed negative value) ≡ None) ×
+        (z ≡ signed negative value)) (λ kind. value_fault (signed negative value) ≡ Some kind) }
 {
     if value > VALUE {
         return Err(CertKind::TooLarge);
@@ -42,7 +44,11 @@ pub fn judge_coordinate(
     negative: bool,
     value: u64,
 ) -> Result<i64, CertKind>
-    ensures { MatchResult result (λ z. (coordinate_fault (frame_of frame.now) (done + 1) (signed negative value) ≡ None) × (z ≡ signed negative value)) (λ kind. coordinate_fault (frame_of frame.now) (done + 1) (signed negative value) ≡ Some kind) }
+    ensures { MatchResult result (λ z.
+        (coordinate_fault (frame_of frame.now) (done + 1) (signed negative value) ≡ None) ×
+        (z ≡ signed negative value))
+        (λ kind. coordinate_fault (frame_of frame.now) (done + 1) (signed negative value) ≡
+        Some kind) }
 {
     if value > VALUE {
         return Err(CertKind::TooLarge);
@@ -55,7 +61,9 @@ pub fn judge_coordinate(
 
 // The multiplier of a row that had another one.
 pub fn judge_multiplier(had: &i64, negative: bool, value: u64) -> Result<i64, CertKind>
-    ensures { MatchResult result (λ z. (changed_fault had.now (signed negative value) ≡ None) × (z ≡ signed negative value)) (λ kind. changed_fault had.now (signed negative value) ≡ Some kind) }
+    ensures { MatchResult result (λ z. (changed_fault had.now (signed negative value) ≡ None) ×
+        (z ≡ signed negative value))
+        (λ kind. changed_fault had.now (signed negative value) ≡ Some kind) }
 {
     if value > MULTIPLIER {
         return Err(CertKind::TooLarge);
@@ -76,7 +84,8 @@ pub fn is_too_deep(depth: usize) -> bool
 
 // The scale of a leaf at a depth.
 pub fn judge_scale(depth: usize, value: u64) -> Result<u32, CertKind>
-    ensures { MatchResult result (λ s. (scale_fault depth value ≡ None) × (s ≡ value)) (λ kind. scale_fault depth value ≡ Some kind) }
+    ensures { MatchResult result (λ s. (scale_fault depth value ≡ None) × (s ≡ value))
+        (λ kind. scale_fault depth value ≡ Some kind) }
 {
     if is_too_deep(depth) {
         return Err(CertKind::Depth);
@@ -97,7 +106,9 @@ fn is_named(frame: &Frame, row: u64) -> bool
 
 // A leaf's row behind another one, as its number from 0.
 pub fn judge_row(frame: &Frame, last: u64, value: u64) -> Result<u32, CertKind>
-    ensures { MatchResult result (λ r. (row_fault (may_name (frame_of frame.now) 0) last value ≡ None) × (r + 1 ≡ value)) (λ kind. row_fault (may_name (frame_of frame.now) 0) last value ≡ Some kind) }
+    ensures { MatchResult result (λ r.
+        (row_fault (may_name (frame_of frame.now) 0) last value ≡ None) × (r + 1 ≡ value))
+        (λ kind. row_fault (may_name (frame_of frame.now) 0) last value ≡ Some kind) }
 {
     if last < value && is_named(frame, value) {
         return Ok((value - 1) as u32);
@@ -107,7 +118,8 @@ pub fn judge_row(frame: &Frame, last: u64, value: u64) -> Result<u32, CertKind>
 
 // A priced block behind another one, as its number from 0.
 pub fn judge_block(frame: &Frame, last: u64, value: u64) -> Result<u32, CertKind>
-    ensures { MatchResult result (λ k. (block_fault (frame_of frame.now) last value ≡ None) × (k + 1 ≡ value)) (λ kind. block_fault (frame_of frame.now) last value ≡ Some kind) }
+    ensures { MatchResult result (λ k. (block_fault (frame_of frame.now) last value ≡ None) ×
+        (k + 1 ≡ value)) (λ kind. block_fault (frame_of frame.now) last value ≡ Some kind) }
 {
     if last < value && value <= u64::from(frame.blocks) {
         return Ok((value - 1) as u32);
@@ -117,7 +129,8 @@ pub fn judge_block(frame: &Frame, last: u64, value: u64) -> Result<u32, CertKind
 
 // The variable of a split at a depth, as its number from 0.
 pub fn judge_variable(frame: &Frame, depth: usize, value: u64) -> Result<u32, CertKind>
-    ensures { MatchResult result (λ v. (variable_fault (frame_of frame.now) depth value ≡ None) × (v + 1 ≡ value)) (λ kind. variable_fault (frame_of frame.now) depth value ≡ Some kind) }
+    ensures { MatchResult result (λ v. (variable_fault (frame_of frame.now) depth value ≡ None) ×
+        (v + 1 ≡ value)) (λ kind. variable_fault (frame_of frame.now) depth value ≡ Some kind) }
 {
     if is_too_deep(depth) {
         return Err(CertKind::Depth);

@@ -1,3 +1,4 @@
+// The multipliers of a leaf, put and changed in the order of rows.
 ghost use Rattle.std.specs.Prelude.{◌≡◌, ◌≤◌, [], true, false, IfOk, OnOk, map, vec_len};
 ghost use Rattle.cert_text.specs.Cert.{multiplier, put, changed};
 ghost use Rattle.cert_text.specs.Written.{in_text, written_pair};
@@ -96,7 +97,8 @@ impl Multipliers {
         changes: &[(u32, i64)],
     ) -> Result<Items<(u32, i64)>, AllocError>
         ensures mults { IfOk result (λ mults. mults ≡ changed self.old.pairs.items changes.now) }
-        ensures had { OnOk result (self.new.pairs.items ≡ had_behind version self.old.pairs.items changes.now) }
+        ensures had { OnOk result (self.new.pairs.items ≡ had_behind version self.old.pairs.items
+            changes.now) }
     {
         self.change(changes)?;
         match version {

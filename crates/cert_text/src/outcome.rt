@@ -1,3 +1,4 @@
+// The text of the certificate of a search's outcome.
 ghost use Rattle.std.specs.Prelude.{◌≡◌, ◌++◌, [], IfOk, IfSome, OnOk, unwrap_or, unsigned_abs, ◌<◌, ◌^◌};
 ghost use Rattle.std.specs.Option.{option_map};
 ghost use Rattle.bp_theory.specs.Program.{in_sense};
@@ -18,11 +19,13 @@ use bp_theory::{Claim, Items};
 use branch_tree::{Grove, Outcome, Tree};
 use std::alloc::{AllocError, Global};
 
-/// The text of the certificate of a search's outcome in version 2: its claim, its best point where there is one, and its tree,
-/// whose live leaves are open. The text has no fault, so it is read back.
+/// The text of the certificate of a search's outcome in version 2: its claim, its best point where there is one, and
+/// its tree, whose live leaves are open. The text has no fault, so it is read back.
 pub fn write_cert(alloc: Global, b: &Blocked, outcome: &Outcome) -> Result<Vec<u8>, AllocError>
     requires { IsWritable b.now outcome.now }
-    ensures { IfOk result (λ text. IsText (frame_for b.now) Two (cert_of (read_off (claim_of b.now.named.program.maximises outcome.now) (point_of outcome.now) [] (grove_of outcome.now).tree)) text.items) }
+    ensures { IfOk result (λ text. IsText (frame_for b.now) Two
+        (cert_of (read_off (claim_of b.now.named.program.maximises outcome.now)
+        (point_of outcome.now) [] (grove_of outcome.now).tree)) text.items) }
 {
     let claim = outcome_claim(b.model().maximises(), outcome);
     let tree = outcome_grove(outcome).tree();
@@ -39,7 +42,8 @@ fn put_outcome(
     point: &[i64],
     tree: &Tree,
 ) -> Result<(), AllocError>
-    ensures { OnOk result (out.new.items ≡ out.old.items ++ plain_text Two claim.now point.now (changing_nodes [] (certificate_tree (tree_of tree.now)))) }
+    ensures { OnOk result (out.new.items ≡ out.old.items ++ plain_text Two claim.now point.now
+        (changing_nodes [] (certificate_tree (tree_of tree.now)))) }
 {
     out.extend_from_slice(b"bpcert 2\n")?;
     put_claim(out, claim, point)?;
@@ -54,8 +58,10 @@ fn put_nodes<'a>(
     tree: &'a Tree,
     had: &'a [(u32, i64)],
 ) -> Result<&'a [(u32, i64)], AllocError>
-    ensures text { OnOk result (out.new.items ≡ out.old.items ++ tree_text Two (changing_nodes had.now (certificate_tree (tree_of tree.now)))) }
-    ensures last { IfOk result (λ last. last.now ≡ last_mults (certificate_tree (tree_of tree.now))) }
+    ensures text { OnOk result (out.new.items ≡ out.old.items ++
+        tree_text Two (changing_nodes had.now (certificate_tree (tree_of tree.now)))) }
+    ensures last { IfOk result (λ last. last.now ≡
+        last_mults (certificate_tree (tree_of tree.now))) }
 {
     match tree {
         Tree::Live(proof, _) => put_changed_leaf(out, alloc, b"open ", had, proof),

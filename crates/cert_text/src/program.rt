@@ -1,3 +1,4 @@
+// Certificates read and written for a program in blocks.
 ghost use Rattle.std.specs.Prelude.{◌≡◌, IfOk, OnOk, map, is_none};
 ghost use Rattle.block_form.specs.Blocked.{IsFormed};
 ghost use Rattle.cert_text.specs.Kept.{certificate_of};
@@ -18,6 +19,7 @@ pub fn read_cert(alloc: Global, bytes: &[u8], b: &Blocked) -> Result<Cert, CertF
     ensures read { ReadsFor b.now bytes.now result }
     ensures goes_with { IfOk result (λ cert. GoesWith b.now (certificate_of cert)) }
 {
+    // For the proof alone: how long `bytes` can be.
     let _size = bytes.len();
     match program_frame(alloc, b) {
         Err(_) => Err(CertFault::NoMemory),

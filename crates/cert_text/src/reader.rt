@@ -1,3 +1,4 @@
+// A reader of a certificate's text, byte by byte, which keeps its place and what was read.
 ghost use Rattle.std.specs.Prelude.{◌≡◌, ℕ, [], ◌∷◌, OnOk, IfOk, IsOk, Ok, Err, Bool, List, true, false, if◌then◌else◌, Some, None, length, slice_index_or, ◌++◌, ◌+◌, ◌-◌, ◌<◌, ◌^◌};
 ghost use Rattle.cert_text.specs.Sketch.{tree_of};
 ghost use Rattle.cert_text.specs.declared.frame.Frame.{Frame};
@@ -82,7 +83,8 @@ pub struct Reader {
 
 // A split of two trees.
 fn fork(alloc: Global, place: &SplitPlace, low: Sketch, high: Sketch) -> Result<Sketch, AllocError>
-    ensures { IfOk result (λ t. written_tree (tree_of t) ≡ Split (in_text place.now.var) place.now.at (written_tree (tree_of low)) (written_tree (tree_of high))) }
+    ensures { IfOk result (λ t. written_tree (tree_of t) ≡ Split (in_text place.now.var)
+        place.now.at (written_tree (tree_of low)) (written_tree (tree_of high))) }
 {
     let low = Box::new(alloc, low)?;
     let high = Box::new(alloc, high)?;
@@ -115,7 +117,9 @@ fn digit(byte: u8) -> bool
 impl Reader {
     // A tree is whole: it goes into the splits above it.
     fn complete(&mut self, alloc: Global, tree: Sketch) -> Result<(), AllocError>
-        ensures place { OnOk result ((n : ℕ) → stage_of self.new n ≡ behind (told_of self.old) (waits_of self.old.pending.items) (written_tree (tree_of tree))) }
+        ensures place { OnOk result ((n : ℕ) →
+            stage_of self.new n ≡ behind (told_of self.old) (waits_of self.old.pending.items)
+            (written_tree (tree_of tree))) }
         ensures keeps { OnOk result (Keeps self.old self.new) }
     {
         let mut tree = tree;
@@ -143,7 +147,10 @@ impl Reader {
         mults: Items<(u32, i64)>,
         picked: Picked,
     ) -> Result<(), AllocError>
-        ensures place { OnOk result ((n : ℕ) → stage_of self.new n ≡ behind (told_of self.old) (waits_of self.old.pending.items) (leaf_of self.old.is_open (written_proof (record { scale = self.old.scale; mults = mults; picked = picked })))) }
+        ensures place { OnOk result ((n : ℕ) →
+            stage_of self.new n ≡ behind (told_of self.old) (waits_of self.old.pending.items)
+            (leaf_of self.old.is_open
+            (written_proof (record { scale = self.old.scale; mults = mults; picked = picked })))) }
         ensures keeps { OnOk result (Keeps self.old self.new) }
     {
         let proof = Proof {
@@ -157,7 +164,10 @@ impl Reader {
 
     // A leaf's line ends, where all blocks are priced.
     fn end_every(&mut self, alloc: Global) -> Result<(), AllocError>
-        ensures place { OnOk result ((n : ℕ) → stage_of self.new n ≡ behind_leaf (told_of self.old) (waits_of self.old.pending.items) self.old.is_open (written_proof (record { scale = self.old.scale; mults = self.old.mults; picked = Every }))) }
+        ensures place { OnOk result ((n : ℕ) →
+            stage_of self.new n ≡ behind_leaf (told_of self.old) (waits_of self.old.pending.items)
+            self.old.is_open (written_proof
+            (record { scale = self.old.scale; mults = self.old.mults; picked = Every }))) }
         ensures keeps { OnOk result (Keeps self.old self.new) }
     {
         let mults = self.had.next(alloc, self.version, self.mults.as_slice())?;
@@ -166,7 +176,15 @@ impl Reader {
 
     // A leaf's line ends, where the blocks of a list are priced.
     fn end_these(&mut self, alloc: Global) -> Result<(), AllocError>
-        ensures place { OnOk result ((n : ℕ) → stage_of self.new n ≡ behind_leaf (told_of self.old) (waits_of self.old.pending.items) self.old.is_open (written_proof (record { scale = self.old.scale; mults = self.old.mults; picked = These self.old.blocks }))) }
+        ensures place { OnOk result ((n : ℕ) →
+            stage_of self.new n ≡ behind_leaf (told_of self.old) (waits_of self.old.pending.items)
+            self.old.is_open (written_proof
+            (record {
+              scale = self.old.scale;
+              mults = self.old.mults;
+              picked = These
+                  self.old.blocks;
+            }))) }
         ensures keeps { OnOk result (Keeps self.old self.new) }
     {
         let mults = self.had.next(alloc, self.version, self.mults.as_slice())?;
@@ -176,7 +194,10 @@ impl Reader {
 
     // A split's line ends.
     fn end_split(&mut self) -> Result<(), AllocError>
-        ensures place { OnOk result ((n : ℕ) → stage_of self.new n ≡ at_node (told_of self.old) (low_of (in_text self.old.place.var) self.old.place.at ∷ waits_of self.old.pending.items)) }
+        ensures place { OnOk result ((n : ℕ) →
+            stage_of self.new n ≡ at_node (told_of self.old)
+            (low_of (in_text self.old.place.var) self.old.place.at ∷
+            waits_of self.old.pending.items)) }
         ensures keeps { OnOk result (Keeps self.old self.new) }
     {
         self.pending.push(Pending::Low(self.place))?;
@@ -204,7 +225,9 @@ impl Reader {
 
     // A claim is whole: the tree comes next.
     fn begin_tree(&mut self, alloc: Global) -> Result<(), AllocError>
-        ensures place { OnOk result ((n : ℕ) → stage_of self.new n ≡ at_node (told (version_of self.old.version) (written_claim self.old.claim self.old.point)) []) }
+        ensures place { OnOk result ((n : ℕ) →
+            stage_of self.new n ≡ at_node
+            (told (version_of self.old.version) (written_claim self.old.claim self.old.point)) []) }
         ensures keeps { OnOk result (Keeps self.old self.new) }
     {
         self.pending = Vec::new(alloc);
@@ -233,7 +256,8 @@ impl Reader {
 
     // The reader goes on behind a word that may come.
     fn after_word(&mut self, alloc: Global, word: Word) -> Result<(), AllocError>
-        ensures place { OnOk result ((n : ℕ) → stage_of self.new n ≡ after (stage_of self.old n) word) }
+        ensures place { OnOk result ((n : ℕ) →
+            stage_of self.new n ≡ after (stage_of self.old n) word) }
         ensures keeps { OnOk result (Keeps self.old self.new) }
     {
         match self.spot {
@@ -370,7 +394,14 @@ impl Reader {
 
     // A row's multiplier is kept.
     fn keep_multiplier(&mut self, z: &i64) -> Result<(), AllocError>
-        ensures { OnOk result (self.new ≡ record self.old { spot = Pairs; mults = self.old.mults ++ (self.old.row, z.now) ∷ []; last = self.old.row + 1; left = self.old.left - 1 }) }
+        ensures { OnOk result (self.new ≡
+            record self.old {
+              spot = Pairs;
+              mults = self.old.mults ++ (self.old.row, z.now) ∷
+                  [];
+              last = self.old.row + 1;
+              left = self.old.left - 1;
+            }) }
     {
         self.mults.push((self.row, *z))?;
         self.last = u64::from(self.row) + 1;
@@ -442,7 +473,9 @@ impl Reader {
 
     // Whether a line's end would leave a point with too few values.
     fn is_short_point(&self, frame: &Frame) -> bool
-        ensures { (n : ℕ) → (result ≡ true → line_fault (frame_of frame.now) (stage_of self.now n) ≡ Some CertKind.Length) × (result ≡ false → line_fault (frame_of frame.now) (stage_of self.now n) ≡ None) }
+        ensures { (n : ℕ) → (result ≡ true → line_fault (frame_of frame.now) (stage_of self.now n) ≡
+            Some CertKind.Length) × (result ≡ false →
+            line_fault (frame_of frame.now) (stage_of self.now n) ≡ None) }
     {
         match self.spot {
             Spot::Values => self.point.len() < frame.variables as usize,
@@ -452,7 +485,9 @@ impl Reader {
 
     // Whether a word can't stand as a line's end would leave a point with too few values.
     fn is_faulty_end(&self, frame: &Frame, word: Word) -> bool
-        ensures { (n : ℕ) → fault_of (word_token (line_fault (frame_of frame.now) (stage_of self.now n)) word) ≡ (if result then Some CertKind.Length else None) }
+        ensures { (n : ℕ) → fault_of (word_token
+            (line_fault (frame_of frame.now) (stage_of self.now n)) word) ≡
+            (if result then Some CertKind.Length else None) }
     {
         if ends_line(word) {
             self.is_short_point(frame)
@@ -470,8 +505,11 @@ impl Reader {
         value: u64,
     ) -> Result<(), CertFault>
         requires { self.old.part ≡ Digits negative value }
-        ensures behind { (text : List ℕ) (byte : ℕ) → length text + 1 < 2 ^ 64 → StandsFor frame.now self.old text → is_digit byte ≡ false → EndsNumberAt frame.now self.new text byte result }
-        ensures at_end { (text : List ℕ) → length text < 2 ^ 64 → StandsFor frame.now self.old text → EndsTextAt frame.now self.new text result }
+        ensures behind { (text : List ℕ) (byte : ℕ) → length text + 1 < 2 ^ 64 →
+            StandsFor frame.now self.old text → is_digit byte ≡ false →
+            EndsNumberAt frame.now self.new text byte result }
+        ensures at_end { (text : List ℕ) → length text < 2 ^ 64 →
+            StandsFor frame.now self.old text → EndsTextAt frame.now self.new text result }
     {
         match sort_of(self.spot) {
             Sort::Natural => self.take_natural(alloc, frame, value),
@@ -482,7 +520,9 @@ impl Reader {
 
     // A word is whole.
     fn end_word(&mut self, alloc: Global, frame: &Frame, word: Word) -> Result<(), CertFault>
-        ensures { (text : List ℕ) (byte count : ℕ) → length text + 1 < 2 ^ 64 → InWordAt frame.now self.old word count text → slice_index_or (word_text word) count 0 ≡ byte → count + 1 ≡ length (word_text word) → Steps frame.now self.new text byte result }
+        ensures { (text : List ℕ) (byte count : ℕ) → length text + 1 < 2 ^ 64 →
+            InWordAt frame.now self.old word count text → slice_index_or (word_text word) count 0 ≡
+            byte → count + 1 ≡ length (word_text word) → Steps frame.now self.new text byte result }
     {
         if self.is_faulty_end(frame, word) {
             return self.fault(CertKind::Length);
@@ -509,7 +549,9 @@ impl Reader {
         done: usize,
         byte: u8,
     ) -> Result<(), CertFault>
-        ensures { (text : List ℕ) → length text + 1 < 2 ^ 64 → (done ≡ 0 → word_begins word byte ≡ true) → InWordAt frame.now self.old word done text → Steps frame.now self.new text byte result }
+        ensures { (text : List ℕ) → length text + 1 < 2 ^ 64 →
+            (done ≡ 0 → word_begins word byte ≡ true) → InWordAt frame.now self.old word done text →
+            Steps frame.now self.new text byte result }
     {
         let bytes = bytes_of(word);
         if done >= bytes.len() {
@@ -540,7 +582,10 @@ impl Reader {
 
     // The number of a node that is too deep begins with a byte, or the text leaves the grammar.
     fn begin_deep(&mut self, byte: u8) -> Result<(), CertFault>
-        ensures { (frame : Frame) (text : List ℕ) (number : Bool) → length text + 1 < 2 ^ 64 → (between : Between frame self.old number text) → is_deep_stage (stage_of self.old between.count) ≡ true → MayStand number (byte ∷ []) → Steps frame self.new text byte result }
+        ensures { (frame : Frame) (text : List ℕ) (number : Bool) → length text + 1 < 2 ^ 64 →
+            (between : Between frame self.old number text) →
+            is_deep_stage (stage_of self.old between.count) ≡ true → MayStand number (byte ∷ []) →
+            Steps frame self.new text byte result }
     {
         if digit(byte) {
             return self.fault(CertKind::Depth);
@@ -555,7 +600,8 @@ impl Reader {
     // The byte behind a minus, where the number comes of a node that is too deep.
     fn behind_deep_minus(&self, byte: u8) -> Result<(), CertFault>
         requires { self.now.part ≡ DeepMinus }
-        ensures { (frame : Frame) (text : List ℕ) → length text + 1 < 2 ^ 64 → StandsFor frame self.now text → Steps frame self.now text byte result }
+        ensures { (frame : Frame) (text : List ℕ) → length text + 1 < 2 ^ 64 →
+            StandsFor frame self.now text → Steps frame self.now text byte result }
     {
         if digit(byte) {
             return self.fault(CertKind::Depth);
@@ -565,7 +611,10 @@ impl Reader {
 
     // A number begins with a byte, or the text leaves the grammar.
     fn begin_number(&mut self, byte: u8) -> Result<(), CertFault>
-        ensures { (frame : Frame) (text : List ℕ) (number : Bool) → length text + 1 < 2 ^ 64 → (between : Between frame self.old number text) → MayStand number (byte ∷ []) → ((v : Word) → Comes v (words (stage_of self.old between.count)) → word_begins v byte ≡ false) → Steps frame self.new text byte result }
+        ensures { (frame : Frame) (text : List ℕ) (number : Bool) → length text + 1 < 2 ^ 64 →
+            (between : Between frame self.old number text) → MayStand number (byte ∷ []) →
+            ((v : Word) → Comes v (words (stage_of self.old between.count)) →
+            word_begins v byte ≡ false) → Steps frame self.new text byte result }
     {
         if self.awaits_deep() {
             return self.begin_deep(byte);
@@ -609,7 +658,8 @@ impl Reader {
     fn more_digits(&mut self, negative: bool, value: u64, byte: u8) -> Result<(), CertFault>
         requires part { self.old.part ≡ Digits negative value }
         requires digit { is_digit byte ≡ true }
-        ensures { (frame : Frame) (text : List ℕ) → length text + 1 < 2 ^ 64 → StandsFor frame self.old text → Steps frame self.new text byte result }
+        ensures { (frame : Frame) (text : List ℕ) → length text + 1 < 2 ^ 64 →
+            StandsFor frame self.old text → Steps frame self.new text byte result }
     {
         if value == 0 {
             return self.fault(CertKind::Syntax);
@@ -625,7 +675,8 @@ impl Reader {
     // The byte behind a minus.
     fn behind_minus(&mut self, byte: u8) -> Result<(), CertFault>
         requires { self.old.part ≡ Minus }
-        ensures { (frame : Frame) (text : List ℕ) → length text + 1 < 2 ^ 64 → StandsFor frame self.old text → Steps frame self.new text byte result }
+        ensures { (frame : Frame) (text : List ℕ) → length text + 1 < 2 ^ 64 →
+            StandsFor frame self.old text → Steps frame self.new text byte result }
     {
         if digit(byte) {
             if byte == b'0' {
@@ -638,7 +689,9 @@ impl Reader {
 
     // A token begins with a byte.
     fn begin(&mut self, alloc: Global, frame: &Frame, byte: u8) -> Result<(), CertFault>
-        ensures { (text : List ℕ) (number : Bool) → length text + 1 < 2 ^ 64 → Between frame.now self.old number text → (number ≡ true → is_digit byte ≡ false) → Steps frame.now self.new text byte result }
+        ensures { (text : List ℕ) (number : Bool) → length text + 1 < 2 ^ 64 →
+            Between frame.now self.old number text → (number ≡ true → is_digit byte ≡ false) →
+            Steps frame.now self.new text byte result }
     {
         match pick(words_at(self.version, self.spot, self.left > 0), byte) {
             Some(word) => self.go_on(alloc, frame, word, 0, byte),
@@ -648,7 +701,8 @@ impl Reader {
 
     // One byte more.
     fn step(&mut self, alloc: Global, frame: &Frame, byte: u8) -> Result<(), CertFault>
-        ensures { (text : List ℕ) → length text + 1 < 2 ^ 64 → StandsFor frame.now self.old text → Steps frame.now self.new text byte result }
+        ensures { (text : List ℕ) → length text + 1 < 2 ^ 64 → StandsFor frame.now self.old text →
+            Steps frame.now self.new text byte result }
     {
         match self.part {
             Part::Fresh => self.begin(alloc, frame, byte),
@@ -697,7 +751,8 @@ impl Reader {
 
     /// Reads a further piece. A fault is answered as soon as no further bytes can mend it.
     pub fn feed(&mut self, alloc: Global, frame: &Frame, piece: &[u8]) -> Result<(), CertFault>
-        ensures { (text : List ℕ) → length text + length piece.now < 2 ^ 64 → StandsFor frame.now self.old text → Feeds frame.now self.new text piece.now result }
+        ensures { (text : List ℕ) → length text + length piece.now < 2 ^ 64 →
+            StandsFor frame.now self.old text → Feeds frame.now self.new text piece.now result }
     {
         for byte in piece {
             match self.step(alloc, frame, *byte) {
@@ -710,7 +765,8 @@ impl Reader {
 
     // The text ends here.
     fn end_text(&mut self, alloc: Global, frame: &Frame) -> Result<(), CertFault>
-        ensures { (text : List ℕ) → length text < 2 ^ 64 → StandsFor frame.now self.old text → EndsWell frame.now self.new text result }
+        ensures { (text : List ℕ) → length text < 2 ^ 64 → StandsFor frame.now self.old text →
+            EndsWell frame.now self.new text result }
     {
         match self.part {
             Part::Fresh => match self.spot {
@@ -731,7 +787,8 @@ impl Reader {
 
     /// The certificate that was read, where the text ends here.
     pub fn finish(self, alloc: Global, frame: &Frame) -> Result<Cert, CertFault>
-        ensures { (text : List ℕ) → length text < 2 ^ 64 → StandsFor frame.now self text → ReadsCertificate frame.now text result }
+        ensures { (text : List ℕ) → length text < 2 ^ 64 → StandsFor frame.now self text →
+            ReadsCertificate frame.now text result }
     {
         let mut reader = self;
         match reader.end_text(alloc, frame) {
@@ -750,6 +807,7 @@ impl Reader {
 pub fn read(alloc: Global, frame: &Frame, bytes: &[u8]) -> Result<Cert, CertFault>
     ensures { ReadsCertificate frame.now bytes.now result }
 {
+    // For the proof alone: how long `bytes` can be.
     let _size = bytes.len();
     let mut reader = Reader::new(alloc);
     match reader.feed(alloc, frame, bytes) {

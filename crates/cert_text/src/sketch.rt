@@ -1,3 +1,4 @@
+// The tree of a certificate as it is read, with the proofs of its leaves.
 use bp_theory::Proof;
 
 /// A branch tree with the proofs of its leaves: shut leaves, open leaves, and splits of a

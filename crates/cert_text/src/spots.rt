@@ -1,3 +1,4 @@
+// Places between two tokens of a certificate's text, and what may come there.
 ghost use Rattle.std.specs.Prelude.{◌≡◌};
 ghost use Rattle.cert_text.specs.Spots.{spot_sort, spot_words, picked_word};
 

@@ -1,3 +1,4 @@
+// The words of a certificate's text.
 ghost use Rattle.std.specs.Prelude.{◌≡◌};
 ghost use Rattle.cert_text.specs.Words.{word_text, word_begins, is_line_end};
 

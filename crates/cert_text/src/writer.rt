@@ -1,3 +1,4 @@
+// The text of a certificate, written in one spelling.
 ghost use Rattle.std.specs.Prelude.{◌≡◌, ℕ, ◌+◌, ◌++◌, List, [], codes, length, IfOk, OnOk};
 ghost use Rattle.std.specs.List.{flat_map};
 ghost use Rattle.cert_text.specs.Cert.{Frame};
@@ -128,7 +129,8 @@ fn put_changes(
     had: &[(u32, i64)],
     proof: &Proof,
 ) -> Result<(), AllocError>
-    ensures { OnOk result (out.new.items ≡ out.old.items ++ proof_text Two (changing_proof had.now proof.now)) }
+    ensures { OnOk result (out.new.items ≡ out.old.items ++
+        proof_text Two (changing_proof had.now proof.now)) }
 {
     let changes = differences(alloc, had, proof.mults.as_slice())?;
     put_number(out, u64::from(proof.scale))?;
@@ -144,7 +146,8 @@ pub fn put_changed_leaf<'a>(
     had: &[(u32, i64)],
     proof: &'a Proof,
 ) -> Result<&'a [(u32, i64)], AllocError>
-    ensures text { OnOk result (out.new.items ≡ out.old.items ++ (word.now ++ proof_text Two (changing_proof had.now proof.now))) }
+    ensures text { OnOk result (out.new.items ≡ out.old.items ++
+        (word.now ++ proof_text Two (changing_proof had.now proof.now))) }
     ensures last { IfOk result (λ last. last.now ≡ proof.now.mults) }
 {
     out.extend_from_slice(word)?;
@@ -154,7 +157,8 @@ pub fn put_changed_leaf<'a>(
 
 // A split's line.
 pub fn put_split(out: &mut Vec<u8>, var: u32, at: &i64) -> Result<(), AllocError>
-    ensures { OnOk result (out.new.items ≡ out.old.items ++ (codes "split " ++ numeral (var + 1) ++ codes " " ++ signed_numeral at.now ++ codes "\n")) }
+    ensures { OnOk result (out.new.items ≡ out.old.items ++
+        (codes "split " ++ numeral (var + 1) ++ codes " " ++ signed_numeral at.now ++ codes "\n")) }
 {
     out.extend_from_slice(b"split ")?;
     put_number(out, u64::from(var) + 1)?;
@@ -200,7 +204,8 @@ fn put_bound(
     value: &Option<i64>,
     point: &[i64],
 ) -> Result<(), AllocError>
-    ensures { OnOk result (out.new.items ≡ out.old.items ++ bound_text bound.now value.now point.now) }
+    ensures { OnOk result (out.new.items ≡ out.old.items ++ bound_text bound.now value.now
+        point.now) }
 {
     put_signed(out, bound)?;
     match value {
@@ -240,7 +245,8 @@ fn put_cert(
     point: &[i64],
     tree: &Sketch,
 ) -> Result<(), AllocError>
-    ensures { OnOk result (out.new.items ≡ out.old.items ++ plain_text One claim.now point.now (tree_of tree.now)) }
+    ensures { OnOk result (out.new.items ≡ out.old.items ++ plain_text One claim.now point.now
+        (tree_of tree.now)) }
 {
     out.extend_from_slice(b"bpcert 1\n")?;
     put_claim(out, claim, point)?;
@@ -255,7 +261,8 @@ fn put_changed_tree<'a>(
     tree: &'a Sketch,
     had: &'a [(u32, i64)],
 ) -> Result<&'a [(u32, i64)], AllocError>
-    ensures text { OnOk result (out.new.items ≡ out.old.items ++ tree_text Two (changing_nodes had.now (tree_of tree.now))) }
+    ensures text { OnOk result (out.new.items ≡ out.old.items ++
+        tree_text Two (changing_nodes had.now (tree_of tree.now))) }
     ensures last { IfOk result (λ last. last.now ≡ last_mults (tree_of tree.now)) }
 {
     match tree {
@@ -277,7 +284,8 @@ fn put_changed_cert(
     point: &[i64],
     tree: &Sketch,
 ) -> Result<(), AllocError>
-    ensures { OnOk result (out.new.items ≡ out.old.items ++ plain_text Two claim.now point.now (changing_nodes [] (tree_of tree.now))) }
+    ensures { OnOk result (out.new.items ≡ out.old.items ++ plain_text Two claim.now point.now
+        (changing_nodes [] (tree_of tree.now))) }
 {
     out.extend_from_slice(b"bpcert 2\n")?;
     put_claim(out, claim, point)?;
@@ -293,7 +301,9 @@ pub fn write(
     point: &[i64],
     tree: &Sketch,
 ) -> Result<Vec<u8>, AllocError>
-    ensures { IfOk result (λ text. (frame : Frame) → text.items ≡ text_of (tokens_of frame One (cert_of (certificate claim.now point.now (tree_of tree.now))))) }
+    ensures { IfOk result (λ text. (frame : Frame) →
+        text.items ≡ text_of (tokens_of frame One
+        (cert_of (certificate claim.now point.now (tree_of tree.now))))) }
 {
     let mut out = Vec::new(alloc);
     put_cert(&mut out, claim, point, tree)?;
@@ -302,7 +312,9 @@ pub fn write(
 
 /// The text of version 2 of a certificate that some text was read of.
 pub fn rewrite(alloc: Global, cert: &Cert) -> Result<Vec<u8>, AllocError>
-    ensures { IfOk result (λ text. (frame : Frame) (old : List ℕ) → IsCertText frame (kept_cert cert.now) old → IsText frame Two (kept_cert cert.now) text.items) }
+    ensures { IfOk result (λ text. (frame : Frame) (old : List ℕ) →
+        IsCertText frame (kept_cert cert.now) old →
+        IsText frame Two (kept_cert cert.now) text.items) }
 {
     let mut out = Vec::new(alloc);
     put_changed_cert(

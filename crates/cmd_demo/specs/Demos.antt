@@ -1,5 +1,6 @@
 -- What `demo` answers.
 use Rattle.std.specs.Prelude.{◌≡◌, ℕ, List, [], ◌∷◌, Option, Some, None}
+use Rattle.bp_theory.specs.Limits.{demo_steps}
 use Rattle.bp_theory.specs.Claims.{IsCertified}
 use Rattle.bp_shelf.specs.Shelf.{Files}
 use Rattle.bp_shelf.specs.declared.shelf.ShelfFault.TheVariants.{NoMemory}
@@ -29,7 +30,7 @@ MadeCome seed size front = FilesCome (made_files seed size) [] (Some (0 ∷ []))
 pub record DemosBlocked (seed size : ℕ) (kept : Option Outcome) (b : BlockedProgram) (status : ℕ) (report : List ℕ) : Type 0 where
   pub outcome : Outcome
   pub is_kept : kept ≡ Some outcome
-  pub is_outcome : IsOutcome b (Some 2000) outcome
+  pub is_outcome : IsOutcome b (Some demo_steps) outcome
   pub valid : IsCertified b.named.program b.dec (outcome_certificate b.named.program outcome)
   pub has_status : status ≡ outcome_status outcome
   pub has_report : report ≡ demo_report seed size b.named outcome (Accepted (outcome_certificate b.named.program outcome).claim)

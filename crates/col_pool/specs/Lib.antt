@@ -1,2 +1,3 @@
+-- Other crates cite Pools. The rest is for contracts here alone.
 pub mod Pools
 pub mod Inside

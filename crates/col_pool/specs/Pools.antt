@@ -1,5 +1,6 @@
 -- Pools of columns: what a block's sums may come to, columns of a block, and what adding a point answers.
 use Rattle.std.specs.Prelude.{◌≡◌, ◌≢◌, ℕ, ◌<◌, ◌^◌, List, [], ◌∷◌, ◌++◌, map, length, ℤ, pos, slice_index_or, All, AllPairs}
+use Rattle.bp_theory.specs.Limits.{most_columns, number_limit}
 use Rattle.std.specs.List.Sorted.{IsStrictlyIncreasing}
 use Rattle.bp_theory.specs.Sums.{dot, sum_at}
 use Rattle.bp_theory.specs.Program.{IsInside}
@@ -30,8 +31,8 @@ coefs_of block row = map (λ (c : Copy). coef_in c row) block.copies
 -- no sum over a point of a block leaves 62 bits: none of its rows, of its cost, or of its activities in master rows
 pub record HasSmallSums (k : RootBlock) : Type 0 where
   pub form : IsForm k.block.rows k.spans
-  pub costs : cost_size k.spans (costs_of k.block) < 2 ^ 62
-  pub acts : (row : ℕ) → cost_size k.spans (coefs_of k.block row) < 2 ^ 62
+  pub costs : cost_size k.spans (costs_of k.block) < number_limit
+  pub acts : (row : ℕ) → cost_size k.spans (coefs_of k.block row) < number_limit
 
 -- the activities of a point of a block in the master rows: ascending, without zeros, and each row's is the plain sum
 pub record HasActivities (block : Block) (y : List ℤ) (acts : List (ℕ × ℤ)) : Type 0 where
@@ -72,7 +73,7 @@ HasKept before after c (Known n) = HasPointAt before n c.point × (after ≡ bef
 abbrev pub HasKeepFault : List Column → Column → PoolFault → Type 0
 HasKeepFault columns c (Outside v) = ⊥
 HasKeepFault columns c (Row row) = ⊥
-HasKeepFault columns c Full = (length columns ≡ 65536) × IsAbsent columns c.point
+HasKeepFault columns c Full = (length columns ≡ most_columns) × IsAbsent columns c.point
 HasKeepFault columns c NoMemory = Unit {0}
 
 -- what a pool becomes with a point of its block: a new column of the point at the end, with the old length as
@@ -87,5 +88,5 @@ HasAdded k before after y (Known n) = IsPoint k.block.rows k.spans y × HasPoint
 abbrev pub HasPoolFault : RootBlock → List Column → List ℤ → PoolFault → Type 0
 HasPoolFault k columns y (Outside v) = IsFirstOutside k.spans y v
 HasPoolFault k columns y (Row row) = IsInside k.spans y × IsFirstMissed k.block.rows y row
-HasPoolFault k columns y Full = IsPoint k.block.rows k.spans y × (length columns ≡ 65536) × IsAbsent columns y
+HasPoolFault k columns y Full = IsPoint k.block.rows k.spans y × (length columns ≡ most_columns) × IsAbsent columns y
 HasPoolFault k columns y NoMemory = Unit {0}

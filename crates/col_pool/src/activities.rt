@@ -58,8 +58,8 @@ pub fn activities(
 // The sums of a block's coefficients times a point's numbers, by master row.
 fn sums_of(alloc: Global, block: &Block, point: &[i64]) -> Result<BTreeMap<u32, i128>, AllocError>
     requires { length point.now ≡ length block.now.block.copies }
-    ensures sums { IfOk result (λ sums. (row : ℕ) → unwrap_or (get nat_cmp sums row) (pos 0)
-        ≡ int_wrap w128 (dot (map (λ (c : Copy). coef_in c row) block.now.block.copies) point.now)) }
+    ensures sums { IfOk result (λ sums. (row : ℕ) → unwrap_or (get nat_cmp sums row) (pos 0) ≡
+        int_wrap w128 (dot (map (λ (c : Copy). coef_in c row) block.now.block.copies) point.now)) }
     ensures ordered { IfOk result (IsOrdered nat_cmp) }
 {
     let mut sums = BTreeMap::new(alloc);
@@ -76,8 +76,9 @@ fn add_scaled(
     number: &i64,
 ) -> Result<(), AllocError>
     requires { IsOrdered nat_cmp sums.old }
-    ensures sums { OnOk result ((row : ℕ) (t : ℤ) → unwrap_or (get nat_cmp sums.old row) (pos 0) ≡ int_wrap w128 t
-        → unwrap_or (get nat_cmp sums.new row) (pos 0) ≡ int_wrap w128 (t +ℤ sum_at (λ e. e.0) (λ e. e.1) coefs.now row *ℤ number.now)) }
+    ensures sums { OnOk result ((row : ℕ) (t : ℤ) → unwrap_or (get nat_cmp sums.old row) (pos 0) ≡
+        int_wrap w128 t → unwrap_or (get nat_cmp sums.new row) (pos 0) ≡
+        int_wrap w128 (t +ℤ sum_at (λ e. e.0) (λ e. e.1) coefs.now row *ℤ number.now)) }
     ensures ordered { IsOrdered nat_cmp sums.new }
 {
     if *number == 0 {

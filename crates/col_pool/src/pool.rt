@@ -44,6 +44,7 @@ impl Pool {
         ensures empty { IfOk result (λ pool. pool ≡ []) }
         ensures pool { IfOk result (IsPoolOf (root_block b.now block)) }
     {
+        // For the proof alone: `b` is formed.
         let _ = b.blocks();
         Ok(Pool {
             columns: IndexSet::new(alloc),

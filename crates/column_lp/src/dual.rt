@@ -1,5 +1,5 @@
-// The dual simplex method, from a basis whose reduced costs are not below zero: after sides fell or columns were switched off.
-// (Lemke, The dual method of solving the linear programming problem, 1954.)
+// The dual simplex method, from a basis whose reduced costs are not below zero: after sides fell or columns were
+// switched off. (Lemke, The dual method of solving the linear programming problem, 1954.)
 use crate::numbers::{NONE, at, dot, place, place_at, put};
 use crate::program::{ColumnProgram, Entering, NOISE};
 use std::alloc::{AllocError, Global};
@@ -39,8 +39,8 @@ impl Candidate {
 }
 
 impl ColumnProgram {
-    /// Mends weights below zero and of columns that are switched off by at most so many pivots, so that reduced costs stay at least
-    /// zero; whether none is left.
+    /// Mends weights below zero and of columns that are switched off by at most so many pivots, so that reduced costs
+    /// stay at least zero; whether none is left.
     pub fn mend(&mut self, most: u32) -> Result<bool, AllocError> {
         self.compute_weights();
         let mut failures = 0u32;

@@ -1,6 +1,7 @@
-// The primal simplex method, from a basis whose weights are not below zero: after columns came or penalties changed. A list of a
-// few columns of least reduced cost is kept and filled again by a pass over all (partial pricing); the ratio test takes the greatest
-// pivot among those that tie within a tolerance (Harris, Pivot selection methods of the Devex LP code, 1973).
+// The primal simplex method, from a basis whose weights are not below zero: after columns came or penalties changed. A
+// list of a few columns of least reduced cost is kept and filled again by a pass over all (partial pricing); the ratio
+// test takes the greatest pivot among those that tie within a tolerance (Harris, Pivot selection methods of the Devex
+// LP code, 1973).
 use crate::numbers::{NONE, at, place, place_at};
 use crate::program::{ColumnProgram, Entering, NOISE};
 use std::alloc::{AllocError, Global};

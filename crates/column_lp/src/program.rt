@@ -6,10 +6,10 @@ use std::alloc::{AllocError, Global};
 /// What a sign may be below zero by noise.
 pub const NOISE: f64 = 1e-7;
 
-/// A linear program: columns of numbers by rows with weights from 0 on, at least cost, so that each row's sum is its side. What a row
-/// lacks or has too much may stay, at a cost of its own for each: a slack is one of cost 0, and a penalty keeps a multiplier in a range.
-/// So there is always a solution. The basis has a member for each row, a column or what a row lacks or has too much, which is the
-/// factors' logical taken with a sign: -1 where it lacks.
+/// A linear program: columns of numbers by rows with weights from 0 on, at least cost, so that each row's sum is its
+/// side. What a row lacks or has too much may stay, at a cost of its own for each: a slack is one of cost 0, and a
+/// penalty keeps a multiplier in a range. So there is always a solution. The basis has a member for each row, a column
+/// or what a row lacks or has too much, which is the factors' logical taken with a sign: -1 where it lacks.
 #[derive(Drop)]
 pub struct ColumnProgram {
     pub(crate) columns: Vectors,
@@ -344,13 +344,14 @@ impl ColumnProgram {
         sign
     }
 
-    /// By how much the member at a position falls for each unit of an entering one of a sign, whose numbers stand in `alpha`.
+    /// By how much the member at a position falls for each unit of an entering one of a sign, whose numbers stand in
+    /// `alpha`.
     pub(crate) fn fall(&self, position: usize, sign: f64) -> f64 {
         at(self.alpha.as_slice(), position) * at(self.signs.as_slice(), position) * sign
     }
 
-    /// Exchanges the member at a position for an entering one of a sign, whose numbers stand in `alpha` and whose weight becomes
-    /// `step`; whether it could.
+    /// Exchanges the member at a position for an entering one of a sign, whose numbers stand in `alpha` and whose
+    /// weight becomes `step`; whether it could.
     pub(crate) fn exchange(
         &mut self,
         position: usize,

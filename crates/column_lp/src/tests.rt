@@ -1,3 +1,4 @@
+// Small programs of columns, solved and mended.
 use crate::ColumnProgram;
 use lp_factor::Entry;
 use std::alloc::{AllocError, Global};

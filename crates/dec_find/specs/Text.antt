@@ -3,13 +3,14 @@ use Rattle.std.specs.Prelude.{◌≡◌, ℕ, ◌+◌, ◌<◌, ◌≤◌, ◌==
 use Rattle.std.specs.List.{range_with_len, zip, flat_map}
 use Rattle.bp_theory.specs.Decomposition.{Decomposition, is_block}
 use Rattle.bp_model.specs.Named.{NamedProgram}
+use Rattle.lp_token.specs.Cut.{longest_name}
 use Rattle.lp_token.specs.Lexeme.{is_name}
 use Rattle.dec_find.specs.declared.text.Lines.{Lines}
 
--- a name of an LP text: at most 255 characters
+-- a name of an LP text
 pub record IsRowName (name : List ℕ) : Type 0 where
   pub spelled : IsTrue (is_name name)
-  pub short : length name ≤ 255
+  pub short : length name ≤ longest_name
 
 -- whether two places are the same: the master, or one block
 abbrev pub same_place : Option ℕ → Option ℕ → Bool

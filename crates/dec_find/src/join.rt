@@ -27,8 +27,10 @@ fn step_up(parents: &mut [u32], row: u32) -> u32
     ensures forest { IsForest parents.new }
     ensures keeps { KeepsTied parents.old parents.new }
     ensures tied { AreTied parents.new row result }
-    ensures sound { (p : Program) (master : List ℕ) → AreParents p master parents.old → AreParents p master parents.new }
-    ensures joined { (p : Program) (master : List ℕ) → AreParents p master parents.old → IsParent p master row result }
+    ensures sound { (p : Program) (master : List ℕ) → AreParents p master parents.old →
+        AreParents p master parents.new }
+    ensures joined { (p : Program) (master : List ℕ) → AreParents p master parents.old →
+        IsParent p master row result }
 {
     let parent = parents[row as usize];
     let above = parents[parent as usize];
@@ -46,8 +48,10 @@ fn root_of(parents: &mut [u32], from: u32) -> u32
     ensures forest { IsForest parents.new }
     ensures keeps { KeepsTied parents.old parents.new }
     ensures tied { AreTied parents.new from result }
-    ensures sound { (p : Program) (master : List ℕ) → AreParents p master parents.old → AreParents p master parents.new }
-    ensures joined { (p : Program) (master : List ℕ) → AreParents p master parents.old → IsParent p master from result }
+    ensures sound { (p : Program) (master : List ℕ) → AreParents p master parents.old →
+        AreParents p master parents.new }
+    ensures joined { (p : Program) (master : List ℕ) → AreParents p master parents.old →
+        IsParent p master from result }
 {
     let mut row = from;
     'climb: loop {
@@ -67,7 +71,8 @@ fn tie(parents: &mut [u32], one: u32, other: u32)
     ensures forest { IsForest parents.new }
     ensures keeps { KeepsTied parents.old parents.new }
     ensures tied { AreTied parents.new one other }
-    ensures sound { (p : Program) (master : List ℕ) → Joined p master one other → AreParents p master parents.old → AreParents p master parents.new }
+    ensures sound { (p : Program) (master : List ℕ) → Joined p master one other →
+        AreParents p master parents.old → AreParents p master parents.new }
 {
     let first = root_of(parents, one);
     let second = root_of(parents, other);
@@ -81,7 +86,8 @@ fn tie(parents: &mut [u32], one: u32, other: u32)
 // Each row as its own parent.
 fn own_parents(alloc: Global, rows: u32) -> Result<Vec<u32>, AllocError>
     ensures each { IfOk result (λ parents. length parents.items ≡ rows) }
-    ensures own { IfOk result (λ parents. (r : ℕ) → r < length parents.items → slice_index parents.items r ≡ r) }
+    ensures own { IfOk result (λ parents. (r : ℕ) → r < length parents.items →
+        slice_index parents.items r ≡ r) }
 {
     let mut parents = Vec::new(alloc);
     for row in 0..rows {
@@ -101,8 +107,10 @@ fn no_homes(alloc: Global, vars: u32) -> Result<Vec<Option<u32>>, AllocError>
 impl Ties {
     // Each row in a tree of its own.
     fn new(alloc: Global, m: &Model) -> Result<Ties, AllocError>
-        ensures ready { IfOk result (λ ties. IsReady (length m.now.program.rows) (length m.now.program.spans) ties.parents.items ties.homes.items) }
-        ensures sound { (master : List ℕ) → IfOk result (λ ties. IsSound m.now.program master ties.parents.items ties.homes.items) }
+        ensures ready { IfOk result (λ ties. IsReady (length m.now.program.rows)
+            (length m.now.program.spans) ties.parents.items ties.homes.items) }
+        ensures sound { (master : List ℕ) →
+            IfOk result (λ ties. IsSound m.now.program master ties.parents.items ties.homes.items) }
     {
         let parents = own_parents(alloc, m.rows())?;
         let homes = no_homes(alloc, m.vars())?;
@@ -111,14 +119,18 @@ impl Ties {
 
     // Ties a row to the home of a variable that it has.
     fn tie_variable(&mut self, row: u32, var: u32)
-        requires ready { IsReady (length self.old.parents.items) (length self.old.homes.items) self.old.parents.items self.old.homes.items }
+        requires ready { IsReady (length self.old.parents.items) (length self.old.homes.items)
+            self.old.parents.items self.old.homes.items }
         requires row_there { row < length self.old.parents.items }
         requires variable_there { var < length self.old.homes.items }
-        ensures ready { IsReady (length self.old.parents.items) (length self.old.homes.items) self.new.parents.items self.new.homes.items }
-        ensures extends { Extends self.old.parents.items self.old.homes.items self.new.parents.items self.new.homes.items }
+        ensures ready { IsReady (length self.old.parents.items) (length self.old.homes.items)
+            self.new.parents.items self.new.homes.items }
+        ensures extends { Extends self.old.parents.items self.old.homes.items self.new.parents.items
+            self.new.homes.items }
         ensures home { HasHome self.new.parents.items self.new.homes.items row var }
-        ensures sound { (p : Program) (master : List ℕ) → IsOutside p master row → HasVariable p row var
-            → IsSound p master self.old.parents.items self.old.homes.items → IsSound p master self.new.parents.items self.new.homes.items }
+        ensures sound { (p : Program) (master : List ℕ) → IsOutside p master row →
+            HasVariable p row var → IsSound p master self.old.parents.items self.old.homes.items →
+            IsSound p master self.new.parents.items self.new.homes.items }
     {
         match self.homes[var as usize] {
             Some(home) => tie(&mut self.parents, home, row),
@@ -130,12 +142,17 @@ impl Ties {
     fn tie_row(&mut self, m: &Model, row: u32)
         requires kept { IsKept m.now }
         requires there { row < length m.now.program.rows }
-        requires ready { IsReady (length m.now.program.rows) (length m.now.program.spans) self.old.parents.items self.old.homes.items }
-        ensures ready { IsReady (length m.now.program.rows) (length m.now.program.spans) self.new.parents.items self.new.homes.items }
-        ensures extends { Extends self.old.parents.items self.old.homes.items self.new.parents.items self.new.homes.items }
-        ensures homes { (v : ℕ) → HasVariable m.now.program row v → HasHome self.new.parents.items self.new.homes.items row v }
-        ensures sound { (master : List ℕ) → IsOutside m.now.program master row
-            → IsSound m.now.program master self.old.parents.items self.old.homes.items → IsSound m.now.program master self.new.parents.items self.new.homes.items }
+        requires ready { IsReady (length m.now.program.rows) (length m.now.program.spans)
+            self.old.parents.items self.old.homes.items }
+        ensures ready { IsReady (length m.now.program.rows) (length m.now.program.spans)
+            self.new.parents.items self.new.homes.items }
+        ensures extends { Extends self.old.parents.items self.old.homes.items self.new.parents.items
+            self.new.homes.items }
+        ensures homes { (v : ℕ) → HasVariable m.now.program row v →
+            HasHome self.new.parents.items self.new.homes.items row v }
+        ensures sound { (master : List ℕ) → IsOutside m.now.program master row →
+            IsSound m.now.program master self.old.parents.items self.old.homes.items →
+            IsSound m.now.program master self.new.parents.items self.new.homes.items }
     {
         let terms = m.row(row).terms.as_slice();
         for at in 0..terms.len() {
@@ -150,7 +167,8 @@ pub fn tied_rows(alloc: Global, m: &Model, marks: &[bool]) -> Result<Vec<u32>, A
     requires each { length marks.now ≡ length m.now.program.rows }
     ensures each { IfOk result (λ parents. length parents.items ≡ length m.now.program.rows) }
     ensures forest { IfOk result (λ parents. IsForest parents.items) }
-    ensures tied { (master : List ℕ) → AreMarks m.now.program master marks.now → IfOk result (λ parents. IsTied m.now.program master parents.items) }
+    ensures tied { (master : List ℕ) → AreMarks m.now.program master marks.now →
+        IfOk result (λ parents. IsTied m.now.program master parents.items) }
 {
     let mut ties = Ties::new(alloc, m)?;
     for row in 0..m.rows() {

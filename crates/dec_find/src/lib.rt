@@ -28,7 +28,8 @@ pub use trees::find;
 
 /// A text lists at most one list of rows.
 pub fn one_list()
-    ensures { (text : List ℕ) (m : NamedProgram) (rows others : List ℕ) → ListsRows text m rows → ListsRows text m others → rows ≡ others }
+    ensures { (text : List ℕ) (m : NamedProgram) (rows others : List ℕ) → ListsRows text m rows →
+        ListsRows text m others → rows ≡ others }
 {}
 
 /// No text both lists rows and has a fault.
@@ -45,23 +46,26 @@ pub fn one_fault()
 
 /// Each text lists rows or has a first fault.
 pub fn list_or_first_fault()
-    ensures { (text : List ℕ) (m : NamedProgram)
-        → ((rows : List ℕ) × ListsRows text m rows) ⊎ ((line : ℕ) × (kind : RowsKind) × HasRowsFault text m line kind) }
+    ensures { (text : List ℕ) (m : NamedProgram) → ((rows : List ℕ) × ListsRows text m rows) ⊎
+        ((line : ℕ) × (kind : RowsKind) × HasRowsFault text m line kind) }
 {}
 
 /// A program has one decomposition beside master rows.
 pub fn one_decomposition()
-    ensures { (p : Program) (master : List ℕ) (d e : Decomposition) → IsFound p master d → IsFound p master e → d ≡ e }
+    ensures { (p : Program) (master : List ℕ) (d e : Decomposition) → IsFound p master d →
+        IsFound p master e → d ≡ e }
 {}
 
 /// The decomposition of a model beside master rows is refused for want of memory alone.
 pub fn found_is_accepted()
-    ensures { (m : NamedProgram) (master : List ℕ) (d : Decomposition) (fault : BlockFault)
-        → IsKept m → IsFound m.program master d → HasBlockFault m.program d fault → fault ≡ block.NoMemory }
+    ensures { (m : NamedProgram) (master : List ℕ) (d : Decomposition) (fault : BlockFault) →
+        IsKept m → IsFound m.program master d → HasBlockFault m.program d fault →
+        fault ≡ block.NoMemory }
 {}
 
 /// In each decomposition with these master rows and no linking variable joined rows share a block.
 pub fn joined_rows_share_a_block()
-    ensures { (p : Program) (master : List ℕ) (d : Decomposition) → HasPlaces p d → HasMaster p master d
-        → ((v : ℕ) → IsLinking p d v → ⊥) → (r s : ℕ) → Joined p master r s → place_at d r ≡ place_at d s }
+    ensures { (p : Program) (master : List ℕ) (d : Decomposition) → HasPlaces p d →
+        HasMaster p master d → ((v : ℕ) → IsLinking p d v → ⊥) → (r s : ℕ) → Joined p master r s →
+        place_at d r ≡ place_at d s }
 {}

@@ -31,7 +31,8 @@ fn unlisted(alloc: Global, rows: usize) -> Result<Vec<bool>, AllocError>
 impl Listing {
     // Nothing listed of so many rows.
     fn new(alloc: Global, rows: usize) -> Result<Listing, AllocError>
-        ensures { (names : List (List ℕ)) → length names ≡ rows → IfOk result (λ listing. Keeps names listing []) }
+        ensures { (names : List (List ℕ)) → length names ≡ rows →
+            IfOk result (λ listing. Keeps names listing []) }
     {
         let seen = unlisted(alloc, rows)?;
         Ok(Listing {
@@ -45,8 +46,9 @@ impl Listing {
         requires text { IsUtf8 name.now }
         requires kept { IsKept m.now }
         requires room { length self.old.seen.items ≡ length m.now.row_names }
-        ensures { (earlier : List (List ℕ)) → Keeps m.now.row_names self.old earlier
-            → Takes (name_fault m.now.row_names earlier name.now) m.now.row_names self.new earlier name.now result }
+        ensures { (earlier : List (List ℕ)) → Keeps m.now.row_names self.old earlier →
+            Takes (name_fault m.now.row_names earlier name.now) m.now.row_names self.new earlier
+            name.now result }
     {
         let Ok(name) = str::from_utf8(name) else {
             unreachable!()
@@ -66,8 +68,9 @@ impl Listing {
     fn take(&mut self, m: &Model, word: &[u8]) -> Result<Option<RowsKind>, AllocError>
         requires kept { IsKept m.now }
         requires room { length self.old.seen.items ≡ length m.now.row_names }
-        ensures { (earlier : List (List ℕ)) → Keeps m.now.row_names self.old earlier
-            → Takes (word_fault m.now.row_names earlier word.now) m.now.row_names self.new earlier word.now result }
+        ensures { (earlier : List (List ℕ)) → Keeps m.now.row_names self.old earlier →
+            Takes (word_fault m.now.row_names earlier word.now) m.now.row_names self.new earlier
+            word.now result }
     {
         if holds_bad_byte(word) {
             return Ok(Some(RowsKind::BadByte));

@@ -91,6 +91,7 @@ pub fn dec_text(alloc: Global, m: &Model, dec: &Dec) -> Result<Vec<u8>, AllocErr
     ensures text { IfOk result (λ text. text.items ≡ text_of m.now dec.now) }
     ensures read_back { IfOk result (λ text. ReadsDecomposition text.items m.now dec.now) }
 {
+    // For the proof alone: what a model keeps.
     let _rows = m.rows();
     let lines = lines_of(alloc, m, dec)?;
     let mut text = Vec::from_slice(alloc, b"NBLOCKS ")?;

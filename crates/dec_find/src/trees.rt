@@ -24,7 +24,8 @@ pub struct Places {
 fn marks_of(alloc: Global, rows: u32, master: &[u32]) -> Result<Vec<bool>, AllocError>
     requires { All (λ r. r < rows) master.now }
     ensures each { IfOk result (λ marks. length marks.items ≡ rows) }
-    ensures marks { (p : Program) → length p.rows ≡ rows → IfOk result (λ marks. AreMarks p master.now marks.items) }
+    ensures marks { (p : Program) → length p.rows ≡ rows →
+        IfOk result (λ marks. AreMarks p master.now marks.items) }
 {
     let mut marks = Vec::from_elem(alloc, false, rows as usize)?;
     for row in master {
@@ -39,10 +40,13 @@ impl Places {
         requires forest { IsForest parents.now }
         requires there { length self.old.places.items < length parents.now }
         requires few { self.old.blocks ≤ 8192 }
-        ensures numbered { (p : Program) (master : List ℕ) → (IsTrue is_master ↔ Contains master (length self.old.places.items))
-            → IsTied p master parents.now → IsNumbered p master parents.now self.old.places.items self.old.blocks
-            → OnOk result (IsNumbered p master parents.now self.new.places.items self.new.blocks) }
-        ensures more { OnOk result (length self.new.places.items ≡ length self.old.places.items + 1) }
+        ensures numbered { (p : Program) (master : List ℕ) →
+            (IsTrue is_master ↔ Contains master (length self.old.places.items)) →
+            IsTied p master parents.now →
+            IsNumbered p master parents.now self.old.places.items self.old.blocks →
+            OnOk result (IsNumbered p master parents.now self.new.places.items self.new.blocks) }
+        ensures more { OnOk result (length self.new.places.items ≡
+            length self.old.places.items + 1) }
         ensures few { OnOk result (self.new.blocks ≤ self.old.blocks + 1) }
     {
         let row = self.places.len();
@@ -67,8 +71,10 @@ fn numbered(alloc: Global, parents: &[u32], marks: &[bool]) -> Result<Places, Al
     requires forest { IsForest parents.now }
     requires each { length marks.now ≡ length parents.now }
     requires few { length parents.now ≤ 8192 }
-    ensures { (p : Program) (master : List ℕ) → AreMarks p master marks.now → IsTied p master parents.now
-        → IfOk result (λ found. IsFound p master (record { blocks = found.blocks; places = found.places.items; listed = [] })) }
+    ensures { (p : Program) (master : List ℕ) → AreMarks p master marks.now →
+        IsTied p master parents.now →
+        IfOk result (λ found. IsFound p master
+        (record { blocks = found.blocks; places = found.places.items; listed = [] })) }
 {
     let mut found = Places {
         places: Vec::new(alloc),

@@ -1,3 +1,4 @@
+-- Other crates cite all of these.
 pub mod Cut
 pub mod Words
 pub mod Parts

@@ -46,7 +46,8 @@ fn is_of_word(b: u8) -> bool
 // What stands behind a byte between words; none where the byte begins a word.
 fn passed(blank: Blank, b: u8) -> Option<Blank>
     requires { blank.line + 1 < 2 ^ 32 }
-    ensures left { IfSome result (λ next. (rest : List ℕ) → tokens_left blank (b ∷ rest) ≡ tokens_left next rest) }
+    ensures left { IfSome result (λ next. (rest : List ℕ) →
+        tokens_left blank (b ∷ rest) ≡ tokens_left next rest) }
     ensures line { IfSome result (λ next. next.line ≤ blank.line + 1) }
     ensures word { IfNone result (is_word_byte b ≡ true) }
     ensures clear { IfNone result (blank.comment ≡ false) }
@@ -80,7 +81,8 @@ fn skip_blanks(text: &[u8], from: Cursor) -> Cursor
     ensures stands { StandsIn text.now result }
     ensures onward { from.at ≤ result.at }
     ensures same { tokens_at text.now from ≡ tokens_at text.now result }
-    ensures word { result.at < length text.now → is_word_byte (slice_index text.now result.at) ≡ true }
+    ensures word { result.at < length text.now →
+        is_word_byte (slice_index text.now result.at) ≡ true }
 {
     let mut at = from.at;
     let mut blank = Blank {
@@ -127,7 +129,8 @@ fn word_end(text: &[u8], from: usize) -> usize
 /// The next word from a cursor on and the cursor behind it; none where no word is left.
 pub fn next_word(text: &[u8], from: Cursor) -> Option<(Word, Cursor)>
     requires { StandsIn text.now from }
-    ensures { MatchOption result (tokens_at text.now from ≡ []) (λ next. IsNext text.now from next.0 next.1) }
+    ensures { MatchOption result (tokens_at text.now from ≡ [])
+        (λ next. IsNext text.now from next.0 next.1) }
 {
     let start = skip_blanks(text, from);
     if start.at == text.len() {

@@ -29,7 +29,8 @@ const MOST_BYTES: usize = 16_777_216;
 
 /// A text means at most one decomposition of a model.
 pub fn one_decomposition()
-    ensures { (text : List ℕ) (m : NamedProgram) (d e : Decomposition) → ReadsDecomposition text m d → ReadsDecomposition text m e → d ≡ e }
+    ensures { (text : List ℕ) (m : NamedProgram) (d e : Decomposition) →
+        ReadsDecomposition text m d → ReadsDecomposition text m e → d ≡ e }
 {}
 
 /// No text both means a decomposition and has a fault.
@@ -46,8 +47,9 @@ pub fn one_fault()
 
 /// Each text means a decomposition of a model or has a first fault.
 pub fn decomposition_or_first_fault()
-    ensures { (text : List ℕ) (m : NamedProgram)
-        → ((d : Decomposition) × ReadsDecomposition text m d) ⊎ ((line : ℕ) × (kind : DecKind) × HasDecTextFault text m line kind) }
+    ensures { (text : List ℕ) (m : NamedProgram) →
+        ((d : Decomposition) × ReadsDecomposition text m d) ⊎
+        ((line : ℕ) × (kind : DecKind) × HasDecTextFault text m line kind) }
 {}
 
 /// The decomposition of a model that a text means, or the text's first fault.
@@ -70,6 +72,7 @@ pub fn read_dec(alloc: Global, bytes: &[u8], m: &Model) -> Result<Dec, DecFault>
         line: 1,
         first: true,
     };
+    // For the proof alone: what a model keeps.
     let _rows = m.rows();
     while let Some((word, next)) = next_word(bytes, cursor) {
         if let Some(kind) = reader.take(m, word.first, &bytes[word.from..word.to])? {

@@ -122,10 +122,12 @@ impl Listing {
         requires text { IsUtf8 name.now }
         requires kept { IsKept m.now }
         requires room { HasRoom m.now.row_names self.old }
-        ensures fault { (listing : List (List ℕ × Option ℕ)) → Lists m.now.row_names self.old listing
-            → result ≡ row_fault m.now.row_names listing name.now }
-        ensures listed { (listing : List (List ℕ × Option ℕ)) → Lists m.now.row_names self.old listing
-            → IfNone result (Lists m.now.row_names self.new ((name.now, place) ∷ listing)) }
+        ensures fault { (listing : List (List ℕ × Option ℕ)) →
+            Lists m.now.row_names self.old listing →
+            result ≡ row_fault m.now.row_names listing name.now }
+        ensures listed { (listing : List (List ℕ × Option ℕ)) →
+            Lists m.now.row_names self.old listing →
+            IfNone result (Lists m.now.row_names self.new ((name.now, place) ∷ listing)) }
     {
         let Ok(name) = str::from_utf8(name) else {
             unreachable!()
@@ -231,10 +233,12 @@ impl Reader {
         requires text { IsUtf8 name.now }
         requires kept { IsKept m.now }
         requires room { HasRoom m.now.row_names self.old.rows }
-        ensures fault { (listing : List (List ℕ × Option ℕ)) → Lists m.now.row_names self.old.rows listing
-            → result ≡ row_fault m.now.row_names listing name.now }
-        ensures listed { (listing : List (List ℕ × Option ℕ)) → Lists m.now.row_names self.old.rows listing
-            → IfNone result (Lists m.now.row_names self.new.rows ((name.now, place) ∷ listing)) }
+        ensures fault { (listing : List (List ℕ × Option ℕ)) →
+            Lists m.now.row_names self.old.rows listing →
+            result ≡ row_fault m.now.row_names listing name.now }
+        ensures listed { (listing : List (List ℕ × Option ℕ)) →
+            Lists m.now.row_names self.old.rows listing →
+            IfNone result (Lists m.now.row_names self.new.rows ((name.now, place) ∷ listing)) }
         ensures others { self.new ≡ record self.old { rows = self.new.rows } }
     {
         self.rows.list(m, place, name)
@@ -250,9 +254,11 @@ impl Reader {
         requires text { IsUtf8 name.now }
         requires kept { IsKept m.now }
         ensures fault { IfOk result (λ fault. fault ≡ variable_fault m.now.names name.now) }
-        ensures listed { IfOk result (λ fault. IfNone fault (self.new ≡ record self.old { listed = self.new.listed })) }
-        ensures entry { IfOk result (λ fault. IfNone fault
-            (self.new.listed.items ≡ self.old.listed.items ++ (number_among m.now.names name.now, place) ∷ [])) }
+        ensures listed { IfOk result (λ fault.
+            IfNone fault (self.new ≡ record self.old { listed = self.new.listed })) }
+        ensures entry { IfOk result (λ fault.
+            IfNone fault (self.new.listed.items ≡ self.old.listed.items ++
+            (number_among m.now.names name.now, place) ∷ [])) }
     {
         let Ok(name) = str::from_utf8(name) else {
             unreachable!()

@@ -1,1 +1,2 @@
+-- Other crates cite Spreads.
 pub mod Spreads

@@ -1,5 +1,6 @@
 -- What weights of columns give: a point where they are whole and add up, and a split.
 use Rattle.std.specs.Prelude.{◌≡◌, ℕ, ◌<◌, ◌^◌, List, [], map, length, ℤ, pos, ◌*ℤ◌, ◌≤ℤ◌, slice_index_or, MatchOption, All}
+use Rattle.bp_theory.specs.Limits.{greatest_weight}
 use Rattle.bp_theory.specs.Sums.{sum_at}
 use Rattle.bp_theory.specs.Trees.{IsSoundSplit}
 use Rattle.bp_theory.specs.declared.Span.{Span}
@@ -13,7 +14,7 @@ use Rattle.disagg.specs.declared.answer.Spread.{Spread}
 -- a weight is 0 to 2^33
 pub record HasWeight (u : UsedColumn) : Type 0 where
   pub low : pos 0 ≤ℤ u.weight
-  pub high : u.weight ≤ℤ pos (2 ^ 33)
+  pub high : u.weight ≤ℤ pos (greatest_weight)
 
 -- each weight is a whole number of units, and each class's weights add up to its number of blocks
 pub record IsSpreadable (g : Grouping) (used : List UsedColumn) : Type 0 where

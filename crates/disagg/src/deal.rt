@@ -58,7 +58,8 @@ fn push_times(
 ) -> Result<(), AllocError>
     requires { class < vec_len decks.old }
     ensures len { vec_len decks.new ≡ vec_len decks.old }
-    ensures pushed { OnOk result (decks.new.items ≡ slice_set decks.old.items class (slice_index_or decks.old.items class [] ++ replicate many place)) }
+    ensures pushed { OnOk result (decks.new.items ≡ slice_set decks.old.items class
+        (slice_index_or decks.old.items class [] ++ replicate many place)) }
 {
     add_times(&mut decks[class as usize], place, many)
 }
@@ -83,8 +84,10 @@ pub fn columns_of_blocks(
     requires each { length classes.now.classes ≡ blocks }
     requires many { length decks.now ≡ length classes.now.firsts }
     ensures each { IfOk result (λ columns. vec_len columns ≡ blocks) }
-    ensures columns { IfOk result (λ columns. (j : ℕ) → j < blocks
-        → slice_index columns.items j ≡ slice_index (slice_index_or decks.now (class_at classes.now.classes j) []) (rank classes.now.classes j)) }
+    ensures columns { IfOk result (λ columns. (j : ℕ) → j < blocks →
+        slice_index columns.items j ≡
+        slice_index (slice_index_or decks.now (class_at classes.now.classes j) [])
+        (rank classes.now.classes j)) }
 {
     let mut ranks: Vec<usize> = Vec::from_elem(alloc, 0, decks.len())?;
     let mut columns = Vec::new(alloc);
@@ -101,7 +104,8 @@ fn next_rank(ranks: &mut Vec<usize>, class: u32) -> usize
     requires there { class < vec_len ranks.old }
     requires room { slice_index ranks.old.items class < 2 ^ 32 }
     ensures rank { result ≡ slice_index ranks.old.items class }
-    ensures raised { ranks.new.items ≡ slice_set ranks.old.items class (slice_index ranks.old.items class + 1) }
+    ensures raised { ranks.new.items ≡ slice_set ranks.old.items class
+        (slice_index ranks.old.items class + 1) }
 {
     let rank = ranks[class as usize];
     ranks[class as usize] = rank + 1;

@@ -26,9 +26,9 @@ struct Fraction {
     floor: i64,
 }
 
-/// The variable whose number is farthest from whole where the columns, in units of 2^-20, are dealt out to the blocks of their
-/// classes, with the whole number below it. Of each class the first block that gets parts of several columns is looked at, and a
-/// variable in no master row counts four times.
+/// The variable whose number is farthest from whole where the columns, in units of 2^-20, are dealt out to the blocks
+/// of their classes, with the whole number below it. Of each class the first block that gets parts of several columns
+/// is looked at, and a variable in no master row counts four times.
 pub fn most_mixed(
     alloc: Global,
     b: &Blocked,

@@ -16,9 +16,10 @@ pub fn dealt_point(
     columns: &[usize],
 ) -> Result<Vec<i64>, AllocError>
     ensures each { IfOk result (λ point. vec_len point ≡ length b.now.named.program.spans) }
-    ensures numbers { IfOk result (λ point. (v : ℕ) → v < length b.now.named.program.spans → (at : ℕ × ℕ)
-        × HasCopyAt b.now.blocking.blocks v at
-        × (value_at point.items v ≡ value_at (point_at used.now (slice_index columns.now at.0)) at.1)) }
+    ensures numbers { IfOk result (λ point. (v : ℕ) → v < length b.now.named.program.spans →
+        (at : ℕ × ℕ) × HasCopyAt b.now.blocking.blocks v at ×
+        (value_at point.items v ≡
+        value_at (point_at used.now (slice_index columns.now at.0)) at.1)) }
 {
     let mut point = Vec::new(alloc);
     for var in 0..b.model().vars() {

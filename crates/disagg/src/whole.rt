@@ -44,8 +44,9 @@ fn totals(alloc: Global, count: usize, used: &[UsedColumn]) -> Result<Vec<i128>,
     requires weights { All HasWeight used.now }
     requires known { All (λ (u : AUsed). u.class < count) used.now }
     ensures many { IfOk result (λ totals. vec_len totals ≡ count) }
-    ensures totals { IfOk result (λ totals. (k : ℕ) → k < count
-        → slice_index_or totals.items k (pos 0) ≡ sum_at (λ (u : AUsed). u.class) (λ u. u.weight) used.now k) }
+    ensures totals { IfOk result (λ totals. (k : ℕ) → k < count →
+        slice_index_or totals.items k (pos 0) ≡ sum_at (λ (u : AUsed). u.class)
+        (λ u. u.weight) used.now k) }
 {
     let mut totals = Vec::from_elem(alloc, 0, count)?;
     for place in 0..used.len() {
@@ -58,7 +59,8 @@ fn totals(alloc: Global, count: usize, used: &[UsedColumn]) -> Result<Vec<i128>,
 // A number more in a sum, wrapped.
 fn add_to(totals: &mut Vec<i128>, class: u32, more: &i128)
     requires { class < vec_len totals.old }
-    ensures { totals.new.items ≡ slice_set totals.old.items class (int_wrap w128 (slice_index_or totals.old.items class (pos 0) +ℤ more.now)) }
+    ensures { totals.new.items ≡ slice_set totals.old.items class
+        (int_wrap w128 (slice_index_or totals.old.items class (pos 0) +ℤ more.now)) }
 {
     let sum = plus(&totals[class as usize], more);
     totals[class as usize] = sum;
@@ -81,7 +83,9 @@ fn widened(number: &i64) -> i128
 // Whether totals are the classes' numbers of blocks, in units.
 fn add_up(classes: &Classes, totals: &[i128]) -> bool
     requires { length totals.now ≡ length classes.now.firsts }
-    ensures { IsTrue result ↔ ((k : ℕ) → k < length classes.now.firsts → slice_index_or totals.now k (pos 0) ≡ pos one_weight *ℤ pos (class_blocks classes.now.classes k)) }
+    ensures { IsTrue result ↔ ((k : ℕ) → k < length classes.now.firsts →
+        slice_index_or totals.now k (pos 0) ≡ pos one_weight *ℤ pos
+        (class_blocks classes.now.classes k)) }
 {
     for class in 0..classes.len() {
         if totals[class as usize] != in_units(classes.size(class)) {

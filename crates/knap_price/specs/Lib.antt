@@ -1,3 +1,4 @@
+-- Other crates cite Taken, Rooms and Kept. The rest are words of contracts here alone.
 pub mod Loads
 pub mod Tables
 pub mod Taken

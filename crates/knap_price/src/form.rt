@@ -49,8 +49,8 @@ impl Form {
         })
     }
 
-    /// The greatest weight of a table at the root: the lesser of how far the row's sum can move and of how far its upper side is
-    /// above the least sum.
+    /// The greatest weight of a table at the root: the lesser of how far the row's sum can move and of how far its
+    /// upper side is above the least sum.
     pub fn room(&self) -> usize
         ensures value { result ≡ form_room self.now }
         ensures small { result ≤ 2 ^ 20 }

@@ -1,4 +1,5 @@
-//! Pricing by a table: a block of one row, whose least costs are found weight by weight.
+//! Pricing by a table: a block of one row, whose least costs are found weight by weight. (Gilmore and Gomory, The theory
+//! and computation of knapsack functions, 1966.)
 #![tactic(auto)]
 
 mod coefs;

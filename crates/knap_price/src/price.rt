@@ -20,7 +20,8 @@ fn price_table(
     zone: &[Span],
     costs: &[i128],
 ) -> Option<i128>
-    requires cells { (length form.now.spans.items + 1) * (form_room form.now + 1) ≤ vec_len cells.old }
+    requires cells { (length form.now.spans.items + 1) * (form_room form.now + 1) ≤
+        vec_len cells.old }
     requires room { HasRoom form.now table.old }
     requires priceable { IsPriceable form.now.spans.items zone.now costs.now }
     ensures cells { vec_len cells.new ≡ vec_len cells.old }
@@ -63,7 +64,8 @@ pub fn price_zone(
     zone: &[Span],
     costs: &[i128],
 ) -> Option<i128>
-    requires cells { (length form.now.spans.items + 1) * (form_room form.now + 1) ≤ vec_len cells.old }
+    requires cells { (length form.now.spans.items + 1) * (form_room form.now + 1) ≤
+        vec_len cells.old }
     requires room { HasRoom form.now table.old }
     requires part { vec_len part.old ≡ length form.now.spans.items }
     requires priceable { IsPriceable form.now.spans.items zone.now costs.now }

@@ -68,7 +68,8 @@ impl KnapPlan {
         requires same_block { AreOf block.now (plan_rows self.old) (plan_spans self.old) }
         requires priceable { IsPriceable (plan_spans self.old) zone.now costs.now }
         requires cells { cells_of (plan_rows self.old) (plan_spans self.old) ≤ vec_len cells.old }
-        ensures answer { IsPriced (plan_rows self.old) zone.now costs.now Never result (plan_point self.new) }
+        ensures answer { IsPriced (plan_rows self.old) zone.now costs.now Never result
+            (plan_point self.new) }
         ensures cells { vec_len cells.new ≡ vec_len cells.old }
         ensures same_rows { plan_rows self.new ≡ plan_rows self.old }
         ensures same_spans { plan_spans self.new ≡ plan_spans self.old }
@@ -148,7 +149,8 @@ impl Pricer for KnapPricer {
     fn price(&mut self, block: &Block, zone: &[Span], costs: &[i128], cap: Cap) -> Priced
         requires same_block { AreOf block.now (rows_of self.old) (spans_of self.old) }
         requires priceable { IsPriceable (spans_of self.old) zone.now costs.now }
-        ensures answer { IsPriced (rows_of self.old) zone.now costs.now Never result (kept_point self.new) }
+        ensures answer { IsPriced (rows_of self.old) zone.now costs.now Never result
+            (kept_point self.new) }
         ensures same_rows { rows_of self.new ≡ rows_of self.old }
         ensures same_spans { spans_of self.new ≡ spans_of self.old }
     {

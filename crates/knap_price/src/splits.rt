@@ -1,4 +1,5 @@
-// The parts 1, 2, 4, .. of a number and a rest.
+// The parts 1, 2, 4, .. of a number and a rest. (Martello and Toth, Knapsack problems: algorithms and computer
+// implementations, 1990.)
 ghost use Rattle.std.specs.Prelude.{◌≡◌, ◌≤◌, ◌<◌, ℕ, Bool, List, length, sum};
 ghost use Rattle.search_laws.specs.Parts.{ArePartsOf, chosen_sum};
 
@@ -65,7 +66,8 @@ fn split(w: u64) -> Doubles
 pub fn parts(w: u64) -> Doubles
     ensures parts { ArePartsOf w result }
     ensures whole { sum result ≡ w }
-    ensures each { (v : ℕ) → v ≤ w → (chosen : List Bool) × (length chosen ≡ length result) × (chosen_sum chosen result ≡ v) }
+    ensures each { (v : ℕ) → v ≤ w → (chosen : List Bool) × (length chosen ≡ length result) ×
+        (chosen_sum chosen result ≡ v) }
 {
     split(w)
 }

@@ -1,4 +1,5 @@
-// The table of least costs by weight: a row of cells for the items from each place on, from which the units are read off again.
+// The table of least costs by weight: a row of cells for the items from each place on, from which the units are read
+// off again.
 ghost use Rattle.std.specs.Prelude.{◌≡◌, ◌≢◌, ◌+◌, ◌-◌, ◌*◌, ◌<◌, ◌≤◌, ◌^◌, ◌+ℤ◌, ◌*ℤ◌, All, pos, ℕ, length, vec_len, unsigned_abs};
 ghost use Rattle.knap_price.specs.Tables.{far, cell_at, row_from, row_at, IsTried, IsFirstRow, AreRows, IsLesser, HasPart, AreBounded, worth_size};
 
@@ -26,7 +27,8 @@ fn relax(cells: &mut [i128], start: usize, weight: usize, shift: usize, gain: &i
     requires small { unsigned_abs (row_from cells.old start (weight - shift)) ≤ 2 ^ 126 + 2 ^ 118 }
     requires gain { unsigned_abs gain.now ≤ 2 ^ 118 }
     ensures len { length cells.new ≡ length cells.old }
-    ensures lesser { IsLesser (row_from cells.old start weight) (row_from cells.old start (weight - shift) +ℤ gain.now) (row_from cells.new start weight) }
+    ensures lesser { IsLesser (row_from cells.old start weight)
+        (row_from cells.old start (weight - shift) +ℤ gain.now) (row_from cells.new start weight) }
     ensures others { (k : ℕ) → k ≢ start + weight → cell_at cells.new k ≡ cell_at cells.old k }
 {
     let other = plus(&cells[start + (weight - shift)], gain);
@@ -53,7 +55,8 @@ fn add_part(cells: &mut [i128], start: usize, item: &Item, units: u64, top: usiz
     requires cost { unsigned_abs item.now.cost * units ≤ 2 ^ 118 }
     requires bounded { AreBounded (2 ^ 126 + 2 ^ 118) top (row_from cells.old start) }
     ensures len { length cells.new ≡ length cells.old }
-    ensures part { HasPart (item.now.weight * units) (item.now.cost *ℤ pos units) top (row_from cells.old start) (row_from cells.new start) }
+    ensures part { HasPart (item.now.weight * units) (item.now.cost *ℤ pos units) top
+        (row_from cells.old start) (row_from cells.new start) }
     ensures below { (k : ℕ) → k < start → cell_at cells.new k ≡ cell_at cells.old k }
 {
     let shift = (item.weight * units) as usize;
@@ -67,7 +70,8 @@ fn add_part(cells: &mut [i128], start: usize, item: &Item, units: u64, top: usiz
 fn copy_row(cells: &mut [i128], start: usize, top: usize)
     requires room { start + (top + 1) + top < length cells.old }
     ensures len { length cells.new ≡ length cells.old }
-    ensures row { (c : ℕ) → c ≤ top → row_from cells.new (start + (top + 1)) c ≡ row_from cells.old start c }
+    ensures row { (c : ℕ) → c ≤ top → row_from cells.new (start + (top + 1)) c ≡
+        row_from cells.old start c }
     ensures below { (k : ℕ) → k < start + (top + 1) → cell_at cells.new k ≡ cell_at cells.old k }
 {
     let next = start + (top + 1);
@@ -83,7 +87,8 @@ fn add_item(cells: &mut [i128], start: usize, item: &Item, top: usize)
     requires cost { unsigned_abs item.now.cost * item.now.width ≤ 2 ^ 117 }
     requires bounded { AreBounded (2 ^ 126 + 2 ^ 117) top (row_from cells.old start) }
     ensures len { length cells.new ≡ length cells.old }
-    ensures tried { IsTried item.now item.now.width top (row_from cells.old start) (row_from cells.new (start + (top + 1))) }
+    ensures tried { IsTried item.now item.now.width top (row_from cells.old start)
+        (row_from cells.new (start + (top + 1))) }
     ensures below { (k : ℕ) → k < start + (top + 1) → cell_at cells.new k ≡ cell_at cells.old k }
 {
     copy_row(cells, start, top);

@@ -53,9 +53,11 @@ fn units_at(cells: &[i128], here: usize, above: usize, item: &Item, weight: usiz
     requires heavy { 0 < item.now.width → 0 < item.now.weight }
     requires cost { unsigned_abs item.now.cost * item.now.width ≤ 2 ^ 117 }
     requires bounded { AreBounded (2 ^ 126 + 2 ^ 117) weight (row_from cells.now above) }
-    requires some { (u : ℕ) × (u ≤ item.now.width) × Follows item.now (row_from cells.now above) weight (row_from cells.now here weight) u }
+    requires some { (u : ℕ) × (u ≤ item.now.width) ×
+        Follows item.now (row_from cells.now above) weight (row_from cells.now here weight) u }
     ensures fits { result ≤ item.now.width }
-    ensures follows { Follows item.now (row_from cells.now above) weight (row_from cells.now here weight) result }
+    ensures follows { Follows item.now (row_from cells.now above) weight
+        (row_from cells.now here weight) result }
 {
     let cell = &cells[here + weight];
     for units in 0..item.width {
@@ -90,8 +92,9 @@ pub fn trace(
     requires rows { AreRows items.now top (row_at cells.now top) }
     requires weight { weight ≤ top }
     requires way { row_at cells.now top (length zone.now) weight <ℤ no_way }
-    ensures { (us : List ℕ) × Reaches items.now us weight (row_at cells.now top (length zone.now) weight)
-        × (point.new.items ≡ point_of coefs.now zone.now costs.now us) }
+    ensures { (us : List ℕ) × Reaches items.now us weight
+        (row_at cells.now top (length zone.now) weight) ×
+        (point.new.items ≡ point_of coefs.now zone.now costs.now us) }
 {
     let mut left = weight;
     let mut here = zone.len() * (top + 1);

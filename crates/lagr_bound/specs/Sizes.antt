@@ -1,6 +1,6 @@
 -- How large the sums of a bound can be.
 use Rattle.std.specs.Prelude.{ℕ, ◌+◌, ◌^◌, ◌<◌, ◌≤◌, unsigned_abs, sum_by, List, map, length, ℤ, pos, ◌*ℤ◌, All}
-use Rattle.bp_theory.specs.Limits.{greatest_scale, most_rows, most_variables}
+use Rattle.bp_theory.specs.Limits.{greatest_multiplier, greatest_scale, most_rows, most_variables, number_limit, price_limit}
 use Rattle.std.specs.List.Sorted.{IsStrictlyIncreasing}
 use Rattle.bp_theory.specs.Blocking.{Copy, Block, Blocking, row_at}
 use Rattle.bp_theory.specs.Bound.{spans_of, reduced_cost, side_at, end_cost, box_least}
@@ -11,14 +11,14 @@ use Rattle.pricing.specs.Form.{cost_size}
 
 -- a copy has a cost and coefficients below 2 to the 62, and at most 8,192 of them
 pub record IsSmallCopy (c : Copy) : Type 0 where
-  pub cost : unsigned_abs c.cost < 2 ^ 62
+  pub cost : unsigned_abs c.cost < number_limit
   pub few : length c.coefs ≤ most_rows
-  pub coefs : All (λ e. unsigned_abs e.1 < 2 ^ 62) c.coefs
+  pub coefs : All (λ e. unsigned_abs e.1 < number_limit) c.coefs
 
 -- a proof's scale and multipliers keep their limits, there are at most 8,192, and their rows ascend
 pub record IsSmallProof (proof : Proof) : Type 0 where
   pub scale : proof.scale ≤ greatest_scale
-  pub sizes : All (λ m. unsigned_abs m.1 ≤ 2 ^ 40) proof.mults
+  pub sizes : All (λ m. unsigned_abs m.1 ≤ greatest_multiplier) proof.mults
   pub few : length proof.mults ≤ most_rows
   pub ascend : IsStrictlyIncreasing (map (λ m. m.0) proof.mults)
 
@@ -48,7 +48,7 @@ pub record IsSmallBlock (zone : List Span) (proof : Proof) (block : Block) : Typ
   pub copies : All IsSmallCopy block.copies
   pub few : length block.copies ≤ most_variables
   pub there : All (λ c. c.var < length zone) block.copies
-  pub size : block_size zone proof block ≤ 2 ^ 116
+  pub size : block_size zone proof block ≤ price_limit
 
 -- all sums of a bound together are at most 2 to the 116
 abbrev pub bound_size : Blocking → List Span → Proof → ℕ

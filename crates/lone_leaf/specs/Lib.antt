@@ -1,1 +1,2 @@
+-- Other crates cite Rowless.
 pub mod Rowless

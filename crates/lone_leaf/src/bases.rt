@@ -7,8 +7,8 @@ use std::collections::BTreeMap;
 // How many bytes kept bases may take.
 const MOST_BYTES: usize = 1 << 26;
 
-/// A forked leaf: its basis, its bound, the variable that it was forked at with the part of its value, and how many leaves below it are
-/// still to come.
+/// A forked leaf: its basis, its bound, the variable that it was forked at with the part of its value, and how many
+/// leaves below it are still to come.
 #[derive(Drop)]
 pub struct Forked {
     pub basis: Basis,

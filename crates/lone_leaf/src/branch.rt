@@ -1,12 +1,12 @@
-// Reliability branching: variables whose gains are not yet known well are tried by a few iterations on both sides (Achterberg, Koch and
-// Martin, Branching rules revisited, 2005).
+// Reliability branching: variables whose gains are not yet known well are tried by a few iterations on both sides
+// (Achterberg, Koch and Martin, Branching rules revisited, 2005).
 use crate::relaxation::{Fraction, LoneLeaves};
 use bp_theory::Span;
 use lp_core::{Effort, End, Range};
 use std::alloc::AllocError;
 
-// How many gains of each side make a variable well known, how many variables are tried at a leaf, how many iterations a try may take,
-// and after how many variables without a better one the search ends.
+// How many gains of each side make a variable well known, how many variables are tried at a leaf, how many iterations a
+// try may take, and after how many variables without a better one the search ends.
 const RELIABLE: u32 = 4;
 
 const MOST_TRIES: u32 = 8;

@@ -1,4 +1,5 @@
-// Whole multipliers of rows: those of the relaxation's optimum at the greatest scale, and those that show that there is no point.
+// Whole multipliers of rows: those of the relaxation's optimum at the greatest scale, and those that show that there is
+// no point.
 use crate::numbers::product;
 use crate::relaxation::LoneLeaves;
 use block_form::{Blocked, MAX_MULTIPLIER, MAX_SCALE};
@@ -54,8 +55,8 @@ impl LoneLeaves {
         Ok(None)
     }
 
-    /// The scale at which multipliers at the greatest scale show a wanted bound within spans, the smaller the better; where none does,
-    /// the one that shows the most.
+    /// The scale at which multipliers at the greatest scale show a wanted bound within spans, the smaller the better;
+    /// where none does, the one that shows the most.
     pub(crate) fn scale_of(
         &mut self,
         b: &Blocked,
@@ -78,8 +79,8 @@ impl LoneLeaves {
         found
     }
 
-    // What multipliers at the greatest scale, rounded to another, give at least within spans; at scale 0 they are taken as they are. What
-    // is left of each variable's cost is kept.
+    // What multipliers at the greatest scale, rounded to another, give at least within spans; at scale 0 they are taken
+    // as they are. What is left of each variable's cost is kept.
     fn least_value(&mut self, b: &Blocked, mults: &[i64], spans: &[Span], scale: u32) -> i128 {
         let model = b.model();
         self.whole.fill(0);

@@ -12,8 +12,8 @@ use search_laws::Side;
 use std::alloc::{AllocError, Global};
 use std::num::saturating_f64_to_i64;
 
-// How many dives are made at the root, at which depths, and how much of all iterations they may take in percent, where a point is known
-// and where none is.
+// How many dives are made at the root, at which depths, and how much of all iterations they may take in percent, where
+// a point is known and where none is.
 const ROOT_DIVES: u32 = 3;
 
 const DIVE_DEPTH: u32 = 10;
@@ -25,8 +25,9 @@ const FIRST_SHARE: u64 = 60;
 // How far above a whole number a bound may be that counts as that number.
 const NEAR: f64 = 1e-5;
 
-/// Multipliers by row at the greatest scale, and the scale at which they do as well; multipliers by row that show that the zone has no point, where there are such; a point that
-/// is cheaper than the best cost, where one was found; and a variable with the number that its span is split behind.
+/// Multipliers by row at the greatest scale, and the scale at which they do as well; multipliers by row that show that
+/// the zone has no point, where there are such; a point that is cheaper than the best cost, where one was found; and a
+/// variable with the number that its span is split behind.
 #[derive(Drop)]
 pub struct LoneHint {
     pub mults: Vec<i64>,

@@ -1,6 +1,7 @@
-//! Hints for leaves of programs whose blocks have no rows, as where each is a single variable: multipliers by the linear relaxation of the rows in
-//! the leaf's spans, warm from the parent's basis, multipliers that show that there is no point, points by rounding and dives, and
-//! reliability branching. Nothing here decides: exact bounds judge multipliers, and the model judges points.
+//! Hints for leaves of programs whose blocks have no rows, as where each is a single variable: multipliers by the
+//! linear relaxation of the rows in the leaf's spans, warm from the parent's basis, multipliers that show that there is
+//! no point, points by rounding and dives, and reliability branching. Nothing here decides: exact bounds judge
+//! multipliers, and the model judges points.
 #![tactic(auto)]
 
 mod bases;

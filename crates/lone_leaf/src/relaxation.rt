@@ -13,7 +13,8 @@ use lp_factor::{Entry, Vectors, put};
 use std::alloc::{AllocError, Global};
 use std::num::{nearest_i64_to_f64, nearest_u64_to_f64};
 
-// How much work an iteration may take in all, in numbers of the relaxation, and the least and greatest count of iterations of a leaf.
+// How much work an iteration may take in all, in numbers of the relaxation, and the least and greatest count of
+// iterations of a leaf.
 const WORK: u64 = 1 << 31;
 
 const LEAST_ITERATIONS: u64 = 500;
@@ -23,8 +24,9 @@ const MOST_ITERATIONS: u64 = 100_000;
 /// How far below a whole cost the objective may be that counts as that cost.
 pub const SLACK: f64 = 1e-4;
 
-/// The relaxation of a program's rows with the basis of the last leaf, the bases of the leaves that were forked, the scores of
-/// variables, and how many iterations dives took. Kept bases take 64 MB at most; the rest grows with the program alone.
+/// The relaxation of a program's rows with the basis of the last leaf, the bases of the leaves that were forked, the
+/// scores of variables, and how many iterations dives took. Kept bases take 64 MB at most; the rest grows with the
+/// program alone.
 #[derive(Drop)]
 pub struct LoneLeaves {
     pub(crate) lp: Lp,

@@ -1,8 +1,8 @@
 // Bases that are kept, to begin another solution with.
 use crate::variable::Status;
 
-/// A basis: which variable is basic at each position, where each variable stands, and the weights of rows. Variables are columns
-/// and, behind them, the logicals of rows.
+/// A basis: which variable is basic at each position, where each variable stands, and the weights of rows. Variables
+/// are columns and, behind them, the logicals of rows.
 #[derive(Drop)]
 pub struct Basis {
     pub(crate) columns: usize,

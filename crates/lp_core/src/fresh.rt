@@ -123,8 +123,8 @@ impl Lp {
         }
     }
 
-    /// Multipliers of rows by the true costs of what is basic: at least 0 where a row's lower side holds, and at most 0 where its upper
-    /// one does.
+    /// Multipliers of rows by the true costs of what is basic: at least 0 where a row's lower side holds, and at most 0
+    /// where its upper one does.
     pub fn multipliers(&mut self) -> &[f64] {
         for (position, basic) in self.head.iter().enumerate() {
             let cost = at(self.costs.as_slice(), *basic as usize);

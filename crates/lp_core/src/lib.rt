@@ -1,6 +1,6 @@
-//! A bounded dual simplex in `f64` over sparse columns. Each row has a logical with the row's range, and each column a span, so that
-//! every basis is dual feasible once columns stand at the better ends of their spans: there is no first phase. Everything here
-//! serves hints: what is promised is that each call returns and that lists keep their lengths.
+//! A bounded dual simplex in `f64` over sparse columns. Each row has a logical with the row's range, and each column a
+//! span, so that every basis is dual feasible once columns stand at the better ends of their spans: there is no first
+//! phase. Everything here serves hints: what is promised is that each call returns and that lists keep their lengths.
 #![tactic(auto)]
 
 mod basis;

@@ -9,9 +9,9 @@ use std::num::{f32_to_f64_with_nan, nearest_f64_to_f32_with_nan, nearest_u64_to_
 // How far costs are moved at most, as a part of one more than their magnitude.
 const PERTURBATION: f64 = 1e-5;
 
-/// A linear program: columns with spans and costs, and rows with ranges, where row `i` reads that its sum less its logical is 0.
-/// Costs are perturbed once, away from 0; multipliers are by the true ones. Its memory is that of the numbers, once by columns and
-/// once by rows, and of the factors.
+/// A linear program: columns with spans and costs, and rows with ranges, where row `i` reads that its sum less its
+/// logical is 0. Costs are perturbed once, away from 0; multipliers are by the true ones. Its memory is that of the
+/// numbers, once by columns and once by rows, and of the factors.
 #[derive(Drop)]
 pub struct Lp {
     pub(crate) alloc: Global,
@@ -41,8 +41,8 @@ pub struct Lp {
 }
 
 impl Lp {
-    /// A linear program with these columns by rows, ranges of rows, spans of columns and costs, at the basis of its logicals. What is
-    /// missing of spans and costs is 0, and what is there beyond the columns is not used.
+    /// A linear program with these columns by rows, ranges of rows, spans of columns and costs, at the basis of its
+    /// logicals. What is missing of spans and costs is 0, and what is there beyond the columns is not used.
     pub fn make(
         alloc: Global,
         by_columns: Vectors,
@@ -245,8 +245,8 @@ impl Lp {
         })
     }
 
-    /// Takes a basis that was kept. Rows that were added since then have their logicals basic; a basis of other columns, or one that
-    /// names a variable twice or none, is mended by logicals when it is factored.
+    /// Takes a basis that was kept. Rows that were added since then have their logicals basic; a basis of other
+    /// columns, or one that names a variable twice or none, is mended by logicals when it is factored.
     pub fn load(&mut self, basis: &Basis) -> Result<(), AllocError> {
         self.reset()?;
         if basis.columns != self.columns {

@@ -1,5 +1,6 @@
-// Which row leaves, and the pivot row. Rows are weighed against the basis at which weights were last 1 (Forrest and Goldfarb, Steepest-edge
-// simplex algorithms for linear programming, 1992; Harris, Pivot selection methods of the Devex LP code, 1973).
+// Which row leaves, and the pivot row. Rows are weighed against the basis at which weights were last 1 (Forrest and
+// Goldfarb, Steepest-edge simplex algorithms for linear programming, 1992; Harris, Pivot selection methods of the Devex
+// LP code, 1973).
 use crate::lp::Lp;
 use crate::variable::Status;
 use lp_factor::{Entry, at, place, put};

@@ -1,7 +1,7 @@
-// The ratio test: which variable enters. Variables whose reduced costs would pass 0 before the rise stops go to the other ends of their
-// ranges; of those that are reached together by the tolerance the one with the greatest number in the pivot row enters (Harris, Pivot
-// selection methods of the Devex LP code, 1973; Koberstein, The dual simplex method, techniques for a fast and stable
-// implementation, 2005).
+// The ratio test: which variable enters. Variables whose reduced costs would pass 0 before the rise stops go to the
+// other ends of their ranges; of those that are reached together by the tolerance the one with the greatest number in
+// the pivot row enters (Harris, Pivot selection methods of the Devex LP code, 1973; Koberstein, The dual simplex
+// method, techniques for a fast and stable implementation, 2005).
 use crate::fresh::DUAL;
 use crate::variable::{ENDLESS, Status, Variable};
 use std::alloc::AllocError;

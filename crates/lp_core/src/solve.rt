@@ -15,8 +15,8 @@ const AGREES: f64 = 1e-6;
 
 const LEAST_PIVOT: f64 = 1e-9;
 
-/// How much a solution may take: iterations, the objective by true costs at which it ends, where one is given, and whether it only
-/// updates the factors that there are.
+/// How much a solution may take: iterations, the objective by true costs at which it ends, where one is given, and
+/// whether it only updates the factors that there are.
 #[derive(Clone, Copy, Debug)]
 pub struct Effort {
     pub iterations: u32,

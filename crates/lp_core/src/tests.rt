@@ -1,3 +1,4 @@
+// Small linear programs with known optima, and ones without a point.
 use super::*;
 use lp_factor::{Entry, Vectors};
 use std::alloc::{AllocError, Global};

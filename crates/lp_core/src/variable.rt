@@ -86,7 +86,8 @@ impl Variable {
         }
     }
 
-    /// The end of its range where its reduced cost has the right sign or is almost 0; where there is none, its cost is shifted.
+    /// The end of its range where its reduced cost has the right sign or is almost 0; where there is none, its cost is
+    /// shifted.
     pub fn stand(&mut self, status: Status, tolerance: f64) -> Status {
         if self.is_fixed() {
             return Status::Lower;

@@ -9,8 +9,8 @@ use std::alloc::{AllocError, Global};
 // The least magnitude of a pivot.
 const LEAST: f64 = 1e-9;
 
-/// What stands while factors are made: the columns of the basis by positions, the same by rows, at which place in the order of pivots
-/// each row and position stands, and how many numbers are left in each.
+/// What stands while factors are made: the columns of the basis by positions, the same by rows, at which place in the
+/// order of pivots each row and position stands, and how many numbers are left in each.
 #[derive(Drop)]
 pub struct Builder {
     rows: u32,

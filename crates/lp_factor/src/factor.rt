@@ -33,10 +33,10 @@ pub struct Pivot {
     pub value: f64,
 }
 
-/// The factors of a basis (Markowitz, The elimination form of the inverse and its application to linear programming, 1957;
-/// Suhl and Suhl, Computing sparse LU factorizations for large-scale linear programming bases, 1990), with updates in product form
-/// (Dantzig and Orchard-Hays, The product form for the inverse in the simplex method, 1954). Its memory is that of the factors and
-/// of the updates since they were made.
+/// The factors of a basis (Markowitz, The elimination form of the inverse and its application to linear programming,
+/// 1957; Suhl and Suhl, Computing sparse LU factorizations for large-scale linear programming bases, 1990), with
+/// updates in product form (Dantzig and Orchard-Hays, The product form for the inverse in the simplex method, 1954).
+/// Its memory is that of the factors and of the updates since they were made.
 #[derive(Drop)]
 pub struct Factor {
     rows: u32,
@@ -99,9 +99,9 @@ impl Factor {
         Ok(())
     }
 
-    /// Makes the factors of a basis over columns by rows, by position. Each position whose member depends on the others, is none
-    /// of the columns, or isn't given gets the logical of a row that is left: these are told, and the factors are those of the basis
-    /// with them.
+    /// Makes the factors of a basis over columns by rows, by position. Each position whose member depends on the
+    /// others, is none of the columns, or isn't given gets the logical of a row that is left: these are told, and the
+    /// factors are those of the basis with them.
     pub fn factor(
         &mut self,
         columns: &Vectors,
@@ -132,8 +132,8 @@ impl Factor {
         Ok(replaced)
     }
 
-    /// Solves for the basis: a dense vector by rows is made one by positions. Of other lengths than the number of rows only what
-    /// both have is solved.
+    /// Solves for the basis: a dense vector by rows is made one by positions. Of other lengths than the number of rows
+    /// only what both have is solved.
     pub fn ftran(&mut self, vector: &mut [f64]) {
         let work = self.scratch.as_mut_slice();
         for (k, pivot) in self.pivots.iter().enumerate() {
@@ -156,8 +156,8 @@ impl Factor {
         self.etas.forward(vector);
     }
 
-    /// Solves for the basis from the left: a dense vector by positions is made one by rows. Of other lengths than the number of rows
-    /// only what both have is solved.
+    /// Solves for the basis from the left: a dense vector by positions is made one by rows. Of other lengths than the
+    /// number of rows only what both have is solved.
     pub fn btran(&mut self, vector: &mut [f64]) {
         self.etas.backward(vector);
         let work = self.scratch.as_mut_slice();
@@ -185,8 +185,8 @@ impl Factor {
         }
     }
 
-    /// Exchanges the member at a position for a column that is `alpha` by the basis, as `ftran` makes it. Nothing changes, and
-    /// the answer is false, where its number at the position is too small to be a pivot.
+    /// Exchanges the member at a position for a column that is `alpha` by the basis, as `ftran` makes it. Nothing
+    /// changes, and the answer is false, where its number at the position is too small to be a pivot.
     pub fn update(&mut self, position: u32, alpha: &[f64]) -> Result<bool, AllocError> {
         let place = position as usize;
         if LEAST_PIVOT < at(alpha, place).abs() {

@@ -1,6 +1,7 @@
-//! Sparse factors of a basis in `f64`: lower and upper factors by singletons and Markowitz's counts, and updates in product
-//! form. A basis has one member for each row: a column, or the logical of a row. Everything here serves hints: what is promised
-//! is that each call returns, keeps the lengths of what it is given, and names only members that there are.
+//! Sparse factors of a basis in `f64`: lower and upper factors by singletons and Markowitz's counts, and updates in
+//! product form. A basis has one member for each row: a column, or the logical of a row. Everything here serves hints:
+//! what is promised is that each call returns, keeps the lengths of what it is given, and names only members that there
+//! are.
 #![tactic(auto)]
 
 mod builder;

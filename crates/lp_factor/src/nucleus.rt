@@ -1,5 +1,5 @@
-// What has no single numbers left: elimination row by row, with pivots by Markowitz's counts among those that are large enough in
-// their columns.
+// What has no single numbers left: elimination row by row, with pivots by Markowitz's counts among those that are large
+// enough in their columns.
 use crate::factor::Pivot;
 use crate::lists::Lists;
 use crate::numbers::{NONE, at, place, place_at, put};

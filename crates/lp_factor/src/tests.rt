@@ -1,3 +1,4 @@
+// Small bases, factored, solved with and updated.
 use super::*;
 use std::alloc::{AllocError, Global};
 use std::test::Fail;

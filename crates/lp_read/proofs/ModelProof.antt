@@ -1,5 +1,6 @@
 -- The model that a tree's parts make is the tree's, and what the parts are refused for is the tree's first fault.
 use Rattle.std.proofs.Common.{◌≡◌, ◌∙◌, refl, sym, ap, subst, ℕ, zero, suc, ◌+◌, ◌<◌, ◌≤◌, ◌^◌, false, List, [], ◌∷◌, map, length, get_or, Option, Some, None, All, MatchOption, arith, if◌then◌else◌, ⊎_elim, ◌*◌}
+use Rattle.bp_theory.specs.Limits.{most_bytes}
 use Rattle.std.specs.Prelude.{pos, unsigned_abs, sum_by, zip, nat_lt, max}
 use Rattle.std.specs.Str.{bytes_eq}
 use Rattle.std.specs.List.{IsDistinct, AllByRecursion, AllZip}
@@ -27,7 +28,7 @@ use Rattle.lp_read.specs.TreeIn.{term_in, item_in, sum_in, row_in, tree_in}
 use Rattle.lp_read.specs.Symbols.{greatest}
 use Rattle.lp_read.specs.Roles.{variables}
 use Rattle.lp_read.specs.Meaning.{ends, span_of, tokens_of, as_items, items_of, objective_items, minimised, with_sign, item_coefficient, row_meaning, model_row, model_of, TextModel, ModelRow, largest_activity, row_activity}
-use Rattle.lp_read.specs.Reading.{IsTextOf, greatest_size, first_found, or_else, row_places, activity_fault, digits_fault, meaning_fault}
+use Rattle.lp_read.specs.Reading.{IsTextOf, first_found, or_else, row_places, activity_fault, digits_fault, meaning_fault}
 use Rattle.lp_read.specs.Numbered.{raw_row}
 use Rattle.lp_read.specs.PartsOf.{ArePartsOf, AreVariablesSound, IsRefused, IsModelOf}
 use Rattle.lp_read.specs.declared.meaning.MeaningFault.TheVariants.{Sums}
@@ -253,7 +254,7 @@ model_made text tokens t p m h are sound made kept =
     record { sound = no_activity (tree_in text t) m sound program kept.cost_activity kept.row_activity; program = program }
 
 -- a text means the model of its tree
-pub means_text : (text : List ℕ) (tokens : List Tok) (t : plain.SyntaxTree) (m : NamedProgram) → length text ≤ greatest_size → Cut text tokens → IsTextOf text tokens t
+pub means_text : (text : List ℕ) (tokens : List Tok) (t : plain.SyntaxTree) (m : NamedProgram) → length text ≤ most_bytes → Cut text tokens → IsTextOf text tokens t
     → IsModelOf t m → Means text m
 means_text text tokens t m size cut h is = (
   model_of t,

@@ -1,5 +1,6 @@
 -- What is read of a text's tokens is its model, or its first fault.
 use Rattle.std.proofs.Common.{◌≡◌, ℕ, zero, suc, ◌<◌, ◌≤◌, List, [], ◌∷◌, map, length, refl, ◌∙◌, ap, subst, arith, Option, None, Some, false}
+use Rattle.bp_theory.specs.Limits.{most_bytes}
 use Rattle.std.specs.Prelude.{slice_index_or}
 use Rattle.lp_token.specs.declared.Tok.{Tok}
 use Rattle.lp_token.specs.declared.LpKind.{LpKind}
@@ -17,7 +18,7 @@ use Rattle.lp_read.specs.TreeIn.{tree_in}
 use Rattle.lp_read.specs.Symbols.{symbols}
 use Rattle.lp_read.specs.Roles.{variables}
 use Rattle.lp_read.specs.Meaning.{model_of, tokens_of}
-use Rattle.lp_read.specs.Reading.{AreSound, StandsAt, is_ended, place_of, row_places, greatest_size, line_of, IsTextOf, HasLpTextFault, too_long, uncut, at_token, unended, in_meaning}
+use Rattle.lp_read.specs.Reading.{AreSound, StandsAt, is_ended, place_of, row_places, line_of, IsTextOf, HasLpTextFault, too_long, uncut, at_token, unended, in_meaning}
 use Rattle.lp_read.specs.Parsing.{IsParsed, IsParseFault}
 use Rattle.lp_read.specs.PartsOf.{IsModelOf, IsRefused}
 use Rattle.lp_read.specs.Model.{Means, IsFaultOf}
@@ -27,7 +28,7 @@ pub text_of : (text : List ℕ) (tokens : List Tok) (p : Parsed) → IsParsed te
 text_of text tokens p h = record { grammar = h.grammar; spelled = h.spelled; roles = h.roles }
 
 -- the model of a tree is that of its text
-pub means : (text : List ℕ) (tokens : List Tok) (p : Parsed) (m : NamedProgram) → length text ≤ greatest_size → Cut text tokens → IsParsed text (symbols text tokens) p → IsModelOf (tree_in text p.tree) m → Means text m
+pub means : (text : List ℕ) (tokens : List Tok) (p : Parsed) (m : NamedProgram) → length text ≤ most_bytes → Cut text tokens → IsParsed text (symbols text tokens) p → IsModelOf (tree_in text p.tree) m → Means text m
 means text tokens p m size cut h is =
     (model_of (tree_in text p.tree), record { tokens = tokens; tree = tree_in text p.tree; size = size; cut = cut; text_of = text_of text tokens p h; sound = is.sound; means = refl }, is.program)
 
@@ -38,7 +39,7 @@ place_mapped f (n ∷ names) zero l = refl
 place_mapped f (n ∷ names) (suc number) l = place_mapped f names number (omega arith)
 
 -- a fault of a variable
-pub variable_refused : (text : List ℕ) (tokens : List Tok) (p : Parsed) (number line place : ℕ) (kind : LpKind) → length text ≤ greatest_size → Cut text tokens → IsParsed text (symbols text tokens) p
+pub variable_refused : (text : List ℕ) (tokens : List Tok) (p : Parsed) (number line place : ℕ) (kind : LpKind) → length text ≤ most_bytes → Cut text tokens → IsParsed text (symbols text tokens) p
     → IsRefused (tree_in text p.tree) (refusals.At number kind) → place ≡ slice_index_or p.notes.first_tokens number 0 → line ≡ line_of tokens place → HasLpTextFault text line kind
 variable_refused text tokens p number line place kind size cut h r e l =
     let t : SyntaxTree = tree_in text p.tree in
@@ -47,12 +48,12 @@ variable_refused text tokens p number line place kind size cut h r e l =
     in_meaning size tokens cut t (text_of text tokens p h) (place_of (slice_index_or (variables (tokens_of t)) number []) (tokens_of t)) r.1 (l ∙ ap (line_of tokens) same)
 
 -- a fault of the objective's sums
-pub objective_refused : (text : List ℕ) (tokens : List Tok) (p : Parsed) (line : ℕ) → length text ≤ greatest_size → Cut text tokens → IsParsed text (symbols text tokens) p
+pub objective_refused : (text : List ℕ) (tokens : List Tok) (p : Parsed) (line : ℕ) → length text ≤ most_bytes → Cut text tokens → IsParsed text (symbols text tokens) p
     → IsRefused (tree_in text p.tree) (refusals.Sums None) → line ≡ line_of tokens 0 → HasLpTextFault text line Activity
 objective_refused text tokens p line size cut h r l = in_meaning size tokens cut (tree_in text p.tree) (text_of text tokens p h) 0 r l
 
 -- a fault of a row's sums
-pub row_refused : (text : List ℕ) (tokens : List Tok) (p : Parsed) (row line place : ℕ) → length text ≤ greatest_size → Cut text tokens → IsParsed text (symbols text tokens) p
+pub row_refused : (text : List ℕ) (tokens : List Tok) (p : Parsed) (row line place : ℕ) → length text ≤ most_bytes → Cut text tokens → IsParsed text (symbols text tokens) p
     → IsRefused (tree_in text p.tree) (refusals.Sums (Some row)) → place ≡ slice_index_or p.notes.row_tokens row 0 → line ≡ line_of tokens place → HasLpTextFault text line Activity
 row_refused text tokens p row line place size cut h r e l =
     let t : SyntaxTree = tree_in text p.tree in
@@ -60,13 +61,13 @@ row_refused text tokens p row line place size cut h r e l =
     in_meaning size tokens cut t (text_of text tokens p h) (slice_index_or (row_places 0 (tokens_of t)) row 0) r.1 (l ∙ ap (line_of tokens) same)
 
 -- a fault of a token
-pub token_refused : (text : List ℕ) (tokens : List Tok) (all : List Symbol) (i line : ℕ) (kind : LpKind) → length text ≤ greatest_size → Cut text tokens → all ≡ symbols text tokens
+pub token_refused : (text : List ℕ) (tokens : List Tok) (all : List Symbol) (i line : ℕ) (kind : LpKind) → length text ≤ most_bytes → Cut text tokens → all ≡ symbols text tokens
     → IsParseFault all (stops.At i kind) → line ≡ line_of tokens i → HasLpTextFault text line kind
 token_refused text tokens all i line kind size cut e h l =
     at_token size tokens cut i (subst (λ (x : List Symbol). AreSound x i) e h.0) (subst (λ (x : List Symbol). StandsAt x i kind) e h.1) l
 
 -- no word `end`
-pub end_refused : (text : List ℕ) (tokens : List Tok) (all : List Symbol) (line : ℕ) → length text ≤ greatest_size → Cut text tokens → all ≡ symbols text tokens
+pub end_refused : (text : List ℕ) (tokens : List Tok) (all : List Symbol) (line : ℕ) → length text ≤ most_bytes → Cut text tokens → all ≡ symbols text tokens
     → IsParseFault all stops.NoEnd → line ≡ line_at text (length text) → HasLpTextFault text line NoEnd
 unfolding symbols
 end_refused text tokens all line size cut e h l =
@@ -74,12 +75,12 @@ end_refused text tokens all line size cut e h l =
     unended size tokens cut (subst (λ (n : ℕ). AreSound (symbols text tokens) n) count (subst (λ (x : List Symbol). AreSound x (length all)) e h.0)) (subst (λ (x : List Symbol). is_ended x ≡ false) e h.1) l refl
 
 -- a text that can't be cut
-pub cut_refused : (text : List ℕ) (fault : LpFault) → length text ≤ greatest_size → IsCutFault text fault → IsFaultOf text fault
+pub cut_refused : (text : List ℕ) (fault : LpFault) → length text ≤ most_bytes → IsCutFault text fault → IsFaultOf text fault
 cut_refused text (faults.At line kind) size h = uncut size h
 cut_refused text faults.NoMemory size h = tt
 
 -- a text that is too long
-pub long_refused : (text : List ℕ) → greatest_size < length text → HasLpTextFault text 0 Limit
+pub long_refused : (text : List ℕ) → most_bytes < length text → HasLpTextFault text 0 Limit
 long_refused text l = too_long l refl refl
 
 -- a refusal for sums, by its parts

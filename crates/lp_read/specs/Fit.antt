@@ -1,5 +1,6 @@
 -- A tree that was read: its numbers are those of texts, and its names are in the list of variables.
 use Rattle.std.specs.Prelude.{ℕ, ◌<◌, ◌^◌, List, MatchOption, All, Contains}
+use Rattle.bp_theory.specs.Limits.{number_limit}
 use Rattle.lp_read.specs.declared.tree.TextRange.{TextRange}
 use Rattle.lp_read.specs.declared.tree.Signed.{Signed}
 use Rattle.lp_read.specs.declared.tree.Term.{Term}
@@ -23,10 +24,10 @@ abbrev pub IsKnown : List ℕ → List Name → TextRange → Type 0
 IsKnown text names place = Contains names (name_in text place)
 
 abbrev pub IsSmall : Signed → Type 0
-IsSmall v = v.size < 2 ^ 62
+IsSmall v = v.size < number_limit
 
 pub record IsFitTerm (text : List ℕ) (names : List Name) (t : Term) : Type 0 where
-  pub small : MatchOption t.factor (Unit {0}) (λ n. n < 2 ^ 62)
+  pub small : MatchOption t.factor (Unit {0}) (λ n. n < number_limit)
   pub known : IsKnown text names t.variable
 
 abbrev pub IsFitItem : List ℕ → List Name → Item → Type 0

@@ -22,7 +22,9 @@ pub fn from_bound(
     stage: BoundStage,
     symbol: Symbol,
 ) -> Step
-    ensures { IfOk result (λ r. step_in bytes.now r ≡ specs_step (bound_stage_in bytes.now (within_in bytes.now within) stage) (symbol_in bytes.now symbol)) }
+    ensures { IfOk result (λ r. step_in bytes.now r ≡
+        specs_step (bound_stage_in bytes.now (within_in bytes.now within) stage)
+        (symbol_in bytes.now symbol)) }
 {
     match stage {
         BoundStage::Start => from_start(alloc, within, symbol),
@@ -46,7 +48,8 @@ pub fn from_bound(
 
 /// Bounds with one more.
 fn with_bound(within: Within, bound: Bound) -> Result<Within, AllocError>
-    ensures { (text : List ℕ) → IfOk result (λ r. within_in text r ≡ specs_with_bound (within_in text within) (bound_in text bound)) }
+    ensures { (text : List ℕ) → IfOk result
+        (λ r. within_in text r ≡ specs_with_bound (within_in text within) (bound_in text bound)) }
 {
     let mut within = within;
     within.so_far.push(bound)?;
@@ -55,7 +58,8 @@ fn with_bound(within: Within, bound: Bound) -> Result<Within, AllocError>
 
 /// A symbol where a value may stand.
 fn from_signs(within: Within, signs: Items<Sign>, symbol: Symbol) -> Step
-    ensures { (text : List ℕ) → IfOk result (λ r. step_in text r ≡ from_b_signs (within_in text within) signs (symbol_in text symbol)) }
+    ensures { (text : List ℕ) → IfOk result
+        (λ r. step_in text r ≡ from_b_signs (within_in text within) signs (symbol_in text symbol)) }
 {
     let mut signs = signs;
     let stage = match symbol {
@@ -72,7 +76,8 @@ fn from_signs(within: Within, signs: Items<Sign>, symbol: Symbol) -> Step
 
 /// A symbol where a statement may begin.
 fn from_start(alloc: Global, within: Within, symbol: Symbol) -> Step
-    ensures { (text : List ℕ) → IfOk result (λ r. step_in text r ≡ from_p_bounds (within_in text within) (symbol_in text symbol)) }
+    ensures { (text : List ℕ) → IfOk result
+        (λ r. step_in text r ≡ from_p_bounds (within_in text within) (symbol_in text symbol)) }
 {
     match symbol {
         Symbol::Name(name) => Ok(Some((
@@ -93,7 +98,8 @@ fn from_start(alloc: Global, within: Within, symbol: Symbol) -> Step
 
 /// A symbol behind a value.
 fn from_value(within: Within, value: Value, symbol: Symbol) -> Option<(Site, Stage)>
-    ensures { (text : List ℕ) → step_in text result ≡ from_b_value (within_in text within) value (symbol_in text symbol) }
+    ensures { (text : List ℕ) → step_in text result ≡ from_b_value (within_in text within) value
+        (symbol_in text symbol) }
 {
     match symbol {
         Symbol::Comparison(comparison) => Some((
@@ -111,7 +117,8 @@ fn from_compared(
     comparison: Comparison,
     symbol: Symbol,
 ) -> Option<(Site, Stage)>
-    ensures { (text : List ℕ) → step_in text result ≡ from_b_compared (within_in text within) value comparison (symbol_in text symbol) }
+    ensures { (text : List ℕ) → step_in text result ≡ from_b_compared (within_in text within) value
+        comparison (symbol_in text symbol) }
 {
     match symbol {
         Symbol::Name(name) => Some((
@@ -130,7 +137,8 @@ fn second_bound(
     name: TextRange,
     direction: Option<Direction>,
 ) -> Option<(Site, Stage)>
-    ensures { (text : List ℕ) → step_in text result ≡ specs_second_bound (within_in text within) value (name_in text name) direction }
+    ensures { (text : List ℕ) → step_in text result ≡ specs_second_bound (within_in text within)
+        value (name_in text name) direction }
 {
     match direction {
         None => None,
@@ -150,7 +158,9 @@ fn from_half(
     name: TextRange,
     symbol: Symbol,
 ) -> Step
-    ensures { (text : List ℕ) → IfOk result (λ r. step_in text r ≡ from_b_half (within_in text within) value comparison (name_in text name) (symbol_in text symbol)) }
+    ensures { (text : List ℕ) → IfOk result
+        (λ r. step_in text r ≡ from_b_half (within_in text within) value comparison
+        (name_in text name) (symbol_in text symbol)) }
 {
     match symbol {
         Symbol::Comparison(second) => Ok(second_bound(
@@ -176,7 +186,9 @@ fn from_between(
     signs: Items<Sign>,
     symbol: Symbol,
 ) -> Step
-    ensures { (text : List ℕ) → IfOk result (λ r. step_in text r ≡ from_b_between (within_in text within) value direction (name_in text name) signs (symbol_in text symbol)) }
+    ensures { (text : List ℕ) → IfOk result
+        (λ r. step_in text r ≡ from_b_between (within_in text within) value direction
+        (name_in text name) signs (symbol_in text symbol)) }
 {
     let mut signs = signs;
     let second = match symbol {
@@ -204,7 +216,9 @@ fn is_free(name: &[u8]) -> bool
 
 /// A name behind a bound's first name, by whether it is the word `free`.
 fn free_word(within: Within, name: TextRange, word: TextRange, free: bool) -> Step
-    ensures { (text : List ℕ) → IfOk result (λ r. step_in text r ≡ specs_free_word (within_in text within) (name_in text name) (name_in text word) free) }
+    ensures { (text : List ℕ) → IfOk result
+        (λ r. step_in text r ≡ specs_free_word (within_in text within) (name_in text name)
+        (name_in text word) free) }
 {
     if free {
         let within = with_bound(within, Bound::Free(name, word))?;
@@ -216,7 +230,8 @@ fn free_word(within: Within, name: TextRange, word: TextRange, free: bool) -> St
 
 /// A symbol behind a bound's first name.
 fn from_name(alloc: Global, bytes: &[u8], within: Within, name: TextRange, symbol: Symbol) -> Step
-    ensures { IfOk result (λ r. step_in bytes.now r ≡ from_b_name (within_in bytes.now within) (name_in bytes.now name) (symbol_in bytes.now symbol)) }
+    ensures { IfOk result (λ r. step_in bytes.now r ≡ from_b_name (within_in bytes.now within)
+        (name_in bytes.now name) (symbol_in bytes.now symbol)) }
 {
     match symbol {
         Symbol::Comparison(comparison) => {
@@ -239,7 +254,9 @@ fn from_named(
     signs: Items<Sign>,
     symbol: Symbol,
 ) -> Step
-    ensures { (text : List ℕ) → IfOk result (λ r. step_in text r ≡ from_b_named (within_in text within) (name_in text name) comparison signs (symbol_in text symbol)) }
+    ensures { (text : List ℕ) → IfOk result
+        (λ r. step_in text r ≡ from_b_named (within_in text within) (name_in text name) comparison
+        signs (symbol_in text symbol)) }
 {
     let mut signs = signs;
     let value = match symbol {

@@ -50,7 +50,13 @@ pub struct Notes {
 
 /// Nothing yet.
 pub fn no_notes(alloc: Global) -> Notes
-    ensures { result ≡ record { names = []; first_tokens = []; row_names = []; row_tokens = []; terms = 0 } }
+    ensures { result ≡ record {
+      names = [];
+      first_tokens = [];
+      row_names = [];
+      row_tokens = [];
+      terms = 0;
+    } }
 {
     Notes {
         names: Names::new(alloc),
@@ -83,7 +89,9 @@ fn is_name_next(next: Option<Symbol>) -> bool
 
 /// The variable that a name names where a label may stand.
 fn unless_label(symbol: Symbol, next: Option<Symbol>) -> Option<TextRange>
-    ensures same { (text : List ℕ) → label_in text result ≡ specs_variable_of row_first (symbol_in text symbol) (next_in text next) }
+    ensures same { (text : List ℕ) →
+        label_in text result ≡ specs_variable_of row_first (symbol_in text symbol)
+        (next_in text next) }
     ensures named { IfSome result (λ name. symbol ≡ symbols.Name name) }
 {
     match symbol {
@@ -94,7 +102,8 @@ fn unless_label(symbol: Symbol, next: Option<Symbol>) -> Option<TextRange>
 
 /// The name that a symbol is.
 fn name_of(symbol: Symbol) -> Option<TextRange>
-    ensures same { (text : List ℕ) (next : Option plain.Symbol) → label_in text result ≡ specs_variable_of listed (symbol_in text symbol) next }
+    ensures same { (text : List ℕ) (next : Option plain.Symbol) →
+        label_in text result ≡ specs_variable_of listed (symbol_in text symbol) next }
     ensures named { IfSome result (λ name. symbol ≡ symbols.Name name) }
 {
     match symbol {
@@ -105,7 +114,8 @@ fn name_of(symbol: Symbol) -> Option<TextRange>
 
 /// The variable that a symbol names.
 fn variable_of(site: Site, symbol: Symbol, next: Option<Symbol>) -> Option<TextRange>
-    ensures same { (text : List ℕ) → label_in text result ≡ specs_variable_of site (symbol_in text symbol) (next_in text next) }
+    ensures same { (text : List ℕ) →
+        label_in text result ≡ specs_variable_of site (symbol_in text symbol) (next_in text next) }
     ensures named { IfSome result (λ name. symbol ≡ symbols.Name name) }
 {
     match site {
@@ -120,7 +130,8 @@ fn variable_of(site: Site, symbol: Symbol, next: Option<Symbol>) -> Option<TextR
 
 /// Whether a symbol counts as a term: a variable's name, and in the objective a number that no name follows.
 fn counts_as_term(site: Site, symbol: Symbol, next: Option<Symbol>) -> bool
-    ensures { (text : List ℕ) → result ≡ specs_counts_as_term site (symbol_in text symbol) (next_in text next) }
+    ensures { (text : List ℕ) → result ≡ specs_counts_as_term site (symbol_in text symbol)
+        (next_in text next) }
 {
     match (site, symbol) {
         (Site::ObjectiveFirst, Symbol::Number(_)) => !is_name_next(next),
@@ -135,7 +146,8 @@ fn counts_as_term(site: Site, symbol: Symbol, next: Option<Symbol>) -> bool
 
 /// The label of a row's first symbol.
 fn row_label(symbol: Symbol, next: Option<Symbol>) -> Option<TextRange>
-    ensures same { (text : List ℕ) → label_in text result ≡ label_of row_first (symbol_in text symbol) (next_in text next) }
+    ensures same { (text : List ℕ) →
+        label_in text result ≡ label_of row_first (symbol_in text symbol) (next_in text next) }
     ensures named { IfSome result (λ name. symbol ≡ symbols.Name name) }
 {
     match symbol {
@@ -148,7 +160,12 @@ fn row_label(symbol: Symbol, next: Option<Symbol>) -> Option<TextRange>
 fn add_row(alloc: Global, notes: Notes, at: usize, name: &str) -> Result<Notes, ParseFault>
     requires { HaveRoom notes }
     ensures new { IfOk result (λ r. has_name notes.row_names name.now ≡ false) }
-    ensures added { IfOk result (λ r. r ≡ record notes { row_names = notes.row_names ++ name.now ∷ []; row_tokens = notes.row_tokens ++ at ∷ [] }) }
+    ensures added { IfOk result (λ r.
+        r ≡ record notes {
+          row_names = notes.row_names ++ name.now ∷
+              [];
+          row_tokens = notes.row_tokens ++ at ∷ [];
+        }) }
     ensures fault { IfErr result (IsTwice notes.row_names name.now at) }
 {
     let mut notes = notes;
@@ -174,9 +191,15 @@ fn add_labelled_row(
 ) -> Result<Notes, ParseFault>
     requires room { HaveRoom notes }
     requires named { ForSome label (λ place. IsTrue (is_name (name_in bytes.now place))) }
-    ensures added { IfOk result (λ r. r ≡ record notes { row_names = rows_with notes.row_names (Some (label_in bytes.now label)); row_tokens = notes.row_tokens ++ at ∷ [] }) }
-    ensures new { IfOk result (λ r. is_repeated notes.row_names (Some (label_in bytes.now label)) ≡ false) }
-    ensures fault { IfErr result (IsTwice notes.row_names (row_name (length notes.row_names + 1) (label_in bytes.now label)) at) }
+    ensures added { IfOk result (λ r.
+        r ≡ record notes {
+          row_names = rows_with notes.row_names (Some (label_in bytes.now label));
+          row_tokens = notes.row_tokens ++ at ∷ [];
+        }) }
+    ensures new { IfOk result (λ r.
+        is_repeated notes.row_names (Some (label_in bytes.now label)) ≡ false) }
+    ensures fault { IfErr result (IsTwice notes.row_names
+        (row_name (length notes.row_names + 1) (label_in bytes.now label)) at) }
 {
     match label {
         Some(place) => add_row(alloc, notes, at, name_at(bytes, place)),
@@ -201,7 +224,8 @@ fn note_row(
     requires room { HaveRoom notes }
     requires named { IsNamed bytes.now symbol }
     ensures added { IfOk result (λ r. r ≡ with_rows notes at (seen_in bytes.now site symbol next)) }
-    ensures new { IfOk result (λ r. is_repeated_in notes (seen_in bytes.now site symbol next) ≡ false) }
+    ensures new { IfOk result (λ r.
+        is_repeated_in notes (seen_in bytes.now site symbol next) ≡ false) }
     ensures fault { IfErr result (IsRowFault notes at (seen_in bytes.now site symbol next)) }
 {
     match site {
@@ -216,7 +240,12 @@ fn note_row(
 /// With this variable, if it is new.
 fn add_variable(alloc: Global, notes: Notes, at: usize, name: &str) -> Result<Notes, AllocError>
     requires { HaveRoomForVariables notes }
-    ensures { IfOk result (λ r. r ≡ record notes { names = with_name notes.names name.now; first_tokens = with_token notes.names notes.first_tokens name.now at }) }
+    ensures { IfOk result (λ r. r ≡
+        record notes {
+          names = with_name notes.names name.now;
+          first_tokens = with_token notes.names
+              notes.first_tokens name.now at;
+        }) }
 {
     let mut notes = notes;
     let added = notes.names.add(alloc, name)?;
@@ -297,7 +326,9 @@ pub fn note(
     requires room { HaveRoom notes }
     requires named { IsNamed bytes.now symbol }
     ensures added { IfOk result (λ r. r ≡ noted notes at (seen_in bytes.now site symbol next)) }
-    ensures sound { IfOk result (λ r. (is_repeated_in notes (seen_in bytes.now site symbol next) ≡ false) × (are_too_many r ≡ false)) }
+    ensures sound { IfOk result (λ r.
+        (is_repeated_in notes (seen_in bytes.now site symbol next) ≡ false) ×
+        (are_too_many r ≡ false)) }
     ensures room { IfOk result HaveRoom }
     ensures fault { IfErr result (IsRoleFault notes at (seen_in bytes.now site symbol next)) }
 {

@@ -148,7 +148,8 @@ fn whole_worth(value: u128) -> Worth
 
 /// The worth of a text's digits, with so many of them behind the point.
 fn shifted_worth(mantissa: &[u8], places: u128) -> Worth
-    ensures { IsWorth (digits_number mantissa.now % 10 ^ places == 0) (digits_number mantissa.now / 10 ^ places) result }
+    ensures { IsWorth (digits_number mantissa.now % 10 ^ places == 0)
+        (digits_number mantissa.now / 10 ^ places) result }
 {
     let count = digit_count(mantissa);
     let kept = if places < count as u128 {
@@ -185,7 +186,8 @@ fn parted_worth(mantissa: &[u8], exponent: &[u8]) -> Worth
 pub fn worth_of(bytes: &[u8]) -> Worth
     requires { length bytes.now ≤ 2 ^ 24 }
     ensures worth { IsWorthOf bytes.now result }
-    ensures symbol { (in_bounds : Bool) → number_symbol in_bounds bytes.now ≡ worth_symbol in_bounds result }
+    ensures symbol { (in_bounds : Bool) →
+        number_symbol in_bounds bytes.now ≡ worth_symbol in_bounds result }
 {
     let (mantissa, exponent) = bytes.split_at(exponent_start(bytes));
     parted_worth(mantissa, exponent)

@@ -29,7 +29,9 @@ pub fn from_start(symbol: Symbol) -> Option<(Site, Stage)>
 
 /// A symbol inside an objective.
 pub fn from_objective(alloc: Global, maximises: bool, stage: ObjectiveStage, symbol: Symbol) -> Step
-    ensures { (text : List ℕ) → IfOk result (λ r. step_in text r ≡ specs_step (objective_stage_in text maximises stage) (symbol_in text symbol)) }
+    ensures { (text : List ℕ) → IfOk result
+        (λ r. step_in text r ≡ specs_step (objective_stage_in text maximises stage)
+        (symbol_in text symbol)) }
 {
     match stage {
         ObjectiveStage::Word => from_word(alloc, maximises, symbol),
@@ -44,7 +46,8 @@ pub fn from_objective(alloc: Global, maximises: bool, stage: ObjectiveStage, sym
 
 /// A symbol behind the objective's word.
 fn from_word(alloc: Global, maximises: bool, symbol: Symbol) -> Step
-    ensures { (text : List ℕ) → IfOk result (λ r. step_in text r ≡ from_o_word maximises (symbol_in text symbol)) }
+    ensures { (text : List ℕ) → IfOk result
+        (λ r. step_in text r ≡ from_o_word maximises (symbol_in text symbol)) }
 {
     let mut signs = Items::new(alloc);
     let stage = match symbol {
@@ -75,7 +78,8 @@ fn from_word(alloc: Global, maximises: bool, symbol: Symbol) -> Step
 
 /// A symbol behind an objective's first name.
 fn from_name(alloc: Global, maximises: bool, name: TextRange, symbol: Symbol) -> Step
-    ensures { (text : List ℕ) → IfOk result (λ r. step_in text r ≡ from_o_name maximises (name_in text name) (symbol_in text symbol)) }
+    ensures { (text : List ℕ) → IfOk result
+        (λ r. step_in text r ≡ from_o_name maximises (name_in text name) (symbol_in text symbol)) }
 {
     let signs = Items::new(alloc);
     match symbol {
@@ -114,7 +118,9 @@ fn from_open(
     gap: Gap<Item>,
     symbol: Symbol,
 ) -> Step
-    ensures { (text : List ℕ) → IfOk result (λ r. step_in text r ≡ from_o_open maximises (label_in text label) (gap_in (item_in text) gap) (symbol_in text symbol)) }
+    ensures { (text : List ℕ) → IfOk result
+        (λ r. step_in text r ≡ from_o_open maximises (label_in text label)
+        (gap_in (item_in text) gap) (symbol_in text symbol)) }
 {
     let stage = match symbol {
         Symbol::Sign(sign) => ObjectiveStage::Open(label, more_sign(gap, sign)?),
@@ -135,7 +141,9 @@ fn from_number(
     size: u64,
     symbol: Symbol,
 ) -> Step
-    ensures { (text : List ℕ) → IfOk result (λ r. step_in text r ≡ from_o_number maximises (label_in text label) (gap_in (item_in text) gap) size (symbol_in text symbol)) }
+    ensures { (text : List ℕ) → IfOk result
+        (λ r. step_in text r ≡ from_o_number maximises (label_in text label)
+        (gap_in (item_in text) gap) size (symbol_in text symbol)) }
 {
     match symbol {
         Symbol::Name(name) => {
@@ -160,7 +168,8 @@ fn from_sum(
     sum: Sum<Item>,
     symbol: Symbol,
 ) -> Option<(Site, Stage)>
-    ensures { (text : List ℕ) → step_in text result ≡ from_o_sum maximises (label_in text label) (item_sum_in text sum) (symbol_in text symbol) }
+    ensures { (text : List ℕ) → step_in text result ≡ from_o_sum maximises (label_in text label)
+        (item_sum_in text sum) (symbol_in text symbol) }
 {
     match symbol {
         Symbol::Sign(sign) => {
@@ -186,7 +195,8 @@ fn open_word(
     gap: Gap<Item>,
     section: Section,
 ) -> Option<(Site, Stage)>
-    ensures { (text : List ℕ) → step_in text result ≡ specs_open_word maximises (label_in text label) (gap_in (item_in text) gap) section }
+    ensures { (text : List ℕ) → step_in text result ≡ specs_open_word maximises
+        (label_in text label) (gap_in (item_in text) gap) section }
 {
     let Gap { before, signs } = gap;
     if before.is_none() && signs.len() == 0 {
@@ -204,7 +214,8 @@ fn rows_word(
     objective: Option<Sum<Item>>,
     section: Section,
 ) -> Option<(Site, Stage)>
-    ensures { (text : List ℕ) → step_in text result ≡ specs_rows_word maximises (label_in text label) (objective_in text objective) section }
+    ensures { (text : List ℕ) → step_in text result ≡ specs_rows_word maximises
+        (label_in text label) (objective_in text objective) section }
 {
     match section {
         Section::Rows => {
@@ -227,7 +238,9 @@ fn put_item(
     factor: Option<u64>,
     variable: TextRange,
 ) -> Result<Sum<Item>, AllocError>
-    ensures { (text : List ℕ) → IfOk result (λ r. item_sum_in text r ≡ put (gap_in (item_in text) gap) (λ signs. term (named factor (name_in text variable) signs))) }
+    ensures { (text : List ℕ) → IfOk result
+        (λ r. item_sum_in text r ≡ put (gap_in (item_in text) gap)
+        (λ signs. term (named factor (name_in text variable) signs))) }
 {
     let Gap { before, signs } = gap;
     let item = Item::Term(Term {
@@ -243,7 +256,9 @@ fn put_item(
 
 /// The sum with a constant in the gap place.
 fn put_constant(alloc: Global, gap: Gap<Item>, size: u64) -> Result<Sum<Item>, AllocError>
-    ensures { (text : List ℕ) → IfOk result (λ r. item_sum_in text r ≡ put (gap_in (item_in text) gap) (λ signs. constant (signed_by size signs))) }
+    ensures { (text : List ℕ) → IfOk result
+        (λ r. item_sum_in text r ≡ put (gap_in (item_in text) gap)
+        (λ signs. constant (signed_by size signs))) }
 {
     let Gap { before, signs } = gap;
     let item = Item::Constant(Signed { signs, size });

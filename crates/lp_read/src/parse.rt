@@ -56,8 +56,11 @@ fn advance(
     requires room { HaveRoom notes }
     requires named { IsNamed bytes.now symbol }
     ensures stage { IfOk result (λ r. r.stage ≡ stage) }
-    ensures notes { IfOk result (λ r. r.notes ≡ noted notes at (seen_in bytes.now site symbol next)) }
-    ensures sound { IfOk result (λ r. (is_repeated_in notes (seen_in bytes.now site symbol next) ≡ false) × (are_too_many r.notes ≡ false)) }
+    ensures notes { IfOk result (λ r.
+        r.notes ≡ noted notes at (seen_in bytes.now site symbol next)) }
+    ensures sound { IfOk result (λ r.
+        (is_repeated_in notes (seen_in bytes.now site symbol next) ≡ false) ×
+        (are_too_many r.notes ≡ false)) }
     ensures room { IfOk result (λ r. HaveRoom r.notes) }
     ensures fault { IfErr result (IsRoleFault notes at (seen_in bytes.now site symbol next)) }
 {
@@ -84,8 +87,10 @@ fn read_fit(
     requires named { IsNamed bytes.now symbol }
     requires fit { specs_own_fault (symbol_in bytes.now symbol) ≡ None }
     ensures room { IfOk result (λ r. HaveRoom r.notes) }
-    ensures read { IfOk result (λ r. ReadsOn bytes.now at symbol next (record { stage = stage; notes = notes }) r) }
-    ensures fault { IfErr result (λ f. StopsAt bytes.now at symbol next (record { stage = stage; notes = notes }) f) }
+    ensures read { IfOk result (λ r. ReadsOn bytes.now at symbol next
+        (record { stage = stage; notes = notes }) r) }
+    ensures fault { IfErr result (λ f. StopsAt bytes.now at symbol next
+        (record { stage = stage; notes = notes }) f) }
 {
     match step(alloc, bytes, stage, symbol) {
         Err(_) => Err(ParseFault::NoMemory),
@@ -122,7 +127,8 @@ fn read_symbol(
 /// The symbol behind a place.
 fn symbol_behind(symbols: &[Symbol], at: usize) -> Option<Symbol>
     requires { at < length symbols.now }
-    ensures { (text : List ℕ) → first_of_symbols (drop (at + 1) (map (symbol_in text) symbols.now)) ≡ next_in text result }
+    ensures { (text : List ℕ) → first_of_symbols
+        (drop (at + 1) (map (symbol_in text) symbols.now)) ≡ next_in text result }
 {
     if at + 1 < symbols.len() {
         Some(symbols[at + 1])
@@ -134,7 +140,8 @@ fn symbol_behind(symbols: &[Symbol], at: usize) -> Option<Symbol>
 /// What is read at the end.
 fn finish(state: State) -> Result<Parsed, ParseFault>
     ensures done { IfOk result (λ p. (state.stage ≡ stages.Done p.tree) × (p.notes ≡ state.notes)) }
-    ensures fault { IfErr result (λ f. (f ≡ faults.NoEnd) × ((tree : Tree) → state.stage ≡ stages.Done tree → ⊥)) }
+    ensures fault { IfErr result (λ f. (f ≡ faults.NoEnd) ×
+        ((tree : Tree) → state.stage ≡ stages.Done tree → ⊥)) }
 {
     let State { stage, notes } = state;
     match stage {

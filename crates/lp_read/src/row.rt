@@ -16,7 +16,9 @@ use std::alloc::{AllocError, Global};
 
 /// A symbol inside a row, or where one may begin.
 pub fn from_row(alloc: Global, front: Front, stage: RowStage, symbol: Symbol) -> Step
-    ensures { (text : List ℕ) → IfOk result (λ r. step_in text r ≡ specs_step (row_stage_in text (front_in text front) stage) (symbol_in text symbol)) }
+    ensures { (text : List ℕ) → IfOk result
+        (λ r. step_in text r ≡ specs_step (row_stage_in text (front_in text front) stage)
+        (symbol_in text symbol)) }
 {
     match stage {
         RowStage::Start => from_start(alloc, front, symbol),
@@ -52,7 +54,8 @@ pub fn from_row(alloc: Global, front: Front, stage: RowStage, symbol: Symbol) ->
 
 /// A symbol where a row may begin.
 fn from_start(alloc: Global, front: Front, symbol: Symbol) -> Step
-    ensures { (text : List ℕ) → IfOk result (λ r. step_in text r ≡ from_r_row (front_in text front) (symbol_in text symbol)) }
+    ensures { (text : List ℕ) → IfOk result
+        (λ r. step_in text r ≡ from_r_row (front_in text front) (symbol_in text symbol)) }
 {
     match symbol {
         Symbol::Name(name) => Ok(begun(front, RowStage::Name(name))),
@@ -79,7 +82,9 @@ fn begun(front: Front, stage: RowStage) -> Option<(Site, Stage)>
 
 /// A symbol behind a row's first name.
 fn from_name(alloc: Global, front: Front, name: TextRange, symbol: Symbol) -> Step
-    ensures { (text : List ℕ) → IfOk result (λ r. step_in text r ≡ from_r_name (front_in text front) (name_in text name) (symbol_in text symbol)) }
+    ensures { (text : List ℕ) → IfOk result
+        (λ r. step_in text r ≡ from_r_name (front_in text front) (name_in text name)
+        (symbol_in text symbol)) }
 {
     let signs = Items::new(alloc);
     match symbol {
@@ -106,7 +111,9 @@ fn from_signs(
     signs: Items<Sign>,
     symbol: Symbol,
 ) -> Step
-    ensures { (text : List ℕ) → IfOk result (λ r. step_in text r ≡ from_r_signs (front_in text front) (label_in text label) signs (symbol_in text symbol)) }
+    ensures { (text : List ℕ) → IfOk result
+        (λ r. step_in text r ≡ from_r_signs (front_in text front) (label_in text label) signs
+        (symbol_in text symbol)) }
 {
     let mut signs = signs;
     let stage = match symbol {
@@ -140,7 +147,9 @@ fn from_number(
     size: u64,
     symbol: Symbol,
 ) -> Step
-    ensures { (text : List ℕ) → IfOk result (λ r. step_in text r ≡ from_r_number (front_in text front) (label_in text label) signs size (symbol_in text symbol)) }
+    ensures { (text : List ℕ) → IfOk result
+        (λ r. step_in text r ≡ from_r_number (front_in text front) (label_in text label) signs size
+        (symbol_in text symbol)) }
 {
     let stage = match symbol {
         Symbol::Name(variable) => RowStage::Sum(
@@ -175,7 +184,9 @@ fn from_open(
     signs: Items<Sign>,
     symbol: Symbol,
 ) -> Step
-    ensures { (text : List ℕ) → IfOk result (λ r. step_in text r ≡ from_r_open (front_in text front) (label_in text label) (term_sum_in text sum) first signs (symbol_in text symbol)) }
+    ensures { (text : List ℕ) → IfOk result
+        (λ r. step_in text r ≡ from_r_open (front_in text front) (label_in text label)
+        (term_sum_in text sum) first signs (symbol_in text symbol)) }
 {
     let mut signs = signs;
     let stage = match symbol {
@@ -211,7 +222,9 @@ fn from_factor(
     size: u64,
     symbol: Symbol,
 ) -> Step
-    ensures { (text : List ℕ) → IfOk result (λ r. step_in text r ≡ from_r_factor (front_in text front) (label_in text label) (term_sum_in text sum) first signs size (symbol_in text symbol)) }
+    ensures { (text : List ℕ) → IfOk result
+        (λ r. step_in text r ≡ from_r_factor (front_in text front) (label_in text label)
+        (term_sum_in text sum) first signs size (symbol_in text symbol)) }
 {
     match symbol {
         Symbol::Name(variable) => {
@@ -238,7 +251,8 @@ fn from_sum(
     sum: Sum<Term>,
     symbol: Symbol,
 ) -> Option<(Site, Stage)>
-    ensures { (text : List ℕ) → step_in text result ≡ from_r_sum (front_in text front) (label_in text label) (term_sum_in text sum) (symbol_in text symbol) }
+    ensures { (text : List ℕ) → step_in text result ≡ from_r_sum (front_in text front)
+        (label_in text label) (term_sum_in text sum) (symbol_in text symbol) }
 {
     let signs = Items::new(alloc);
     let stage = match symbol {
@@ -258,7 +272,9 @@ fn from_compared(
     signs: Items<Sign>,
     symbol: Symbol,
 ) -> Step
-    ensures { (text : List ℕ) → IfOk result (λ r. step_in text r ≡ from_r_compared (front_in text front) (label_in text label) (term_sum_in text sum) comparison signs (symbol_in text symbol)) }
+    ensures { (text : List ℕ) → IfOk result
+        (λ r. step_in text r ≡ from_r_compared (front_in text front) (label_in text label)
+        (term_sum_in text sum) comparison signs (symbol_in text symbol)) }
 {
     let mut signs = signs;
     match symbol {
@@ -290,7 +306,9 @@ fn from_number_open(
     gap: Gap<Term>,
     symbol: Symbol,
 ) -> Step
-    ensures { (text : List ℕ) → IfOk result (λ r. step_in text r ≡ from_n_open (front_in text front) (label_in text label) side comparison (gap_in (term_in text) gap) (symbol_in text symbol)) }
+    ensures { (text : List ℕ) → IfOk result
+        (λ r. step_in text r ≡ from_n_open (front_in text front) (label_in text label) side
+        comparison (gap_in (term_in text) gap) (symbol_in text symbol)) }
 {
     let stage = match symbol {
         Symbol::Sign(sign) => RowStage::NumberOpen(label, side, comparison, more_sign(gap, sign)?),
@@ -317,7 +335,9 @@ fn from_number_factor(
     size: u64,
     symbol: Symbol,
 ) -> Step
-    ensures { (text : List ℕ) → IfOk result (λ r. step_in text r ≡ from_n_factor (front_in text front) (label_in text label) side comparison (gap_in (term_in text) gap) size (symbol_in text symbol)) }
+    ensures { (text : List ℕ) → IfOk result
+        (λ r. step_in text r ≡ from_n_factor (front_in text front) (label_in text label) side
+        comparison (gap_in (term_in text) gap) size (symbol_in text symbol)) }
 {
     match symbol {
         Symbol::Name(name) => {
@@ -351,7 +371,8 @@ fn second_row(
     sum: Sum<Term>,
     direction: Option<Direction>,
 ) -> Option<(Site, Stage)>
-    ensures { (text : List ℕ) → step_in text result ≡ specs_second_row (front_in text front) (label_in text label) side (term_sum_in text sum) direction }
+    ensures { (text : List ℕ) → step_in text result ≡ specs_second_row (front_in text front)
+        (label_in text label) side (term_sum_in text sum) direction }
 {
     match direction {
         None => None,
@@ -372,7 +393,9 @@ fn from_number_sum(
     sum: Sum<Term>,
     symbol: Symbol,
 ) -> Step
-    ensures { (text : List ℕ) → IfOk result (λ r. step_in text r ≡ from_n_sum (front_in text front) (label_in text label) side comparison (term_sum_in text sum) (symbol_in text symbol)) }
+    ensures { (text : List ℕ) → IfOk result
+        (λ r. step_in text r ≡ from_n_sum (front_in text front) (label_in text label) side
+        comparison (term_sum_in text sum) (symbol_in text symbol)) }
 {
     match symbol {
         Symbol::Sign(sign) => {
@@ -410,7 +433,9 @@ fn from_number_compared(
     signs: Items<Sign>,
     symbol: Symbol,
 ) -> Step
-    ensures { (text : List ℕ) → IfOk result (λ r. step_in text r ≡ from_n_compared (front_in text front) (label_in text label) side direction (term_sum_in text sum) signs (symbol_in text symbol)) }
+    ensures { (text : List ℕ) → IfOk result
+        (λ r. step_in text r ≡ from_n_compared (front_in text front) (label_in text label) side
+        direction (term_sum_in text sum) signs (symbol_in text symbol)) }
 {
     let mut signs = signs;
     match symbol {

@@ -152,7 +152,9 @@ pub fn put_term(
     factor: Option<u64>,
     variable: TextRange,
 ) -> Result<Sum<Term>, AllocError>
-    ensures { (text : List ℕ) → IfOk result (λ r. term_sum_in text r ≡ put (gap_in (term_in text) gap) (named factor (name_in text variable))) }
+    ensures { (text : List ℕ) → IfOk result
+        (λ r. term_sum_in text r ≡ put (gap_in (term_in text) gap)
+        (named factor (name_in text variable))) }
 {
     let Gap { before, signs } = gap;
     let term = Term {
@@ -178,7 +180,8 @@ pub fn more_sign<A: Drop>(gap: Gap<A>, sign: Sign) -> Result<Gap<A>, AllocError>
 
 /// An objective and rows with one row more.
 pub fn with_row(front: Front, row: Row) -> Result<Front, AllocError>
-    ensures { (text : List ℕ) → IfOk result (λ r. front_in text r ≡ specs_with_row (front_in text front) (row_in text row)) }
+    ensures { (text : List ℕ) → IfOk result
+        (λ r. front_in text r ≡ specs_with_row (front_in text front) (row_in text row)) }
 {
     let mut front = front;
     front.rows.push(row)?;
@@ -192,7 +195,8 @@ pub fn from_word(
     parts: Items<Part>,
     section: Section,
 ) -> Option<(Site, Stage)>
-    ensures { (text : List ℕ) → step_in text result ≡ specs_from_word (front_in text front) (map (part_in text) parts) section }
+    ensures { (text : List ℕ) → step_in text result ≡ specs_from_word (front_in text front)
+        (map (part_in text) parts) section }
 {
     let stage = match section {
         Section::Bounds => Stage::Bounds(
@@ -219,7 +223,9 @@ pub fn behind_part(
     part: Part,
     section: Section,
 ) -> Step
-    ensures { (text : List ℕ) → IfOk result (λ r. step_in text r ≡ specs_from_word (front_in text front) (map (part_in text) parts ++ part_in text part ∷ []) section) }
+    ensures { (text : List ℕ) → IfOk result
+        (λ r. step_in text r ≡ specs_from_word (front_in text front)
+        (map (part_in text) parts ++ part_in text part ∷ []) section) }
 {
     let mut parts = parts;
     parts.push(part)?;
@@ -228,7 +234,13 @@ pub fn behind_part(
 
 /// The tree of an objective, rows and parts.
 fn tree_of(front: Front, parts: Items<Part>) -> Tree
-    ensures { result ≡ record { maximises = front.maximises; label = front.label; objective = front.objective; rows = front.rows; parts = parts } }
+    ensures { result ≡ record {
+      maximises = front.maximises;
+      label = front.label;
+      objective = front.objective;
+      rows = front.rows;
+      parts = parts;
+    } }
 {
     let Front {
         maximises,

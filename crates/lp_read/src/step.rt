@@ -15,7 +15,8 @@ use std::alloc::Global;
 
 /// The next symbol of a text.
 pub fn step(alloc: Global, bytes: &[u8], stage: Stage, symbol: Symbol) -> Step
-    ensures { IfOk result (λ r. step_in bytes.now r ≡ specs_step (stage_in bytes.now stage) (symbol_in bytes.now symbol)) }
+    ensures { IfOk result (λ r. step_in bytes.now r ≡ specs_step (stage_in bytes.now stage)
+        (symbol_in bytes.now symbol)) }
 {
     match stage {
         Stage::Start => Ok(from_start(symbol)),
@@ -36,7 +37,9 @@ fn from_generals(
     names: Items<TextRange>,
     symbol: Symbol,
 ) -> Step
-    ensures { (text : List ℕ) → IfOk result (λ r. step_in text r ≡ from_p_generals (front_in text front) (map (part_in text) parts) (map (name_in text) names) (symbol_in text symbol)) }
+    ensures { (text : List ℕ) → IfOk result
+        (λ r. step_in text r ≡ from_p_generals (front_in text front) (map (part_in text) parts)
+        (map (name_in text) names) (symbol_in text symbol)) }
 {
     let mut names = names;
     match symbol {
@@ -57,7 +60,9 @@ fn from_binaries(
     names: Items<TextRange>,
     symbol: Symbol,
 ) -> Step
-    ensures { (text : List ℕ) → IfOk result (λ r. step_in text r ≡ from_p_binaries (front_in text front) (map (part_in text) parts) (map (name_in text) names) (symbol_in text symbol)) }
+    ensures { (text : List ℕ) → IfOk result
+        (λ r. step_in text r ≡ from_p_binaries (front_in text front) (map (part_in text) parts)
+        (map (name_in text) names) (symbol_in text symbol)) }
 {
     let mut names = names;
     match symbol {

@@ -27,7 +27,8 @@ pub enum Symbol {
 fn number_symbol(bytes: &[u8], in_bounds: bool) -> Symbol
     requires { length bytes.now ≤ 2 ^ 24 }
     ensures other { IsNoName result }
-    ensures same { (text : List ℕ) → symbol_in text result ≡ specs_number_symbol in_bounds bytes.now }
+    ensures same { (text : List ℕ) →
+        symbol_in text result ≡ specs_number_symbol in_bounds bytes.now }
 {
     match worth_of(bytes) {
         Worth::NotWhole => Symbol::Unfit(LpKind::NotWhole),
@@ -45,7 +46,8 @@ fn number_symbol(bytes: &[u8], in_bounds: bool) -> Symbol
 
 /// Whether a name is a word for an infinity.
 fn is_infinity_word(name: &[u8]) -> bool
-    ensures { result ≡ (bytes_eq (str_to_ascii_lowercase name.now) (codes "inf") || bytes_eq (str_to_ascii_lowercase name.now) (codes "infinity")) }
+    ensures { result ≡ (bytes_eq (str_to_ascii_lowercase name.now) (codes "inf") || bytes_eq
+        (str_to_ascii_lowercase name.now) (codes "infinity")) }
 {
     name.eq_ignore_ascii_case(b"inf") || name.eq_ignore_ascii_case(b"infinity")
 }
@@ -54,7 +56,8 @@ fn is_infinity_word(name: &[u8]) -> bool
 #[tactic(auto, unfolding(crate::specs::Symbols::name_symbol))]
 fn name_symbol(bytes: &[u8], place: TextRange, in_bounds: bool) -> Symbol
     ensures named { IsNameAt place result }
-    ensures same { symbol_in bytes.now result ≡ specs_name_symbol in_bounds (name_in bytes.now place) }
+    ensures same { symbol_in bytes.now result ≡ specs_name_symbol in_bounds
+        (name_in bytes.now place) }
 {
     if in_bounds && is_infinity_word(bytes_at(bytes, place)) {
         Symbol::Infinity
@@ -95,7 +98,8 @@ fn word_symbol(bytes: &[u8]) -> Symbol
 /// The symbol of a token, by whether it stands in a bounds section.
 fn symbol_of(bytes: &[u8], token: &Tok, in_bounds: bool) -> Symbol
     requires { length bytes.now ≤ 2 ^ 24 }
-    ensures same { symbol_in bytes.now result ≡ specs_symbol_of in_bounds token.now.kind (slice_range bytes.now token.now.from token.now.to) }
+    ensures same { symbol_in bytes.now result ≡ specs_symbol_of in_bounds token.now.kind
+        (slice_range bytes.now token.now.from token.now.to) }
     ensures named { IsNameOf token.now result }
 {
     let place = TextRange {
@@ -125,7 +129,8 @@ fn stays_in_bounds(in_bounds: bool, symbol: Symbol) -> bool
 pub fn symbols_of(alloc: Global, bytes: &[u8], tokens: &[Tok]) -> Result<Vec<Symbol>, AllocError>
     requires size { length bytes.now ≤ 2 ^ 24 }
     requires cut { Cut bytes.now tokens.now }
-    ensures same { IfOk result (λ found. map (symbol_in bytes.now) found.items ≡ symbols bytes.now tokens.now) }
+    ensures same { IfOk result (λ found. map (symbol_in bytes.now) found.items ≡
+        symbols bytes.now tokens.now) }
     ensures named { IfOk result (λ found. All (IsNamed bytes.now) found.items) }
 {
     let mut found = Vec::new(alloc);

@@ -132,9 +132,12 @@ fn is_word(bytes: &[u8], from: usize, to: usize) -> bool
 /// Where the longest section word ends that a line begins with at a place, if one does.
 fn word_end(bytes: &[u8], from: usize) -> Option<usize>
     requires { from ≤ length bytes.now }
-    ensures found { IfSome result (λ end. (end ≤ length bytes.now) × IsTrue (ends_word bytes.now from end)) }
-    ensures longest { IfSome result (λ end. (to : ℕ) → to ≤ length bytes.now → IsTrue (ends_word bytes.now from to) → to ≤ end) }
-    ensures none { IfNone result ((to : ℕ) → to ≤ length bytes.now → IsFalse (ends_word bytes.now from to)) }
+    ensures found { IfSome result (λ end. (end ≤ length bytes.now) ×
+        IsTrue (ends_word bytes.now from end)) }
+    ensures longest { IfSome result (λ end. (to : ℕ) → to ≤ length bytes.now →
+        IsTrue (ends_word bytes.now from to) → to ≤ end) }
+    ensures none { IfNone result ((to : ℕ) → to ≤ length bytes.now →
+        IsFalse (ends_word bytes.now from to)) }
 {
     let first = run_end(bytes, from);
     let gap = spaces_end(bytes, first);
@@ -153,9 +156,12 @@ fn token_end(bytes: &[u8], place: Position) -> Option<(TokKind, usize)>
     requires inside { place.at < length bytes.now }
     requires place { IsPosition bytes.now place }
     requires clear { IsFalse (in_comment bytes.now place.at) }
-    ensures found { IfSome result (λ t. (t.1 ≤ length bytes.now) × (kind_at bytes.now place.at t.1 ≡ Some t.0)) }
-    ensures longest { IfSome result (λ t. (to : ℕ) → to ≤ length bytes.now → IsSome (kind_at bytes.now place.at to) → to ≤ t.1) }
-    ensures none { IfNone result ((to : ℕ) → to ≤ length bytes.now → IsNone (kind_at bytes.now place.at to)) }
+    ensures found { IfSome result (λ t. (t.1 ≤ length bytes.now) ×
+        (kind_at bytes.now place.at t.1 ≡ Some t.0)) }
+    ensures longest { IfSome result (λ t. (to : ℕ) → to ≤ length bytes.now →
+        IsSome (kind_at bytes.now place.at to) → to ≤ t.1) }
+    ensures none { IfNone result ((to : ℕ) → to ≤ length bytes.now →
+        IsNone (kind_at bytes.now place.at to)) }
 {
     if place.fresh {
         if let Some(end) = word_end(bytes, place.at) {
@@ -183,7 +189,8 @@ fn next_token(bytes: &[u8], place: Position) -> Result<Tok, LpFault>
     requires place { IsPosition bytes.now place }
     requires seen { IsFalse (is_blank bytes.now place.at) }
     requires clear { IsFalse (in_comment bytes.now place.at) }
-    ensures token { IfOk result (λ token. (token.from ≡ place.at) × IsToken bytes.now token × IsFalse (specs_is_long token)) }
+    ensures token { IfOk result (λ token. (token.from ≡ place.at) × IsToken bytes.now token ×
+        IsFalse (specs_is_long token)) }
     ensures fault { IfErr result (BreaksHere bytes.now place.at) }
 {
     let (kind, to) = match token_end(bytes, place) {

@@ -1,2 +1,3 @@
+-- No other crate cites these: they are words of contracts here.
 pub mod Restricted
 pub mod Answer

@@ -32,8 +32,9 @@ pub fn class_weights(
     requires each { length weights.now ≡ length cols.now }
     requires known { All (λ (c : AColumn). c.class < classes) cols.now }
     ensures many { IfOk result (λ v. vec_len v ≡ classes) }
-    ensures sums { IfOk result
-        (λ v. (k : ℕ) → k < classes → slice_index_or v.items k (pos 0) ≡ int_wrap w128 (class_weight (zip cols.now weights.now) k)) }
+    ensures sums { IfOk result (λ v. (k : ℕ) → k < classes →
+        slice_index_or v.items k (pos 0) ≡
+        int_wrap w128 (class_weight (zip cols.now weights.now) k)) }
 {
     let mut sums = Vec::from_elem(alloc, 0, classes)?;
     for j in 0..cols.len() {
@@ -47,8 +48,9 @@ pub fn class_weights(
 // Adds a weighted column's activities to the sums of the rows.
 fn add_activities(sums: &mut [i128], acts: &[(u32, i64)], weight: &i64)
     requires { All (λ e. e.0 < length sums.old) acts.now }
-    ensures { (i : ℕ) (t : ℤ) → slice_index_or sums.old i (pos 0) ≡ int_wrap w128 t
-        → slice_index_or sums.new i (pos 0) ≡ int_wrap w128 (t +ℤ sum_at (λ e. e.0) (λ e. e.1) acts.now i *ℤ weight.now) }
+    ensures { (i : ℕ) (t : ℤ) → slice_index_or sums.old i (pos 0) ≡ int_wrap w128 t →
+        slice_index_or sums.new i (pos 0) ≡ int_wrap w128 (t +ℤ sum_at (λ e. e.0)
+        (λ e. e.1) acts.now i *ℤ weight.now) }
 {
     if *weight == 0 {
         return;
@@ -70,8 +72,9 @@ pub fn activities(
     requires each { length weights.now ≡ length cols.now }
     requires known { All (λ (c : AColumn). All (λ e. e.0 < rows) c.acts) cols.now }
     ensures many { IfOk result (λ v. vec_len v ≡ rows) }
-    ensures sums { IfOk result
-        (λ v. (i : ℕ) → i < rows → slice_index_or v.items i (pos 0) ≡ int_wrap w128 (weighted_activity (zip cols.now weights.now) i)) }
+    ensures sums { IfOk result (λ v. (i : ℕ) → i < rows →
+        slice_index_or v.items i (pos 0) ≡
+        int_wrap w128 (weighted_activity (zip cols.now weights.now) i)) }
 {
     let mut sums = Vec::from_elem(alloc, 0, rows)?;
     for j in 0..cols.len() {

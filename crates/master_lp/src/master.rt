@@ -73,8 +73,8 @@ impl Master {
     }
 
     /// Weights of the columns and multipliers of the rows after at most so many pivots of a simplex that takes the
-    /// column of least reduced cost. Nothing is promised of how good they are: the answer says it, exactly, by its gap and by
-    /// what it is short of.
+    /// column of least reduced cost. Nothing is promised of how good they are: the answer says it, exactly, by its gap
+    /// and by what it is short of.
     pub fn solve(&mut self, alloc: Global, pivots: u32) -> Result<MasterAnswer, AllocError>
         requires { IsModest self.old }
         ensures answer { IfOk result (IsAnswer self.old) }
@@ -125,8 +125,10 @@ pub fn solve_master(
     pivots: u32,
 ) -> Result<MasterAnswer, AllocError>
     requires { IsModest (record { cols = cols.now; rows = rows.now; counts = counts.now }) }
-    ensures answer { IfOk result (IsAnswer (record { cols = cols.now; rows = rows.now; counts = counts.now })) }
-    ensures near { IfOk result (IsNearBest (record { cols = cols.now; rows = rows.now; counts = counts.now })) }
+    ensures answer { IfOk result (IsAnswer
+        (record { cols = cols.now; rows = rows.now; counts = counts.now })) }
+    ensures near { IfOk result (IsNearBest
+        (record { cols = cols.now; rows = rows.now; counts = counts.now })) }
 {
     let mut master = Master::make(alloc, rows, counts)?;
     for col in cols {

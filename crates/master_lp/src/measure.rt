@@ -66,8 +66,10 @@ pub fn measured(
     mults: &[i64],
 ) -> Result<MasterAnswer, AllocError>
     requires { IsModest (record { cols = cols.now; rows = rows.now; counts = counts.now }) }
-    ensures answer { IfOk result (IsAnswer (record { cols = cols.now; rows = rows.now; counts = counts.now })) }
-    ensures near { IfOk result (IsNearBest (record { cols = cols.now; rows = rows.now; counts = counts.now })) }
+    ensures answer { IfOk result (IsAnswer
+        (record { cols = cols.now; rows = rows.now; counts = counts.now })) }
+    ensures near { IfOk result (IsNearBest
+        (record { cols = cols.now; rows = rows.now; counts = counts.now })) }
 {
     let weights = clipped_weights(alloc, cols, counts.len(), weights)?;
     let mults = clipped_multipliers(alloc, rows, mults)?;

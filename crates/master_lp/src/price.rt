@@ -44,7 +44,8 @@ fn price(mults: &[i64], col: &Column) -> i128
 // What the search for least prices begins with.
 fn ceilings(alloc: Global, classes: usize) -> Result<Vec<i128>, AllocError>
     ensures many { IfOk result (λ v. vec_len v ≡ classes) }
-    ensures high { IfOk result (λ v. (k : ℕ) → k < classes → slice_index_or v.items k (pos 0) ≡ pos (2 ^ 127 - 1)) }
+    ensures high { IfOk result (λ v. (k : ℕ) → k < classes →
+        slice_index_or v.items k (pos 0) ≡ pos (2 ^ 127 - 1)) }
 {
     Vec::from_elem(alloc, i128::MAX, classes)
 }
@@ -58,7 +59,8 @@ pub fn least_prices(
 ) -> Result<Vec<i128>, AllocError>
     requires known { All (λ (c : AColumn). c.class < classes) cols.now }
     requires each { (k : ℕ) → k < classes → Any (λ (c : AColumn). c.class ≡ k) cols.now }
-    requires small { All (λ (c : AColumn). unsigned_abs (column_price mults.now c) < 2 ^ 126) cols.now }
+    requires small { All (λ (c : AColumn). unsigned_abs (column_price mults.now c) <
+        2 ^ 126) cols.now }
     ensures { IfOk result (λ v. AreConvex cols.now classes mults.now v.items) }
 {
     let mut least = ceilings(alloc, classes)?;

@@ -19,7 +19,8 @@ fn gap_above(low: &i128, high: &i128) -> i128
 // How far a sum misses the sides of a row, in units.
 fn row_short(row: &MasterRow, sum: &i128) -> i128
     requires { unsigned_abs sum.now < 2 ^ 120 }
-    ensures { result ≡ pos (side_miss row.now.sense (pos one_weight *ℤ row.now.low) (pos one_weight *ℤ row.now.rhs) sum.now) }
+    ensures { result ≡ pos (side_miss row.now.sense (pos one_weight *ℤ row.now.low)
+        (pos one_weight *ℤ row.now.rhs) sum.now) }
 {
     let low = in_units(&row.low);
     let high = in_units(&row.rhs);
@@ -36,8 +37,9 @@ pub fn rows_short(rows: &[MasterRow], sums: &[i128]) -> i128
     requires each { length sums.now ≡ length rows.now }
     requires small { All (λ z. unsigned_abs z < 2 ^ 120) sums.now }
     ensures { result ≡ int_wrap w128
-        (pos (sum_by
-        (λ i. side_miss (master_row rows.now i).sense (pos one_weight *ℤ (master_row rows.now i).low) (pos one_weight *ℤ (master_row rows.now i).rhs) (slice_index_or sums.now i (pos 0)))
+        (pos (sum_by (λ i. side_miss (master_row rows.now i).sense
+        (pos one_weight *ℤ (master_row rows.now i).low)
+        (pos one_weight *ℤ (master_row rows.now i).rhs) (slice_index_or sums.now i (pos 0)))
         (range_with_len 0 (length rows.now)))) }
 {
     let mut total = 0;
@@ -62,8 +64,8 @@ pub fn classes_short(counts: &[u32], weights: &[i128]) -> i128
     requires each { length weights.now ≡ length counts.now }
     requires small { All (λ z. unsigned_abs z < 2 ^ 120) weights.now }
     ensures { result ≡ int_wrap w128
-        (pos (sum_by
-        (λ k. unsigned_abs (slice_index_or weights.now k (pos 0) -ℤ pos one_weight *ℤ pos (class_size counts.now k)))
+        (pos (sum_by (λ k. unsigned_abs
+        (slice_index_or weights.now k (pos 0) -ℤ pos one_weight *ℤ pos (class_size counts.now k)))
         (range_with_len 0 (length counts.now)))) }
 {
     let mut total = 0;

@@ -1,4 +1,5 @@
-// The simplex that proposes weights and multipliers: revised, primal, with an explicit inverse in fixed point.
+// The simplex that proposes weights and multipliers: revised, primal, with an explicit inverse in fixed point. (Dantzig,
+// Linear programming and extensions, 1963.)
 // Each logical of a line may stand for what the line lacks or has too much; where its sense has no such side it pays.
 use crate::fixed::{
     ONE, add_at, add_multiple, add_rounded, at, clear, clip, copy_clipped, dot, put, ratio,

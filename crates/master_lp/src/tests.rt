@@ -1,3 +1,4 @@
+// Restricted masters of few columns, and what their answers tell.
 ghost use Rattle.std.specs.Prelude.{◌≡◌, ℤ, pos, negsuc, List, [], ◌∷◌, IfOk};
 ghost use Rattle.bp_theory.specs.declared.Sense.TheVariants.{Le};
 ghost use Rattle.bp_theory.specs.declared.MasterRow.{MasterRow as ARow};
@@ -47,7 +48,12 @@ fn at_most_3() -> MasterRow
 
 // A master of two blocks with a column that does nothing.
 fn begun(alloc: Global) -> Result<Master, Fail>
-    ensures { IfOk result (λ m. m ≡ record { cols = record { class = 0; cost = pos 0; acts = [] } ∷ []; rows = record { sense = Le; low = pos 3; rhs = pos 3 } ∷ []; counts = 2 ∷ [] }) }
+    ensures { IfOk result (λ m. m ≡ record {
+      cols = record { class = 0; cost = pos 0; acts = [] } ∷
+          [];
+      rows = record { sense = Le; low = pos 3; rhs = pos 3 } ∷ [];
+      counts = 2 ∷ [];
+    }) }
 {
     let mut master = Master::make(alloc, &[at_most_3()], &[2])?;
     master.add(alloc, &idle(alloc)?)?;
@@ -56,7 +62,12 @@ fn begun(alloc: Global) -> Result<Master, Fail>
 
 // The same master after a first solution with so many pivots.
 fn solved_once(alloc: Global, pivots: u32) -> Result<Master, Fail>
-    ensures { IfOk result (λ m. m ≡ record { cols = record { class = 0; cost = pos 0; acts = [] } ∷ []; rows = record { sense = Le; low = pos 3; rhs = pos 3 } ∷ []; counts = 2 ∷ [] }) }
+    ensures { IfOk result (λ m. m ≡ record {
+      cols = record { class = 0; cost = pos 0; acts = [] } ∷
+          [];
+      rows = record { sense = Le; low = pos 3; rhs = pos 3 } ∷ [];
+      counts = 2 ∷ [];
+    }) }
 {
     let mut master = begun(alloc)?;
     let _ = master.solve(alloc, pivots)?;

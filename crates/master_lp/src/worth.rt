@@ -28,7 +28,8 @@ fn row_worth(row: &MasterRow, mult: &i64) -> i128
 pub fn rows_worth(rows: &[MasterRow], mults: &[i64]) -> i128
     requires { length mults.now ≡ length rows.now }
     ensures { result ≡ int_wrap w128
-        (sum_of (λ i. multiplier mults.now i *ℤ side (master_row rows.now i) (multiplier mults.now i)) (range_with_len 0 (length rows.now))) }
+        (sum_of (λ i. multiplier mults.now i *ℤ side (master_row rows.now i)
+        (multiplier mults.now i)) (range_with_len 0 (length rows.now))) }
 {
     let mut sum = 0;
     for i in 0..rows.len() {
@@ -42,7 +43,8 @@ pub fn rows_worth(rows: &[MasterRow], mults: &[i64]) -> i128
 pub fn classes_worth(counts: &[u32], convex: &[i128]) -> i128
     requires { length convex.now ≡ length counts.now }
     ensures { result ≡ int_wrap w128
-        (sum_of (λ k. pos (class_size counts.now k) *ℤ slice_index_or convex.now k (pos 0)) (range_with_len 0 (length counts.now))) }
+        (sum_of (λ k. pos (class_size counts.now k) *ℤ slice_index_or convex.now k (pos 0))
+        (range_with_len 0 (length counts.now))) }
 {
     let mut sum = 0;
     for k in 0..counts.len() {

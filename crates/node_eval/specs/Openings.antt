@@ -1,6 +1,6 @@
 -- What pricing shows of a zone.
 use Rattle.std.specs.Prelude.{◌≡◌, ◌⊎◌, ◌<◌, ◌-◌, ◌^◌, ℕ, List, length, ℤ, pos, ◌*ℤ◌, ◌≤ℤ◌, IsTrue}
-use Rattle.bp_theory.specs.Limits.{most_prefixes}
+use Rattle.bp_theory.specs.Limits.{most_prefixes, number_limit}
 use Rattle.bp_theory.specs.Blocking.{Blocking}
 use Rattle.bp_theory.specs.Bound.{IsBound, IsEndless, is_picked, spans_of}
 use Rattle.bp_theory.specs.declared.Proof.{Proof}
@@ -34,7 +34,7 @@ pub record MayBeCut (b : Blocking) (zone : List Span) (proof : Proof) : Type 0 w
 -- a bound is no less than what a sound proof shows of a zone, or it is the greatest there is, or the pricing may be cut
 abbrev pub IsReached : Blocking → List Span → ℤ → Proof → Type 0
 IsReached b zone bound proof = IsSoundProof b proof → 0 < proof.scale → (whole : ℤ) → IsBound b zone proof whole
-    → (whole ≤ℤ (pos proof.scale *ℤ bound)) ⊎ ((bound ≡ pos (2 ^ 62 - 1)) ⊎ MayBeCut b zone proof)
+    → (whole ≤ℤ (pos proof.scale *ℤ bound)) ⊎ ((bound ≡ pos (number_limit - 1)) ⊎ MayBeCut b zone proof)
 
 -- a proof at scale 0
 abbrev pub at_zero : Proof → Proof

@@ -1,5 +1,6 @@
-// Cheaper points near a feasible one: chains of a few changes by one, each of which after the first mends a row that those before it
-// broke. A hint, which the model judges. (Glover, ejection chains.)
+// Cheaper points near a feasible one: chains of a few changes by one, each of which after the first mends a row that
+// those before it broke. A hint, which the model judges. (Glover, Ejection chains, reference structures and alternating
+// path methods for traveling salesman problems, 1996.)
 use crate::entries::Entries;
 use crate::guide::dense_costs;
 use crate::reach::{at, has_lower, has_upper, product, sum_at};
@@ -33,8 +34,8 @@ struct Break {
     tried: usize,
 }
 
-// A point with the sums of its rows; the costs and the entries of the variables; a chain with what it broke and costs more; and how
-// many entries were looked at.
+// A point with the sums of its rows; the costs and the entries of the variables; a chain with what it broke and costs
+// more; and how many entries were looked at.
 #[derive(Drop)]
 struct Exchange {
     point: Vec<i64>,
@@ -176,7 +177,8 @@ fn missed(b: &Blocked, exchange: &Exchange, number: u32) -> Option<bool> {
     }
 }
 
-// Goes on with the next change that mends the row that was broken last, or else goes back and on from there; whether there was one.
+// Goes on with the next change that mends the row that was broken last, or else goes back and on from there; whether
+// there was one.
 fn go_on_elsewhere(b: &Blocked, exchange: &mut Exchange) -> Result<bool, AllocError> {
     for _ in 0..=LONGEST {
         let Some(broken) = exchange.breaks.pop() else {

@@ -20,8 +20,8 @@ pub struct Guide {
     pub order: Order,
 }
 
-/// Which row that is missed comes first: that whose best variable is wanted most before its next one, or that with the fewest open
-/// spans.
+/// Which row that is missed comes first: that whose best variable is wanted most before its next one, or that with the
+/// fewest open spans.
 #[derive(Clone, Copy, Debug, PartialEq, Eq)]
 pub enum Order {
     Urgent,

@@ -1,5 +1,6 @@
-//! Points of a program's blocks and rows: spans tightened by rows, a search by propagation, cheaper points by exchanges, what rows can
-//! reach, and what points leave open of them. It needs the program in blocks alone. All are hints, which exact bounds and the model judge.
+//! Points of a program's blocks and rows: spans tightened by rows, a search by propagation, cheaper points by
+//! exchanges, what rows can reach, and what points leave open of them. It needs the program in blocks alone. All are
+//! hints, which exact bounds and the model judge.
 #![tactic(auto)]
 
 mod bins;

@@ -24,6 +24,7 @@ fn narrow_one(b: &Blocked, zone: Zone, var: u32, span: &Span) -> Zone
     requires { IsZone b.now.named.program.spans zone }
     ensures { IsZone b.now.named.program.spans result }
 {
+    // For the proof alone: `b` is formed.
     let _ = b.blocks();
     if var as usize >= zone.spans().len() {
         return zone;
@@ -36,7 +37,8 @@ fn narrow_one(b: &Blocked, zone: Zone, var: u32, span: &Span) -> Zone
 
 // Whether a span has a number and lies inside another.
 fn is_part(span: &Span, whole: &Span) -> bool
-    ensures { IsTrue result ↔ ((span.now.lo ≤ℤ span.now.hi) × (whole.now.lo ≤ℤ span.now.lo) × (span.now.hi ≤ℤ whole.now.hi)) }
+    ensures { IsTrue result ↔ ((span.now.lo ≤ℤ span.now.hi) × (whole.now.lo ≤ℤ span.now.lo) ×
+        (span.now.hi ≤ℤ whole.now.hi)) }
 {
     span.lo <= span.hi && whole.lo <= span.lo && span.hi <= whole.hi
 }

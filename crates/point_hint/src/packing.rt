@@ -1,6 +1,7 @@
-// Points of identical blocks of one row, by exchanges: a number of blocks is filled with items, and items are taken out of a block and others
-// that are left over put in, so that blocks get fuller, until nothing is left over. A hint, which the model judges. (As in the local search of
-// Alvim, Ribeiro, Glover and Aloise, A hybrid improvement heuristic for the one-dimensional bin packing problem, 2004.)
+// Points of identical blocks of one row, by exchanges: a number of blocks is filled with items, and items are taken out
+// of a block and others that are left over put in, so that blocks get fuller, until nothing is left over. A hint, which
+// the model judges. (As in the local search of Alvim, Ribeiro, Glover and Aloise, A hybrid improvement heuristic for
+// the one-dimensional bin packing problem, 2004.)
 use crate::bins::{Bins, Item};
 use crate::reach::{at, count, product, put, whole};
 use block_form::{Block, Blocked};
@@ -15,7 +16,8 @@ pub struct Alike<'a> {
     pub bound: i64,
 }
 
-/// How an exchange goes: how many moves are made, how much moves are drawn at random, in parts of 1,000 of a block's room, and the seed.
+/// How an exchange goes: how many moves are made, how much moves are drawn at random, in parts of 1,000 of a block's
+/// room, and the seed.
 #[derive(Clone, Copy)]
 pub struct Moves {
     pub most: u32,
@@ -32,8 +34,8 @@ struct Kind {
     items: Vec<Item>,
 }
 
-/// A point where as few of the blocks are open as the bound allows, where exchanges find one. Blocks begin with the points of seeds, as
-/// long as these fit together. There is none where the blocks are of another kind.
+/// A point where as few of the blocks are open as the bound allows, where exchanges find one. Blocks begin with the
+/// points of seeds, as long as these fit together. There is none where the blocks are of another kind.
 pub fn pack(
     alloc: Global,
     b: &Blocked,
@@ -82,8 +84,8 @@ fn blocks_of(b: &Blocked, kind: &Kind, alike: Alike) -> Option<usize> {
     }
 }
 
-// A block's kind: its one row is at most a number, one variable without master rows opens room at a cost, and each other takes room, costs
-// nothing, and stands in one master row with the coefficient 1.
+// A block's kind: its one row is at most a number, one variable without master rows opens room at a cost, and each
+// other takes room, costs nothing, and stands in one master row with the coefficient 1.
 fn kind_of(
     alloc: Global,
     b: &Blocked,

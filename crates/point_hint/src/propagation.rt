@@ -33,8 +33,8 @@ struct Split {
     other: Span,
 }
 
-// The spans, the choices that led to them, the cheapest cost that is known, the point of that cost if it was found here, how many
-// terms all rows have, and how many were looked at.
+// The spans, the choices that led to them, the cheapest cost that is known, the point of that cost if it was found
+// here, how many terms all rows have, and how many were looked at.
 #[derive(Drop)]
 struct Search {
     spans: Spans,

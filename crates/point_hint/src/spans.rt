@@ -1,4 +1,5 @@
-// Spans tightened by rows: hints for the search of a point.
+// Spans tightened by rows: hints for the search of a point. (Savelsbergh, Preprocessing and probing techniques for mixed
+// integer programming problems, 1994.)
 ghost use Rattle.std.specs.Prelude.{◌<◌, length};
 
 use crate::entries::Entries;
@@ -13,8 +14,8 @@ const PASSES: u32 = 8;
 /// How many rows are looked at between, for each row.
 const LOOKS: u32 = 8;
 
-/// Spans that shrink, what they were before, in the order of the changes, what each row can reach over them, the rows that wait to
-/// be looked at since a span of theirs shrank, and how many terms were looked at.
+/// Spans that shrink, what they were before, in the order of the changes, what each row can reach over them, the rows
+/// that wait to be looked at since a span of theirs shrank, and how many terms were looked at.
 #[derive(Drop)]
 pub struct Spans {
     pub now: Vec<Span>,
@@ -63,8 +64,8 @@ enum Found {
     Same,
 }
 
-/// Tightens spans by the rows that wait, and so that points are cheaper than what is known; whether a point may be left. No row waits
-/// then.
+/// Tightens spans by the rows that wait, and so that points are cheaper than what is known; whether a point may be
+/// left. No row waits then.
 pub fn tighten(b: &Blocked, known: Option<i64>, spans: &mut Spans) -> Result<bool, AllocError> {
     for pass in 0..PASSES {
         let found = tighten_by_cost(b, known, spans)?;

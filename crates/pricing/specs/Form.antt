@@ -1,5 +1,6 @@
 -- The blocks that a pricer is made of, and the zones and costs that it prices.
 use Rattle.std.specs.Prelude.{◌≡◌, ℕ, ◌+◌, ◌*◌, ◌^◌, ◌<◌, ◌≤◌, max, unsigned_abs, sum_by, List, [], ◌∷◌, length, ℤ, All}
+use Rattle.bp_theory.specs.Limits.{number_limit, price_limit}
 use Rattle.bp_theory.specs.Program.{span_at, reach}
 use Rattle.bp_theory.specs.Decomposition.{HasVariablesBelow}
 use Rattle.bp_theory.specs.Trees.{IsZone}
@@ -18,8 +19,8 @@ row_size spans row = max (unsigned_abs row.low) (unsigned_abs row.rhs) + sum_by 
 
 -- both ends of a span stay below 2 to the 62
 pub record HasShortEnds (s : Span) : Type 0 where
-  pub lo : unsigned_abs s.lo < 2 ^ 62
-  pub hi : unsigned_abs s.hi < 2 ^ 62
+  pub lo : unsigned_abs s.lo < number_limit
+  pub hi : unsigned_abs s.hi < number_limit
 
 -- rows over the places of these spans, whose sums stay below 2 to the 62
 pub record IsForm (rows : List Row) (spans : List Span) : Type 0 where
@@ -27,7 +28,7 @@ pub record IsForm (rows : List Row) (spans : List Span) : Type 0 where
   pub few_rows : length rows < 2 ^ 32
   pub ends : All HasShortEnds spans
   pub places : All (λ row. HasVariablesBelow (length spans) row.terms) rows
-  pub sizes : All (λ row. row_size spans row < 2 ^ 62) rows
+  pub sizes : All (λ row. row_size spans row < number_limit) rows
 
 -- rows and root spans are those of a block
 pub record AreOf (block : RootBlock) (rows : List Row) (spans : List Span) : Type 0 where
@@ -44,4 +45,4 @@ cost_size (s ∷ ss) (r ∷ rs) = unsigned_abs r * reach s + cost_size ss rs
 pub record IsPriceable (spans zone : List Span) (costs : List ℤ) : Type 0 where
   pub in_root : IsZone spans zone
   pub each : length costs ≡ length zone
-  pub sizes : cost_size zone costs ≤ 2 ^ 116
+  pub sizes : cost_size zone costs ≤ price_limit

@@ -1,3 +1,4 @@
+-- Other crates cite Form, Priced and Ends. The rest are words of contracts here alone.
 pub mod Form
 pub mod Priced
 pub mod Ends

@@ -1,6 +1,6 @@
 -- What a growing tree keeps at every moment of a search.
 use Rattle.std.specs.Prelude.{ℕ, zero, suc, ◌+◌, ◌/◌, ◌^◌, ◌<◌, ◌≤◌, ◌≡◌, List, ◌++◌, length, Option, Some, None, option_map, option_to_list, IfSome, ℤ, pos, ◌+ℤ◌, ◌≤ℤ◌, unsigned_abs, sum_by, All, Contains}
-use Rattle.bp_theory.specs.Limits.{greatest_depth, most_digits}
+use Rattle.bp_theory.specs.Limits.{greatest_depth, most_digits, number_limit}
 use Rattle.std.specs.Int.{int_gap}
 use Rattle.bp_theory.specs.Program.{Program, IsFeasible, cost, span_at}
 use Rattle.bp_theory.specs.Blocking.{Blocking}
@@ -21,7 +21,7 @@ pub record IsSoundProof (b : Blocking) (proof : Proof) : Type 0 where
 pub record KeepsBound (b : Blocking) (zone : List Span) (proof : Proof) (bound : ℤ) : Type 0 where
   pub scale : 0 < proof.scale
   pub holds : Holds b zone proof bound
-  pub size : unsigned_abs bound < 2 ^ 62
+  pub size : unsigned_abs bound < number_limit
 
 -- what each leaf keeps: a sound proof, and a live leaf its bound
 pub record IsKept (b : Blocking) (leaf : GrowingLeaf) : Type 0 where

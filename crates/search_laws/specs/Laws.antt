@@ -1,6 +1,6 @@
 -- The laws of the search.
 use Rattle.std.specs.Prelude.{ℕ, ◌+◌, ◌<◌, ◌≤◌, ◌^◌, ◌≡◌, ◌≢◌, ◌↔◌, List, [], ◌∷◌, ◌++◌, Option, Some, None, ℤ, pos, ◌+ℤ◌, ◌*ℤ◌, ◌≤ℤ◌, zip, unsigned_abs, length, map, count_by, sum, is_some, Bool, All}
-use Rattle.bp_theory.specs.Limits.{greatest_depth}
+use Rattle.bp_theory.specs.Limits.{greatest_depth, number_limit}
 use Rattle.bp_theory.specs.Program.{Program, IsInside, IsFeasible, IsBest, cost, span_at}
 use Rattle.bp_theory.specs.Blocking.{Blocking, IsFaithful, AddsUp}
 use Rattle.bp_theory.specs.Decomposition.{Decomposition, IsClosed, HasPlaces, full_row, proof_rows, blocking_of}
@@ -33,7 +33,7 @@ use Rattle.search_laws.specs.Outcomes.{CutsFit, final_claim, stopped_claim, read
 
 -- a planted tree has its facts where its bound is that of the plain proof
 abbrev pub PlantKeeps : Type 0
-PlantKeeps = (b : Blocking) (zone : List Span) (v : ℤ) → IsBound b zone plain_proof v → unsigned_abs v < 2 ^ 62
+PlantKeeps = (b : Blocking) (zone : List Span) (v : ℤ) → IsBound b zone plain_proof v → unsigned_abs v < number_limit
     → IsGrove b zone (planted v)
 
 -- a live leaf shut with a sound proof keeps the facts
@@ -68,7 +68,7 @@ pub record MiddleTakesABit : Type 0 where
 
 -- the facts of a search are there when it begins, and stay when a leaf is shut or forked and when a cheaper point is found
 pub record SearchKeeps : Type 0 where
-  pub planted : (p : Program) (b : Blocking) (v : ℤ) → IsSized p → IsBound b p.spans plain_proof v → unsigned_abs v < 2 ^ 62
+  pub planted : (p : Program) (b : Blocking) (v : ℤ) → IsSized p → IsBound b p.spans plain_proof v → unsigned_abs v < number_limit
       → IsSearch p b (planted v) None
   pub shut : (p : Program) (b : Blocking) (t : GrowingTree) (best : Option (List ℤ)) (path : List Side) (leaf : LiveLeaf) (proof : Proof)
       → IsSearch p b t best → live_at t path ≡ Some leaf → IsSoundProof b proof → Settles b (best_cost p best) (zone_at t p.spans path) proof
@@ -215,7 +215,7 @@ pub record ResumeAgrees : Type 0 where
       → live_count t ≡ 0 → live_count u ≡ 0 → final_claim p best ≡ final_claim p other
   pub resumed : (p : Program) (b : Blocking) (t loaded : GrowingTree) (best : Option (List ℤ)) (v : ℤ) (workers others : ℕ)
       (events later : List CrewEvent) (last end : Crew)
-      → IsSized p → IsFaithful p b → IsSearch p b t best → IsRemainingBound p t best v → unsigned_abs v < 2 ^ 62
+      → IsSized p → IsFaithful p b → IsSearch p b t best → IsRemainingBound p t best v → unsigned_abs v < number_limit
       → Loads b (best_cost p best) p.spans (read_off (stopped_claim p best v) best [] t).tree loaded
       → IsRun p b (idle_crew t best workers) events last → live_count last.tree ≡ 0
       → IsRun p b (idle_crew loaded best others) later end → live_count end.tree ≡ 0

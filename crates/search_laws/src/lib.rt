@@ -1,18 +1,20 @@
-// The laws of a certifying branch-and-price search.
+//! What a certifying branch-and-price search keeps at every moment: the growing tree and the queue of its live leaves,
+//! verdicts on leaves, how a search ends, the restricted master, weights spread over blocks, loading, and the crew. The
+//! definitions stand in specs/; each law is the contract of a public function with an empty body, which nobody calls.
 #![tactic(auto)]
 
 ghost use Rattle.search_laws.specs.Laws.{PlantKeeps, ShutKeeps, ForkKeeps, CountsChangeByOne, MiddleTakesABit, StaysShallow, SearchKeeps, LeastBoundIsThere, SearchIsRight, ReadOffIsValid, ReadOffIsCertified, VerdictsKeep, EventsKeep, RunsKeep, CrewIsRight, GapBounds, ShortIsNone, LoadKeeps, ResumeAgrees, PartsSuffice, LiveLeavesChange, LeastByPaths, EventsTell, FreeIsTheRest, SpreadFits, DecompositionHasAll, FurtherCutsKeep, QueueKeeps};
 
 use bp_theory::{Items, Proof};
 
-// A side of a fork.
+/// A side of a fork.
 #[derive(Clone, Copy)]
 pub enum Side {
     Low,
     High,
 }
 
-// What is done with a leaf: shut it with a proof, or fork it with a proof and a bound.
+/// What is done with a leaf: shut it with a proof, or fork it with a proof and a bound.
 #[derive(Drop)]
 pub enum Next {
     Shut(Proof),
@@ -24,14 +26,14 @@ pub enum Next {
     },
 }
 
-// A cheaper point, if one was found, and what is done with the leaf.
+/// A cheaper point, if one was found, and what is done with the leaf.
 #[derive(Drop)]
 pub struct Verdict {
     pub point: Option<Items<i64>>,
     pub next: Next,
 }
 
-// What a worker does: it takes a leaf, shuts or forks it by its report, or drops it.
+/// What a worker does: it takes a leaf, shuts or forks it by its report, or drops it.
 #[derive(Clone, Copy)]
 pub enum Kind {
     Take,
@@ -40,7 +42,7 @@ pub enum Kind {
     Drop,
 }
 
-// A column of a restricted master: its class, its cost and its activities in master rows.
+/// A column of a restricted master: its class, its cost and its activities in master rows.
 #[derive(Drop)]
 pub struct Column {
     pub class: u32,
@@ -48,14 +50,14 @@ pub struct Column {
     pub acts: Items<(u32, i64)>,
 }
 
-// A worker with what it does.
+/// A worker with what it does.
 #[derive(Clone, Copy)]
 pub struct Event {
     pub worker: u32,
     pub kind: Kind,
 }
 
-// A column that an answer uses: its class, its weight and its point.
+/// A column that an answer uses: its class, its weight and its point.
 #[derive(Drop)]
 pub struct UsedColumn {
     pub class: u32,
@@ -63,149 +65,157 @@ pub struct UsedColumn {
     pub point: Items<i64>,
 }
 
-// What a worker holds: the path of a live leaf, and the best cost that it was given.
+/// What a worker holds: the path of a live leaf, and the best cost that it was given.
 #[derive(Drop)]
 pub struct Holding {
     pub path: Items<Side>,
     pub given: Option<i64>,
 }
 
-// A planted tree has its facts.
+/// A planted tree has its facts where its bound is that of the plain proof.
 pub fn plant_keeps()
     ensures { PlantKeeps }
 {}
 
-// A leaf that is shut keeps the facts.
+/// A live leaf that is shut with a sound proof keeps the facts.
 pub fn shut_keeps()
     ensures { ShutKeeps }
 {}
 
-// A leaf that is forked keeps the facts.
+/// A live leaf that is forked soundly, with a sound proof that holds in its zone for a bound, keeps the facts.
 pub fn fork_keeps()
     ensures { ForkKeeps }
 {}
 
-// A step changes each count by one.
+/// A live leaf that is shut or forked adds one step, and takes one live leaf away or adds one.
 pub fn counts_change_by_one()
     ensures { CountsChangeByOne }
 {}
 
-// A split at the middle takes a bit.
+/// A split at the middle takes at least one bit from the zones of both parts, and no sound split adds one.
 pub fn middle_takes_a_bit()
     ensures { MiddleTakesABit }
 {}
 
-// No tree grows too deep.
+/// A tree that is planted, shut, or forked in time is at most 8,256 deep.
 pub fn stays_shallow()
     ensures { StaysShallow }
 {}
 
-// The facts of a search stay.
+/// The facts of a search are there when it begins, and stay when a leaf is shut or forked and when a cheaper point is
+/// found.
 pub fn search_keeps()
     ensures { SearchKeeps }
 {}
 
-// There is one least bound while a leaf is live.
+/// While a leaf is live there is exactly one least of the live bounds.
 pub fn least_bound_is_there()
     ensures { LeastBoundIsThere }
 {}
 
-// A search that ends or is stopped is right.
+/// Where no leaf is live the kept point is best, or nothing is feasible; at every moment no feasible point costs less
+/// than the remaining bound.
 pub fn search_is_right()
     ensures { SearchIsRight }
 {}
 
-// The certificate that is read off is valid.
+/// The certificate that is read off the tree is valid: at the end for the best value or for none, and at every moment
+/// for the remaining bound.
 pub fn read_off_is_valid()
     ensures { ReadOffIsValid }
 {}
 
-// It is valid for the decomposition and the cuts too.
+/// The same for a decomposition and cuts: the certificate is valid for them, and its claim is true.
 pub fn read_off_is_certified()
     ensures { ReadOffIsCertified }
 {}
 
-// A report keeps the facts.
+/// A verdict that is right for a best cost no cheaper than that of now keeps the facts of a search and adds one step.
 pub fn verdicts_keep()
     ensures { VerdictsKeep }
 {}
 
-// Each event keeps the facts of a crew.
+/// Each event keeps the facts of a crew; a report adds one step, and to take or drop a leaf changes neither the tree
+/// nor the best point.
 pub fn events_keep()
     ensures { EventsKeep }
 {}
 
-// Each run keeps the facts of a crew.
+/// Every run keeps the facts of a crew, and each point of the root zone lies in exactly one leaf.
 pub fn runs_keep()
     ensures { RunsKeep }
 {}
 
-// At every moment of every run the conclusions hold.
+/// At every moment of every run: where no leaf is live the best point is best, or nothing is feasible, and the
+/// certificate for it is valid; else the one for the remaining bound is.
 pub fn crew_is_right()
     ensures { CrewIsRight }
 {}
 
-// The gap bounds what the weights miss.
+/// Weights that fit cost no less than an answer's but for the gap, whatever the multipliers, as long as their signs
+/// fit.
 pub fn gap_bounds()
     ensures { GapBounds }
 {}
 
-// Where nothing is short the weights fit.
+/// Nothing is short exactly where the weights fit.
 pub fn short_is_none()
     ensures { ShortIsNone }
 {}
 
-// A loaded tree has the facts of a search.
+/// A valid certificate can be loaded in one way, and the loaded tree has the facts of a search where it is shallow.
 pub fn load_keeps()
     ensures { LoadKeeps }
 {}
 
-// A search that was stopped and loaded ends as one that was not.
+/// A run that is stopped, written, loaded and ended by another run claims what a run that is not stopped claims.
 pub fn resume_agrees()
     ensures { ResumeAgrees }
 {}
 
-// The parts of a number suffice.
+/// Each number has its parts 1, 2, 4, .. and a rest in one way: they add up to it, and some of them to each number up
+/// to it.
 pub fn parts_suffice()
     ensures { PartsSuffice }
 {}
 
-// Which leaves are live after a step.
+/// Which paths have a live leaf, and in which zone, once a live leaf is shut or forked.
 pub fn live_leaves_change()
     ensures { LiveLeavesChange }
 {}
 
-// The least bound is that of a live leaf.
+/// The least of the live bounds is one that a live leaf keeps, and no live leaf keeps a lower one.
 pub fn least_by_paths()
     ensures { LeastByPaths }
 {}
 
-// The list of events tells what it should.
+/// The list of the events of a run tells the steps, how many leaves are live and which workers hold one.
 pub fn events_tell()
     ensures { EventsTell }
 {}
 
-// Live leaves are held or free.
+/// The live leaves are those that are held, each by one worker, and the free ones; one that is free can be taken.
 pub fn free_is_the_rest()
     ensures { FreeIsTheRest }
 {}
 
-// Whole weights spread to a feasible point.
+/// Whole weights that meet the program's rows spread to a feasible point of their cost.
 pub fn spread_fits()
     ensures { SpreadFits }
 {}
 
-// The blocking of a decomposition has all rows and variables.
+/// The blocking of a decomposition has each row and each variable of the program.
 pub fn decomposition_has_all()
     ensures { DecompositionHasAll }
 {}
 
-// Further cuts keep the facts of a search.
+/// Further cuts change no bound of a proof that fits without them, and so keep the facts of a search.
 pub fn further_cuts_keep()
     ensures { FurtherCutsKeep }
 {}
 
-// The queue of live leaves is kept.
+/// The queue is kept when a tree is planted, and when a leaf is shut or forked; the bound of its first entry is the
+/// least of the live bounds.
 pub fn queue_keeps()
     ensures { QueueKeeps }
 {}

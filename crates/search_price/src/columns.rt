@@ -30,7 +30,8 @@ fn add_term(columns: &mut Vec<Items<Entry>>, row: u32, term: &Term) -> Result<()
     requires { term.now.var < vec_len columns.old }
     ensures len { vec_len columns.new ≡ vec_len columns.old }
     ensures added { OnOk result (columns.new.items ≡ slice_set columns.old.items term.now.var
-        (slice_index_or columns.old.items term.now.var [] ++ row_entries row term.now.var (term.now ∷ []))) }
+        (slice_index_or columns.old.items term.now.var [] ++ row_entries row term.now.var
+        (term.now ∷ []))) }
 {
     let entry = Entry {
         row,
@@ -45,7 +46,8 @@ fn add_terms(columns: &mut Vec<Items<Entry>>, row: u32, terms: &[Term]) -> Resul
     requires { HasVariablesBelow (vec_len columns.old) terms.now }
     ensures len { vec_len columns.new ≡ vec_len columns.old }
     ensures added { OnOk result ((j : ℕ) → j < vec_len columns.old →
-        slice_index_or columns.new.items j [] ≡ slice_index_or columns.old.items j [] ++ row_entries row j terms.now) }
+        slice_index_or columns.new.items j [] ≡ slice_index_or columns.old.items j [] ++
+        row_entries row j terms.now) }
 {
     for term in terms {
         add_term(columns, row, term)?;

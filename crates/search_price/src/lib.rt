@@ -1,4 +1,5 @@
-//! Pricing by a search: depth first over a block's variables, pruned by what each row can still reach, by cost, and by cost with rows added.
+//! Pricing by a search: depth first over a block's variables, pruned by what each row can still reach, by cost, and by
+//! cost with rows added.
 #![tactic(auto)]
 
 mod begin;

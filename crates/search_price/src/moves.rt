@@ -92,7 +92,8 @@ pub fn column_can_meet(dive: &Dive, form: &Form, zone: &[Span], costs: &[i128], 
     requires priceable { IsPriceable form.now.spans.items zone.now costs.now }
     requires tracked { IsTracked form.now.rows.items zone.now costs.now dive.now }
     requires there { var < length zone.now }
-    ensures yes { OnTrue result (All (λ e. CanMeetAt form.now.rows.items dive.now.zone.items e.row) (column_from 0 form.now.rows.items var)) }
+    ensures yes { OnTrue result (All (λ e. CanMeetAt form.now.rows.items dive.now.zone.items e.row)
+        (column_from 0 form.now.rows.items var)) }
     ensures no { OnFalse result (HasNoPoint form.now.rows.items dive.now.zone.items) }
 {
     let column = form.columns[var].as_slice();
@@ -164,18 +165,21 @@ pub fn place_value(
     value: &i64,
 ) -> bool
     requires priceable { IsPriceable form.now.spans.items zone.now costs.now }
-    requires relaxed { IsRelaxed form.now.spans.items form.now.rows.items zone.now costs.now relaxed.now }
+    requires relaxed { IsRelaxed form.now.spans.items form.now.rows.items zone.now costs.now
+        relaxed.now }
     requires tracked { IsTracked form.now.rows.items zone.now costs.now dive.old }
     requires paid { IsPaid relaxed.now dive.old }
     requires there { var < length zone.now }
     requires part { IsWithin (span_at zone.now var) value.now }
-    requires others { All (CanMeetRow (slice_set dive.old.zone.items var (span_at zone.now var))) form.now.rows.items }
+    requires others { All (CanMeetRow (slice_set dive.old.zone.items var (span_at zone.now var)))
+        form.now.rows.items }
     ensures zone { dive.new.zone.items ≡ slice_set dive.old.zone.items var (single value.now) }
     ensures tracked { IsTracked form.now.rows.items zone.now costs.now dive.new }
     ensures paid { IsPaid relaxed.now dive.new }
     ensures kept { IsKept dive.old dive.new }
     ensures yes { OnTrue result (All (CanMeetRow dive.new.zone.items) form.now.rows.items) }
-    ensures no { OnFalse result (AllCovered form.now.rows.items dive.new.zone.items costs.now dive.new.best) }
+    ensures no { OnFalse result (AllCovered form.now.rows.items dive.new.zone.items costs.now
+        dive.new.best) }
 {
     let one = span_of(value);
     place(dive, form, zone, costs, relaxed, var, &one);

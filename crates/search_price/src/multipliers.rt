@@ -1,7 +1,7 @@
 // Multipliers for the rows of a block. They are hints: no answer rests on them.
 //
-// They are moved along by how much the rows' sums are beyond their sides at the least of the adjusted costs over the box (the
-// subgradient method), in steps that grow shorter, and those of the greatest bound are kept.
+// They are moved along by how much the rows' sums are beyond their sides at the least of the adjusted costs over the
+// box (the subgradient method), in steps that grow shorter, and those of the greatest bound are kept.
 
 ghost use Rattle.std.specs.Prelude.{◌≡◌, vec_len};
 ghost use Rattle.pricing.specs.Form.{IsPriceable};
@@ -194,7 +194,8 @@ fn sum_at_least(terms: &[Term], relaxed: &Relaxed, zone: &[Span]) -> i128 {
     sum
 }
 
-/// By how much a row's sum is beyond the side that its multiplier stands for, or would stand for if it were pulled away from 0.
+/// By how much a row's sum is beyond the side that its multiplier stands for, or would stand for if it were pulled away
+/// from 0.
 fn miss_of(row: &Row, multiplier: i128, sum: i128) -> i128 {
     let over = sum.saturating_sub(i128::from(row.rhs));
     let under = sum.saturating_sub(i128::from(row.low));

@@ -2,8 +2,9 @@
 //
 // A point keeps the sum of each row that it meets on one side. So a multiple of the row, of a sign that fits, comes to at
 // most that multiple of the side, and the costs with such multiples added bound the cost of each point from below: by their
-// least over a box, less what the sides come to (Lagrangian relaxation; Geoffrion, 1974). At one row and its best multiplier
-// that is the bound of the knapsack that is filled in the order of cost by weight, the last item in part (Dantzig, 1957).
+// least over a box, less what the sides come to (Geoffrion, Lagrangean relaxation for integer programming, 1974). At one row
+// and its best multiplier that is the bound of the knapsack that is filled in the order of cost by weight, the last item in
+// part (Dantzig, Discrete-variable extremum problems, 1957).
 
 ghost use Rattle.std.specs.Prelude.{◌≡◌, ◌<◌, ◌≤◌, ◌+ℤ◌, ◌-ℤ◌, ◌*ℤ◌, ◌≤ℤ◌, ℕ, ℤ, List, pos, length, vec_len, map, IfOk, IfSome, FitsSigned};
 ghost use Rattle.std.specs.Bool.{OnTrue};
@@ -48,7 +49,8 @@ impl Relaxed {
 
     /// The greatest sum of adjusted costs at a point that is cheaper than this, where 128 bits hold it.
     pub fn goal(&self, best: &i128) -> Option<i128>
-        ensures { IfSome result (λ goal. goal ≡ self.now.offset +ℤ (best.now -ℤ pos 1) *ℤ pos self.now.scale) }
+        ensures { IfSome result (λ goal. goal ≡ self.now.offset +ℤ (best.now -ℤ pos 1) *ℤ pos
+            self.now.scale) }
     {
         let cheaper = best.checked_sub(1)?;
         with_multiple(&self.offset, &cheaper, &i64::from(self.scale))
@@ -104,8 +106,9 @@ fn add_row(relaxed: &mut Relaxed, row: &Row, multiplier: &i128) -> bool
     requires { HasVariablesBelow (vec_len relaxed.old.costs) row.now.terms }
     ensures len { vec_len relaxed.new.costs ≡ vec_len relaxed.old.costs }
     ensures scale { relaxed.new.scale ≡ relaxed.old.scale }
-    ensures paid { OnTrue result ((y : List ℤ) → length y ≡ vec_len relaxed.old.costs → MeetsRow y row.now →
-        (dot relaxed.new.costs.items y -ℤ relaxed.new.offset) ≤ℤ (dot relaxed.old.costs.items y -ℤ relaxed.old.offset)) }
+    ensures paid { OnTrue result ((y : List ℤ) → length y ≡ vec_len relaxed.old.costs →
+        MeetsRow y row.now → (dot relaxed.new.costs.items y -ℤ relaxed.new.offset) ≤ℤ
+        (dot relaxed.old.costs.items y -ℤ relaxed.old.offset)) }
 {
     let factor = fitting(&row.sense, multiplier);
     let side = side_of(row, &factor);

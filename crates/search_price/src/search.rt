@@ -55,13 +55,15 @@ fn record(dive: &mut Dive, form: &Form, zone: &[Span], costs: &[i128])
     requires tracked { IsTracked form.now.rows.items zone.now costs.now dive.old }
     requires one { IsSingle dive.old.zone.items }
     requires can { All (CanMeetRow dive.old.zone.items) form.now.rows.items }
-    requires reached { IsReached form.now.rows.items zone.now costs.now dive.old.best dive.old.point.items }
+    requires reached { IsReached form.now.rows.items zone.now costs.now dive.old.best
+        dive.old.point.items }
     ensures zone { dive.new.zone.items ≡ dive.old.zone.items }
     ensures paid { dive.new.paid ≡ dive.old.paid }
     ensures tracked { IsTracked form.now.rows.items zone.now costs.now dive.new }
     ensures covered { AllCovered form.now.rows.items dive.old.zone.items costs.now dive.new.best }
     ensures no_worse { IsNoWorse dive.old.best dive.new.best }
-    ensures reached { IsReached form.now.rows.items zone.now costs.now dive.new.best dive.new.point.items }
+    ensures reached { IsReached form.now.rows.items zone.now costs.now dive.new.best
+        dive.new.point.items }
 {
     if may_improve(dive) {
         copy_lows(&dive.zone, &mut dive.point);
@@ -100,9 +102,9 @@ fn is_same(a: &Span, b: &Span) -> bool
     a.lo == b.lo && a.hi == b.hi
 }
 
-/// Searches the points of the zone, in which the variables that an order has before a level have one number, and so do those
-/// that it lacks. Tells whether it came to the end, which it does where visits aren't capped. A zone that isn't alive is known
-/// to have no point that is cheaper than the best so far.
+/// Searches the points of the zone, in which the variables that an order has before a level have one number, and so do
+/// those that it lacks. Tells whether it came to the end, which it does where visits aren't capped. A zone that isn't
+/// alive is known to have no point that is cheaper than the best so far.
 pub fn explore(
     dive: &mut Dive,
     visits: &mut Visits,
@@ -115,23 +117,28 @@ pub fn explore(
     alive: bool,
 ) -> bool
     requires priceable { IsPriceable form.now.spans.items zone.now costs.now }
-    requires relaxed { IsRelaxed form.now.spans.items form.now.rows.items zone.now costs.now relaxed.now }
+    requires relaxed { IsRelaxed form.now.spans.items form.now.rows.items zone.now costs.now
+        relaxed.now }
     requires tracked { IsTracked form.now.rows.items zone.now costs.now dive.old }
     requires paid { IsPaid relaxed.now dive.old }
     requires order { All (λ v. v < length zone.now) order.now }
     requires level { level ≤ length order.now }
     requires narrowed { IsNarrowed zone.now order.now level dive.old.zone.items }
     requires can { OnTrue alive (All (CanMeetRow dive.old.zone.items) form.now.rows.items) }
-    requires covered { OnFalse alive (AllCovered form.now.rows.items dive.old.zone.items costs.now dive.old.best) }
-    requires reached { IsReached form.now.rows.items zone.now costs.now dive.old.best dive.old.point.items }
+    requires covered { OnFalse alive (AllCovered form.now.rows.items dive.old.zone.items costs.now
+        dive.old.best) }
+    requires reached { IsReached form.now.rows.items zone.now costs.now dive.old.best
+        dive.old.point.items }
     ensures capped { visits.new.capped ≡ visits.old.capped }
     ensures cut { OnFalse result (IsTrue visits.old.capped) }
     ensures zone { OnTrue result (dive.new.zone.items ≡ dive.old.zone.items) }
     ensures tracked { IsTracked form.now.rows.items zone.now costs.now dive.new }
     ensures paid { IsPaid relaxed.now dive.new }
-    ensures covered { OnTrue result (AllCovered form.now.rows.items dive.old.zone.items costs.now dive.new.best) }
+    ensures covered { OnTrue result (AllCovered form.now.rows.items dive.old.zone.items costs.now
+        dive.new.best) }
     ensures no_worse { OnTrue result (IsNoWorse dive.old.best dive.new.best) }
-    ensures reached { OnTrue result (IsReached form.now.rows.items zone.now costs.now dive.new.best dive.new.point.items) }
+    ensures reached { OnTrue result (IsReached form.now.rows.items zone.now costs.now dive.new.best
+        dive.new.point.items) }
 {
     if visits.is_spent() {
         return false;

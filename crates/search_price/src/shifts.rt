@@ -41,8 +41,9 @@ pub fn shift_lows(lows: &mut Vec<i128>, column: &[Entry], from: &Span, to: &Span
     requires to { All (IsShortAt to.now) column.now }
     requires small { All (λ z. unsigned_abs z < 2 ^ 62) lows.old.items }
     ensures len { vec_len lows.new ≡ vec_len lows.old }
-    ensures shifted { (q : ℕ) → slice_index_or lows.new.items q (pos 0)
-        ≡ slice_index_or lows.old.items q (pos 0) +ℤ sum_at (λ e. e.row) (least_change from.now to.now) column.now q }
+    ensures shifted { (q : ℕ) → slice_index_or lows.new.items q (pos 0) ≡
+        slice_index_or lows.old.items q (pos 0) +ℤ sum_at
+        (λ e. e.row) (least_change from.now to.now) column.now q }
 {
     for entry in column {
         let change = change_of_least(entry, from, to);
@@ -58,8 +59,9 @@ pub fn shift_highs(highs: &mut Vec<i128>, column: &[Entry], from: &Span, to: &Sp
     requires to { All (IsShortAt to.now) column.now }
     requires small { All (λ z. unsigned_abs z < 2 ^ 62) highs.old.items }
     ensures len { vec_len highs.new ≡ vec_len highs.old }
-    ensures shifted { (q : ℕ) → slice_index_or highs.new.items q (pos 0)
-        ≡ slice_index_or highs.old.items q (pos 0) +ℤ sum_at (λ e. e.row) (top_change from.now to.now) column.now q }
+    ensures shifted { (q : ℕ) → slice_index_or highs.new.items q (pos 0) ≡
+        slice_index_or highs.old.items q (pos 0) +ℤ sum_at
+        (λ e. e.row) (top_change from.now to.now) column.now q }
 {
     for entry in column {
         let change = change_of_top(entry, from, to);

@@ -1,3 +1,4 @@
+-- Other crates cite Kept. The rest are words of contracts here alone.
 pub mod Windows
 pub mod Layers
 pub mod Graphs

@@ -64,7 +64,8 @@ fn graph_of(alloc: Global, layers: &[Layer], root: Items<Span>) -> Result<Option
     requires layers { AreLayers (length root) layers.now }
     requires short { All (λ l. HasShortEnds l.span) layers.now }
     ensures many { IfOk result (λ made. IfSome made (λ g. vec_len g.steps ≡ length layers.now)) }
-    ensures right { IfOk result (λ made. IfSome made (λ g. IsRight layers.now root g.steps.items 0)) }
+    ensures right { IfOk result (λ made. IfSome made
+        (λ g. IsRight layers.now root g.steps.items 0)) }
 {
     let mut room = room_for(root.len());
     let mut states = Vec::new(alloc);
@@ -95,7 +96,8 @@ fn graph_of(alloc: Global, layers: &[Layer], root: Items<Span>) -> Result<Option
 pub fn build(alloc: Global, rows: &[Row], spans: &[Span]) -> Result<Option<Graph>, AllocError>
     requires { IsForm rows.now spans.now }
     ensures many { IfOk result (λ made. IfSome made (λ g. vec_len g.steps ≡ length spans.now)) }
-    ensures graph { IfOk result (λ made. IfSome made (λ g. IsGraphOf rows.now spans.now g.steps.items)) }
+    ensures graph { IfOk result (λ made. IfSome made
+        (λ g. IsGraphOf rows.now spans.now g.steps.items)) }
 {
     let layers = match layers_of(alloc, rows, spans)? {
         Some(layers) => layers,

@@ -40,6 +40,7 @@ fn shortened(number: &i128, least: &i64, most: &i64) -> i64
     requires below { number.now ≤ℤ most.now }
     ensures { result ≡ number.now }
 {
+    // For the proof alone: both are read, so that they are numbers of 64 bits.
     let _least = *least;
     let _most = *most;
     *number as i64
@@ -93,7 +94,8 @@ pub fn move_state(
     requires column { length column.now ≡ length state.now }
     requires hulls { length hulls.now ≡ length state.now }
     ensures room { vec_len moved.new ≡ vec_len moved.old }
-    ensures moved { OnTrue result (IsMoved column.now hulls.now state.now number.now moved.new.items) }
+    ensures moved { OnTrue result (IsMoved column.now hulls.now state.now number.now
+        moved.new.items) }
     ensures lost { OnFalse result (IsLost column.now hulls.now state.now number.now) }
 {
     if is_lost(state, column, hulls, number) {

@@ -165,7 +165,8 @@ fn hulls_with(
     span: &Span,
 ) -> Result<Option<Items<Span>>, AllocError>
     requires { length column.now ≡ length hulls.now }
-    ensures { IfOk result (λ made. IfSome made (λ wider. AreWidened hulls.now column.now span.now wider)) }
+    ensures { IfOk result (λ made. IfSome made
+        (λ wider. AreWidened hulls.now column.now span.now wider)) }
 {
     let mut wider = Vec::new(alloc);
     for row in 0..hulls.len() {
@@ -197,7 +198,8 @@ fn layers_from(
 ) -> Result<Option<Layers>, AllocError>
     requires form { IsForm rows.now spans.now }
     requires coefs { AreDense rows.now (length spans.now) dense.now }
-    ensures { IfOk result (λ made. IfSome made (λ l. AreLayersOf rows.now spans.now l.layers.items l.hulls)) }
+    ensures { IfOk result (λ made. IfSome made
+        (λ l. AreLayersOf rows.now spans.now l.layers.items l.hulls)) }
 {
     let mut layers = Vec::new(alloc);
     let mut hulls = zero_hulls(alloc, rows.len())?;
@@ -226,10 +228,12 @@ fn layers_from(
     Ok(Some(Layers { layers, hulls }))
 }
 
-/// The layers of a block; none where it has too many coefficients or a variable too many numbers, or where a sum may not fit 64 bits.
+/// The layers of a block; none where it has too many coefficients or a variable too many numbers, or where a sum may
+/// not fit 64 bits.
 pub fn layers_of(alloc: Global, rows: &[Row], spans: &[Span]) -> Result<Option<Layers>, AllocError>
     requires { IsForm rows.now spans.now }
-    ensures { IfOk result (λ made. IfSome made (λ l. AreLayersOf rows.now spans.now l.layers.items l.hulls)) }
+    ensures { IfOk result (λ made. IfSome made
+        (λ l. AreLayersOf rows.now spans.now l.layers.items l.hulls)) }
 {
     if rows.len().saturating_mul(spans.len()) > MOST_COEFS {
         return Ok(None);

@@ -55,7 +55,11 @@ fn number_at(span: &Span, step: u64) -> i64
 /// The arc of one number.
 fn arc_of(from: u32, to: usize, number: &i64) -> Arc
     requires { to < 2 ^ 32 }
-    ensures { result ≡ record { from = from; to = to; label = record { lo = number.now; hi = number.now } } }
+    ensures { result ≡ record {
+      from = from;
+      to = to;
+      label = record { lo = number.now; hi = number.now };
+    } }
 {
     let label = Span {
         lo: *number,
@@ -68,7 +72,8 @@ fn arc_of(from: u32, to: usize, number: &i64) -> Arc
     }
 }
 
-/// What a number leaves of a state: its windows are moved, and those of twins joined. Tells whether each row has a window left.
+/// What a number leaves of a state: its windows are moved, and those of twins joined. Tells whether each row has a
+/// window left.
 fn leave(moved: &mut Vec<Span>, layer: &Layer, state: &[Span], number: &i64) -> bool
     requires room { vec_len moved.old ≡ length state.now }
     requires shaped { IsShaped (length state.now) layer.now }
@@ -103,10 +108,13 @@ fn place(
     requires few { vec_len frontier.old.states.list < 2 ^ 20 }
     ensures room { vec_len moved.new ≡ vec_len moved.old }
     ensures arcs { IfOk result (λ _. length frontier.new.arcs ≤ length frontier.old.arcs + 1) }
-    ensures states { IfOk result (λ _. vec_len frontier.new.states.list ≤ vec_len frontier.old.states.list + 1) }
-    ensures built { IfOk result (λ _. (states : List (List Span)) → IsStateOf states from state.now → IsWithin layer.now.span number.now
-        → IsBuilt layer.now states from number.now frontier.old.states.list.items frontier.old.arcs
-        → IsBuilt layer.now states from (number.now +ℤ pos 1) frontier.new.states.list.items frontier.new.arcs) }
+    ensures states { IfOk result (λ _. vec_len frontier.new.states.list ≤
+        vec_len frontier.old.states.list + 1) }
+    ensures built { IfOk result (λ _. (states : List (List Span)) →
+        IsStateOf states from state.now → IsWithin layer.now.span number.now →
+        IsBuilt layer.now states from number.now frontier.old.states.list.items frontier.old.arcs →
+        IsBuilt layer.now states from (number.now +ℤ pos 1) frontier.new.states.list.items
+        frontier.new.arcs) }
 {
     if !leave(moved, layer, state, number) {
         return Ok(());
@@ -145,9 +153,11 @@ fn expand_state(
     ensures room { vec_len moved.new ≡ vec_len moved.old }
     ensures arcs { IfOk result (λ _. length frontier.new.arcs ≤ room) }
     ensures states { IfOk result (λ _. vec_len frontier.new.states.list ≤ 2 ^ 20) }
-    ensures built { IfOk result (λ fits. OnTrue fits ((states : List (List Span)) → IsStateOf states from state.now
-        → IsBuilt layer.now states from layer.now.span.lo frontier.old.states.list.items frontier.old.arcs
-        → IsBuilt layer.now states (from + 1) layer.now.span.lo frontier.new.states.list.items frontier.new.arcs)) }
+    ensures built { IfOk result (λ fits. OnTrue fits ((states : List (List Span)) →
+        IsStateOf states from state.now →
+        IsBuilt layer.now states from layer.now.span.lo frontier.old.states.list.items
+        frontier.old.arcs → IsBuilt layer.now states (from + 1) layer.now.span.lo
+        frontier.new.states.list.items frontier.new.arcs)) }
 {
     for step in 0..count_of(&layer.span) {
         if is_full(frontier, state.len(), room) {
@@ -172,7 +182,8 @@ pub fn expand(
     requires few { vec_len states.now ≤ 2 ^ 20 }
     ensures arcs { IfOk result (λ made. IfSome made (λ f. length f.arcs ≤ room)) }
     ensures states { IfOk result (λ made. IfSome made (λ f. vec_len f.states.list ≤ 2 ^ 20)) }
-    ensures expanded { IfOk result (λ made. IfSome made (λ f. IsExpanded layer.now states.now.items f.states.list.items f.arcs)) }
+    ensures expanded { IfOk result (λ made. IfSome made
+        (λ f. IsExpanded layer.now states.now.items f.states.list.items f.arcs)) }
 {
     let mut frontier = Frontier {
         arcs: Items::new(alloc),

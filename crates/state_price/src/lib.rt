@@ -1,5 +1,6 @@
 //! Pricing by a graph of states: layer by layer, what the rows that have begun still leave to the variables behind. The
 //! graph is made once; its ways are the block's points, whatever the costs and the zone, and a price is one pass over it.
+//! (Trick, A dynamic programming approach for consistency and propagation for knapsack constraints, 2003.)
 #![tactic(auto)]
 
 mod build;

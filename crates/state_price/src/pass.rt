@@ -79,7 +79,8 @@ fn cost_through(arc: &Arc, next: &Vec<i128>, span: &Span, cost: &i128) -> Option
     requires there { arc.now.to < vec_len next.now }
     requires bounded { AreBounded (2 ^ 116) next.now.items }
     requires cost { unsigned_abs cost.now * reach span.now ≤ 2 ^ 116 }
-    ensures { MatchOption result (IsUsable next.now.items span.now arc.now → ⊥) (λ v. IsCostBy next.now.items span.now cost.now arc.now v) }
+    ensures { MatchOption result (IsUsable next.now.items span.now arc.now → ⊥)
+        (λ v. IsCostBy next.now.items span.now cost.now arc.now v) }
 {
     let rest = &next[arc.to as usize];
     if !has_way(rest) {
@@ -124,8 +125,10 @@ fn relax(
     requires cost { unsigned_abs cost.now * reach span.now ≤ 2 ^ 116 }
     ensures cells { vec_len now.new ≡ vec_len now.old }
     ensures picks { length picks.new ≡ length picks.old }
-    ensures best { (node : ℕ) → IsBest arcs.now next.now.items span.now cost.now place node (cell_at now.old.items node) (pick_at picks.old node)
-        → IsBest arcs.now next.now.items span.now cost.now (place + 1) node (cell_at now.new.items node) (pick_at picks.new node) }
+    ensures best { (node : ℕ) → IsBest arcs.now next.now.items span.now cost.now place node
+        (cell_at now.old.items node) (pick_at picks.old node) →
+        IsBest arcs.now next.now.items span.now cost.now (place + 1) node
+        (cell_at now.new.items node) (pick_at picks.new node) }
 {
     let arc = &arcs[place];
     if let Some(total) = cost_through(arc, next, span, cost) {
@@ -165,8 +168,9 @@ fn relax_layer(
     requires cost { unsigned_abs cost.now * reach span.now ≤ 2 ^ 116 }
     ensures cells { vec_len now.new ≡ vec_len now.old }
     ensures picks { length picks.new ≡ length picks.old }
-    ensures best { (node : ℕ) → node < vec_len now.old
-        → IsBest arcs.now next.now.items span.now cost.now (length arcs.now) node (cell_at now.new.items node) (pick_at picks.new node) }
+    ensures best { (node : ℕ) → node < vec_len now.old →
+        IsBest arcs.now next.now.items span.now cost.now (length arcs.now) node
+        (cell_at now.new.items node) (pick_at picks.new node) }
 {
     clear(now);
     for place in 0..arcs.len() {
@@ -181,7 +185,8 @@ pub fn pass(work: &mut Work, graph: &Graph, zone: &[Span], costs: &[i128])
     requires costs { length costs.now ≡ vec_len graph.now.steps }
     requires sizes { cost_size zone.now costs.now ≤ 2 ^ 116 }
     ensures room { HasRoom graph.now work.new }
-    ensures least { AreLeast graph.now.steps.items work.new.picks.items zone.now costs.now graph.now.wide work.new.next.items }
+    ensures least { AreLeast graph.now.steps.items work.new.picks.items zone.now costs.now
+        graph.now.wide work.new.next.items }
 {
     zero(&mut work.next);
     for k in (0..graph.steps.len()).rev() {

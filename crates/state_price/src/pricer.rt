@@ -40,7 +40,8 @@ impl StatePricer {
     /// 32 MiB, and while it is made at most 200 MiB.
     pub fn make(alloc: Global, block: &Block) -> Result<Option<StatePricer>, AllocError>
         requires { IsForm block.now.block.rows block.now.spans }
-        ensures { IfOk result (λ made. IfSome made (λ pricer. AreOf block.now (rows_of pricer) (spans_of pricer))) }
+        ensures { IfOk result (λ made. IfSome made
+            (λ pricer. AreOf block.now (rows_of pricer) (spans_of pricer))) }
     {
         let rows = block.rows();
         let spans = block.spans();
@@ -84,8 +85,10 @@ fn price_zone(graph: &Graph, work: &mut Work, zone: &[Span], costs: &[i128]) -> 
     requires costs { length costs.now ≡ vec_len graph.now.steps }
     requires sizes { cost_size zone.now costs.now ≤ 2 ^ 116 }
     ensures room { HasRoom graph.now work.new }
-    ensures answer { (rows : List Row) (spans : List Span) → IsFaithful rows spans graph.now.steps.items → IsPriceable spans zone.now costs.now
-        → MatchOption result (HasNoPoint rows zone.now) (λ v. IsCheapest rows zone.now costs.now work.new.point.items v) }
+    ensures answer { (rows : List Row) (spans : List Span) →
+        IsFaithful rows spans graph.now.steps.items → IsPriceable spans zone.now costs.now →
+        MatchOption result (HasNoPoint rows zone.now)
+        (λ v. IsCheapest rows zone.now costs.now work.new.point.items v) }
 {
     pass(work, graph, zone, costs);
     let least = first_of(&work.next);
@@ -113,7 +116,8 @@ impl Pricer for StatePricer {
     fn price(&mut self, block: &Block, zone: &[Span], costs: &[i128], cap: Cap) -> Priced
         requires same_block { AreOf block.now (rows_of self.old) (spans_of self.old) }
         requires priceable { IsPriceable (spans_of self.old) zone.now costs.now }
-        ensures answer { IsPriced (rows_of self.old) zone.now costs.now Never result (kept_point self.new) }
+        ensures answer { IsPriced (rows_of self.old) zone.now costs.now Never result
+            (kept_point self.new) }
         ensures same_rows { rows_of self.new ≡ rows_of self.old }
         ensures same_spans { spans_of self.new ≡ spans_of self.old }
     {

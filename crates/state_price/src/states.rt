@@ -150,7 +150,8 @@ impl States {
     /// The number of a state, which is added where the table doesn't find it.
     pub fn find_or_add(&mut self, alloc: Global, state: &[Span]) -> Result<usize, AllocError>
         ensures found { IfOk result (λ k. IsFound self.new.list.items state.now k) }
-        ensures grown { IfOk result (λ _. IsGrown self.old.list.items state.now self.new.list.items) }
+        ensures grown { IfOk result (λ _. IsGrown self.old.list.items state.now
+            self.new.list.items) }
     {
         let hash = hash_of(state);
         if let Some(number) = self.find(state, hash) {

@@ -94,8 +94,10 @@ fn join_row(windows: &mut Vec<Span>, into: usize, other: usize) -> bool
     requires into { into < vec_len windows.old }
     requires other { other < vec_len windows.old }
     ensures room { vec_len windows.new ≡ vec_len windows.old }
-    ensures joined { OnTrue result (windows.new.items ≡ slice_set windows.old.items into (both (span_at windows.old.items into) (span_at windows.old.items other))) }
-    ensures empty { OnFalse result (IsEmpty (both (span_at windows.old.items into) (span_at windows.old.items other))) }
+    ensures joined { OnTrue result (windows.new.items ≡ slice_set windows.old.items into
+        (both (span_at windows.old.items into) (span_at windows.old.items other))) }
+    ensures empty { OnFalse result (IsEmpty
+        (both (span_at windows.old.items into) (span_at windows.old.items other))) }
 {
     let left = both(&windows[into], &windows[other]);
     if is_empty(&left) {

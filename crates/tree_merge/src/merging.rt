@@ -11,10 +11,11 @@ use bp_theory::Items;
 use branch_tree::{Grove, Loaded};
 use std::alloc::{AllocError, Global};
 
-/// The two trees made into one, with the cheaper of their best points, the first's of equals. A shut leaf of either stands; a
-/// live leaf gives way to what the other tree has there, whose live leaves of less bound take its proof and bound; equal splits
-/// are merged part by part, and where the trees split a node differently the part of greater least bound stays whole. A live
-/// leaf whose bound is no less than the cheaper point's cost is shut. A search may go on from what is made.
+/// The two trees made into one, with the cheaper of their best points, the first's of equals. A shut leaf of either
+/// stands; a live leaf gives way to what the other tree has there, whose live leaves of less bound take its proof and
+/// bound; equal splits are merged part by part, and where the trees split a node differently the part of greater least
+/// bound stays whole. A live leaf whose bound is no less than the cheaper point's cost is shut. A search may go on from
+/// what is made.
 pub fn merge(
     alloc: Global,
     b: &Blocked,
@@ -27,6 +28,7 @@ pub fn merge(
     ensures merged { IfOk result (IsMergedOf first second) }
     ensures loaded { IfOk result (IsLoaded b.now) }
 {
+    // For the proof alone: `b` is formed.
     let _ = b.blocks();
     let Loaded { grove: left, best } = first;
     let Loaded {

@@ -1,5 +1,5 @@
-// The nodes of a merged tree. Each comes in a box, which keeps little on the stack at each depth, and a live leaf that the best
-// cost settles comes shut.
+// The nodes of a merged tree. Each comes in a box, which keeps little on the stack at each depth, and a live leaf that
+// the best cost settles comes shut.
 ghost use Rattle.std.specs.Prelude.{◌≡◌, IfOk};
 ghost use Rattle.std.specs.Int.{int_min};
 ghost use Rattle.search_laws.specs.Grove.{live, shut, fork};
@@ -18,7 +18,8 @@ pub fn join(
     first: &Tree,
     second: &Tree,
 ) -> Result<Box<Tree>, AllocError>
-    ensures { IfOk result (λ node. tree_of node.value ≡ shut_by cost.now (merged (tree_of first.now) (tree_of second.now))) }
+    ensures { IfOk result (λ node. tree_of node.value ≡
+        shut_by cost.now (merged (tree_of first.now) (tree_of second.now))) }
 {
     match first {
         Tree::Shut(proof) => shut_leaf(alloc, proof),
@@ -52,7 +53,8 @@ fn give_way(
     bound: &i64,
     second: &Tree,
 ) -> Result<Box<Tree>, AllocError>
-    ensures { IfOk result (λ node. tree_of node.value ≡ shut_by cost.now (merged (live proof.now bound.now) (tree_of second.now))) }
+    ensures { IfOk result (λ node. tree_of node.value ≡
+        shut_by cost.now (merged (live proof.now bound.now) (tree_of second.now))) }
 {
     match second {
         Tree::Shut(own) => shut_leaf(alloc, own),
@@ -75,7 +77,8 @@ fn raise(
     proof: &Proof,
     bound: &i64,
 ) -> Result<Box<Tree>, AllocError>
-    ensures { IfOk result (λ node. tree_of node.value ≡ shut_by cost.now (raised (tree_of tree.now) proof.now bound.now)) }
+    ensures { IfOk result (λ node. tree_of node.value ≡
+        shut_by cost.now (raised (tree_of tree.now) proof.now bound.now)) }
 {
     match tree {
         Tree::Shut(own) => shut_leaf(alloc, own),
@@ -116,7 +119,8 @@ fn leaf(
     proof: &Proof,
     bound: &i64,
 ) -> Result<Box<Tree>, AllocError>
-    ensures { IfOk result (λ node. tree_of node.value ≡ shut_by cost.now (live proof.now bound.now)) }
+    ensures { IfOk result (λ node. tree_of node.value ≡
+        shut_by cost.now (live proof.now bound.now)) }
 {
     let own = proof_copy(alloc, proof)?;
     let node = Box::new(alloc, leaf_of(cost, own, bound))?;
@@ -161,7 +165,8 @@ fn forked(
     low: Box<Tree>,
     high: Box<Tree>,
 ) -> Result<Box<Tree>, AllocError>
-    ensures { IfOk result (λ node. tree_of node.value ≡ fork var at.now (tree_of low.value) (tree_of high.value)) }
+    ensures { IfOk result (λ node. tree_of node.value ≡ fork var at.now (tree_of low.value)
+        (tree_of high.value)) }
 {
     let node = Box::new(
         alloc,

@@ -12,6 +12,7 @@ impl Names {
         ensures absent { IfNone result (¬ (Contains self.now name.now)) }
         ensures distinct { IsDistinct bytes_eq self.now }
     {
+        // For the proof alone: how many names the table can have.
         let _count = self.table.len();
         match str::from_utf8(name) {
             Ok(text) => self.place_of(text),

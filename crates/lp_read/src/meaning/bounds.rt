@@ -112,7 +112,8 @@ fn compare(table: &mut Vec<Stated>, number: u32, comparison: Comparison, value: 
 fn note_bound(text: &[u8], names: &Names, table: &mut Vec<Stated>, bound: &Bound)
     requires fit { IsFitBound text.now names.now bound.now }
     requires all { vec_len table.old ≡ length names.now }
-    ensures items { table.new.items ≡ say_bound names.now table.old.items (bound_in text.now bound.now) }
+    ensures items { table.new.items ≡ say_bound names.now table.old.items
+        (bound_in text.now bound.now) }
     ensures len { vec_len table.new ≡ vec_len table.old }
 {
     match bound {
@@ -152,7 +153,8 @@ fn note_bound(text: &[u8], names: &Names, table: &mut Vec<Stated>, bound: &Bound
 fn note_bounds(text: &[u8], names: &Names, table: &mut Vec<Stated>, bounds: &[Bound])
     requires fit { All (IsFitBound text.now names.now) bounds.now }
     requires all { vec_len table.old ≡ length names.now }
-    ensures items { table.new.items ≡ fold (λ t b. say_bound names.now t (bound_in text.now b)) table.old.items bounds.now }
+    ensures items { table.new.items ≡ fold (λ t b. say_bound names.now t (bound_in text.now b))
+        table.old.items bounds.now }
     ensures len { vec_len table.new ≡ vec_len table.old }
 {
     for bound in bounds {
@@ -164,7 +166,8 @@ fn note_bounds(text: &[u8], names: &Names, table: &mut Vec<Stated>, bounds: &[Bo
 fn note_generals(text: &[u8], names: &Names, table: &mut Vec<Stated>, listed: &[TextRange])
     requires fit { All (IsKnown text.now names.now) listed.now }
     requires all { vec_len table.old ≡ length names.now }
-    ensures items { table.new.items ≡ fold (λ t n. list_general names.now t (name_in text.now n)) table.old.items listed.now }
+    ensures items { table.new.items ≡ fold (λ t n. list_general names.now t (name_in text.now n))
+        table.old.items listed.now }
     ensures len { vec_len table.new ≡ vec_len table.old }
 {
     for name in listed {
@@ -179,7 +182,8 @@ fn note_generals(text: &[u8], names: &Names, table: &mut Vec<Stated>, listed: &[
 fn note_binaries(text: &[u8], names: &Names, table: &mut Vec<Stated>, listed: &[TextRange])
     requires fit { All (IsKnown text.now names.now) listed.now }
     requires all { vec_len table.old ≡ length names.now }
-    ensures items { table.new.items ≡ fold (λ t n. list_binary names.now t (name_in text.now n)) table.old.items listed.now }
+    ensures items { table.new.items ≡ fold (λ t n. list_binary names.now t (name_in text.now n))
+        table.old.items listed.now }
     ensures len { vec_len table.new ≡ vec_len table.old }
 {
     for name in listed {
@@ -194,7 +198,8 @@ fn note_binaries(text: &[u8], names: &Names, table: &mut Vec<Stated>, listed: &[
 fn note_part(text: &[u8], names: &Names, table: &mut Vec<Stated>, part: &Part)
     requires fit { IsFitPart text.now names.now part.now }
     requires all { vec_len table.old ≡ length names.now }
-    ensures items { table.new.items ≡ say_part names.now table.old.items (part_in text.now part.now) }
+    ensures items { table.new.items ≡ say_part names.now table.old.items
+        (part_in text.now part.now) }
     ensures len { vec_len table.new ≡ vec_len table.old }
 {
     match part {
@@ -212,7 +217,8 @@ pub fn stated_of(
     parts: &[Part],
 ) -> Result<Vec<Stated>, AllocError>
     requires { All (IsFitPart text.now names.now) parts.now }
-    ensures { IfOk result (λ table. table.items ≡ table_of names.now (map (part_in text.now) parts.now)) }
+    ensures { IfOk result (λ table. table.items ≡
+        table_of names.now (map (part_in text.now) parts.now)) }
 {
     let mut table = Vec::from_elem(alloc, UNSAID, names.len() as usize)?;
     for part in parts {

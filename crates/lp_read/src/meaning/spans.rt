@@ -34,7 +34,8 @@ fn ends_of(stated: &Stated) -> Ends
 
 // The span of these ends, or what is wrong with them.
 fn span_of_ends(ends: &Ends, listed: bool) -> Result<Span, LpKind>
-    ensures sound { IfOk result (λ span. (ends_fault ends.now listed ≡ None) × (span ≡ span_of ends.now)) }
+    ensures sound { IfOk result (λ span. (ends_fault ends.now listed ≡ None) ×
+        (span ≡ span_of ends.now)) }
     ensures fault { IfErr result (λ kind. ends_fault ends.now listed ≡ Some kind) }
 {
     if !is_at_most(&ends.lo, &ends.hi) {
@@ -53,7 +54,8 @@ fn span_of_ends(ends: &Ends, listed: bool) -> Result<Span, LpKind>
 
 // The span of a variable, or what is wrong with its bounds.
 fn span_in(stated: &Stated) -> Result<Span, LpKind>
-    ensures sound { IfOk result (λ span. (fault_in stated.now ≡ None) × (span ≡ span_of (ends_in stated.now))) }
+    ensures sound { IfOk result (λ span. (fault_in stated.now ≡ None) ×
+        (span ≡ span_of (ends_in stated.now))) }
     ensures fault { IfErr result (λ kind. fault_in stated.now ≡ Some kind) }
 {
     let ends = ends_of(stated);

@@ -48,7 +48,8 @@ fn terms_of(
     sum: &Sum<Term>,
 ) -> Result<Items<bp_theory::Term>, AllocError>
     requires { IsFitSum (IsFitTerm text.now names.now) sum.now }
-    ensures { IfOk result (λ terms. terms ≡ raw_terms names.now false (as_items (sum_in (term_in text.now) sum.now))) }
+    ensures { IfOk result (λ terms. terms ≡ raw_terms names.now false
+        (as_items (sum_in (term_in text.now) sum.now))) }
 {
     let mut terms = Items::new(alloc);
     terms.push(numbered(text, names, false, &sum.first))?;
@@ -148,7 +149,8 @@ pub fn rows_of(
     rows: &[Row],
 ) -> Result<Items<bp_theory::Row>, AllocError>
     requires { All (IsFitRow text.now names.now) rows.now }
-    ensures { IfOk result (λ made. made ≡ map (λ r. raw_row names.now (row_in text.now r)) rows.now) }
+    ensures { IfOk result (λ made. made ≡ map (λ r. raw_row names.now (row_in text.now r))
+        rows.now) }
 {
     let mut made = Items::new(alloc);
     for row in rows {
@@ -185,8 +187,10 @@ impl Objective {
     ) -> Result<(), AllocError>
         requires fit { IsFitItem text.now names.now item.now }
         requires room { unsigned_abs self.old.constant + 2 ^ 62 < 2 ^ 127 }
-        ensures costs { OnOk result (self.new.costs ≡ self.old.costs ++ option_to_list (raw_item names.now turned (item_in text.now item.now))) }
-        ensures constant { OnOk result (self.new.constant ≡ self.old.constant +ℤ minimised turned (constant_of (item_in text.now item.now))) }
+        ensures costs { OnOk result (self.new.costs ≡ self.old.costs ++
+            option_to_list (raw_item names.now turned (item_in text.now item.now))) }
+        ensures constant { OnOk result (self.new.constant ≡ self.old.constant +ℤ minimised turned
+            (constant_of (item_in text.now item.now))) }
         ensures small { unsigned_abs self.new.constant ≤ unsigned_abs self.old.constant + 2 ^ 62 }
     {
         match item {
@@ -208,8 +212,11 @@ impl Objective {
     ) -> Result<(), AllocError>
         requires fit { IsFitItem text.now names.now item.now.1 }
         requires room { unsigned_abs self.old.constant + 2 ^ 62 < 2 ^ 127 }
-        ensures costs { OnOk result (self.new.costs ≡ self.old.costs ++ option_to_list (raw_item names.now (turned_by turned item.now.0) (item_in text.now item.now.1))) }
-        ensures constant { OnOk result (self.new.constant ≡ self.old.constant +ℤ minimised (turned_by turned item.now.0) (constant_of (item_in text.now item.now.1))) }
+        ensures costs { OnOk result (self.new.costs ≡ self.old.costs ++
+            option_to_list (raw_item names.now (turned_by turned item.now.0)
+            (item_in text.now item.now.1))) }
+        ensures constant { OnOk result (self.new.constant ≡ self.old.constant +ℤ minimised
+            (turned_by turned item.now.0) (constant_of (item_in text.now item.now.1))) }
         ensures small { unsigned_abs self.new.constant ≤ unsigned_abs self.old.constant + 2 ^ 62 }
     {
         let (sign, item) = item;
@@ -226,8 +233,10 @@ fn sum_of_items(
     sum: &Sum<Item>,
 ) -> Result<Objective, AllocError>
     requires { IsFitSum (IsFitItem text.now names.now) sum.now }
-    ensures costs { IfOk result (λ o. o.costs ≡ raw_terms names.now turned (items_of (sum_in (item_in text.now) sum.now))) }
-    ensures constant { IfOk result (λ o. o.constant ≡ minimised turned (total (map constant_of (items_of (sum_in (item_in text.now) sum.now))))) }
+    ensures costs { IfOk result (λ o. o.costs ≡ raw_terms names.now turned
+        (items_of (sum_in (item_in text.now) sum.now))) }
+    ensures constant { IfOk result (λ o. o.constant ≡
+        minimised turned (total (map constant_of (items_of (sum_in (item_in text.now) sum.now))))) }
     ensures small { IfOk result (λ o. unsigned_abs o.constant < 2 ^ 127) }
 {
     let mut objective = Objective {
@@ -249,8 +258,10 @@ pub fn objective_of(
     tree: &Tree,
 ) -> Result<Objective, AllocError>
     requires { MatchOption tree.now.objective (Unit {0}) (IsFitSum (IsFitItem text.now names.now)) }
-    ensures costs { IfOk result (λ o. o.costs ≡ raw_terms names.now tree.now.maximises (objective_items (tree_in text.now tree.now))) }
-    ensures constant { IfOk result (λ o. o.constant ≡ minimised tree.now.maximises (total (map constant_of (objective_items (tree_in text.now tree.now))))) }
+    ensures costs { IfOk result (λ o. o.costs ≡ raw_terms names.now tree.now.maximises
+        (objective_items (tree_in text.now tree.now))) }
+    ensures constant { IfOk result (λ o. o.constant ≡ minimised tree.now.maximises
+        (total (map constant_of (objective_items (tree_in text.now tree.now))))) }
     ensures small { IfOk result (λ o. unsigned_abs o.constant < 2 ^ 127) }
 {
     match &tree.objective {
