@@ -105,8 +105,8 @@ fn fill_costs(costs: &mut Vec<i128>, block: &Block, proof: &Proof)
     }
 }
 
-// Writes a block's spans in a zone.
-fn fill_spans(spans: &mut Vec<Span>, block: &Block, zone: &Zone)
+/// Writes a block's spans in a zone.
+pub fn fill_spans(spans: &mut Vec<Span>, block: &Block, zone: &Zone)
     requires room { vec_len spans.old ≡ length block.now.block.copies }
     requires there { All (λ c. c.var < length zone.now) block.now.block.copies }
     ensures { spans.new.items ≡ spans_of zone.now block.now.block }

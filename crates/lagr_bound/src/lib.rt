@@ -22,6 +22,8 @@ mod work;
 pub use alike::bound;
 pub use bounded::{Bounded, sum_bound};
 pub use costs::{base, reduced_cost};
+pub use desk::fill_spans;
+pub use picked::is_picked;
 pub use plain::{box_bound, box_least};
 pub use rounded::round;
 pub use work::Work;
