@@ -1,13 +1,12 @@
 // Blocks whose points have more beginnings than pricing may visit.
-ghost use Rattle.std.specs.Prelude.{◌≡◌, ◌<◌, IfOk, IsTrue, All, length, vec_len};
-ghost use Rattle.bp_theory.specs.Bound.{spans_of};
-ghost use Rattle.bp_theory.specs.Classes.{prefixes};
+ghost use Rattle.std.specs.Prelude.{◌<◌, IfOk, IsTrue, length};
 ghost use Rattle.bp_theory.specs.Trees.{IsZone};
 ghost use Rattle.column_hint.specs.Wide.{IsWide};
 
 use crate::budget::MOST_VISITS;
-use block_form::{Block, Blocked, Zone};
+use block_form::{Blocked, Zone};
 use bp_theory::Span;
+use lagr_bound::fill_spans;
 use search_price::prefixes;
 use std::alloc::{AllocError, Global};
 
@@ -28,16 +27,4 @@ pub fn has_many_beginnings(
     let mut spans = Vec::from_elem(alloc, Span { lo: 0, hi: 0 }, block.vars().len())?;
     fill_spans(&mut spans, block, zone);
     Ok(prefixes(block, spans.as_slice()) > u128::from(MOST_VISITS))
-}
-
-// Writes a block's spans in a zone.
-fn fill_spans(spans: &mut Vec<Span>, block: &Block, zone: &Zone)
-    requires room { vec_len spans.old ≡ length block.now.block.copies }
-    requires there { All (λ c. c.var < length zone.now) block.now.block.copies }
-    ensures { spans.new.items ≡ spans_of zone.now block.now.block }
-{
-    let vars = block.vars();
-    for place in 0..vars.len() {
-        spans[place] = zone.span(vars[place]);
-    }
 }
