@@ -89,6 +89,30 @@ fn side_of(number: &Signed) -> i64
     signed_number(false, number.signs.as_slice(), number.size)
 }
 
+// A row of terms with written sides.
+fn row_with(
+    sense: Sense,
+    low: &Signed,
+    rhs: &Signed,
+    terms: Items<bp_theory::Term>,
+) -> bp_theory::Row
+    requires small_low { IsSmall low.now }
+    requires small_rhs { IsSmall rhs.now }
+    ensures { result ≡ record {
+      sense = sense;
+      low = number_of low.now;
+      rhs = number_of rhs.now;
+      terms = terms;
+    } }
+{
+    bp_theory::Row {
+        sense,
+        low: side_of(low),
+        rhs: side_of(rhs),
+        terms,
+    }
+}
+
 // A row with its terms as they are written.
 fn row_of(
     alloc: Global,
@@ -102,41 +126,19 @@ fn row_of(
     match row {
         Row::ExpressionFirst(_, sum, comparison, number) => {
             let terms = terms_of(alloc, text, names, sum)?;
-            let side = side_of(number);
-            Ok(bp_theory::Row {
-                sense: sense_in(comparison),
-                low: side,
-                rhs: side,
-                terms,
-            })
+            Ok(row_with(sense_in(comparison), number, number, terms))
         }
         Row::NumberFirst(_, number, comparison, sum) => {
             let terms = terms_of(alloc, text, names, sum)?;
-            let side = side_of(number);
-            Ok(bp_theory::Row {
-                sense: sense_behind(comparison),
-                low: side,
-                rhs: side,
-                terms,
-            })
+            Ok(row_with(sense_behind(comparison), number, number, terms))
         }
         Row::Ranged(_, first, Direction::Upward, sum, last) => {
             let terms = terms_of(alloc, text, names, sum)?;
-            Ok(bp_theory::Row {
-                sense: Sense::In,
-                low: side_of(first),
-                rhs: side_of(last),
-                terms,
-            })
+            Ok(row_with(Sense::In, first, last, terms))
         }
         Row::Ranged(_, first, Direction::Downward, sum, last) => {
             let terms = terms_of(alloc, text, names, sum)?;
-            Ok(bp_theory::Row {
-                sense: Sense::In,
-                low: side_of(last),
-                rhs: side_of(first),
-                terms,
-            })
+            Ok(row_with(Sense::In, last, first, terms))
         }
     }
 }
