@@ -328,6 +328,15 @@ impl Nucleus {
             self.patterns.as_mut_slice(),
             &mut self.position_lists,
         );
+        self.fill_in(target, factor)
+    }
+
+    // Gives a row the numbers that it has no place for yet: those at marked positions of the pivot's row, times less a
+    // factor.
+    fn fill_in(&mut self, target: u32, factor: f64) -> Result<(), AllocError> {
+        let Some(row) = self.rows.get_mut(target as usize) else {
+            return Ok(());
+        };
         for entry in &self.pivot_row {
             if is_marked(self.marks.as_slice(), entry.place) {
                 mark(self.marks.as_mut_slice(), entry.place, false);
