@@ -50,13 +50,32 @@ impl Lp {
         spans: &[Range],
         costs: &[f64],
     ) -> Result<Lp, AllocError> {
-        let columns = by_columns.len();
-        let rows = ranges.len();
+        let mut lp = Lp::empty(alloc, by_columns, ranges.len())?;
+        for column in 0..lp.columns {
+            let span = match spans.get(column) {
+                Some(span) => *span,
+                None => Range {
+                    lower: 0.0,
+                    upper: 0.0,
+                },
+            };
+            lp.take_variable(&span, at(costs, column))?;
+        }
+        for range in ranges {
+            lp.variables.push(Variable::make(range, 0.0))?;
+        }
+        lp.fit()?;
+        lp.reset()?;
+        Ok(lp)
+    }
+
+    // These columns by so many rows, with nothing said of variables yet.
+    fn empty(alloc: Global, by_columns: Vectors, rows: usize) -> Result<Lp, AllocError> {
         let mut by_rows = Vectors::make(alloc);
         by_columns.transpose(rows, &mut by_rows)?;
-        let mut lp = Lp {
+        Ok(Lp {
             alloc,
-            columns,
+            columns: by_columns.len(),
             rows,
             by_columns,
             by_rows,
@@ -79,23 +98,7 @@ impl Lp {
             candidates: Vec::new(alloc),
             iterations: 0,
             seed: 12345,
-        };
-        for column in 0..columns {
-            let span = match spans.get(column) {
-                Some(span) => *span,
-                None => Range {
-                    lower: 0.0,
-                    upper: 0.0,
-                },
-            };
-            lp.take_variable(&span, at(costs, column))?;
-        }
-        for range in ranges {
-            lp.variables.push(Variable::make(range, 0.0))?;
-        }
-        lp.fit()?;
-        lp.reset()?;
-        Ok(lp)
+        })
     }
 
     /// How many columns there are.

@@ -128,7 +128,17 @@ impl Lp {
             return Ok(Progress::Ended(End::Cutoff));
         }
         self.iterations = self.iterations.saturating_add(1);
-        self.price_row(&leaving)?;
+        self.relieve(effort, &leaving, troubles)
+    }
+
+    // Lets a variable enter for the one that leaves, where one can.
+    fn relieve(
+        &mut self,
+        effort: Effort,
+        leaving: &Leaving,
+        troubles: &mut Troubles,
+    ) -> Result<Progress, AllocError> {
+        self.price_row(leaving)?;
         write_candidates(
             &mut self.candidates,
             self.nonzeros.as_slice(),
@@ -146,16 +156,16 @@ impl Lp {
                 variable,
                 alpha,
                 flips,
-            } => self.enter(effort, &leaving, variable as usize, alpha, flips, troubles),
+            } => self.enter(effort, leaving, variable as usize, alpha, flips, troubles),
             Entering::Endless => {
-                self.write_ray(&leaving);
+                self.write_ray(leaving);
                 if self.tries_again(effort, 1, troubles)? {
                     Ok(Progress::Going)
                 } else {
                     Ok(Progress::Ended(End::Empty))
                 }
             }
-            Entering::TooSmall => self.bar(effort, &leaving, troubles),
+            Entering::TooSmall => self.bar(effort, leaving, troubles),
         }
     }
 
