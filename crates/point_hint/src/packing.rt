@@ -5,7 +5,7 @@
 use crate::bins::{Bins, Item};
 use crate::reach::{at, count, product, put, whole};
 use block_form::{Block, Blocked};
-use bp_theory::{Sense, Span};
+use bp_theory::{Row, Sense, Span};
 use std::alloc::{AllocError, Global};
 
 /// Identical blocks in spans of all variables: their numbers in the program, and a bound of the program's cost.
@@ -97,10 +97,7 @@ fn kind_of(
         return Ok(None);
     }
     let row = &rows[0];
-    let mut sizes = Vec::from_elem(alloc, 0i64, block.vars().len())?;
-    for term in row.terms.as_slice() {
-        put(sizes.as_mut_slice(), term.var as usize, term.coef);
-    }
+    let sizes = sizes_of(alloc, block, row)?;
     let mut opener = None;
     let mut items = Vec::new(alloc);
     for place in 0..block.var_count() {
@@ -118,23 +115,41 @@ fn kind_of(
         return Ok(None);
     };
     let cost = at(block.costs(), opener as usize);
-    let top = match span_of(block, opener, spans) {
-        Some(span) => span.hi,
-        None => 0,
+    let size = at(sizes.as_slice(), opener as usize);
+    let Some(room) = room_of(block, opener, size, row.rhs, spans) else {
+        return Ok(None);
     };
-    let room = i128::from(row.rhs).saturating_sub(product(
-        &at(sizes.as_slice(), opener as usize),
-        &top,
-    ));
-    if cost <= 0 || room <= 0 || i128::from(i32::MAX) < room {
+    if cost <= 0 {
         return Ok(None);
     }
     Ok(Some(Kind {
         opener,
         cost,
-        room: whole(room),
+        room,
         items,
     }))
+}
+
+// The coefficients of a block's row, by variable.
+fn sizes_of(alloc: Global, block: &Block, row: &Row) -> Result<Vec<i64>, AllocError> {
+    let mut sizes = Vec::from_elem(alloc, 0i64, block.vars().len())?;
+    for term in row.terms.as_slice() {
+        put(sizes.as_mut_slice(), term.var as usize, term.coef);
+    }
+    Ok(sizes)
+}
+
+// The room that an opener of a size leaves at the upper end of its span within its row's side, where there is some.
+fn room_of(block: &Block, opener: u32, size: i64, side: i64, spans: &[Span]) -> Option<i64> {
+    let top = match span_of(block, opener, spans) {
+        Some(span) => span.hi,
+        None => 0,
+    };
+    let room = i128::from(side).saturating_sub(product(&size, &top));
+    if room <= 0 || i128::from(i32::MAX) < room {
+        return None;
+    }
+    Some(whole(room))
 }
 
 // The span of a block's variable.
