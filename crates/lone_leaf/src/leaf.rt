@@ -82,19 +82,32 @@ impl LoneLeaves {
             self.note_shutting(spans);
             return Ok(hint);
         }
-        let mut found = Found {
-            known: best,
-            point: None,
-        };
-        if relaxed.end == End::Optimum {
-            self.round(alloc, b, spans, &mut found)?;
-            self.dives(alloc, b, turn, &relaxed, &mut found)?;
-        }
+        let found = self.found(alloc, b, turn, &relaxed, best)?;
         if !self.is_shut(&relaxed, found.known) {
             self.split(alloc, turn, &relaxed, found.known, &mut hint)?;
         }
         hint.point = found.point;
         Ok(hint)
+    }
+
+    // What rounding and dives find, where the relaxation has its optimum.
+    fn found(
+        &mut self,
+        alloc: Global,
+        b: &Blocked,
+        turn: &Turn,
+        relaxed: &Relaxed,
+        best: Option<i64>,
+    ) -> Result<Found, AllocError> {
+        let mut found = Found {
+            known: best,
+            point: None,
+        };
+        if relaxed.end == End::Optimum {
+            self.round(alloc, b, turn.zone.spans(), &mut found)?;
+            self.dives(alloc, b, turn, relaxed, &mut found)?;
+        }
+        Ok(found)
     }
 
     // Takes a leaf's spans and the basis of the leaf above.
