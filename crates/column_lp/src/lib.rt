@@ -9,6 +9,3 @@ mod primal;
 mod program;
 
 pub use program::{ColumnProgram, Mark};
-
-#[cfg(test)]
-mod tests;

@@ -18,6 +18,3 @@ pub use kept::Snapshot;
 pub use lp::Lp;
 pub use solve::{Effort, End};
 pub use variable::{ENDLESS, Range, Status};
-
-#[cfg(test)]
-mod tests;

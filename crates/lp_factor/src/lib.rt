@@ -15,6 +15,3 @@ mod vectors;
 pub use factor::{Basic, Factor, Replaced};
 pub use numbers::{NONE, at, dot, place, put, take_multiple};
 pub use vectors::{Entry, Vectors};
-
-#[cfg(test)]
-mod tests;

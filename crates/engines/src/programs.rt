@@ -1,5 +1,5 @@
 // Small linear programs with known optima, and ones without a point.
-use super::*;
+use lp_core::{ENDLESS, Effort, End, Lp, Range};
 use lp_factor::{Entry, Vectors};
 use std::alloc::{AllocError, Global};
 use std::test::Fail;
@@ -43,9 +43,14 @@ const EFFORT: Effort = Effort {
     keeps_factors: false,
 };
 
-#[test]
-fn finds_an_optimum_and_goes_on(rt: HostRuntime) -> Result<(), Fail> {
-    let alloc = rt.alloc();
+// The span of each column.
+const SPAN: Range = Range {
+    lower: 0.0,
+    upper: 10.0,
+};
+
+// Both rows have upper sides, and each column costs -1.
+fn begun(alloc: Global) -> Result<Lp, AllocError> {
     let ranges = [
         Range {
             lower: -ENDLESS,
@@ -56,17 +61,18 @@ fn finds_an_optimum_and_goes_on(rt: HostRuntime) -> Result<(), Fail> {
             upper: 6.0,
         },
     ];
-    let span = Range {
-        lower: 0.0,
-        upper: 10.0,
-    };
-    let mut lp = Lp::make(
+    Lp::make(
         alloc,
         columns(alloc)?,
         ranges.as_slice(),
-        [span, span].as_slice(),
+        [SPAN, SPAN].as_slice(),
         [-1.0, -1.0].as_slice(),
-    )?;
+    )
+}
+
+#[test]
+fn finds_an_optimum_and_goes_on(rt: HostRuntime) -> Result<(), Fail> {
+    let mut lp = begun(rt.alloc())?;
     assert_eq!(rt; lp.solve(EFFORT)?, End::Optimum);
     assert!(rt; near(lp.value(0), 1.6) && near(lp.value(1), 1.2));
     assert!(rt; near(lp.objective(), -2.8));
@@ -93,7 +99,7 @@ fn finds_an_optimum_and_goes_on(rt: HostRuntime) -> Result<(), Fail> {
             value: 1.0,
         }]
         .as_slice(),
-        &span,
+        &SPAN,
         -2.0,
     )?;
     assert_eq!(rt; lp.solve(EFFORT)?, End::Optimum);

@@ -1,5 +1,5 @@
 // Small programs of columns, solved and mended.
-use crate::ColumnProgram;
+use column_lp::ColumnProgram;
 use lp_factor::Entry;
 use std::alloc::{AllocError, Global};
 use std::test::Fail;

@@ -1,5 +1,5 @@
 // Small bases, factored, solved with and updated.
-use super::*;
+use lp_factor::{Basic, Entry, Factor, Vectors};
 use std::alloc::{AllocError, Global};
 use std::test::Fail;
 
@@ -55,6 +55,28 @@ fn miss(columns: &Vectors, basis: &[Basic], by_positions: &[f64], by_rows: &[f64
     most
 }
 
+const ROWS: [f64; 5] = [1.0, -2.0, 3.0, 0.5, 7.0];
+
+// How far what a factor solves the rows to is from the rows, by the basis that it stands for.
+fn miss_of(factor: &mut Factor, columns: &Vectors, basis: &[Basic]) -> f64 {
+    let mut vector = ROWS;
+    factor.ftran(vector.as_mut_slice());
+    miss(columns, basis, vector.as_slice(), ROWS.as_slice())
+}
+
+// How far a factor's number at a position is from that of the row that it gives for the position from the left.
+fn miss_from_the_left(factor: &mut Factor) -> f64 {
+    let mut vector = ROWS;
+    factor.ftran(vector.as_mut_slice());
+    let mut left = [0.0, 0.0, 1.0, 0.0, 0.0];
+    factor.btran(left.as_mut_slice());
+    let mut product = 0.0;
+    for (a, b) in left.iter().zip(ROWS.iter()) {
+        product += *a * *b;
+    }
+    (product - vector[2]).abs()
+}
+
 #[test]
 fn solves_with_columns_and_logicals(rt: HostRuntime) -> Result<(), Fail> {
     let alloc = rt.alloc();
@@ -69,17 +91,7 @@ fn solves_with_columns_and_logicals(rt: HostRuntime) -> Result<(), Fail> {
     ];
     let replaced = factor.factor(&columns, basis.as_slice())?;
     assert!(rt; replaced.is_empty());
-    let rows = [1.0, -2.0, 3.0, 0.5, 7.0];
-    let mut vector = rows;
-    factor.ftran(vector.as_mut_slice());
-    assert!(rt;
-        miss(
-            &columns,
-            basis.as_slice(),
-            vector.as_slice(),
-            rows.as_slice()
-        ) < 1e-9
-    );
+    assert!(rt; miss_of(&mut factor, &columns, basis.as_slice()) < 1e-9);
     let mut alpha = [0.0, 3.0, 1.0, 0.0, 0.0];
     factor.ftran(alpha.as_mut_slice());
     assert!(rt; factor.update(1, alpha.as_slice())?);
@@ -90,23 +102,8 @@ fn solves_with_columns_and_logicals(rt: HostRuntime) -> Result<(), Fail> {
         Basic::Column(2),
         Basic::Column(4),
     ];
-    let mut vector = rows;
-    factor.ftran(vector.as_mut_slice());
-    assert!(rt;
-        miss(
-            &columns,
-            exchanged.as_slice(),
-            vector.as_slice(),
-            rows.as_slice()
-        ) < 1e-9
-    );
-    let mut left = [0.0, 0.0, 1.0, 0.0, 0.0];
-    factor.btran(left.as_mut_slice());
-    let mut product = 0.0;
-    for (a, b) in left.iter().zip(rows.iter()) {
-        product += *a * *b;
-    }
-    assert!(rt; (product - vector[2]).abs() < 1e-9);
+    assert!(rt; miss_of(&mut factor, &columns, exchanged.as_slice()) < 1e-9);
+    assert!(rt; miss_from_the_left(&mut factor) < 1e-9);
     Ok(())
 }
 
