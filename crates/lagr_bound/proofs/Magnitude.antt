@@ -1,4 +1,4 @@
--- How large the sums of a bound can be: at most 2 to the 116 together.
+-- How large the sums of a bound can be: below the limit of prices together.
 use Rattle.std.proofs.Common.{◌≡◌, ℕ, zero, suc, ◌+◌, ◌*◌, ◌^◌, ◌<◌, ◌≤◌, Bool, true, false, not, if◌then◌else◌, List, [], ◌∷◌, ◌++◌, map, filter, drop, length, get_or, sum_by, Option, Some, None, All, refl, sym, ap, subst, ◌∙◌, ⊎_elim, arith}
 use Rattle.std.proofs.Math.IntN.{ℤ, pos, negsuc, ◌+ℤ◌, ◌-ℤ◌, ◌*ℤ◌}
 use Rattle.std.specs.Prelude.{unsigned_abs, max, ◌≤ℤ◌, IsSome, option_map}
@@ -13,6 +13,7 @@ use Rattle.std.proofs.lemmas.List.{length-map, get_or_past}
 use Rattle.std.proofs.lemmas.List.Elements.{recursion_from_All, All-from_recursion, All-filter, All-map}
 use Rattle.std.proofs.lemmas.List.FromFn.{length-enumerate_from}
 use Rattle.std.proofs.lemmas.List.Sums.{sum_by-cons, sum_by-le, get_or-le-sum_by, length-filter, count_by-le-length}
+use Rattle.bp_theory.specs.Limits.{price_limit}
 use Rattle.bp_theory.specs.Sums.{sum_of, sum_at}
 use Rattle.bp_theory.specs.Program.{Program, coefficient, span_at, reach, KeepsActivity}
 use Rattle.bp_theory.specs.Blocking.{Copy, Block, Blocking, all_copies, coef_in, row_at, sides_of}
@@ -393,7 +394,7 @@ proof_small b proof formed fits =
 -- what a proof gives before the blocks, and all copies, weigh together
 all_weigh : (b : BlockedProgram) (proof : Proof) → IsFormed b → Fits b.blocking proof
     → base_size (blocking_of b.named.program b.dec []) proof
-    + sum_by (λ (c : Copy). unsigned_abs (reduced_cost proof c) * reach (span_at b.named.program.spans c.var)) (copies_of b.named.program b.dec) ≤ 2 ^ 116
+    + sum_by (λ (c : Copy). unsigned_abs (reduced_cost proof c) * reach (span_at b.named.program.spans c.var)) (copies_of b.named.program b.dec) < price_limit
 all_weigh b proof formed fits =
     let p : Program = b.named.program in
     let bs : Blocking = blocking_of p b.dec [] in
@@ -458,9 +459,9 @@ blocks_weigh zone proof bs =
     each [] = tt
     each (k ∷ ks) = (sym (cost_size-maps (λ (c : Copy). span_at zone c.var) (reduced_cost proof) k.copies), each ks)
 
--- all sums of a bound in a zone are at most 2 to the 116 together
+-- all sums of a bound in a zone are below the limit of prices together
 pub bound_small : (b : BlockedProgram) (zone : List Span) (proof : Proof) → IsFormed b → IsZone b.named.program.spans zone → Fits b.blocking proof
-    → bound_size b.blocking zone proof ≤ 2 ^ 116
+    → bound_size b.blocking zone proof < price_limit
 unfolding copies_of
 bound_small b zone proof formed in_root fits =
     let p : Program = b.named.program in
@@ -472,7 +473,7 @@ bound_small b zone proof formed in_root fits =
     sum_by-smaller (λ (c : Copy). unsigned_abs (reduced_cost proof c) * reach (span_at zone c.var)) (λ (c : Copy). unsigned_abs (reduced_cost proof c) * reach (span_at p.spans c.var)) cs
     (each (λ (c : Copy). unsigned_abs (reduced_cost proof c) * reach (span_at zone c.var) ≤ unsigned_abs (reduced_cost proof c) * reach (span_at p.spans c.var))
     (λ c. mul-le-mul_left (unsigned_abs (reduced_cost proof c)) (reach_within p.spans zone in_root c.var)) cs) in
-    subst (λ (k : Blocking). bound_size k zone proof ≤ 2 ^ 116) (sym formed.blocking)
+    subst (λ (k : Blocking). bound_size k zone proof < price_limit) (sym formed.blocking)
     (omega (arith, all, less, blocks_weigh zone proof bs.blocks))
   where
     each : {X : Type 0} (P : X → Type 0) → ((x : X) → P x) → (xs : List X) → AllByRecursion P xs

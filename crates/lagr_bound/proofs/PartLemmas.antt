@@ -8,6 +8,7 @@ use Rattle.std.proofs.lemmas.Int.{ints}
 use Rattle.std.proofs.lemmas.List.{get_or_append_left, get_or-append-add, get_or_default, get_or_past, take_more, length-map}
 use Rattle.std.proofs.lemmas.List.Elements.{All-from_recursion}
 use Rattle.std.proofs.lemmas.List.Sums.{sum_by-append, sum_by-cons, sum_by-take-le}
+use Rattle.bp_theory.specs.Limits.{price_limit}
 use Rattle.bp_theory.specs.Sums.{sum_of, dot}
 use Rattle.bp_theory.specs.Program.{span_at, reach, IsInside}
 use Rattle.bp_theory.specs.Blocking.{Copy, Block, Blocking}
@@ -114,8 +115,8 @@ one_part_more b zone proof k sum v l had part = record {
     together : (a c : ℤ) (s n t : ℕ) → unsigned_abs a ≤ base_size b proof + s → unsigned_abs c ≤ n → t ≡ s + n → unsigned_abs (a +ℤ c) ≤ base_size b proof + t
     together a c s n t h g e = omega (arith, ints, h, g, e)
 
-pub parts_small : (b : Blocking) (zone : List Span) (proof : Proof) (k : ℕ) (sum : ℤ) → HasParts b zone proof k sum → bound_size b zone proof ≤ 2 ^ 116
-    → unsigned_abs sum ≤ 2 ^ 116
+pub parts_small : (b : Blocking) (zone : List Span) (proof : Proof) (k : ℕ) (sum : ℤ) → HasParts b zone proof k sum → bound_size b zone proof < price_limit
+    → unsigned_abs sum < price_limit
 parts_small b zone proof k sum had limit = omega (arith, had.small, limit, sum_by-take-le (block_size zone proof) b.blocks k)
 
 pub all_parts : (b : Blocking) (zone : List Span) (proof : Proof) (k : ℕ) (sum : ℤ) → k ≡ length b.blocks → HasParts b zone proof k sum → IsBound b zone proof sum

@@ -7,6 +7,7 @@ use Rattle.std.proofs.lemmas.Bool.{cases_lt}
 use Rattle.std.proofs.lemmas.Int.{ints, unsigned_abs-mul}
 use Rattle.std.proofs.lemmas.List.{take_all, get_or-map, get_or_past, length-map}
 use Rattle.std.proofs.lemmas.List.Sums.{get_or-le-sum_by}
+use Rattle.bp_theory.specs.Limits.{price_limit}
 use Rattle.bp_theory.specs.Sums.{sum_of, sum_at}
 use Rattle.bp_theory.specs.Program.{span_at, reach}
 use Rattle.bp_theory.specs.Blocking.{Copy, Block, Blocking, row_at}
@@ -41,10 +42,10 @@ side_term b m = m.1 *ℤ side_at (row_at b m.0) m.1
 
 pub base_more : (b : Blocking) (proof : Proof) (items : List (ℕ × ℤ)) (i : ℕ) (sum more : ℤ) → items ≡ proof.mults → i < length items
     → sum ≡ pos proof.scale *ℤ b.constant +ℤ sum_of (side_term b) (take i proof.mults) → more ≡ side_term b (get_or items i (0, pos 0))
-    → base_size b proof ≤ 2 ^ 116
-    → (sum +ℤ more ≡ pos proof.scale *ℤ b.constant +ℤ sum_of (side_term b) (take (i + 1) proof.mults)) × (unsigned_abs (sum +ℤ more) ≤ 2 ^ 116)
+    → base_size b proof ≤ price_limit
+    → (sum +ℤ more ≡ pos proof.scale *ℤ b.constant +ℤ sum_of (side_term b) (take (i + 1) proof.mults)) × (unsigned_abs (sum +ℤ more) ≤ price_limit)
 base_more b proof items i sum more e l so_far next limit =
-    more_from (pos proof.scale *ℤ b.constant) (side_term b) proof.mults i (0, pos 0) sum more (2 ^ 116) (subst (λ (xs : List (ℕ × ℤ)). i < length xs) e l)
+    more_from (pos proof.scale *ℤ b.constant) (side_term b) proof.mults i (0, pos 0) sum more price_limit (subst (λ (xs : List (ℕ × ℤ)). i < length xs) e l)
     so_far (next ∙ ap (λ (xs : List (ℕ × ℤ)). side_term b (get_or xs i (0, pos 0))) e) limit
 
 pub base_all : (b : Blocking) (proof : Proof) (items : List (ℕ × ℤ)) (i : ℕ) (sum : ℤ) → items ≡ proof.mults → length items ≤ i
@@ -57,7 +58,7 @@ base_within b proof = omega (arith, ints, sum_of-within (side_term b) proof.mult
 
 -- ---- reduced costs
 
--- what is scaled and what is paid differ by no more than 2 to the 116
+-- what is scaled and what is paid differ by no more than the limit of prices
 pub reduced_fits : (scale : ℕ) (cost scaled paid : ℤ) → scale < 2 ^ 32 → scaled ≡ pos scale *ℤ cost → unsigned_abs cost < 2 ^ 62 → unsigned_abs paid ≤ 2 ^ 115
     → unsigned_abs (scaled -ℤ paid) < 2 ^ 117
 reduced_fits scale cost scaled paid small e h g =
@@ -102,7 +103,7 @@ least_is zone proof cs place vars span cost result l vars_are span_is cost_is re
 
 pub least_fits : (zone : List Span) (proof : Proof) (block : Block) (place : ℕ) (vars : List ℕ) (span : Span) (cost : ℤ) → place < length block.copies
     → vars ≡ map (λ (c : Copy). c.var) block.copies → span ≡ span_at zone (get_or vars place 0)
-    → ((d : Copy) → cost ≡ reduced_cost proof (get_or block.copies place d)) → block_size zone proof block ≤ 2 ^ 116
+    → ((d : Copy) → cost ≡ reduced_cost proof (get_or block.copies place d)) → block_size zone proof block ≤ price_limit
     → unsigned_abs cost * reach span < 2 ^ 127
 least_fits zone proof block place vars span cost l vars_are span_is cost_is limit =
     let none : Copy = record { var = 0; cost = pos 0; coefs = [] } in
@@ -135,12 +136,12 @@ leasts_within zone proof cs =
 
 pub box_more : (zone : List Span) (proof : Proof) (block : Block) (i : ℕ) (sum more : ℤ) → i < length block.copies
     → sum ≡ sum_of (copy_least zone proof) (take i block.copies) → ((d : Copy) → more ≡ copy_least zone proof (get_or block.copies i d))
-    → block_size zone proof block ≤ 2 ^ 116
-    → (sum +ℤ more ≡ sum_of (copy_least zone proof) (take (i + 1) block.copies)) × (unsigned_abs (sum +ℤ more) ≤ 2 ^ 116)
+    → block_size zone proof block ≤ price_limit
+    → (sum +ℤ more ≡ sum_of (copy_least zone proof) (take (i + 1) block.copies)) × (unsigned_abs (sum +ℤ more) ≤ price_limit)
 box_more zone proof block i sum more l so_far next limit =
     let none : Copy = record { var = 0; cost = pos 0; coefs = [] } in
     let all = cost_size-maps (λ (k : Copy). span_at zone k.var) (reduced_cost proof) block.copies in
-    let h = more_from (pos 0) (copy_least zone proof) block.copies i none sum more (2 ^ 116) l (omega (arith, ints, so_far)) (next none)
+    let h = more_from (pos 0) (copy_least zone proof) block.copies i none sum more price_limit l (omega (arith, ints, so_far)) (next none)
     (omega (arith, leasts_within zone proof block.copies, all, limit)) in
     (omega (arith, ints, h.0), h.1)
 
@@ -173,10 +174,10 @@ blocks_within zone proof bs = sum_by-smaller (λ k. unsigned_abs (block_least zo
 
 pub bound_more : (b : Blocking) (zone : List Span) (proof : Proof) (i : ℕ) (sum more : ℤ) → i < length b.blocks
     → sum ≡ base b proof +ℤ sum_of (block_least zone proof) (take i b.blocks) → more ≡ block_least zone proof (get_or b.blocks i (record { copies = []; rows = [] }))
-    → bound_size b zone proof ≤ 2 ^ 116
-    → (sum +ℤ more ≡ base b proof +ℤ sum_of (block_least zone proof) (take (i + 1) b.blocks)) × (unsigned_abs (sum +ℤ more) ≤ 2 ^ 116)
+    → bound_size b zone proof < price_limit
+    → (sum +ℤ more ≡ base b proof +ℤ sum_of (block_least zone proof) (take (i + 1) b.blocks)) × (unsigned_abs (sum +ℤ more) ≤ price_limit)
 bound_more b zone proof i sum more l so_far next limit =
-    more_from (base b proof) (block_least zone proof) b.blocks i (record { copies = []; rows = [] }) sum more (2 ^ 116) l so_far next
+    more_from (base b proof) (block_least zone proof) b.blocks i (record { copies = []; rows = [] }) sum more price_limit l so_far next
     (omega (arith, base_within b proof, blocks_within zone proof b.blocks, limit))
 
 -- each block's least over its box is its part, where no block is picked
@@ -213,6 +214,6 @@ bound_is b zone proof i sum proper picked l so_far =
     (least_is_part zone proof k (get_or b.blocks k d) proper picked)))
 
 pub bound_within : (b : Blocking) (zone : List Span) (proof : Proof) (i : ℕ) (sum : ℤ)
-    → sum ≡ base b proof +ℤ sum_of (block_least zone proof) (take i b.blocks) → bound_size b zone proof ≤ 2 ^ 116 → unsigned_abs sum ≤ 2 ^ 116
+    → sum ≡ base b proof +ℤ sum_of (block_least zone proof) (take i b.blocks) → bound_size b zone proof < price_limit → unsigned_abs sum < price_limit
 bound_within b zone proof i sum so_far limit =
     omega (arith, ints, so_far, sum_of_so_far_within (block_least zone proof) b.blocks i, base_within b proof, blocks_within zone proof b.blocks, limit)

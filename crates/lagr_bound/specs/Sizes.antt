@@ -9,13 +9,13 @@ use Rattle.bp_theory.specs.declared.Span.{Span}
 use Rattle.bp_theory.specs.declared.Proof.{Proof}
 use Rattle.pricing.specs.Form.{cost_size}
 
--- a copy has a cost and coefficients below 2 to the 62, and at most 8,192 of them
+-- a copy has a cost and coefficients of numbers of a model, and no more of them than a model has rows
 pub record IsSmallCopy (c : Copy) : Type 0 where
   pub cost : unsigned_abs c.cost < number_limit
   pub few : length c.coefs ≤ most_rows
   pub coefs : All (λ e. unsigned_abs e.1 < number_limit) c.coefs
 
--- a proof's scale and multipliers keep their limits, there are at most 8,192, and their rows ascend
+-- a proof's scale and multipliers keep their limits, there are no more of them than a model has rows, and their rows ascend
 pub record IsSmallProof (proof : Proof) : Type 0 where
   pub scale : proof.scale ≤ greatest_scale
   pub sizes : All (λ m. unsigned_abs m.1 ≤ greatest_multiplier) proof.mults
@@ -43,13 +43,14 @@ abbrev pub base_size : Blocking → Proof → ℕ
 base_size b proof =
     unsigned_abs (pos proof.scale *ℤ b.constant) + sum_by (λ m. unsigned_abs (m.1 *ℤ side_at (row_at b m.0) m.1)) proof.mults
 
--- a block's copies are small, at most 4,096 and in the zone, and its reduced costs are at most 2 to the 116 together
+-- a block's copies are small, no more than a model has variables, and in the zone, and its reduced costs keep the limit of
+-- prices together
 pub record IsSmallBlock (zone : List Span) (proof : Proof) (block : Block) : Type 0 where
   pub copies : All IsSmallCopy block.copies
   pub few : length block.copies ≤ most_variables
   pub there : All (λ c. c.var < length zone) block.copies
   pub size : block_size zone proof block ≤ price_limit
 
--- all sums of a bound together are at most 2 to the 116
+-- how large all sums of a bound can be together
 abbrev pub bound_size : Blocking → List Span → Proof → ℕ
 bound_size b zone proof = base_size b proof + sum_by (block_size zone proof) b.blocks

@@ -1,5 +1,6 @@
 // Bounds of proofs, each class of blocks priced once.
-ghost use Rattle.std.specs.Prelude.{◌≡◌, ◌<◌, ◌≤◌, ◌+◌, ◌^◌, length, map, unsigned_abs};
+ghost use Rattle.std.specs.Prelude.{◌≡◌, ◌<◌, ◌+◌, length, map, unsigned_abs};
+ghost use Rattle.bp_theory.specs.Limits.{price_limit};
 ghost use Rattle.bp_theory.specs.Bound.{Fits, IsEndless};
 ghost use Rattle.bp_theory.specs.Trees.{IsZone};
 ghost use Rattle.block_class.specs.Classes.{AreSameClasses};
@@ -21,7 +22,7 @@ use pricing::{Cap, Priced, plus};
 
 /// The weak Lagrangian bound of a proof in a zone with the zone's classes, whose picked blocks are priced once a class:
 /// the lowest picked block, since blocks that are the same in the zone have the same least. It is the sum over all
-/// blocks, as that of `sum_bound`, and its magnitude at most `2^116`. After a whole bound `Work::point` tells a point
+/// blocks, as that of `sum_bound`, and its magnitude is below `2^116`. After a whole bound `Work::point` tells a point
 /// of each such block that reaches its least.
 pub fn bound(
     work: &mut Work,
@@ -38,7 +39,7 @@ pub fn bound(
     ensures answer { IsBounded b.now.blocking zone.now proof.now cap result }
     ensures endless { cap ≡ Never → IsEndless b.now.blocking zone.now proof.now →
         result ≡ Bounded.Endless }
-    ensures size { IfWhole result (λ v. unsigned_abs v ≤ 2 ^ 116) }
+    ensures size { IfWhole result (λ v. unsigned_abs v < price_limit) }
     ensures made_for { forms_of work.new ≡ forms_of work.old }
     ensures points { TellsPoints b.now.blocking zone.now proof.now classes.now.classes result
         (point_at work.new) }

@@ -1,5 +1,6 @@
 // Bounds of proofs, each picked block priced by itself.
-ghost use Rattle.std.specs.Prelude.{◌≡◌, ◌<◌, ◌≤◌, ◌^◌, length, unsigned_abs};
+ghost use Rattle.std.specs.Prelude.{◌≡◌, ◌<◌, length, unsigned_abs};
+ghost use Rattle.bp_theory.specs.Limits.{price_limit};
 ghost use Rattle.bp_theory.specs.Bound.{Fits, IsEndless};
 ghost use Rattle.bp_theory.specs.Trees.{IsZone};
 ghost use Rattle.pricing.specs.declared.Cap.TheVariants.{Never};
@@ -27,8 +28,8 @@ pub enum Bounded {
 
 /// The weak Lagrangian bound of a proof in a zone, where each picked block is priced by itself: what the proof gives before
 /// the blocks, for each picked block the least of its reduced costs over its points, and for each other block that over
-/// its box. `Cut` comes only under a cap that the block's beginnings of assignments exceed. A whole bound's magnitude is at
-/// most `2^116`.
+/// its box. `Cut` comes only under a cap that the block's beginnings of assignments exceed. A whole bound's magnitude is
+/// below `2^116`.
 pub fn sum_bound(work: &mut Work, b: &Blocked, zone: &Zone, proof: &Proof, cap: Cap) -> Bounded
     requires made_for { forms_of work.old ≡ forms_in b.now }
     requires zone { IsZone b.now.named.program.spans zone.now }
@@ -36,7 +37,7 @@ pub fn sum_bound(work: &mut Work, b: &Blocked, zone: &Zone, proof: &Proof, cap: 
     ensures answer { IsBounded b.now.blocking zone.now proof.now cap result }
     ensures endless { cap ≡ Never → IsEndless b.now.blocking zone.now proof.now →
         result ≡ Bounded.Endless }
-    ensures size { IfWhole result (λ v. unsigned_abs v ≤ 2 ^ 116) }
+    ensures size { IfWhole result (λ v. unsigned_abs v < price_limit) }
     ensures made_for { forms_of work.new ≡ forms_of work.old }
     ensures silent { IsSilent work.new }
 {

@@ -1,6 +1,7 @@
 // What a proof gives before the blocks, and the reduced costs of copies.
 ghost use Rattle.std.specs.Prelude.{◌≡◌, ◌^◌, ◌<◌, ◌≤◌, ◌*ℤ◌, ℤ, pos, map, length, All, unsigned_abs, slice_index_or};
 ghost use Rattle.std.specs.List.Sorted.{IsStrictlyIncreasing};
+ghost use Rattle.bp_theory.specs.Limits.{greatest_multiplier, most_rows, number_limit, price_limit};
 ghost use Rattle.bp_theory.specs.Sums.{sum_of, sum_at};
 ghost use Rattle.bp_theory.specs.Blocking.{Copy, row_at};
 ghost use Rattle.bp_theory.specs.Bound.{base, reduced_cost, side_at, side};
@@ -12,7 +13,7 @@ use pricing::{minus, plus};
 
 /// What a proof gives before the blocks: scale times constant, and multipliers times sides of their rows.
 pub fn base(b: &Blocked, proof: &Proof) -> i128
-    requires { base_size b.now.blocking proof.now ≤ 2 ^ 116 }
+    requires { base_size b.now.blocking proof.now ≤ price_limit }
     ensures { result ≡ base b.now.blocking proof.now }
 {
     let mut sum = scaled(proof.scale, &b.model().constant());
@@ -62,10 +63,10 @@ fn side(row: &MasterRow, mult: &i64) -> i64
 
 // Multipliers times the coefficients of their rows.
 fn payment(mults: &[(u32, i64)], coefs: &[(u32, i64)]) -> i128
-    requires sizes { All (λ m. unsigned_abs m.1 ≤ 2 ^ 40) mults.now }
+    requires sizes { All (λ m. unsigned_abs m.1 ≤ greatest_multiplier) mults.now }
     requires ascend { IsStrictlyIncreasing (map (λ m. m.0) mults.now) }
-    requires few { length coefs.now ≤ 8192 }
-    requires coefs { All (λ e. unsigned_abs e.1 < 2 ^ 62) coefs.now }
+    requires few { length coefs.now ≤ most_rows }
+    requires coefs { All (λ e. unsigned_abs e.1 < number_limit) coefs.now }
     ensures value { result ≡ sum_of (λ m. m.1 *ℤ sum_at (λ e. e.0) (λ e. e.1) coefs.now m.0)
         mults.now }
     ensures size { unsigned_abs result ≤ 2 ^ 115 }

@@ -1,5 +1,6 @@
 // Bounds of proofs that pick no block.
-ghost use Rattle.std.specs.Prelude.{◌≡◌, ◌^◌, ◌≤◌, ◌<◌, [], length, slice_index_or, unsigned_abs};
+ghost use Rattle.std.specs.Prelude.{◌≡◌, ◌≤◌, ◌<◌, [], length, slice_index_or, unsigned_abs};
+ghost use Rattle.bp_theory.specs.Limits.{price_limit};
 ghost use Rattle.bp_theory.specs.Blocking.{Copy};
 ghost use Rattle.bp_theory.specs.Bound.{Fits, IsBound};
 ghost use Rattle.bp_theory.specs.Trees.{IsZone};
@@ -12,13 +13,13 @@ use bp_theory::Proof;
 use pricing::{least_end, plus};
 
 /// The weak Lagrangian bound of a proof that picks no block: what it gives before the blocks, and for each block the
-/// least of its reduced costs over its box in the zone. Its magnitude is at most `2^116`.
+/// least of its reduced costs over its box in the zone. Its magnitude is below `2^116`.
 pub fn box_bound(b: &Blocked, zone: &Zone, proof: &Proof) -> i128
     requires zone { IsZone b.now.named.program.spans zone.now }
     requires fits { Fits b.now.blocking proof.now }
     requires picked { proof.now.picked ≡ These [] }
     ensures bound { IsBound b.now.blocking zone.now proof.now result }
-    ensures size { unsigned_abs result ≤ 2 ^ 116 }
+    ensures size { unsigned_abs result < price_limit }
 {
     let blocks = b.blocks();
     let mut sum = base(b, proof);
