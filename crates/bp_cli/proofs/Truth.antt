@@ -24,7 +24,7 @@ use Rattle.block_form.specs.declared.fault.BlockFault.{BlockFault}
 use Rattle.block_form.specs.declared.fault.BlockFault.TheVariants.{Linking, VarPlace, NoMemory}
 use Rattle.branch_tree.specs.declared.outcome.Outcome.{Outcome}
 use Rattle.branch_tree.specs.declared.outcome.Outcome.TheVariants.{Optimal, Infeasible, Budget}
-use Rattle.bp_search.specs.Ends.{EndsWithin, most_steps, last_step}
+use Rattle.bp_search.specs.Ends.{EndsWithin, given_steps, last_step}
 use Rattle.bp_search.specs.Below.{steps_in}
 use Rattle.bp_report.specs.Report.{solve_report, accepted_report}
 use Rattle.bp_front.specs.Front.{Front, blocked, ends, BlocksCome, formed, refused, DecComes, plain, missing, faulty, read, FilesCome, missing_lp, faulty_lp, read_lp}
@@ -150,19 +150,19 @@ count_below tree (Some number) path given told worked few = few
 
 -- what is told of a program in blocks
 tells_true : (files : Files) (lp : List ℕ) (leaf : Option ℕ) (b : BlockedProgram) (most : ℕ) (steps : Option ℕ) (begun : Bool) (kept : Option Outcome) (status : ℕ) (report before now : List ℕ)
-    → HasProgram (files lp) b.named → SolvesBlocked most steps kept b status report → (IsTrue begun → most ≡ most_steps steps) → now ≡ before ++ report
-    → TellsTruly (files lp) leaf (most_steps steps) begun kept status before now
+    → HasProgram (files lp) b.named → SolvesBlocked most steps kept b status report → (IsTrue begun → most ≡ given_steps steps) → now ≡ before ++ report
+    → TellsTruly (files lp) leaf (given_steps steps) begun kept status before now
 tells_true files lp leaf b most steps begun kept status report before now has right same printed = record {
   program = b.named;
   report = report;
-  told = most_steps steps;
-  counted = count_all leaf (most_steps steps);
+  told = given_steps steps;
+  counted = count_all leaf (given_steps steps);
   read = has;
-  is_true = subst (λ (s : ℕ). IsTrueReport b.named (most_steps steps) s report) (sym right.has_status)
-      (subst (λ (r : List ℕ). IsTrueReport b.named (most_steps steps) (outcome_status right.outcome) r) (sym right.has_report)
-      (true_outcome b most (most_steps steps) right.outcome right.is_outcome));
+  is_true = subst (λ (s : ℕ). IsTrueReport b.named (given_steps steps) s report) (sym right.has_status)
+      (subst (λ (r : List ℕ). IsTrueReport b.named (given_steps steps) (outcome_status right.outcome) r) (sym right.has_report)
+      (true_outcome b most (given_steps steps) right.outcome right.is_outcome));
   printed = printed;
-  spent = λ five is_begun. subst (λ (k : Option Outcome). IsStoppedAfter k (most_steps steps)) (sym right.is_kept)
+  spent = λ five is_begun. subst (λ (k : Option Outcome). IsStoppedAfter k (given_steps steps)) (sym right.is_kept)
       (subst (λ (n : ℕ). IsStoppedAfter (Some right.outcome) n) (same is_begun)
       (spent b most right.outcome right.is_outcome (sym right.has_status ∙ five)));
 }
@@ -170,8 +170,8 @@ tells_true files lp leaf b most steps begun kept status report before now has ri
 -- what is told of a search below one leaf alone
 tells_below : (files : Files) (lp : List ℕ) (leaf : Option ℕ) (b : BlockedProgram) (start : GrowingTree) (path : List Side) (steps : Option ℕ) (kept : Option Outcome) (status : ℕ)
     (report before now : List ℕ) → HasProgram (files lp) b.named → SolvesBelow start path steps kept b status report
-    → ((told : ℕ) → told ≤ most_steps steps → IsCount leaf (most_steps steps) told) → now ≡ before ++ report
-    → TellsTruly (files lp) leaf (most_steps steps) false kept status before now
+    → ((told : ℕ) → told ≤ given_steps steps → IsCount leaf (given_steps steps) told) → now ≡ before ++ report
+    → TellsTruly (files lp) leaf (given_steps steps) false kept status before now
 tells_below files lp leaf b start path steps kept status report before now has right counts printed = record {
   program = b.named;
   report = report;
@@ -217,9 +217,9 @@ refuses_status b leaf text status report (starts.no_leaf from number start named
 -- what is answered under an outcome's status is told truly
 solves_told : (files : Files) (lp : List ℕ) (steps : Option ℕ) (from : Option (List ℕ)) (leaf : Option ℕ) (kept : Option Outcome) (b : BlockedProgram) (status : ℕ) (report before now : List ℕ)
     → HasProgram (files lp) b.named → SolvesBy files from leaf steps kept b status report → IsOutcomeStatus status → now ≡ before ++ report
-    → TellsTruly (files lp) leaf (most_steps steps) (is_none from) kept status before now
+    → TellsTruly (files lp) leaf (given_steps steps) (is_none from) kept status before now
 solves_told files lp steps None leaf kept b status report before now has right is printed =
-    tells_true files lp leaf b (most_steps steps) steps true kept status report before now has right (λ begun. refl) printed
+    tells_true files lp leaf b (given_steps steps) steps true kept status report before now has right (λ begun. refl) printed
 solves_told files lp steps (Some name) leaf kept b status report before now has (solves.missing gone none eleven empty) is printed =
     absurd (not_outcome status is (inr (inr eleven)))
 solves_told files lp steps (Some name) leaf kept b status report before now has (solves.refused text there none refuses) is printed =
@@ -227,23 +227,23 @@ solves_told files lp steps (Some name) leaf kept b status report before now has 
 solves_told files lp steps (Some name) leaf kept b status report before now has (solves.went_on text from below there start right) is printed = on below start right
   where
     on : (below : Option (List Side)) → IsStartAt b leaf text from below → SolvesOn from.grove.tree below steps kept b status report
-        → TellsTruly (files lp) leaf (most_steps steps) false kept status before now
+        → TellsTruly (files lp) leaf (given_steps steps) false kept status before now
     on None start right =
         tells_true files lp leaf b (last_step from.grove steps) steps false kept status report before now has right (λ begun. absurd (cc)) printed
     on (Some path) start right =
         tells_below files lp leaf b from.grove.tree path steps kept status report before now has right
-        (λ told few. count_below start.start.cert.tree leaf path (most_steps steps) told start.worked_on few) printed
+        (λ told few. count_below start.start.cert.tree leaf path (given_steps steps) told start.worked_on few) printed
 
 pub solves_truly : (files : Files) (lp : List ℕ) (dec : Option (List ℕ)) (steps : Option ℕ) (from : Option (List ℕ)) (leaf : Option ℕ) (kept : Option Outcome) (status : ℕ) (tells : Bool) (before now : List ℕ)
     → AnswersBy (AnswersSolve files lp dec steps from leaf kept) status tells before now → IsTrue tells → IsOutcomeStatus status
-    → TellsTruly (files lp) leaf (most_steps steps) (is_none from) kept status before now
+    → TellsTruly (files lp) leaf (given_steps steps) (is_none from) kept status before now
 solves_truly files lp dec steps from leaf kept status tells before now answers heard is =
     let through = went_through status is in
     let answer = answers through.0 through.1 through.2 in
     by answer.0 answer.1 (answer.2 heard)
   where
     by : (report : List ℕ) → AnswersSolve files lp dec steps from leaf kept status report → now ≡ before ++ report
-        → TellsTruly (files lp) leaf (most_steps steps) (is_none from) kept status before now
+        → TellsTruly (files lp) leaf (given_steps steps) (is_none from) kept status before now
     by report (stopped come stops) printed =
         absurd (not_outcome status is (as_refusal status (files_come files lp dec (ends status report) come)))
     by report (went_on b come right) printed =
@@ -261,7 +261,7 @@ solves_unless files lp dec steps leaf kept status tells before now known answers
   where
     told_right : (report : List ℕ) → AnswersSolve files lp dec steps None leaf kept status report → IsOutcomeStatus status
     told_right report (stopped come stops) = absurd (accepted status report come)
-    told_right report (went_on b come right) = solved_status b (most_steps steps) steps kept status report right
+    told_right report (went_on b come right) = solved_status b (given_steps steps) steps kept status report right
 
     going : (status ≢ 7) → (status ≢ 8) → (status ≢ 9) → IsOutcomeStatus status ⊎ WasStopped status
     going a b c = let answer = answers a b c in inl (told_right answer.0 answer.1)
@@ -365,7 +365,7 @@ kept_outcome files lp dec steps from leaf o status tells before now answers is b
     goes_on c start (Some path) report same right = ends_below c start path report same right
 
     begun : (f : Option (List ℕ)) (c : BlockedProgram) (report : List ℕ) → c ≡ b → SolvesBy files f leaf steps (Some o) c status report → (n : ℕ) × EndsWithin b n o
-    begun None c report same right = ends_so c (most_steps steps) report same right
+    begun None c report same right = ends_so c (given_steps steps) report same right
     begun (Some name) c report same (solves.missing gone none eleven empty) = absurd (not_outcome status is (inr (inr eleven)))
     begun (Some name) c report same (solves.refused text there none refuses) = absurd (not_outcome status is (refuses_status c leaf text status report refuses))
     begun (Some name) c report same (solves.went_on text start below there loaded right) = goes_on c start.grove.tree below report same right

@@ -12,7 +12,7 @@ use Rattle.search_laws.specs.Grove.{certificate_tree}
 use Rattle.branch_tree.specs.Groves.{GroveState}
 use Rattle.branch_tree.specs.declared.outcome.Outcome.{Outcome}
 use Rattle.branch_tree.specs.declared.outcome.Outcome.TheVariants.{Budget}
-use Rattle.bp_search.specs.Ends.{most_steps}
+use Rattle.bp_search.specs.Ends.{given_steps}
 use Rattle.bp_words.specs.declared.order.Order.{Order}
 use Rattle.bp_words.specs.declared.order.Order.TheVariants.{Solve, Check, Show, Gen, Demo, Detect, Propose, Merge, Migrate}
 use Rattle.bp_report.specs.Report.{count_line, value_line, point_lines, known_line, known_lines, accepted_report}
@@ -70,7 +70,7 @@ pub record TellsTruly (file : Option (List ℕ)) (leaf : Option ℕ) (given : �
 -- `solve` tells outcomes that are true
 abbrev pub SolvesTruly : Order → Files → Option Outcome → (status : ℕ) → (before now : List ℕ) → Type 0
 SolvesTruly (Solve lp dec steps cert from leaf workers turns) files kept status before now =
-    IsOutcomeStatus status → TellsTruly (files lp) leaf (most_steps steps) (is_none from) kept status before now
+    IsOutcomeStatus status → TellsTruly (files lp) leaf (given_steps steps) (is_none from) kept status before now
 SolvesTruly (Check lp cert dec) files kept status before now = Unit {0}
 SolvesTruly (Show lp dec blocks) files kept status before now = Unit {0}
 SolvesTruly (Gen seed size lp dec) files kept status before now = Unit {0}

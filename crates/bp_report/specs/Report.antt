@@ -226,6 +226,6 @@ proposed_report b g = proposed_line b.dec.blocks (first_classes b.dec.blocks g) 
 abbrev pub demo_line : (seed size : ℕ) → List ℕ
 demo_line seed size = codes "demo " ++ decimal seed ++ codes " " ++ decimal size ++ codes "\n"
 
--- the report on such a program: the search is given 2,000 steps, and its point is left out
+-- the report on such a program: the search is given the steps of the demonstration, and its point is left out
 abbrev pub demo_report : (seed size : ℕ) → NamedProgram → Outcome → Judged → List ℕ
 demo_report seed size m o j = demo_line seed size ++ outcome_lines m demo_steps o ++ check_report j

@@ -13,7 +13,7 @@ use Rattle.branch_tree.specs.Queues.{LiesBelow}
 use Rattle.branch_tree.specs.Groves.{GroveState, NoneLiveBelow, IsTurnBelow}
 use Rattle.branch_tree.specs.declared.turn.Turn.{Turn}
 use Rattle.branch_tree.specs.declared.outcome.Outcome.{Outcome}
-use Rattle.bp_search.specs.Ends.{EndsWithin, HasStopped, most_steps, grove_in}
+use Rattle.bp_search.specs.Ends.{EndsWithin, HasStopped, given_steps, grove_in}
 use Rattle.bp_search.specs.Below.{IsAsBeside, steps_in, EndsBelow}
 
 -- the node at a path, and where there is none some node
@@ -82,8 +82,8 @@ taken_below g above taken turn next is =
 pub ends_below : (b : BlockedProgram) (start : GrowingTree) (path : List Side) (given : Option ℕ) (g : GroveState) (outcome : Outcome)
     → ((most : ℕ) → HasStopped most g.tree → EndsWithin b most outcome) → grove_in outcome ≡ g
     → steps (certificate_tree start) ≤ steps (certificate_tree g.tree)
-    → steps (certificate_tree g.tree) ≤ steps (certificate_tree start) + most_steps given
-    → NoneLiveBelow g.tree path ⊎ (steps (certificate_tree g.tree) ≡ steps (certificate_tree start) + most_steps given)
+    → steps (certificate_tree g.tree) ≤ steps (certificate_tree start) + given_steps given
+    → NoneLiveBelow g.tree path ⊎ (steps (certificate_tree g.tree) ≡ steps (certificate_tree start) + given_steps given)
     → IsAsBeside path start g.tree → EndsBelow b start path given outcome
 ends_below b start path given g outcome ends is more few done beside =
     let all : ℕ = steps (certificate_tree g.tree) in

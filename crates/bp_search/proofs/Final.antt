@@ -22,7 +22,7 @@ use Rattle.branch_tree.specs.Groves.{GroveState}
 use Rattle.branch_tree.specs.declared.outcome.Outcome.{Outcome}
 use Rattle.bp_search.specs.declared.kept.Kept.{Kept}
 use Rattle.bp_search.specs.Searches.{kept_point, kept_cost, as_pair, IsRunning}
-use Rattle.bp_search.specs.Ends.{most_steps, IsSearched, EndsWithin, IsOutOfSteps, ended, IsStopped, grove_in, point_of}
+use Rattle.bp_search.specs.Ends.{given_steps, IsSearched, EndsWithin, IsOutOfSteps, ended, IsStopped, grove_in, point_of}
 use Rattle.bp_search.proofs.Running.{given_is}
 
 -- the blocking stands for the program
@@ -157,6 +157,6 @@ less_is_least zs a c h = by (int_lt c a) refl
     }
 
 -- the number of steps that stands for none given
-pub most_is : (given : Option ℕ) → unwrap_or given 1152921504606846976 ≡ most_steps given
+pub most_is : (given : Option ℕ) → unwrap_or given 1152921504606846976 ≡ given_steps given
 most_is None = refl
 most_is (Some n) = refl

@@ -24,7 +24,7 @@ use Rattle.branch_tree.specs.Adopted.{IsSearchState, point_in}
 use Rattle.branch_tree.specs.Loads.{IsFresh}
 use Rattle.branch_tree.specs.declared.loaded.Loaded.{Loaded}
 use Rattle.bp_search.specs.Searches.{kept_point, kept_cost, as_pair, HasItsCost, IsRunning, CanGrow}
-use Rattle.bp_search.specs.Ends.{most_steps, last_step}
+use Rattle.bp_search.specs.Ends.{given_steps, last_step}
 
 -- the kept cost is that of the kept point
 pub given_is : (p : Program) (best : Option Kept) → HasItsCost p best → kept_cost best ≡ best_cost p (kept_point best)
@@ -125,12 +125,12 @@ running_of b g (Some k) pair h is = record {
 }
 
 -- the given steps are few
-pub given_few : (given : Option ℕ) → IfSome given (λ n. n ≤ 2 ^ 60) → most_steps given ≤ 2 ^ 60
+pub given_few : (given : Option ℕ) → IfSome given (λ n. n ≤ 2 ^ 60) → given_steps given ≤ 2 ^ 60
 given_few None few = omega arith
 given_few (Some n) few = few
 
 -- the start of a search has taken no step
-pub fresh_last : (b : BlockedProgram) (from : Loaded) (given : Option ℕ) → IsFresh b from → last_step from.grove given ≡ most_steps given
+pub fresh_last : (b : BlockedProgram) (from : Loaded) (given : Option ℕ) → IsFresh b from → last_step from.grove given ≡ given_steps given
 fresh_last b from given fresh =
     let none : steps (certificate_tree from.grove.tree) ≡ 0 = ap (λ (t : GrowingTree). steps (certificate_tree t)) fresh.planted.tree in
     omega (arith, none)

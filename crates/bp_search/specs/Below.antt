@@ -6,7 +6,7 @@ use Rattle.search_laws.specs.declared.Side.{Side}
 use Rattle.search_laws.specs.Grove.{GrowingTree, put_at, certificate_tree}
 use Rattle.branch_tree.specs.Groves.{NoneLiveBelow}
 use Rattle.branch_tree.specs.declared.outcome.Outcome.{Outcome}
-use Rattle.bp_search.specs.Ends.{most_steps, EndsWithin, grove_in}
+use Rattle.bp_search.specs.Ends.{given_steps, EndsWithin, grove_in}
 
 -- a tree is as another but at a path and below it: there it has some node in place of the other's
 abbrev pub IsAsBeside : List Side → (before after : GrowingTree) → Type 0
@@ -23,6 +23,6 @@ pub record EndsBelow (b : BlockedProgram) (start : GrowingTree) (path : List Sid
   pub ends : EndsWithin b (steps_in outcome) outcome
   pub taken : ℕ
   pub count : steps_in outcome ≡ steps (certificate_tree start) + taken
-  pub few : taken ≤ most_steps given
-  pub done : NoneLiveBelow (grove_in outcome).tree path ⊎ (taken ≡ most_steps given)
+  pub few : taken ≤ given_steps given
+  pub done : NoneLiveBelow (grove_in outcome).tree path ⊎ (taken ≡ given_steps given)
   pub beside : IsAsBeside path start (grove_in outcome).tree

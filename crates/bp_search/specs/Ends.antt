@@ -15,12 +15,12 @@ use Rattle.branch_tree.specs.declared.outcome.Outcome.TheVariants.{Optimal, Infe
 use Rattle.bp_search.specs.declared.kept.Kept.{Kept}
 use Rattle.bp_search.specs.Searches.{kept_cost, as_pair}
 
--- the number of steps: 2 to the 60 where none is given
-abbrev pub most_steps : Option ℕ → ℕ
-most_steps None = untold_steps
-most_steps (Some n) = n
+-- the given steps, or those of a search that is told no number of them
+abbrev pub given_steps : Option ℕ → ℕ
+given_steps None = untold_steps
+given_steps (Some n) = n
 
--- a tree that was searched for no more than so many steps: its depth is at most 8,256, its shut leaves are settled against the
+-- a tree that was searched for no more than so many steps: its depth is within the limit, its shut leaves are settled against the
 -- best point's cost, and the certificate of a claim that is read off it is valid
 pub record IsSearched (b : BlockedProgram) (most : ℕ) (g : GroveState) (best : Option (List ℤ)) (claim : Claim) : Type 0 where
   pub standing : IsStanding g
@@ -64,11 +64,11 @@ EndsWithin b most (Budget g best bound) = IsOutOfSteps b most g best bound
 
 -- an outcome of a program in blocks and the given steps
 abbrev pub IsOutcome : BlockedProgram → Option ℕ → Outcome → Type 0
-IsOutcome b given outcome = EndsWithin b (most_steps given) outcome
+IsOutcome b given outcome = EndsWithin b (given_steps given) outcome
 
 -- the steps at which a search stops that goes on from a tree: those of the tree, and the given ones
 abbrev pub last_step : GroveState → Option ℕ → ℕ
-last_step g given = steps (certificate_tree g.tree) + most_steps given
+last_step g given = steps (certificate_tree g.tree) + given_steps given
 
 -- the grove of an outcome, and its best point
 abbrev pub grove_in : Outcome → GroveState

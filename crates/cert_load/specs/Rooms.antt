@@ -17,7 +17,7 @@ rooms (live proof bound) deep zone = (deep + zone_bits zone) ∷ []
 rooms (shut proof) deep zone = 0 ∷ []
 rooms (fork v at low high) deep zone = 0 ∷ (rooms low (deep + 1) (low_part zone v at) ++ rooms high (deep + 1) (high_part zone v at))
 
--- the line of the first of these rooms that is above 8,256, where the first room's line has this number
+-- the line of the first of these rooms that is above the greatest depth, where the first room's line has this number
 pub record IsFirstDeep (sizes : List ℕ) (first line : ℕ) : Type 0 where
   pub place : ℕ
   pub there : place < length sizes
@@ -36,7 +36,7 @@ IsLeaf (live proof bound) = Unit {0}
 IsLeaf (shut proof) = Unit {0}
 IsLeaf (fork v at low high) = ⊥
 
--- what was found of rooms: none above 8,256, or the line of the first that is
+-- what was found of rooms: none above the greatest depth, or the line of the first that is
 abbrev pub FindsDeep : List ℕ → (first : ℕ) → Option ℕ → Type 0
 FindsDeep sizes first None = (k : ℕ) → slice_index_or sizes k 0 ≤ greatest_depth
 FindsDeep sizes first (Some line) = IsFirstDeep sizes first line

@@ -26,7 +26,7 @@ made_files seed size (byte ∷ name) = Some (dec_text size)
 abbrev pub MadeCome : (seed size : ℕ) → Front → Type 0
 MadeCome seed size front = FilesCome (made_files seed size) [] (Some (0 ∷ [])) front
 
--- what a program in blocks is answered by `demo`: the outcome of a search of 2,000 steps, which is kept, and that its certificate is accepted
+-- what a program in blocks is answered by `demo`: the outcome of a search of the demonstration's steps, which is kept, and that its certificate is accepted
 pub record DemosBlocked (seed size : ℕ) (kept : Option Outcome) (b : BlockedProgram) (status : ℕ) (report : List ℕ) : Type 0 where
   pub outcome : Outcome
   pub is_kept : kept ≡ Some outcome

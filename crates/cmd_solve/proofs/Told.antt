@@ -7,7 +7,7 @@ use Rattle.search_laws.specs.declared.Side.{Side}
 use Rattle.search_laws.specs.Grove.{GrowingTree, certificate_tree}
 use Rattle.branch_tree.specs.declared.loaded.Loaded.{Loaded}
 use Rattle.branch_tree.specs.declared.outcome.Outcome.{Outcome}
-use Rattle.bp_search.specs.Ends.{EndsWithin, most_steps}
+use Rattle.bp_search.specs.Ends.{EndsWithin, given_steps}
 use Rattle.bp_search.specs.Below.{EndsBelow, steps_in}
 use Rattle.bp_report.specs.Report.{solve_report}
 use Rattle.bp_front.specs.Answers.{AnswersBy, IsOnly, CutsOff}
@@ -21,12 +21,12 @@ one_outcome o p e = cc
 -- an outcome of a search has its steps
 pub within_on : (b : BlockedProgram) (start : GrowingTree) (below : Option (List Side)) (given : Option ℕ) (o : Outcome) (told : Option ℕ) → EndsOn b start below given o told
     → (most : ℕ) × EndsWithin b most o
-within_on b start None given o told ends = (steps (certificate_tree start) + most_steps given, ends.0)
+within_on b start None given o told ends = (steps (certificate_tree start) + given_steps given, ends.0)
 within_on b start (Some path) given o told ends = (steps_in o, ends.0.ends)
 
 pub within_at : (b : BlockedProgram) (from : Option Loaded) (below : Option (List Side)) (given : Option ℕ) (o : Outcome) (told : Option ℕ) → EndsAt b from below given o told
     → (most : ℕ) × EndsWithin b most o
-within_at b None below given o told ends = (most_steps given, ends.0)
+within_at b None below given o told ends = (given_steps given, ends.0)
 within_at b (Some from) below given o told ends = within_on b from.grove.tree below given o told ends
 
 -- what is told of an outcome
@@ -37,24 +37,24 @@ solves_within b most given told o kept status report ends same tells = record {
   is_kept = tells.is_kept;
   is_outcome = ends;
   has_status = tells.has_status;
-  has_report = tells.has_report ∙ ap (λ (n : Option ℕ). solve_report b.named (most_steps n) o) same;
+  has_report = tells.has_report ∙ ap (λ (n : Option ℕ). solve_report b.named (given_steps n) o) same;
 }
 
 pub solves_on : (b : BlockedProgram) (start : GrowingTree) (below : Option (List Side)) (given : Option ℕ) (o : Outcome) (told : Option ℕ) (kept : Option Outcome) (status : ℕ) (report : List ℕ)
     → EndsOn b start below given o told → TellsOf b told o kept status report → SolvesOn start below given kept b status report
 solves_on b start None given o told kept status report ends tells =
-    solves_within b (steps (certificate_tree start) + most_steps given) given told o kept status report ends.0 ends.1 tells
+    solves_within b (steps (certificate_tree start) + given_steps given) given told o kept status report ends.0 ends.1 tells
 solves_on b start (Some path) given o told kept status report ends tells = record {
   outcome = o;
   is_kept = tells.is_kept;
   is_outcome = ends.0;
   has_status = tells.has_status;
-  has_report = tells.has_report ∙ ap (λ (n : Option ℕ). solve_report b.named (most_steps n) o) ends.1;
+  has_report = tells.has_report ∙ ap (λ (n : Option ℕ). solve_report b.named (given_steps n) o) ends.1;
 }
 
 pub solves_at : (b : BlockedProgram) (from : Option Loaded) (below : Option (List Side)) (given : Option ℕ) (o : Outcome) (told : Option ℕ) (kept : Option Outcome) (status : ℕ) (report : List ℕ)
     → EndsAt b from below given o told → TellsOf b told o kept status report → SolvesAt from below given kept b status report
-solves_at b None below given o told kept status report ends tells = solves_within b (most_steps given) given told o kept status report ends.0 ends.1 tells
+solves_at b None below given o told kept status report ends tells = solves_within b (given_steps given) given told o kept status report ends.0 ends.1 tells
 solves_at b (Some from) below given o told kept status report ends tells = solves_on b from.grove.tree below given o told kept status report ends tells
 
 pub answers_at : (b : BlockedProgram) (from : Option Loaded) (below : Option (List Side)) (given : Option ℕ) (o : Outcome) (told : Option ℕ) (kept : Option Outcome) (status : ℕ) (heard : Bool)
@@ -85,7 +85,7 @@ status_at b None below given kept meant report right = (right.outcome, right.is_
 status_at b (Some from) below given kept meant report right = status_on b from.grove.tree below given kept meant report right
 
 told_again : (b : BlockedProgram) (o : Outcome) (told : Option ℕ) (kept : Option Outcome) (meant : ℕ) → (kept ≡ None) ⊎ (kept ≡ Some o) → HasStatusOf kept meant
-    → TellsOf b told o kept meant (solve_report b.named (most_steps told) o)
+    → TellsOf b told o kept meant (solve_report b.named (given_steps told) o)
 told_again b o told kept meant (inl none) has = let e = sym none ∙ has.1 in absurd (cc)
 told_again b o told kept meant (inr same) has =
     let one : has.0 ≡ o = one_outcome has.0 o (sym has.1 ∙ same) in
@@ -95,7 +95,7 @@ told_again b o told kept meant (inr same) has =
 pub only_at : (b : BlockedProgram) (from : Option Loaded) (below : Option (List Side)) (given : Option ℕ) (o : Outcome) (told : Option ℕ) (kept : Option Outcome) (status : ℕ)
     → (kept ≡ None) ⊎ (kept ≡ Some o) → IsOnly (TellsOf b told o kept) status → IsOnly (SolvesAt from below given kept b) status
 only_at b from below given o told kept status is only = λ no_read no_write no_want meant report right.
-    only no_read no_write no_want meant (solve_report b.named (most_steps told) o)
+    only no_read no_write no_want meant (solve_report b.named (given_steps told) o)
     (told_again b o told kept meant is (status_at b from below given kept meant report right))
 
 -- the certificate of an outcome is what its search left

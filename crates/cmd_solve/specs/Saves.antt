@@ -7,7 +7,7 @@ use Rattle.branch_tree.specs.declared.loaded.Loaded.{Loaded}
 use Rattle.bp_theory.specs.Trees.{steps}
 use Rattle.search_laws.specs.declared.Side.{Side}
 use Rattle.search_laws.specs.Grove.{GrowingTree, certificate_tree}
-use Rattle.bp_search.specs.Ends.{EndsWithin, most_steps}
+use Rattle.bp_search.specs.Ends.{EndsWithin, given_steps}
 use Rattle.bp_search.specs.Below.{EndsBelow}
 use Rattle.bp_report.specs.Report.{solve_report}
 use Rattle.bp_front.specs.Front.{FilesCome, blocked, ends}
@@ -19,12 +19,12 @@ use Rattle.cmd_solve.specs.Solves.{IsSpelledOut, outcome_status}
 pub record TellsOf (b : BlockedProgram) (told : Option ℕ) (outcome : Outcome) (kept : Option Outcome) (status : ℕ) (report : List ℕ) : Type 0 where
   pub is_kept : kept ≡ Some outcome
   pub has_status : status ≡ outcome_status outcome
-  pub has_report : report ≡ solve_report b.named (most_steps told) outcome
+  pub has_report : report ≡ solve_report b.named (given_steps told) outcome
 
 -- the report on an outcome of a search of so many steps, with its status
 pub record IsSolved (b : BlockedProgram) (steps : Option ℕ) (outcome : Outcome) (reply : Reply) : Type 0 where
   pub ended : reply.status ≡ outcome_status outcome
-  pub told : reply.report.items ≡ solve_report b.named (most_steps steps) outcome
+  pub told : reply.report.items ≡ solve_report b.named (given_steps steps) outcome
 
 -- the file for a certificate, where one is named, spells the certificate of an outcome, and it is valid
 abbrev pub IsSaved : BlockedProgram → Outcome → Option (List ℕ) → Files → Type 0
@@ -51,12 +51,12 @@ LeavesBelow start path given cert files b = (outcome : Outcome) × EndsBelow b s
 
 -- the same of a search that goes on from a tree, everywhere in it or at a path and below it alone
 abbrev pub LeavesOn : (start : GrowingTree) → (below : Option (List Side)) → (given : Option ℕ) → Option (List ℕ) → Files → BlockedProgram → Type 0
-LeavesOn start None given cert files b = LeavesBlocked (steps (certificate_tree start) + most_steps given) cert files b
+LeavesOn start None given cert files b = LeavesBlocked (steps (certificate_tree start) + given_steps given) cert files b
 LeavesOn start (Some path) given cert files b = LeavesBelow start path given cert files b
 
 -- the same of a search from a tree that was loaded, or from the start
 abbrev pub LeavesAt : Option Loaded → (below : Option (List Side)) → (given : Option ℕ) → Option (List ℕ) → Files → BlockedProgram → Type 0
-LeavesAt None below given cert files b = LeavesBlocked (most_steps given) cert files b
+LeavesAt None below given cert files b = LeavesBlocked (given_steps given) cert files b
 LeavesAt (Some from) below given cert files b = LeavesOn from.grove.tree below given cert files b
 
 -- the same of a search that goes on from a named file; where the file is no start nothing is written
@@ -68,7 +68,7 @@ pub data LeavesFrom (before : Files) (name : List ℕ) (leaf : Option ℕ) (give
 
 -- the same of a search from a named file or from the start
 abbrev pub LeavesBy : (before : Files) → (from : Option (List ℕ)) → (leaf : Option ℕ) → (given : Option ℕ) → (cert : Option (List ℕ)) → (now : Files) → BlockedProgram → Type 0
-LeavesBy before None leaf given cert now b = LeavesBlocked (most_steps given) cert now b
+LeavesBy before None leaf given cert now b = LeavesBlocked (given_steps given) cert now b
 LeavesBy before (Some name) leaf given cert now b = LeavesFrom before name leaf given cert now b
 
 -- What stands where the report on the files could not be put: where they are refused, every file is as before, and where they come

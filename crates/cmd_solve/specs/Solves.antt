@@ -11,7 +11,7 @@ use Rattle.search_laws.specs.Outcomes.{read_off}
 use Rattle.branch_tree.specs.declared.outcome.Outcome.{Outcome}
 use Rattle.branch_tree.specs.declared.outcome.Outcome.TheVariants.{Optimal, Infeasible, Budget}
 use Rattle.branch_tree.specs.declared.loaded.Loaded.{Loaded}
-use Rattle.bp_search.specs.Ends.{EndsWithin, most_steps}
+use Rattle.bp_search.specs.Ends.{EndsWithin, given_steps}
 use Rattle.bp_search.specs.Below.{EndsBelow}
 use Rattle.cert_text.specs.Text.{Two}
 use Rattle.cert_text.specs.Fault.{IsText}
@@ -44,7 +44,7 @@ pub record SolvesBlocked (most : ℕ) (steps : Option ℕ) (kept : Option Outcom
   pub is_kept : kept ≡ Some outcome
   pub is_outcome : EndsWithin b most outcome
   pub has_status : status ≡ outcome_status outcome
-  pub has_report : report ≡ solve_report b.named (most_steps steps) outcome
+  pub has_report : report ≡ solve_report b.named (given_steps steps) outcome
 
 -- the same of a search that works only at a path of a tree and below it: the report tells the steps that were taken
 pub record SolvesBelow (start : GrowingTree) (path : List Side) (given : Option ℕ) (kept : Option Outcome) (b : BlockedProgram) (status : ℕ) (report : List ℕ) : Type 0 where
@@ -57,7 +57,7 @@ pub record SolvesBelow (start : GrowingTree) (path : List Side) (given : Option 
 -- what a program in blocks is answered by `solve` that goes on from a tree, with the given steps beside those of the tree: the
 -- outcome of a search of the whole tree, or of one at a path and below it alone
 abbrev pub SolvesOn : (start : GrowingTree) → (below : Option (List Side)) → (given : Option ℕ) → Option Outcome → BlockedProgram → (status : ℕ) → (report : List ℕ) → Type 0
-SolvesOn start None given kept b status report = SolvesBlocked (steps (certificate_tree start) + most_steps given) given kept b status report
+SolvesOn start None given kept b status report = SolvesBlocked (steps (certificate_tree start) + given_steps given) given kept b status report
 SolvesOn start (Some path) given kept b status report = SolvesBelow start path given kept b status report
 
 -- what a program in blocks is answered by `solve` that goes on from a named file: what `check` answers where the file isn't
@@ -72,12 +72,12 @@ pub data SolvesFrom (files : Files) (name : List ℕ) (leaf : Option ℕ) (given
 
 -- what a program in blocks is answered by `solve`, from a named file or from the start
 abbrev pub SolvesBy : Files → (from : Option (List ℕ)) → (leaf : Option ℕ) → (given : Option ℕ) → Option Outcome → BlockedProgram → (status : ℕ) → (report : List ℕ) → Type 0
-SolvesBy files None leaf given kept b status report = SolvesBlocked (most_steps given) given kept b status report
+SolvesBy files None leaf given kept b status report = SolvesBlocked (given_steps given) given kept b status report
 SolvesBy files (Some name) leaf given kept b status report = SolvesFrom files name leaf given kept b status report
 
 -- what a program in blocks is answered by `solve` from a tree that was loaded, or from the start
 abbrev pub SolvesAt : Option Loaded → (below : Option (List Side)) → (given : Option ℕ) → Option Outcome → BlockedProgram → (status : ℕ) → (report : List ℕ) → Type 0
-SolvesAt None below given kept b status report = SolvesBlocked (most_steps given) given kept b status report
+SolvesAt None below given kept b status report = SolvesBlocked (given_steps given) given kept b status report
 SolvesAt (Some from) below given kept b status report = SolvesOn from.grove.tree below given kept b status report
 
 -- what `solve` answers; nothing is kept where it is stopped

@@ -1,7 +1,7 @@
 use Rattle.std.proofs.Common.{◌≡◌, ◌+◌, ◌⊎◌, inl, inr, ⊎_elim, ℕ, arith}
 use Rattle.bp_theory.specs.Trees.{steps}
 use Rattle.search_laws.specs.Grove.{certificate_tree}
-use Rattle.bp_search.specs.Ends.{most_steps}
+use Rattle.bp_search.specs.Ends.{given_steps}
 use Rattle.bp_search.proofs.Final.{most_is}
 use Rattle.bp_search.proofs.Running.{running_of}
 use Rattle.bp_search.proofs.Beside.{ends_below}
@@ -13,7 +13,7 @@ take_steps_below-requires-clause-running c =
 
 pub returns-clause-ends : goal.returns-clause-ends
 returns-clause-ends c =
-    let last : c.count.result + c.unwrap_or.result ≡ steps (certificate_tree c.args.from.grove.tree) + most_steps c.args.steps =
+    let last : c.count.result + c.unwrap_or.result ≡ steps (certificate_tree c.args.from.grove.tree) + given_steps c.args.steps =
     omega (arith, c.count.ensures.count, c.unwrap_or.ensures, most_is c.args.steps) in
     ends_below c.args.b.now c.args.from.grove.tree c.args.below.now c.args.steps c.take_steps_below.new.grove c.conclude.result c.conclude.ensures.ends
     c.conclude.ensures.grove c.in_ok-take_steps_below.ensures.more (omega (arith, last, c.in_ok-take_steps_below.ensures.few))
