@@ -345,14 +345,6 @@ impl Lp {
         self.head.as_slice()
     }
 
-    /// Where a column, or behind them a logical, stands.
-    pub fn status(&self, variable: usize) -> Status {
-        match self.statuses.get(variable) {
-            Some(status) => *status,
-            None => Status::Lower,
-        }
-    }
-
     /// Multiples of rows that show that no values are within all ranges, where the last solution ended so.
     pub fn ray(&self) -> &[f64] {
         self.ray.as_slice()
