@@ -11,7 +11,7 @@ use search_price::SearchPricer;
 use state_price::StatePricer;
 use std::alloc::{AllocError, Global};
 
-/// How many arcs the graphs of a program's blocks may have together until no more are made.
+/// How many arcs it may take to make the graphs of a program's blocks, together, until no more are made.
 const MOST_ARCS: usize = 1 << 19;
 
 /// How many blocks are tried that no graph suits.
@@ -41,7 +41,7 @@ impl GraphRoom {
     // Spends what a graph that was tried took.
     fn spend(&mut self, made: &Option<StatePricer>) {
         match made {
-            Some(pricer) => self.arcs = self.arcs.saturating_sub(pricer.arcs()),
+            Some(pricer) => self.arcs = self.arcs.saturating_sub(pricer.made()),
             None => self.declined = self.declined.saturating_sub(1),
         }
     }

@@ -88,9 +88,12 @@ const SUM: Numbers = ([1, 1, 1], Sense::Le, [0, 2]);
 
 const STEEP: Numbers = ([1, -(1 << 20), 0], Sense::Le, [0, 0]);
 
+/// The row `2 a + 4 b + 3 c = 7`, which some numbers of `a` and `b` leave no `c` for.
+const ODD_SUM: Numbers = ([2, 4, 3], Sense::Eq, [7, 7]);
+
 const NEVER: Cap = Cap::Never;
 
-const KNOWN: [Known; 29] = [
+const KNOWN: [Known; 32] = [
     (
         Kind::Table,
         NEVER,
@@ -381,6 +384,36 @@ const KNOWN: [Known; 29] = [
         [0, 0, 0],
         Found::Declined,
     ),
+    (
+        Kind::Graph,
+        Cap::At(0),
+        [2, 1],
+        WHOLE,
+        [EVEN, NONE],
+        WHOLE,
+        [5, 4, 0],
+        Found::Answer(Priced::Nothing, [0, 0, 0]),
+    ),
+    (
+        Kind::Graph,
+        Cap::At(0),
+        [2, 1],
+        WHOLE,
+        [TEN, NONE],
+        WHOLE,
+        [5, 4, 0],
+        Found::Answer(Priced::Least(18), [2, 2, 0]),
+    ),
+    (
+        Kind::Graph,
+        Cap::At(0),
+        [3, 1],
+        THREE,
+        [ODD_SUM, NONE],
+        THREE,
+        [5, 4, 1],
+        Found::Answer(Priced::Least(5), [0, 1, 1]),
+    ),
 ];
 
 // The problem of these numbers.
@@ -407,7 +440,7 @@ fn is_wanted(found: &Found, wanted: &Found) -> bool {
 // The place of a problem with another answer than the wanted one.
 fn wrong(alloc: Global) -> Result<Option<usize>, AllocError> {
     let mut wrong = None;
-    for place in 0..29 {
+    for place in 0..32 {
         let known = KNOWN[place];
         let found = asked(alloc, known.0, &problem_of(&known), known.1)?;
         if !is_wanted(&found, &known.7) {

@@ -9,3 +9,4 @@ pub mod ColumnLaws
 pub mod BlockLaws
 pub mod TwinLaws
 pub mod LayerLaws
+pub mod MergeLaws

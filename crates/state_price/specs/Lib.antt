@@ -7,3 +7,4 @@ pub mod Best
 pub mod Kept
 pub mod Columns
 pub mod Rooms
+pub mod Merges

@@ -1,5 +1,5 @@
 // The graph of a block.
-ghost use Rattle.std.specs.Prelude.{◌≡◌, ◌≤◌, ◌^◌, ◌↔◌, pos, All, IfOk, IfSome, IsTrue, length, vec_len};
+ghost use Rattle.std.specs.Prelude.{◌≡◌, ◌≤◌, ◌^◌, ◌↔◌, ℕ, pos, All, IfOk, IfSome, IsTrue, length, vec_len};
 ghost use Rattle.bp_theory.specs.Program.{IsWithin};
 ghost use Rattle.pricing.specs.Form.{IsForm, HasShortEnds};
 ghost use Rattle.state_price.specs.Graphs.{IsGraphOf};
@@ -10,6 +10,7 @@ use crate::columns::layers_of;
 use crate::expand::{Frontier, MOST_STATES, expand};
 use crate::graph::Graph;
 use crate::layers::Layer;
+use crate::merge::merge;
 use crate::root::root_of;
 use bp_theory::{Items, Row, Span};
 use std::alloc::{AllocError, Global};
@@ -48,6 +49,7 @@ fn are_ends(states: &Vec<Items<Span>>) -> bool
 fn larger(a: usize, b: usize) -> usize
     ensures first { a ≤ result }
     ensures second { b ≤ result }
+    ensures least { (n : ℕ) → a ≤ n → b ≤ n → result ≤ n }
 {
     if a < b { b } else { a }
 }
@@ -64,10 +66,12 @@ fn graph_of(alloc: Global, layers: &[Layer], root: Items<Span>) -> Result<Option
     requires layers { AreLayers (length root) layers.now }
     requires short { All (λ l. HasShortEnds l.span) layers.now }
     ensures many { IfOk result (λ made. IfSome made (λ g. vec_len g.steps ≡ length layers.now)) }
+    ensures narrow { IfOk result (λ made. IfSome made (λ g. g.wide ≤ 2 ^ 20)) }
     ensures right { IfOk result (λ made. IfSome made
         (λ g. IsRight layers.now root g.steps.items 0)) }
 {
-    let mut room = room_for(root.len());
+    let whole = room_for(root.len());
+    let mut room = whole;
     let mut states = Vec::new(alloc);
     states.push(root)?;
     let mut steps = Vec::new(alloc);
@@ -83,13 +87,37 @@ fn graph_of(alloc: Global, layers: &[Layer], root: Items<Span>) -> Result<Option
             None => return Ok(None),
         }
     }
-    if wide.saturating_mul(layers.len()) > MOST_CELLS {
-        return Ok(None);
-    }
     if !are_ends(&states) {
         return Ok(None);
     }
-    Ok(Some(Graph { steps, wide }))
+    let made = whole.saturating_sub(room);
+    Ok(Some(Graph { steps, wide, made }))
+}
+
+/// The graph of layers from a first state on, with its nodes merged from behind; none where it then has too many.
+fn merged_of(
+    alloc: Global,
+    layers: &[Layer],
+    root: Items<Span>,
+) -> Result<Option<Graph>, AllocError>
+    requires layers { AreLayers (length root) layers.now }
+    requires short { All (λ l. HasShortEnds l.span) layers.now }
+    ensures many { IfOk result (λ made. IfSome made (λ g. vec_len g.steps ≡ length layers.now)) }
+    ensures right { IfOk result (λ made. IfSome made
+        (λ g. IsRight layers.now root g.steps.items 0)) }
+{
+    let graph = match graph_of(alloc, layers, root)? {
+        Some(graph) => graph,
+        None => return Ok(None),
+    };
+    let merged = match merge(alloc, graph)? {
+        Some(merged) => merged,
+        None => return Ok(None),
+    };
+    if merged.wide.saturating_mul(layers.len()) > MOST_CELLS {
+        return Ok(None);
+    }
+    Ok(Some(merged))
 }
 
 /// The graph whose ways are the points of rows within spans; none where the limits don't allow it.
@@ -104,7 +132,7 @@ pub fn build(alloc: Global, rows: &[Row], spans: &[Span]) -> Result<Option<Graph
         None => return Ok(None),
     };
     let root = root_of(alloc, rows, layers.hulls.as_slice())?;
-    match graph_of(alloc, layers.layers.as_slice(), root)? {
+    match merged_of(alloc, layers.layers.as_slice(), root)? {
         Some(graph) => Ok(Some(graph)),
         None => Ok(None),
     }

@@ -12,12 +12,13 @@ pub struct Arc {
     pub label: Span,
 }
 
-/// The arcs of each layer, and one more than the greatest number of a node in a layer. Node 0 of the first layer is the
-/// root; each node behind the last layer is an end.
+/// The arcs of each layer, a number above those of the nodes of each layer, and how many arcs there were before nodes were
+/// merged. Node 0 of the first layer is the root; each node behind the last layer is an end.
 #[derive(Drop)]
 pub struct Graph {
     pub steps: Vec<Items<Arc>>,
     pub wide: usize,
+    pub made: usize,
     ghost rooted: { 0 < wide },
     ghost safe: { IsSafe wide steps.items },
 }

@@ -36,8 +36,8 @@ impl StatePricer {
 
     /// The pricer of a block, if its graph keeps the limits: at most 2^18 arcs and 2^22 windows that they lead to
     /// (arcs times rows), at most 2^22 windows in the states of a layer, at most 2^21 nodes if each layer had as many as the
-    /// widest, at most 2^20 coefficients with zeros counted, and at most 4,096 numbers of a variable. So it holds at most
-    /// 32 MiB, and while it is made at most 200 MiB.
+    /// widest once nodes with the same arcs are one, at most 2^20 coefficients with zeros counted, and at most 4,096 numbers
+    /// of a variable. So it holds at most 32 MiB, and while it is made at most 200 MiB.
     pub fn make(alloc: Global, block: &Block) -> Result<Option<StatePricer>, AllocError>
         requires { IsForm block.now.block.rows block.now.spans }
         ensures { IfOk result (λ made. IfSome made
@@ -60,13 +60,18 @@ impl StatePricer {
         }))
     }
 
-    /// How many arcs its graph has: what it took to make it, and what a price takes.
+    /// How many arcs its graph has, which is what a price takes.
     pub fn arcs(&self) -> usize {
         let mut many: usize = 0;
         for step in self.graph.steps.as_slice() {
             many = many.saturating_add(step.len());
         }
         many
+    }
+
+    /// How many arcs it took to make its graph, before nodes with the same arcs became one.
+    pub fn made(&self) -> usize {
+        self.graph.made
     }
 }
 

@@ -74,7 +74,7 @@ pub fn place_at(hash: u64, step: usize, count: usize) -> usize
 }
 
 /// Puts a state's number into the first empty place from its hash, if one is near.
-fn note(places: &mut Vec<usize>, hash: u64, number: usize)
+pub fn note(places: &mut Vec<usize>, hash: u64, number: usize)
     requires { 0 < vec_len places.old }
     ensures { vec_len places.new ≡ vec_len places.old }
 {

@@ -10,8 +10,8 @@ use Rattle.state_price.specs.declared.graph.Graph.{Graph}
 use Rattle.state_price.proofs.BlockLaws.{layers_short, block_graph}
 use Rattle.state_price.proofs.build.build.Goals as goal
 
-pub graph_of-requires-clause-short : goal.graph_of-requires-clause-short
-graph_of-requires-clause-short c =
+pub merged_of-requires-clause-short : goal.merged_of-requires-clause-short
+merged_of-requires-clause-short c =
     let layered : AreLayersOf c.args.rows.now c.args.spans.now c.in-Some.layers.layers.items c.in-Some.layers.hulls =
     subst (λ (o : Option Layers). IfSome o (λ (l : Layers). AreLayersOf c.args.rows.now c.args.spans.now l.layers.items l.hulls)) c.in-Some.is c.in_ok-layers.ensures in
     subst (λ (ls : List Layer). All (λ (l : Layer). HasShortEnds l.span) ls) (sym c.as_slice-2.ensures.value)

@@ -55,6 +55,8 @@ loop-layer-preserved c =
       few = omega (arith, same, c.into_list-states.result.ok.0, c.in-Some.field-0.states.list.ok.0, many);
       fits = omega (arith, c.larger-wide.ensures.second, c.len-in-Some.ensures);
       rooted = omega (arith, c.larger-wide.ensures.first, c.loop-layer.invariant.rooted);
+      narrow = c.larger-wide.ensures.least (2 ^ 20) c.loop-layer.invariant.narrow
+          (omega (arith, c.len-in-Some.ensures, same, c.into_list-states.result.ok.0, c.in-Some.field-0.states.list.ok.0, many));
       room = omega (arith, c.loop-layer.invariant.room);
       safe = subst (IsSafe c.larger-wide.result) (sym pushed)
           (graph_safe c.layer-item.result c.loop-layer.states.items c.in-Some.field-0.states.list.items c.in-Some.field-0.arcs c.loop-layer.steps.items c.loop-layer.wide c.larger-wide.result

@@ -11,6 +11,7 @@ invariant-loop-layer l = record {
   few : vec_len l.states ≤ 2 ^ 20;
   fits : vec_len l.states ≤ l.wide;
   rooted : 0 < l.wide;
+  narrow : l.wide ≤ 2 ^ 20;
   room : l.room ≤ 2 ^ 18;
   safe : IsSafe l.wide l.steps.items;
   right : (rest : List (List Arc)) → AreRight (drop l.layer-index l.layers) l.states.items rest → IsRight l.layers l.fn.root (l.steps.items ++ rest) 0;
