@@ -2,6 +2,7 @@ pub mod WindowLaws
 pub mod GraphLaws
 pub mod ExpandLaws
 pub mod BestLaws
+pub mod ShortLaws
 pub mod PassLaws
 pub mod WalkLaws
 pub mod PriceLaws

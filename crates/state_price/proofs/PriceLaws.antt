@@ -15,7 +15,7 @@ use Rattle.bp_theory.specs.declared.Row.{Row}
 use Rattle.pricing.specs.Form.{IsPriceable}
 use Rattle.pricing.specs.Priced.{IsCheapest, HasNoPoint}
 use Rattle.state_price.specs.Graphs.{IsGraphOf, IsFaithful, IsWay}
-use Rattle.state_price.specs.Best.{no_way, cell_at, way_of, AreLeast}
+use Rattle.state_price.specs.Best.{no_way, cell_at, way_of, IsLeastFrom, AreLeast}
 use Rattle.state_price.specs.declared.graph.Arc.{Arc}
 use Rattle.state_price.proofs.PassLaws.{leads_way}
 
@@ -75,3 +75,10 @@ price_some rows spans zone costs steps picks wide cells point v g p e f some lea
           reached = reached.value;
           least = below;
         }
+
+-- the least cost from the root alone
+pub root_least : (steps : List (List Arc)) (picks : List (List ℕ)) (zone : List Span) (costs : List ℤ) (v : ℤ) → IsLeastFrom steps picks zone costs 0 v → AreLeast steps picks zone costs 1 (v ∷ [])
+root_least steps picks zone costs v h node l = subst (λ n. IsLeastFrom steps picks zone costs n (cell_at (v ∷ []) n)) (sym (first node l)) h
+  where
+    first : (n : ℕ) → n < 1 → n ≡ 0
+    first n l = omega (arith, l)

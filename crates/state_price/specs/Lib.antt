@@ -4,6 +4,7 @@ pub mod Layers
 pub mod Graphs
 pub mod Expansions
 pub mod Best
+pub mod Short
 pub mod Kept
 pub mod Columns
 pub mod Rooms

@@ -7,6 +7,8 @@ use Rattle.state_price.specs.declared.pass.Work.{Work}
 pub record HasRoom (graph : Graph) (work : Work) : Type 0 where
   pub now : length work.now.items ≡ graph.wide
   pub next : length work.next.items ≡ graph.wide
+  pub short_now : length work.short_now.items ≡ graph.wide
+  pub short_next : length work.short_next.items ≡ graph.wide
   pub many : length work.picks.items ≡ length graph.steps.items
   pub picks : All (λ row. length row ≡ graph.wide) work.picks.items
   pub point : length work.point.items ≡ length graph.steps.items

@@ -16,11 +16,13 @@ use std::alloc::{AllocError, Global};
 /// The cell of a node without a way to the end.
 pub const NO_WAY: i128 = i128::MAX;
 
-/// The least costs of the nodes of a layer and of the next, the arcs that reach them, and a point.
+/// The least costs of the nodes of a layer and of the next, both also in 64 bits, the arcs that reach them, and a point.
 #[derive(Drop)]
 pub struct Work {
     pub now: Vec<i128>,
     pub next: Vec<i128>,
+    pub short_now: Vec<i64>,
+    pub short_next: Vec<i64>,
     pub picks: Vec<Picks>,
     pub point: Vec<i64>,
 }
@@ -48,7 +50,7 @@ fn high_end(label: &Span, span: &Span) -> i64
 }
 
 /// Whether a label has a number of a zone's span.
-fn is_open(label: &Span, span: &Span) -> bool
+pub fn is_open(label: &Span, span: &Span) -> bool
     ensures { IsTrue result ↔ IsOpen label.now span.now }
 {
     let lo = low_end(label, span);
@@ -226,6 +228,8 @@ impl Work {
         Ok(Work {
             now: Vec::from_elem(alloc, 0, graph.wide)?,
             next: Vec::from_elem(alloc, 0, graph.wide)?,
+            short_now: Vec::from_elem(alloc, 0, graph.wide)?,
+            short_next: Vec::from_elem(alloc, 0, graph.wide)?,
             picks: picks_of(alloc, layers, graph.wide)?,
             point: Vec::from_elem(alloc, 0, layers)?,
         })

@@ -5,12 +5,12 @@ ghost use Rattle.pricing.specs.Priced.{IsCheapest, HasNoPoint};
 ghost use Rattle.bp_theory.specs.declared.Span.{Span};
 ghost use Rattle.bp_theory.specs.declared.Row.{Row};
 ghost use Rattle.state_price.specs.Graphs.{IsFaithful};
-ghost use Rattle.state_price.specs.Best.{cell_at};
 ghost use Rattle.state_price.specs.Rooms.{HasRoom};
 
 use crate::build::build;
 use crate::graph::Graph;
-use crate::pass::{Work, has_way, pass};
+use crate::least::least_in;
+use crate::pass::{Work, has_way};
 use crate::walk::walk;
 use block_form::Block;
 use bp_theory::{Row, Span};
@@ -37,7 +37,7 @@ impl StatePricer {
     /// The pricer of a block, if its graph keeps the limits: at most 2^18 arcs and 2^22 windows that they lead to
     /// (arcs times rows), at most 2^22 windows in the states of a layer, at most 2^21 nodes if each layer had as many as the
     /// widest once nodes with the same arcs are one, at most 2^20 coefficients with zeros counted, and at most 4,096 numbers
-    /// of a variable. So it holds at most 32 MiB, and while it is made at most 200 MiB.
+    /// of a variable. So it holds at most 36 MiB, and while it is made at most 200 MiB.
     pub fn make(alloc: Global, block: &Block) -> Result<Option<StatePricer>, AllocError>
         requires { IsForm block.now.block.rows block.now.spans }
         ensures { IfOk result (λ made. IfSome made
@@ -75,14 +75,6 @@ impl StatePricer {
     }
 }
 
-/// The first cell.
-fn first_of(cells: &Vec<i128>) -> i128
-    requires { 0 < vec_len cells.now }
-    ensures { result ≡ cell_at cells.now.items 0 }
-{
-    cells[0]
-}
-
 /// The least cost of a way within a zone, if there is one, whose numbers the point then has.
 fn price_zone(graph: &Graph, work: &mut Work, zone: &[Span], costs: &[i128]) -> Option<i128>
     requires room { HasRoom graph.now work.old }
@@ -95,8 +87,7 @@ fn price_zone(graph: &Graph, work: &mut Work, zone: &[Span], costs: &[i128]) -> 
         MatchOption result (HasNoPoint rows zone.now)
         (λ v. IsCheapest rows zone.now costs.now work.new.point.items v) }
 {
-    pass(work, graph, zone, costs);
-    let least = first_of(&work.next);
+    let least = least_in(graph, work, zone, costs);
     if !has_way(&least) {
         return None;
     }

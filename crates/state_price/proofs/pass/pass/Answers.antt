@@ -33,6 +33,8 @@ loop-k-preserved c =
       room = record {
         now = ap (λ (zs : List ℤ). length zs) xs ∙ c.loop-k.invariant.room.next;
         next = omega (arith, len, c.relax_layer.ensures.cells, c.relax_layer.new.now.ok.0, c.loop-k.work.now.ok.0, was);
+        short_now = c.loop-k.invariant.room.short_now;
+        short_next = c.loop-k.invariant.room.short_next;
         many = length-set c.loop-k.work.picks.items (c.loop-k.k - 1) c.relax_layer.new.picks ∙ c.loop-k.invariant.room.many;
         picks = wide_rows c.loop-k.work.picks.items (c.loop-k.k - 1) c.args.graph.now.wide c.relax_layer.new.picks c.loop-k.invariant.room.picks
             (c.relax_layer.ensures.picks ∙ ap (λ (zs : List ℕ). length zs) (get_or_read c.loop-k.work.picks.items (c.loop-k.k - 1) c.index_mut.result.now (at c.loop-k.k (length c.loop-k.work.picks.items) c.loop-k-test.true (omega (arith, c.loop-k.auto.k, c.args.graph.now.steps.ok.0, c.loop-k.invariant.room.many))) c.index_mut.ensures.value [])

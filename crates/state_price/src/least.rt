@@ -1,0 +1,56 @@
+// The least cost of a way within a zone, by the pass that the costs allow.
+ghost use Rattle.std.specs.Prelude.{◌≡◌, ◌<◌, ◌≤◌, ◌^◌, length, vec_len};
+ghost use Rattle.pricing.specs.Form.{cost_size};
+ghost use Rattle.state_price.specs.Best.{cell_at, IsLeastFrom};
+ghost use Rattle.state_price.specs.Short.{widened};
+ghost use Rattle.state_price.specs.Rooms.{HasRoom};
+
+use crate::graph::Graph;
+use crate::pass::{NO_WAY, Work, pass};
+use crate::short::{are_short, has_short_way, short_pass};
+use bp_theory::Span;
+
+/// The first cell.
+fn first_of(cells: &Vec<i128>) -> i128
+    requires { 0 < vec_len cells.now }
+    ensures { result ≡ cell_at cells.now.items 0 }
+{
+    cells[0]
+}
+
+/// A number in 128 bits.
+fn widened_of(number: &i64) -> i128
+    ensures { result ≡ number.now }
+{
+    i128::from(*number)
+}
+
+/// What the first cell of 64 bits says.
+fn first_widened(cells: &Vec<i64>) -> i128
+    requires { 0 < vec_len cells.now }
+    ensures { result ≡ cell_at (widened cells.now.items) 0 }
+{
+    let cell = &cells[0];
+    if !has_short_way(cell) {
+        return NO_WAY;
+    }
+    widened_of(cell)
+}
+
+/// The least cost of a way within a zone, which the picks then lead, or that of no way: in 64 bits where that is enough.
+pub fn least_in(graph: &Graph, work: &mut Work, zone: &[Span], costs: &[i128]) -> i128
+    requires room { HasRoom graph.now work.old }
+    requires zone { length zone.now ≡ vec_len graph.now.steps }
+    requires costs { length costs.now ≡ vec_len graph.now.steps }
+    requires sizes { cost_size zone.now costs.now ≤ 2 ^ 116 }
+    ensures room { HasRoom graph.now work.new }
+    ensures least { IsLeastFrom graph.now.steps.items work.new.picks.items zone.now costs.now 0
+        result }
+{
+    if are_short(zone, costs) {
+        short_pass(work, graph, zone, costs);
+        return first_widened(&work.short_next);
+    }
+    pass(work, graph, zone, costs);
+    first_of(&work.next)
+}
