@@ -19,12 +19,12 @@ pub enum Kind {
 }
 
 /// What a pricer answers: the block or the zone is none that it may be asked, it declines the block, or an answer with the
-/// point, of which the third number is 0 where there are two.
+/// point, which has 0 for each variable of four that is not there.
 #[derive(Clone, Copy, Debug, PartialEq, Eq)]
 pub enum Found {
     Unfit,
     Declined,
-    Answer(Priced, [i64; 3]),
+    Answer(Priced, [i64; 4]),
 }
 
 /// What a pricer answers to a problem.
@@ -114,7 +114,10 @@ fn with_point(answer: Priced, point: &[i64], vars: usize) -> Found {
     if point.len() != vars {
         return Found::Unfit;
     }
-    Found::Answer(answer, [at(point, 0), at(point, 1), at(point, 2)])
+    Found::Answer(
+        answer,
+        [at(point, 0), at(point, 1), at(point, 2), at(point, 3)],
+    )
 }
 
 // The number at a place, 0 where there is none.

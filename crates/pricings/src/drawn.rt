@@ -1,10 +1,14 @@
-// Problems of three variables that a simple generator draws.
+// Problems of at most four variables and three rows that a simple generator draws.
 use crate::ask::Kind;
-use crate::problem::{Line, Problem};
+use crate::problem::{Line, Problem, ZERO};
 use crate::tried::agrees;
 use bp_theory::{Sense, Span};
 use pricing::Cap;
+use std::alloc::{AllocError, Global};
 use std::test::Fail;
+
+/// How many problems are drawn for each pricer.
+const DRAWN: u32 = 2000;
 
 // The next number of the generator.
 fn draw(seed: &mut u64) -> u64 {
@@ -34,9 +38,14 @@ fn draw_sense(seed: &mut u64) -> Sense {
     }
 }
 
-// A row; one without terms and one whose lower side is above the upper come too.
-fn draw_line(seed: &mut u64) -> Line {
-    let coefs = [draw_coef(seed), draw_coef(seed), draw_coef(seed)];
+// A row of so many variables; one without terms and one whose lower side is above the upper come too.
+fn draw_line(seed: &mut u64, vars: usize) -> Line {
+    let mut coefs = [0; 4];
+    for k in 0..4 {
+        if k < vars {
+            coefs[k] = draw_coef(seed);
+        }
+    }
     let sense = draw_sense(seed);
     let rhs = draw_side(seed);
     let other = draw_side(seed);
@@ -75,19 +84,26 @@ fn draw_cost(seed: &mut u64) -> i128 {
     (draw(seed) % 19) as i128 - 9
 }
 
-// A problem of one row or of three.
-fn draw_problem(seed: &mut u64) -> Problem {
-    let root = [draw_span(seed), draw_span(seed), draw_span(seed)];
-    let lines = [draw_line(seed), draw_line(seed), draw_line(seed)];
-    let rows = if draw(seed) % 2 == 0 { 1 } else { 3 };
-    let zone = [
-        draw_part(seed, &root[0]),
-        draw_part(seed, &root[1]),
-        draw_part(seed, &root[2]),
+// A problem of one to four variables, with so many of three rows.
+fn draw_problem(seed: &mut u64, rows: usize) -> Problem {
+    let vars = 1 + (draw(seed) % 4) as usize;
+    let lines = [
+        draw_line(seed, vars),
+        draw_line(seed, vars),
+        draw_line(seed, vars),
     ];
-    let costs = [draw_cost(seed), draw_cost(seed), draw_cost(seed)];
+    let mut root = [ZERO; 4];
+    let mut zone = [ZERO; 4];
+    let mut costs = [0; 4];
+    for k in 0..4 {
+        if k < vars {
+            root[k] = draw_span(seed);
+            zone[k] = draw_part(seed, &root[k]);
+            costs[k] = draw_cost(seed);
+        }
+    }
     Problem {
-        vars: 3,
+        vars,
         rows,
         root,
         lines,
@@ -96,40 +112,54 @@ fn draw_problem(seed: &mut u64) -> Problem {
     }
 }
 
-#[test]
-fn all_points_tried_give_the_same(rt: HostRuntime) -> Result<(), Fail> {
-    let alloc = rt.alloc();
+// Gives each row the first one's coefficients of the variables behind the second, and so the same sums there.
+fn join(problem: &mut Problem) {
+    let coefs = problem.lines[0].coefs;
+    for k in 1..3 {
+        problem.lines[k].coefs[2] = coefs[2];
+        problem.lines[k].coefs[3] = coefs[3];
+    }
+}
+
+// How many rows there are: a table takes one, the others none to three.
+fn draw_rows(seed: &mut u64, kind: Kind) -> usize {
+    match kind {
+        Kind::Table => 1,
+        Kind::Graph | Kind::Search => (draw(seed) % 4) as usize,
+    }
+}
+
+// The last drawn problem to which a pricer answers otherwise than all points tried. In every second one the rows are joined.
+fn last_wrong(alloc: Global, kind: Kind, cap: Cap) -> Result<Option<u32>, AllocError> {
     let mut seed = 7;
     let mut wrong = None;
-    for number in 0..500u32 {
-        if !agrees(alloc, Kind::Graph, &draw_problem(&mut seed), Cap::At(0))? {
+    for number in 0..DRAWN {
+        let rows = draw_rows(&mut seed, kind);
+        let mut problem = draw_problem(&mut seed, rows);
+        if number % 2 == 1 {
+            join(&mut problem);
+        }
+        if !agrees(alloc, kind, &problem, cap)? {
             wrong = Some(number);
         }
     }
-    assert_eq!(rt; wrong, None);
+    Ok(wrong)
+}
+
+#[test]
+fn tables_answer_what_all_points_tried_give(rt: HostRuntime) -> Result<(), Fail> {
+    assert_eq!(rt; last_wrong(rt.alloc(), Kind::Table, Cap::Never)?, None);
     Ok(())
 }
 
-// A problem of three rows with one coefficient of the last variable, and so with the same sums behind the second one.
-fn draw_hub(seed: &mut u64) -> Problem {
-    let mut problem = draw_problem(seed);
-    let coef = problem.lines[0].coefs[2];
-    problem.lines[1].coefs[2] = coef;
-    problem.lines[2].coefs[2] = coef;
-    problem.rows = 3;
-    problem
+#[test]
+fn graphs_answer_what_all_points_tried_give(rt: HostRuntime) -> Result<(), Fail> {
+    assert_eq!(rt; last_wrong(rt.alloc(), Kind::Graph, Cap::At(0))?, None);
+    Ok(())
 }
 
 #[test]
-fn all_points_tried_give_the_same_with_a_hub(rt: HostRuntime) -> Result<(), Fail> {
-    let alloc = rt.alloc();
-    let mut seed = 11;
-    let mut wrong = None;
-    for number in 0..500u32 {
-        if !agrees(alloc, Kind::Graph, &draw_hub(&mut seed), Cap::Never)? {
-            wrong = Some(number);
-        }
-    }
-    assert_eq!(rt; wrong, None);
+fn searches_answer_what_all_points_tried_give(rt: HostRuntime) -> Result<(), Fail> {
+    assert_eq!(rt; last_wrong(rt.alloc(), Kind::Search, Cap::Never)?, None);
     Ok(())
 }

@@ -102,7 +102,7 @@ const KNOWN: [Known; 32] = [
         [BETWEEN, NONE],
         WHOLE,
         [5, 4, 0],
-        Found::Answer(Priced::Least(4), [0, 1, 0]),
+        Found::Answer(Priced::Least(4), [0, 1, 0, 0]),
     ),
     (
         Kind::Table,
@@ -112,7 +112,7 @@ const KNOWN: [Known; 32] = [
         [SEVEN, NONE],
         WHOLE,
         [5, 4, 0],
-        Found::Answer(Priced::Least(13), [1, 2, 0]),
+        Found::Answer(Priced::Least(13), [1, 2, 0, 0]),
     ),
     (
         Kind::Table,
@@ -122,7 +122,7 @@ const KNOWN: [Known; 32] = [
         [ONE, NONE],
         WHOLE,
         [5, 4, 0],
-        Found::Answer(Priced::Nothing, [0, 0, 0]),
+        Found::Answer(Priced::Nothing, [0, 0, 0, 0]),
     ),
     (
         Kind::Table,
@@ -132,7 +132,7 @@ const KNOWN: [Known; 32] = [
         [SIX, NONE],
         WHOLE,
         [-5, -4, 0],
-        Found::Answer(Priced::Least(-10), [2, 0, 0]),
+        Found::Answer(Priced::Least(-10), [2, 0, 0, 0]),
     ),
     (
         Kind::Table,
@@ -142,7 +142,7 @@ const KNOWN: [Known; 32] = [
         [SIX, NONE],
         LOW,
         [-5, -4, 0],
-        Found::Answer(Priced::Least(-9), [1, 1, 0]),
+        Found::Answer(Priced::Least(-9), [1, 1, 0, 0]),
     ),
     (
         Kind::Table,
@@ -152,7 +152,7 @@ const KNOWN: [Known; 32] = [
         [SIX, NONE],
         HIGH,
         [-5, -4, 0],
-        Found::Answer(Priced::Nothing, [0, 0, 0]),
+        Found::Answer(Priced::Nothing, [0, 0, 0, 0]),
     ),
     (
         Kind::Table,
@@ -182,7 +182,7 @@ const KNOWN: [Known; 32] = [
         [BETWEEN, NONE],
         WHOLE,
         [5, 4, 0],
-        Found::Answer(Priced::Least(4), [0, 1, 0]),
+        Found::Answer(Priced::Least(4), [0, 1, 0, 0]),
     ),
     (
         Kind::Search,
@@ -192,7 +192,7 @@ const KNOWN: [Known; 32] = [
         [SEVEN, NONE],
         WHOLE,
         [5, 4, 0],
-        Found::Answer(Priced::Least(13), [1, 2, 0]),
+        Found::Answer(Priced::Least(13), [1, 2, 0, 0]),
     ),
     (
         Kind::Search,
@@ -202,7 +202,7 @@ const KNOWN: [Known; 32] = [
         [ONE, NONE],
         WHOLE,
         [5, 4, 0],
-        Found::Answer(Priced::Nothing, [0, 0, 0]),
+        Found::Answer(Priced::Nothing, [0, 0, 0, 0]),
     ),
     (
         Kind::Search,
@@ -212,7 +212,7 @@ const KNOWN: [Known; 32] = [
         [SIX, NONE],
         WHOLE,
         [-5, -4, 0],
-        Found::Answer(Priced::Least(-10), [2, 0, 0]),
+        Found::Answer(Priced::Least(-10), [2, 0, 0, 0]),
     ),
     (
         Kind::Search,
@@ -222,7 +222,7 @@ const KNOWN: [Known; 32] = [
         [SIX, NONE],
         LOW,
         [-5, -4, 0],
-        Found::Answer(Priced::Least(-9), [1, 1, 0]),
+        Found::Answer(Priced::Least(-9), [1, 1, 0, 0]),
     ),
     (
         Kind::Search,
@@ -232,7 +232,7 @@ const KNOWN: [Known; 32] = [
         [SIX, NONE],
         HIGH,
         [-5, -4, 0],
-        Found::Answer(Priced::Nothing, [0, 0, 0]),
+        Found::Answer(Priced::Nothing, [0, 0, 0, 0]),
     ),
     (
         Kind::Search,
@@ -242,7 +242,7 @@ const KNOWN: [Known; 32] = [
         [TEN, NONE],
         WHOLE,
         [5, 4, 0],
-        Found::Answer(Priced::Least(18), [2, 2, 0]),
+        Found::Answer(Priced::Least(18), [2, 2, 0, 0]),
     ),
     (
         Kind::Search,
@@ -252,7 +252,7 @@ const KNOWN: [Known; 32] = [
         [TEN, NONE],
         WHOLE,
         [5, 4, 0],
-        Found::Answer(Priced::Cut, [0, 0, 0]),
+        Found::Answer(Priced::Cut, [0, 0, 0, 0]),
     ),
     (
         Kind::Search,
@@ -262,7 +262,7 @@ const KNOWN: [Known; 32] = [
         [AT_LEAST, NONE],
         WIDE,
         [5, 4, 0],
-        Found::Answer(Priced::Least(13), [1, 2, 0]),
+        Found::Answer(Priced::Least(13), [1, 2, 0, 0]),
     ),
     (
         Kind::Search,
@@ -272,7 +272,7 @@ const KNOWN: [Known; 32] = [
         [ABOVE_NONE, BELOW_THREE],
         WIDE,
         [5, 4, 0],
-        Found::Answer(Priced::Cut, [0, 0, 0]),
+        Found::Answer(Priced::Cut, [0, 0, 0, 0]),
     ),
     (
         Kind::Search,
@@ -282,7 +282,7 @@ const KNOWN: [Known; 32] = [
         [EVEN, NONE],
         WIDE,
         [5, 4, 0],
-        Found::Answer(Priced::Nothing, [0, 0, 0]),
+        Found::Answer(Priced::Nothing, [0, 0, 0, 0]),
     ),
     (
         Kind::Search,
@@ -292,7 +292,7 @@ const KNOWN: [Known; 32] = [
         [ODD_GAP, NONE],
         VAST,
         [5, 4, 0],
-        Found::Answer(Priced::Nothing, [0, 0, 0]),
+        Found::Answer(Priced::Nothing, [0, 0, 0, 0]),
     ),
     (
         Kind::Search,
@@ -302,7 +302,7 @@ const KNOWN: [Known; 32] = [
         [SIX, ODD_BETWEEN],
         VAST,
         [5, 4, 0],
-        Found::Answer(Priced::Nothing, [0, 0, 0]),
+        Found::Answer(Priced::Nothing, [0, 0, 0, 0]),
     ),
     (
         Kind::Search,
@@ -312,7 +312,7 @@ const KNOWN: [Known; 32] = [
         [ODD_BELOW, NONE],
         VAST,
         [5, 4, 0],
-        Found::Answer(Priced::Nothing, [0, 0, 0]),
+        Found::Answer(Priced::Nothing, [0, 0, 0, 0]),
     ),
     (
         Kind::Search,
@@ -322,7 +322,7 @@ const KNOWN: [Known; 32] = [
         [THREE_BETWEEN, NONE],
         VAST,
         [5, 4, 0],
-        Found::Answer(Priced::Nothing, [0, 0, 0]),
+        Found::Answer(Priced::Nothing, [0, 0, 0, 0]),
     ),
     (
         Kind::Search,
@@ -332,7 +332,7 @@ const KNOWN: [Known; 32] = [
         [EVEN_GAP, NONE],
         VAST,
         [5, 4, 0],
-        Found::Answer(Priced::Least(5), [1, 0, 0]),
+        Found::Answer(Priced::Least(5), [1, 0, 0, 0]),
     ),
     (
         Kind::Search,
@@ -342,7 +342,7 @@ const KNOWN: [Known; 32] = [
         [ABOUT_FOUR, NONE],
         WHOLE,
         [5, 4, 0],
-        Found::Answer(Priced::Least(5), [1, 0, 0]),
+        Found::Answer(Priced::Least(5), [1, 0, 0, 0]),
     ),
     (
         Kind::Search,
@@ -352,7 +352,7 @@ const KNOWN: [Known; 32] = [
         [ABOUT_SIX, NONE],
         WHOLE,
         [5, 4, 0],
-        Found::Answer(Priced::Least(4), [0, 1, 0]),
+        Found::Answer(Priced::Least(4), [0, 1, 0, 0]),
     ),
     (
         Kind::Graph,
@@ -362,7 +362,7 @@ const KNOWN: [Known; 32] = [
         [ROOM, MORE],
         THREE,
         [-5, -4, -6],
-        Found::Answer(Priced::Least(-19), [3, 1, 0]),
+        Found::Answer(Priced::Least(-19), [3, 1, 0, 0]),
     ),
     (
         Kind::Graph,
@@ -372,7 +372,7 @@ const KNOWN: [Known; 32] = [
         [SUM, NONE],
         THREE,
         [-(1 << 114), 1, 0],
-        Found::Answer(Priced::Least(-(1 << 115)), [2, 0, 0]),
+        Found::Answer(Priced::Least(-(1 << 115)), [2, 0, 0, 0]),
     ),
     (
         Kind::Graph,
@@ -392,7 +392,7 @@ const KNOWN: [Known; 32] = [
         [EVEN, NONE],
         WHOLE,
         [5, 4, 0],
-        Found::Answer(Priced::Nothing, [0, 0, 0]),
+        Found::Answer(Priced::Nothing, [0, 0, 0, 0]),
     ),
     (
         Kind::Graph,
@@ -402,7 +402,7 @@ const KNOWN: [Known; 32] = [
         [TEN, NONE],
         WHOLE,
         [5, 4, 0],
-        Found::Answer(Priced::Least(18), [2, 2, 0]),
+        Found::Answer(Priced::Least(18), [2, 2, 0, 0]),
     ),
     (
         Kind::Graph,
@@ -412,7 +412,7 @@ const KNOWN: [Known; 32] = [
         [ODD_SUM, NONE],
         THREE,
         [5, 4, 1],
-        Found::Answer(Priced::Least(5), [0, 1, 1]),
+        Found::Answer(Priced::Least(5), [0, 1, 1, 0]),
     ),
 ];
 
@@ -424,7 +424,7 @@ fn problem_of(known: &Known) -> Problem {
         root: spans_of(&known.3),
         lines: [line_of(&known.4[0]), line_of(&known.4[1]), line_of(&NONE)],
         zone: spans_of(&known.5),
-        costs: known.6,
+        costs: [known.6[0], known.6[1], known.6[2], 0],
     }
 }
 

@@ -1,4 +1,4 @@
-// Blocks of two or three variables, a zone in each and costs.
+// Blocks of at most four variables and three rows, a zone in each and costs.
 use block_form::Block;
 use bp_theory::{Items, Row, Sense, Span, Term};
 use std::alloc::{AllocError, Global};
@@ -6,39 +6,42 @@ use std::alloc::{AllocError, Global};
 /// A row: coefficients of its variables, sense and sides.
 #[derive(Clone, Copy)]
 pub struct Line {
-    pub coefs: [i64; 3],
+    pub coefs: [i64; 4],
     pub sense: Sense,
     pub low: i64,
     pub rhs: i64,
 }
 
 /// A block of so many variables, spans at the root and rows, of those given, with a zone and costs. Of two variables rows
-/// keep terms of coefficient 0; the third one's span is that of 0, and its coefficients are 0.
+/// keep terms of coefficient 0. The span of a variable that is not there is that of 0, and its coefficients are 0.
 #[derive(Clone, Copy)]
 pub struct Problem {
     pub vars: usize,
     pub rows: usize,
-    pub root: [Span; 3],
+    pub root: [Span; 4],
     pub lines: [Line; 3],
-    pub zone: [Span; 3],
-    pub costs: [i128; 3],
+    pub zone: [Span; 4],
+    pub costs: [i128; 4],
 }
 
-/// The coefficients, sense and sides of a row.
+/// The first three coefficients, sense and sides of a row.
 pub type Numbers = ([i64; 3], Sense, [i64; 2]);
 
 /// The line of these numbers.
 pub fn line_of(numbers: &Numbers) -> Line {
     Line {
-        coefs: numbers.0,
+        coefs: [numbers.0[0], numbers.0[1], numbers.0[2], 0],
         sense: numbers.1,
         low: numbers.2[0],
         rhs: numbers.2[1],
     }
 }
 
-/// The spans with these ends.
-pub fn spans_of(ends: &[[i64; 2]; 3]) -> [Span; 3] {
+/// The span of 0, which a variable has that is not there.
+pub const ZERO: Span = Span { lo: 0, hi: 0 };
+
+/// The spans with these ends, and that of 0.
+pub fn spans_of(ends: &[[i64; 2]; 3]) -> [Span; 4] {
     [
         Span {
             lo: ends[0][0],
@@ -52,23 +55,24 @@ pub fn spans_of(ends: &[[i64; 2]; 3]) -> [Span; 3] {
             lo: ends[2][0],
             hi: ends[2][1],
         },
+        ZERO,
     ]
 }
 
-/// The first so many of three spans.
-pub fn first_spans(spans: &[Span; 3], many: usize) -> &[Span] {
-    if many < 3 { &spans[..many] } else { &spans[..] }
+/// The first so many of four spans.
+pub fn first_spans(spans: &[Span; 4], many: usize) -> &[Span] {
+    if many < 4 { &spans[..many] } else { &spans[..] }
 }
 
-/// The first so many of three costs.
-pub fn first_costs(costs: &[i128; 3], many: usize) -> &[i128] {
-    if many < 3 { &costs[..many] } else { &costs[..] }
+/// The first so many of four costs.
+pub fn first_costs(costs: &[i128; 4], many: usize) -> &[i128] {
+    if many < 4 { &costs[..many] } else { &costs[..] }
 }
 
 // The row of a line of so many variables.
 fn row_of(alloc: Global, line: &Line, vars: usize) -> Result<Row, AllocError> {
     let mut terms = Items::new(alloc);
-    for var in 0..3u32 {
+    for var in 0..4u32 {
         let coef = line.coefs[var as usize];
         if coef != 0 || (vars == 2 && var < 2) {
             terms.push(Term { var, coef })?;
@@ -110,7 +114,7 @@ pub fn block_of(alloc: Global, problem: &Problem) -> Result<Option<Block>, Alloc
     let spans = Items::from_vec(first_spans(&problem.root, many).to_vec(alloc)?);
     let costs = Items::from_vec(Vec::from_elem(alloc, 0i64, many)?);
     let mut vars = Items::new(alloc);
-    for var in 0..3u32 {
+    for var in 0..4u32 {
         if (var as usize) < many {
             vars.push(var)?;
         }

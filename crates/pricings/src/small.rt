@@ -186,7 +186,7 @@ fn problem_of(shown: &Shown, rows: usize) -> Problem {
         root: spans_of(&[[-2, 3], [-2, 3], [0, 0]]),
         lines: [line_of(&shown.0[0]), line_of(&shown.0[1]), none],
         zone: spans_of(&[shown.1[0], shown.1[1], [0, 0]]),
-        costs: [shown.2[0], shown.2[1], 0],
+        costs: [shown.2[0], shown.2[1], 0, 0],
     }
 }
 
