@@ -8,5 +8,7 @@ pub mod SearchLaws
 pub mod BeginLaws
 pub mod StopLaws
 pub mod RelaxLaws
+pub mod LevelLaws
+pub mod TurnLaws
 pub mod OrderLaws
 pub mod DivisorLaws

@@ -5,6 +5,7 @@ pub mod Shifts
 pub mod Reach
 pub mod Best
 pub mod Search
+pub mod Levels
 pub mod Relax
 pub mod Sizes
 pub mod Caps

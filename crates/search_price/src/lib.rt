@@ -8,6 +8,7 @@ mod columns;
 mod dive;
 mod divisor;
 mod form;
+mod frame;
 mod moves;
 mod multipliers;
 mod order;
@@ -15,6 +16,7 @@ mod pricer;
 mod relax;
 mod search;
 mod shifts;
+mod steps;
 
 pub use caps::prefixes;
 pub use pricer::SearchPricer;

@@ -6,6 +6,7 @@ use crate::begin::{begin, least_cost};
 use crate::caps::visits_under;
 use crate::dive::Dive;
 use crate::form::Form;
+use crate::frame::Frame;
 use crate::moves::rows_can_meet;
 use crate::multipliers::Multipliers;
 use crate::order::set_order;
@@ -26,10 +27,12 @@ pub struct SearchPricer {
     relaxed: Relaxed,
     multipliers: Multipliers,
     order: Vec<usize>,
+    frames: Vec<Frame>,
     keys: Vec<u128>,
     ghost adjusted: { vec_len relaxed.costs ≡ vec_len form.spans },
     ghost places: { HasPlaces form dive },
     ghost long: { vec_len order ≡ vec_len form.spans },
+    ghost framed: { vec_len frames ≡ vec_len form.spans },
     ghost wide: { vec_len keys ≡ vec_len form.spans },
 }
 
@@ -65,6 +68,7 @@ impl SearchPricer {
             relaxed: Relaxed::make(alloc, spans.len())?,
             multipliers: Multipliers::make(alloc, rows.len())?,
             order: Vec::from_elem(alloc, 0, spans.len())?,
+            frames: Vec::from_elem(alloc, Frame::Passed, spans.len())?,
             keys: Vec::from_elem(alloc, 0, spans.len())?,
         })
     }
@@ -106,12 +110,12 @@ impl Pricer for SearchPricer {
         if !explore(
             &mut self.dive,
             &mut visits,
+            &mut self.frames,
             &self.form,
             zone,
             costs,
             &self.relaxed,
             &self.order[..open],
-            0,
             alive,
         ) {
             return Priced::Cut;

@@ -1,0 +1,23 @@
+use Rattle.std.proofs.Common.{◌≡◌, vec_len}
+use Rattle.std.specs.Prelude.{IfSome, IfNone}
+use Rattle.search_price.specs.Best.{AllCovered, IsReached, IsNoWorse}
+use Rattle.search_price.specs.Search.{IsTracked, IsPaid}
+use Rattle.search_price.specs.Levels.{IsAt}
+use Rattle.search_price.proofs.LevelLaws.{left_ahead}
+use Rattle.search_price.proofs.search.explore.Given as goal
+
+abbrev pub invariant-loop-node : goal.invariant-loop-node
+invariant-loop-node l = record {
+  capped : l.visits.capped ≡ l.fn.visits.capped;
+  frames : vec_len l.frames ≡ vec_len l.fn.frames;
+  tracked : IsTracked l.form.rows.items l.zone l.costs l.dive;
+  paid : IsPaid l.relaxed l.dive;
+  reached : IsReached l.form.rows.items l.zone l.costs l.dive.best l.dive.point.items;
+  no_worse : IsNoWorse l.fn.dive.best l.dive.best;
+  next : IfSome l.next (λ node. IsAt l.form.rows.items l.zone l.costs l.relaxed.costs.items l.order l.frames.items l.dive node);
+  zone : IfNone l.next (l.dive.zone.items ≡ l.zone);
+  all : IfNone l.next (AllCovered l.form.rows.items l.zone l.costs l.dive.best);
+}
+
+abbrev pub decreases-loop-node : goal.decreases-loop-node
+decreases-loop-node l = left_ahead l.zone l.order l.frames.items l.next
