@@ -1,5 +1,5 @@
 -- Laws of a search's moves from level to level.
-use Rattle.std.proofs.Common.{◌≡◌, sym, subst, ◌∙◌, ℕ, suc, ◌+◌, ◌<◌, Bool, true, false, List, length, get_or, set, arith}
+use Rattle.std.proofs.Common.{◌≡◌, refl, sym, subst, ◌∙◌, ℕ, suc, ◌+◌, ◌<◌, Bool, true, false, List, length, get_or, set, arith}
 use Rattle.std.proofs.Math.IntN.{ℤ, pos, negsuc, ◌-ℤ◌}
 use Rattle.std.specs.Prelude.{Option, None, Some, IfSome, IfNone, ◌≤ℤ◌, All}
 use Rattle.std.proofs.lemmas.Int.{ints}
