@@ -1,5 +1,5 @@
 -- Laws of a search's moves from level to level.
-use Rattle.std.proofs.Common.{◌≡◌, refl, sym, subst, ◌∙◌, ℕ, suc, ◌+◌, ◌<◌, Bool, true, false, List, length, get_or, set, arith}
+use Rattle.std.proofs.Common.{◌≡◌, refl, sym, subst, ◌∙◌, ℕ, zero, suc, ◌+◌, ◌-◌, ◌<◌, Bool, true, false, List, length, get_or, set, arith}
 use Rattle.std.proofs.Math.IntN.{ℤ, pos, negsuc, ◌-ℤ◌}
 use Rattle.std.specs.Prelude.{Option, None, Some, IfSome, IfNone, ◌≤ℤ◌, All}
 use Rattle.std.proofs.lemmas.Int.{ints}
@@ -119,3 +119,13 @@ none_then (Some x) p f = p
 pub none_always : {X : Type 0} (r : Option X) {P : Type 0} → P → IfNone r P
 none_always None p = p
 none_always (Some x) p = tt
+
+-- a level that isn't the first is behind another
+pub level_above : (level : ℕ) → 0 < level → level ≡ suc (level - 1)
+level_above level l = omega (arith, l)
+
+-- before the first level the zone is whole
+pub below_start : (rows : List Row) (zone : List Span) (costs adjusted : List ℤ) (order : List ℕ) (frames : List Frame) (best : Option ℤ) (level : ℕ) (narrow : List Span)
+    → (0 < level → ⊥) → IsBelow rows zone costs adjusted order frames best level narrow → narrow ≡ zone
+below_start rows zone costs adjusted order frames best zero narrow n h = h.1
+below_start rows zone costs adjusted order frames best (suc level) narrow n h = absurd (n (omega arith))
