@@ -157,9 +157,11 @@ below_tried rows zone costs adjusted order frames best level outer narrow up ste
       (narrowed_more zone outer order level (get_or order level 0) (step_value up (span_at zone (get_or order level 0)) step) in_zone refl
       (below_narrowed rows zone costs adjusted order frames best level outer h) within)),
   subst (λ (f : Frame). IsFramed rows zone costs adjusted best (get_or order level 0) (IsBelow rows zone costs adjusted order (set frames level (At up step)) best level) f narrow)
-      (sym (get_or-set_same frames level (At up step) Passed l))
-      (tried, subst (IsBelow rows zone costs adjusted order (set frames level (At up step)) best level) (sym again)
-      (below_written rows zone costs adjusted order frames best level level (At up step) outer (omega arith) h)),
+      (sym (get_or-set_same frames level (At up step) Passed l)) (
+        tried,
+        subst (IsBelow rows zone costs adjusted order (set frames level (At up step)) best level) (sym again)
+            (below_written rows zone costs adjusted order frames best level level (At up step) outer (omega arith) h),
+      ),
 )
   where
     number : Span

@@ -1,5 +1,5 @@
 -- Laws of a search's moves from level to level.
-use Rattle.std.proofs.Common.{◌≡◌, refl, sym, subst, ◌∙◌, ℕ, zero, suc, ◌+◌, ◌-◌, ◌<◌, Bool, true, false, List, length, get_or, set, arith}
+use Rattle.std.proofs.Common.{◌≡◌, refl, sym, subst, ◌∙◌, ℕ, zero, suc, ◌+◌, ◌-◌, ◌<◌, ◌≤◌, Bool, true, false, List, length, get_or, set, arith}
 use Rattle.std.proofs.Math.IntN.{ℤ, pos, negsuc, ◌-ℤ◌}
 use Rattle.std.specs.Prelude.{Option, None, Some, IfSome, IfNone, ◌≤ℤ◌, All}
 use Rattle.std.proofs.lemmas.Int.{ints}
@@ -126,6 +126,6 @@ level_above level l = omega (arith, l)
 
 -- before the first level the zone is whole
 pub below_start : (rows : List Row) (zone : List Span) (costs adjusted : List ℤ) (order : List ℕ) (frames : List Frame) (best : Option ℤ) (level : ℕ) (narrow : List Span)
-    → (0 < level → ⊥) → IsBelow rows zone costs adjusted order frames best level narrow → narrow ≡ zone
+    → level ≤ 0 → IsBelow rows zone costs adjusted order frames best level narrow → narrow ≡ zone
 below_start rows zone costs adjusted order frames best zero narrow n h = h.1
-below_start rows zone costs adjusted order frames best (suc level) narrow n h = absurd (n (omega arith))
+below_start rows zone costs adjusted order frames best (suc level) narrow n h = absurd (omega (arith, n))

@@ -244,10 +244,10 @@ pub fn explore(
     requires paid { IsPaid relaxed.now dive.old }
     requires order { All (λ v. v < length zone.now) order.now }
     requires frames { length order.now ≤ vec_len frames.old }
-    requires narrowed { IsNarrowed zone.now order.now 0 zone.now }
+    requires narrowed { IsNarrowed zone.now order.now 0 dive.old.zone.items }
     requires whole { dive.old.zone.items ≡ zone.now }
-    requires can { OnTrue alive (All (CanMeetRow zone.now) form.now.rows.items) }
-    requires covered { OnFalse alive (AllCovered form.now.rows.items zone.now costs.now dive.old.best) }
+    requires can { OnTrue alive (All (CanMeetRow dive.old.zone.items) form.now.rows.items) }
+    requires covered { OnFalse alive (AllCovered form.now.rows.items dive.old.zone.items costs.now dive.old.best) }
     requires reached { IsReached form.now.rows.items zone.now costs.now dive.old.best dive.old.point.items }
     ensures capped { visits.new.capped ≡ visits.old.capped }
     ensures cut { OnFalse result (IsTrue visits.old.capped) }
@@ -255,7 +255,7 @@ pub fn explore(
     ensures tracked { IsTracked form.now.rows.items zone.now costs.now dive.new }
     ensures paid { IsPaid relaxed.now dive.new }
     ensures zone { OnTrue result (dive.new.zone.items ≡ dive.old.zone.items) }
-    ensures covered { OnTrue result (AllCovered form.now.rows.items zone.now costs.now dive.new.best) }
+    ensures covered { OnTrue result (AllCovered form.now.rows.items dive.old.zone.items costs.now dive.new.best) }
     ensures no_worse { OnTrue result (IsNoWorse dive.old.best dive.new.best) }
     ensures reached { OnTrue result (IsReached form.now.rows.items zone.now costs.now dive.new.best dive.new.point.items) }
 {

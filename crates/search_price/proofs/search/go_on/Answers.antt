@@ -13,20 +13,20 @@ pub overflow_add-step : goal.overflow_add-step
 overflow_add-step c = omega (
   arith,
   (below_at c.args.form.now.rows.items c.args.zone.now c.args.costs.now c.args.relaxed.now.costs.items c.args.order.now c.args.frames.now.items c.args.dive.now.best c.args.level c.args.dive.now.zone.items c.in-At.up c.in-At.step
-    (sym (get_or_read c.args.frames.now.items c.args.level c.index.result.now (omega (arith, c.requires.level, c.requires.frames, c.args.frames.now.ok.0)) c.index.ensures Passed) ∙ c.in-At.is) c.requires.below).0.there,
+      (sym (get_or_read c.args.frames.now.items c.args.level c.index.result.now (omega (arith, c.requires.level, c.requires.frames, c.args.frames.now.ok.0)) c.index.ensures Passed) ∙ c.in-At.is) c.requires.below).0.there,
   width_short (span_at c.args.zone.now (get_or c.args.order.now c.args.level 0))
-    (short_inside c.args.zone.now c.args.form.now.spans.items c.requires.priceable.in_root.inside c.requires.priceable.in_root.proper
-    c.args.form.now.kept.ends (get_or c.args.order.now c.args.level 0) (c.requires.order c.args.level 0 c.requires.level)),
+      (short_inside c.args.zone.now c.args.form.now.spans.items c.requires.priceable.in_root.inside c.requires.priceable.in_root.proper
+      c.args.form.now.kept.ends (get_or c.args.order.now c.args.level 0) (c.requires.order c.args.level 0 c.requires.level)),
 )
 
 pub overflow_add-step-in-At : goal.overflow_add-step-in-At
 overflow_add-step-in-At c = omega (
   arith,
   (below_at c.args.form.now.rows.items c.args.zone.now c.args.costs.now c.args.relaxed.now.costs.items c.args.order.now c.args.frames.now.items c.args.dive.now.best c.args.level c.args.dive.now.zone.items c.in-At.up c.in-At.step
-    (sym (get_or_read c.args.frames.now.items c.args.level c.index.result.now (omega (arith, c.requires.level, c.requires.frames, c.args.frames.now.ok.0)) c.index.ensures Passed) ∙ c.in-At.is) c.requires.below).0.there,
+      (sym (get_or_read c.args.frames.now.items c.args.level c.index.result.now (omega (arith, c.requires.level, c.requires.frames, c.args.frames.now.ok.0)) c.index.ensures Passed) ∙ c.in-At.is) c.requires.below).0.there,
   width_short (span_at c.args.zone.now (get_or c.args.order.now c.args.level 0))
-    (short_inside c.args.zone.now c.args.form.now.spans.items c.requires.priceable.in_root.inside c.requires.priceable.in_root.proper
-    c.args.form.now.kept.ends (get_or c.args.order.now c.args.level 0) (c.requires.order c.args.level 0 c.requires.level)),
+      (short_inside c.args.zone.now c.args.form.now.spans.items c.requires.priceable.in_root.inside c.requires.priceable.in_root.proper
+      c.args.form.now.kept.ends (get_or c.args.order.now c.args.level 0) (c.requires.order c.args.level 0 c.requires.level)),
 )
 
 pub place_step-requires-clause-covered : goal.place_step-requires-clause-covered

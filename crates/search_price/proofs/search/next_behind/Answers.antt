@@ -33,18 +33,18 @@ returns-in-Some-clause-no_more c =
 pub loop-level-preserved : goal.loop-level-preserved
 loop-level-preserved c = record {
   level = omega (arith, c.loop-level.invariant.level);
-  frames = c.in-None.ensures.frames ∙ c.loop-level.invariant.frames;
-  tracked = c.in-None.ensures.tracked;
-  paid = c.in-None.ensures.paid;
+  frames = c.in_default.ensures.frames ∙ c.loop-level.invariant.frames;
+  tracked = c.in_default.ensures.tracked;
+  paid = c.in_default.ensures.paid;
   kept = record {
-    best = c.in-None.ensures.kept.best ∙ c.loop-level.invariant.kept.best;
-    point = c.in-None.ensures.kept.point ∙ c.loop-level.invariant.kept.point;
+    best = c.in_default.ensures.kept.best ∙ c.loop-level.invariant.kept.best;
+    point = c.in_default.ensures.kept.point ∙ c.loop-level.invariant.kept.point;
   };
-  below = c.in-None.ensures.left;
-  covered = c.in-None.ensures.covered;
+  below = c.in_default.ensures.left;
+  covered = c.in_default.ensures.covered;
   fewer = omega (
     arith,
-    c.in-None.ensures.fewer,
+    c.in_default.ensures.fewer,
     ap (left_behind c.args.zone.now c.args.order.now c.loop-level.frames.items) (level_above c.loop-level.level c.loop-level-test.true),
     c.loop-level.invariant.fewer,
   );
