@@ -278,3 +278,8 @@ pub ahead_less : (zone : List Span) (order : List ℕ) (frames later : List Fram
     → left_ahead zone order later next < left_from zone order frames level
 ahead_less zone order frames later level None h = omega (arith, nodes_some zone (drop level order))
 ahead_less zone order frames later level (Some node) h = h
+
+-- what is left behind a node is fewer than what is left from it on
+pub behind_less : (zone : List Span) (order : List ℕ) (frames : List Frame) (level n : ℕ) → n ≤ left_behind zone order frames level
+    → n < left_from zone order frames level
+behind_less zone order frames level n l = omega (arith, l, nodes_some zone (drop level order))
