@@ -6,8 +6,8 @@ use Rattle.search_price.specs.Levels.{IsAt}
 use Rattle.search_price.proofs.LevelLaws.{left_ahead}
 use Rattle.search_price.proofs.search.explore.Given as goal
 
-abbrev pub invariant-loop-node : goal.invariant-loop-node
-invariant-loop-node l = record {
+abbrev pub invariant-loop-next : goal.invariant-loop-next
+invariant-loop-next l = record {
   capped : l.visits.capped ≡ l.fn.visits.capped;
   frames : vec_len l.frames ≡ vec_len l.fn.frames;
   tracked : IsTracked l.form.rows.items l.zone l.costs l.dive;
@@ -19,5 +19,5 @@ invariant-loop-node l = record {
   all : IfNone l.next (AllCovered l.form.rows.items l.zone l.costs l.dive.best);
 }
 
-abbrev pub decreases-loop-node : goal.decreases-loop-node
-decreases-loop-node l = left_ahead l.zone l.order l.frames.items l.next
+abbrev pub decreases-loop-next : goal.decreases-loop-next
+decreases-loop-next l = left_ahead l.zone l.order l.frames.items l.next
