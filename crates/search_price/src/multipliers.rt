@@ -5,10 +5,11 @@
 
 ghost use Rattle.std.specs.Prelude.{◌≡◌, vec_len};
 ghost use Rattle.pricing.specs.Form.{IsPriceable};
+ghost use Rattle.search_price.specs.Relax.{IsRelaxed};
 
 use crate::caps::prefixes_of;
 use crate::form::Form;
-use crate::relax::{Relaxed, adjust, fitting, number_in};
+use crate::relax::{Relaxed, adjust, fitting, number_in, relax};
 use bp_theory::{Row, Sense, Span, Term};
 use std::alloc::{AllocError, Global};
 
@@ -52,13 +53,19 @@ impl Multipliers {
         })
     }
 
-    /// The multipliers of the greatest bound.
-    pub fn best(&self) -> &[i128] {
-        self.best.as_slice()
+    /// Adjusts costs by the rows, with the multipliers of the greatest bound that is found in a zone.
+    pub fn relax(&mut self, relaxed: &mut Relaxed, form: &Form, zone: &[Span], costs: &[i128])
+        requires many { vec_len relaxed.old.costs ≡ vec_len form.now.spans }
+        requires priceable { IsPriceable form.now.spans.items zone.now costs.now }
+        ensures { IsRelaxed form.now.spans.items form.now.rows.items zone.now costs.now
+            relaxed.new }
+    {
+        self.seek(relaxed, form, zone, costs);
+        relax(relaxed, form, zone, costs, &self.best);
     }
 
     /// Looks for multipliers whose bound in a zone is great.
-    pub fn seek(&mut self, relaxed: &mut Relaxed, form: &Form, zone: &[Span], costs: &[i128])
+    fn seek(&mut self, relaxed: &mut Relaxed, form: &Form, zone: &[Span], costs: &[i128])
         requires many { vec_len relaxed.old.costs ≡ vec_len form.now.spans }
         requires priceable { IsPriceable form.now.spans.items zone.now costs.now }
         ensures { vec_len relaxed.new.costs ≡ vec_len relaxed.old.costs }

@@ -10,7 +10,7 @@ use crate::frame::Frame;
 use crate::moves::rows_can_meet;
 use crate::multipliers::Multipliers;
 use crate::order::set_order;
-use crate::relax::{Relaxed, relax};
+use crate::relax::Relaxed;
 use crate::search::explore;
 use block_form::Block;
 use bp_theory::Span;
@@ -88,14 +88,7 @@ impl Pricer for SearchPricer {
             return Priced::Nothing;
         }
         self.multipliers
-            .seek(&mut self.relaxed, &self.form, zone, costs);
-        relax(
-            &mut self.relaxed,
-            &self.form,
-            zone,
-            costs,
-            self.multipliers.best(),
-        );
+            .relax(&mut self.relaxed, &self.form, zone, costs);
         let paid = least_cost(zone, &self.relaxed.costs);
         begin(&mut self.dive, &self.form, zone, costs, &paid);
         let alive = rows_can_meet(&self.dive, &self.form, zone, costs);

@@ -32,13 +32,15 @@ fn record(dive: &mut Dive, form: &Form, zone: &[Span], costs: &[i128])
     requires tracked { IsTracked form.now.rows.items zone.now costs.now dive.old }
     requires one { IsSingle dive.old.zone.items }
     requires can { All (CanMeetRow dive.old.zone.items) form.now.rows.items }
-    requires reached { IsReached form.now.rows.items zone.now costs.now dive.old.best dive.old.point.items }
+    requires reached { IsReached form.now.rows.items zone.now costs.now dive.old.best
+        dive.old.point.items }
     ensures zone { dive.new.zone.items ≡ dive.old.zone.items }
     ensures paid { dive.new.paid ≡ dive.old.paid }
     ensures tracked { IsTracked form.now.rows.items zone.now costs.now dive.new }
     ensures covered { AllCovered form.now.rows.items dive.old.zone.items costs.now dive.new.best }
     ensures no_worse { IsNoWorse dive.old.best dive.new.best }
-    ensures reached { IsReached form.now.rows.items zone.now costs.now dive.new.best dive.new.point.items }
+    ensures reached { IsReached form.now.rows.items zone.now costs.now dive.new.best
+        dive.new.point.items }
 {
     if may_improve(dive) {
         copy_lows(&dive.zone, &mut dive.point);
@@ -54,8 +56,8 @@ fn is_same(a: &Span, b: &Span) -> bool
     a.lo == b.lo && a.hi == b.hi
 }
 
-/// Goes from a node from which a cheaper point may be left to the first node below it, and tells whether a cheaper point may be
-/// left there. Where no number of the level's variable is to be tried, the search stays at the node.
+/// Goes from a node from which a cheaper point may be left to the first node below it, and tells whether a cheaper
+/// point may be left there. Where no number of the level's variable is to be tried, the search stays at the node.
 fn enter(
     dive: &mut Dive,
     frames: &mut Vec<Frame>,
@@ -67,24 +69,33 @@ fn enter(
     level: usize,
 ) -> Option<bool>
     requires priceable { IsPriceable form.now.spans.items zone.now costs.now }
-    requires relaxed { IsRelaxed form.now.spans.items form.now.rows.items zone.now costs.now relaxed.now }
+    requires relaxed { IsRelaxed form.now.spans.items form.now.rows.items zone.now costs.now
+        relaxed.now }
     requires tracked { IsTracked form.now.rows.items zone.now costs.now dive.old }
     requires paid { IsPaid relaxed.now dive.old }
     requires order { All (λ v. v < length zone.now) order.now }
     requires frames { length order.now ≤ vec_len frames.old }
     requires level { level < length order.now }
     requires can { All (CanMeetRow dive.old.zone.items) form.now.rows.items }
-    requires below { IsBelow form.now.rows.items zone.now costs.now relaxed.now.costs.items order.now frames.old.items dive.old.best level dive.old.zone.items }
+    requires below { IsBelow form.now.rows.items zone.now costs.now relaxed.now.costs.items
+        order.now frames.old.items dive.old.best level dive.old.zone.items }
     ensures frames { vec_len frames.new ≡ vec_len frames.old }
     ensures tracked { IsTracked form.now.rows.items zone.now costs.now dive.new }
     ensures paid { IsPaid relaxed.now dive.new }
     ensures kept { IsKept dive.old dive.new }
-    ensures stays { IfNone result (IsBelow form.now.rows.items zone.now costs.now relaxed.now.costs.items order.now frames.new.items dive.new.best level dive.new.zone.items) }
-    ensures covered { IfNone result (AllCovered form.now.rows.items dive.new.zone.items costs.now dive.new.best) }
-    ensures left { IfNone result (left_behind zone.now order.now frames.new.items level ≡ left_behind zone.now order.now frames.old.items level) }
-    ensures below { IfSome result (λ alive. IsBelow form.now.rows.items zone.now costs.now relaxed.now.costs.items order.now frames.new.items dive.new.best (suc level) dive.new.zone.items) }
-    ensures opened { IfSome result (λ alive. IsOpen form.now.rows.items dive.new.zone.items costs.now dive.new.best alive) }
-    ensures less { IfSome result (λ alive. left_from zone.now order.now frames.new.items (suc level) < left_from zone.now order.now frames.old.items level) }
+    ensures stays { IfNone result (IsBelow form.now.rows.items zone.now costs.now
+        relaxed.now.costs.items order.now frames.new.items dive.new.best level dive.new.zone.items) }
+    ensures covered { IfNone result (AllCovered form.now.rows.items dive.new.zone.items costs.now
+        dive.new.best) }
+    ensures left { IfNone result (left_behind zone.now order.now frames.new.items level ≡
+        left_behind zone.now order.now frames.old.items level) }
+    ensures below { IfSome result (λ alive. IsBelow form.now.rows.items zone.now costs.now
+        relaxed.now.costs.items order.now frames.new.items dive.new.best (suc level)
+        dive.new.zone.items) }
+    ensures opened { IfSome result (λ alive. IsOpen form.now.rows.items dive.new.zone.items
+        costs.now dive.new.best alive) }
+    ensures less { IfSome result (λ alive. left_from zone.now order.now frames.new.items (suc level)
+        < left_from zone.now order.now frames.old.items level) }
 {
     let var = order[level];
     if !is_same(&dive.zone[var], &zone[var]) {
@@ -96,8 +107,8 @@ fn enter(
     place_step(dive, form, zone, costs, relaxed, var, up, 0)
 }
 
-/// Goes from behind a node below a level to the next node below it, and tells whether a cheaper point may be left there. Where no
-/// number of the level's variable is to be tried, the search stands behind the node at the level.
+/// Goes from behind a node below a level to the next node below it, and tells whether a cheaper point may be left
+/// there. Where no number of the level's variable is to be tried, the search stands behind the node at the level.
 fn go_on(
     dive: &mut Dive,
     frames: &mut Vec<Frame>,
@@ -109,24 +120,33 @@ fn go_on(
     level: usize,
 ) -> Option<bool>
     requires priceable { IsPriceable form.now.spans.items zone.now costs.now }
-    requires relaxed { IsRelaxed form.now.spans.items form.now.rows.items zone.now costs.now relaxed.now }
+    requires relaxed { IsRelaxed form.now.spans.items form.now.rows.items zone.now costs.now
+        relaxed.now }
     requires tracked { IsTracked form.now.rows.items zone.now costs.now dive.old }
     requires paid { IsPaid relaxed.now dive.old }
     requires order { All (λ v. v < length zone.now) order.now }
     requires frames { length order.now ≤ vec_len frames.old }
     requires level { level < length order.now }
-    requires below { IsBelow form.now.rows.items zone.now costs.now relaxed.now.costs.items order.now frames.old.items dive.old.best (suc level) dive.old.zone.items }
+    requires below { IsBelow form.now.rows.items zone.now costs.now relaxed.now.costs.items
+        order.now frames.old.items dive.old.best (suc level) dive.old.zone.items }
     requires covered { AllCovered form.now.rows.items dive.old.zone.items costs.now dive.old.best }
     ensures frames { vec_len frames.new ≡ vec_len frames.old }
     ensures tracked { IsTracked form.now.rows.items zone.now costs.now dive.new }
     ensures paid { IsPaid relaxed.now dive.new }
     ensures kept { IsKept dive.old dive.new }
-    ensures left { IfNone result (IsBelow form.now.rows.items zone.now costs.now relaxed.now.costs.items order.now frames.new.items dive.new.best level dive.new.zone.items) }
-    ensures covered { IfNone result (AllCovered form.now.rows.items dive.new.zone.items costs.now dive.new.best) }
-    ensures fewer { IfNone result (left_behind zone.now order.now frames.new.items level ≤ left_behind zone.now order.now frames.old.items (suc level)) }
-    ensures below { IfSome result (λ alive. IsBelow form.now.rows.items zone.now costs.now relaxed.now.costs.items order.now frames.new.items dive.new.best (suc level) dive.new.zone.items) }
-    ensures opened { IfSome result (λ alive. IsOpen form.now.rows.items dive.new.zone.items costs.now dive.new.best alive) }
-    ensures no_more { IfSome result (λ alive. left_from zone.now order.now frames.new.items (suc level) ≤ left_behind zone.now order.now frames.old.items (suc level)) }
+    ensures left { IfNone result (IsBelow form.now.rows.items zone.now costs.now
+        relaxed.now.costs.items order.now frames.new.items dive.new.best level dive.new.zone.items) }
+    ensures covered { IfNone result (AllCovered form.now.rows.items dive.new.zone.items costs.now
+        dive.new.best) }
+    ensures fewer { IfNone result (left_behind zone.now order.now frames.new.items level ≤
+        left_behind zone.now order.now frames.old.items (suc level)) }
+    ensures below { IfSome result (λ alive. IsBelow form.now.rows.items zone.now costs.now
+        relaxed.now.costs.items order.now frames.new.items dive.new.best (suc level)
+        dive.new.zone.items) }
+    ensures opened { IfSome result (λ alive. IsOpen form.now.rows.items dive.new.zone.items
+        costs.now dive.new.best alive) }
+    ensures no_more { IfSome result (λ alive. left_from zone.now order.now frames.new.items
+        (suc level) ≤ left_behind zone.now order.now frames.old.items (suc level)) }
 {
     match frames[level] {
         Frame::Passed => None,
@@ -137,8 +157,8 @@ fn go_on(
     }
 }
 
-/// Goes from behind a node at a level to the next node, and leaves the levels that are done. After the last node the whole zone is
-/// covered.
+/// Goes from behind a node at a level to the next node, and leaves the levels that are done. After the last node the
+/// whole zone is covered.
 fn next_behind(
     dive: &mut Dive,
     frames: &mut Vec<Frame>,
@@ -150,20 +170,24 @@ fn next_behind(
     from: usize,
 ) -> Option<Node>
     requires priceable { IsPriceable form.now.spans.items zone.now costs.now }
-    requires relaxed { IsRelaxed form.now.spans.items form.now.rows.items zone.now costs.now relaxed.now }
+    requires relaxed { IsRelaxed form.now.spans.items form.now.rows.items zone.now costs.now
+        relaxed.now }
     requires tracked { IsTracked form.now.rows.items zone.now costs.now dive.old }
     requires paid { IsPaid relaxed.now dive.old }
     requires order { All (λ v. v < length zone.now) order.now }
     requires frames { length order.now ≤ vec_len frames.old }
     requires from { from ≤ length order.now }
-    requires below { IsBelow form.now.rows.items zone.now costs.now relaxed.now.costs.items order.now frames.old.items dive.old.best from dive.old.zone.items }
+    requires below { IsBelow form.now.rows.items zone.now costs.now relaxed.now.costs.items
+        order.now frames.old.items dive.old.best from dive.old.zone.items }
     requires covered { AllCovered form.now.rows.items dive.old.zone.items costs.now dive.old.best }
     ensures frames { vec_len frames.new ≡ vec_len frames.old }
     ensures tracked { IsTracked form.now.rows.items zone.now costs.now dive.new }
     ensures paid { IsPaid relaxed.now dive.new }
     ensures kept { IsKept dive.old dive.new }
-    ensures next { IfSome result (λ node. IsAt form.now.rows.items zone.now costs.now relaxed.now.costs.items order.now frames.new.items dive.new node) }
-    ensures no_more { IfSome result (λ node. left_from zone.now order.now frames.new.items node.level ≤ left_behind zone.now order.now frames.old.items from) }
+    ensures next { IfSome result (λ node. IsAt form.now.rows.items zone.now costs.now
+        relaxed.now.costs.items order.now frames.new.items dive.new node) }
+    ensures no_more { IfSome result (λ node. left_from zone.now order.now frames.new.items
+        node.level ≤ left_behind zone.now order.now frames.old.items from) }
     ensures zone { IfNone result (dive.new.zone.items ≡ zone.now) }
     ensures all { IfNone result (AllCovered form.now.rows.items zone.now costs.now dive.new.best) }
 {
@@ -180,7 +204,8 @@ fn next_behind(
     None
 }
 
-/// Goes from a node to the first node below it, or else to the next one behind it. After the last node the whole zone is covered.
+/// Goes from a node to the first node below it, or else to the next one behind it. After the last node the whole zone
+/// is covered.
 fn next_after(
     dive: &mut Dive,
     frames: &mut Vec<Frame>,
@@ -192,20 +217,26 @@ fn next_after(
     node: &Node,
 ) -> Option<Node>
     requires priceable { IsPriceable form.now.spans.items zone.now costs.now }
-    requires relaxed { IsRelaxed form.now.spans.items form.now.rows.items zone.now costs.now relaxed.now }
+    requires relaxed { IsRelaxed form.now.spans.items form.now.rows.items zone.now costs.now
+        relaxed.now }
     requires tracked { IsTracked form.now.rows.items zone.now costs.now dive.old }
     requires paid { IsPaid relaxed.now dive.old }
     requires order { All (λ v. v < length zone.now) order.now }
     requires frames { length order.now ≤ vec_len frames.old }
-    requires at_node { IsAt form.now.rows.items zone.now costs.now relaxed.now.costs.items order.now frames.old.items dive.old node.now }
-    requires reached { IsReached form.now.rows.items zone.now costs.now dive.old.best dive.old.point.items }
+    requires at_node { IsAt form.now.rows.items zone.now costs.now relaxed.now.costs.items order.now
+        frames.old.items dive.old node.now }
+    requires reached { IsReached form.now.rows.items zone.now costs.now dive.old.best
+        dive.old.point.items }
     ensures frames { vec_len frames.new ≡ vec_len frames.old }
     ensures tracked { IsTracked form.now.rows.items zone.now costs.now dive.new }
     ensures paid { IsPaid relaxed.now dive.new }
     ensures no_worse { IsNoWorse dive.old.best dive.new.best }
-    ensures reached { IsReached form.now.rows.items zone.now costs.now dive.new.best dive.new.point.items }
-    ensures next { IfSome result (λ next. IsAt form.now.rows.items zone.now costs.now relaxed.now.costs.items order.now frames.new.items dive.new next) }
-    ensures less { IfSome result (λ next. left_from zone.now order.now frames.new.items next.level < left_from zone.now order.now frames.old.items node.now.level) }
+    ensures reached { IsReached form.now.rows.items zone.now costs.now dive.new.best
+        dive.new.point.items }
+    ensures next { IfSome result (λ next. IsAt form.now.rows.items zone.now costs.now
+        relaxed.now.costs.items order.now frames.new.items dive.new next) }
+    ensures less { IfSome result (λ next. left_from zone.now order.now frames.new.items next.level <
+        left_from zone.now order.now frames.old.items node.now.level) }
     ensures zone { IfNone result (dive.new.zone.items ≡ zone.now) }
     ensures all { IfNone result (AllCovered form.now.rows.items zone.now costs.now dive.new.best) }
 {
@@ -225,8 +256,8 @@ fn next_after(
     }
 }
 
-/// Searches the points of a zone, with a frame for each level. Tells whether it came to the end, which it does where visits aren't
-/// capped. A zone that isn't alive is known to have no point that is cheaper than the best so far.
+/// Searches the points of a zone, with a frame for each level. Tells whether it came to the end, which it does where
+/// visits aren't capped. A zone that isn't alive is known to have no point that is cheaper than the best so far.
 pub fn explore(
     dive: &mut Dive,
     visits: &mut Visits,
@@ -239,7 +270,8 @@ pub fn explore(
     alive: bool,
 ) -> bool
     requires priceable { IsPriceable form.now.spans.items zone.now costs.now }
-    requires relaxed { IsRelaxed form.now.spans.items form.now.rows.items zone.now costs.now relaxed.now }
+    requires relaxed { IsRelaxed form.now.spans.items form.now.rows.items zone.now costs.now
+        relaxed.now }
     requires tracked { IsTracked form.now.rows.items zone.now costs.now dive.old }
     requires paid { IsPaid relaxed.now dive.old }
     requires order { All (λ v. v < length zone.now) order.now }
@@ -247,17 +279,21 @@ pub fn explore(
     requires narrowed { IsNarrowed zone.now order.now 0 dive.old.zone.items }
     requires whole { dive.old.zone.items ≡ zone.now }
     requires can { OnTrue alive (All (CanMeetRow dive.old.zone.items) form.now.rows.items) }
-    requires covered { OnFalse alive (AllCovered form.now.rows.items dive.old.zone.items costs.now dive.old.best) }
-    requires reached { IsReached form.now.rows.items zone.now costs.now dive.old.best dive.old.point.items }
+    requires covered { OnFalse alive (AllCovered form.now.rows.items dive.old.zone.items costs.now
+        dive.old.best) }
+    requires reached { IsReached form.now.rows.items zone.now costs.now dive.old.best
+        dive.old.point.items }
     ensures capped { visits.new.capped ≡ visits.old.capped }
     ensures cut { OnFalse result (IsTrue visits.old.capped) }
     ensures frames { vec_len frames.new ≡ vec_len frames.old }
     ensures tracked { IsTracked form.now.rows.items zone.now costs.now dive.new }
     ensures paid { IsPaid relaxed.now dive.new }
     ensures zone { OnTrue result (dive.new.zone.items ≡ dive.old.zone.items) }
-    ensures covered { OnTrue result (AllCovered form.now.rows.items dive.old.zone.items costs.now dive.new.best) }
+    ensures covered { OnTrue result (AllCovered form.now.rows.items dive.old.zone.items costs.now
+        dive.new.best) }
     ensures no_worse { OnTrue result (IsNoWorse dive.old.best dive.new.best) }
-    ensures reached { OnTrue result (IsReached form.now.rows.items zone.now costs.now dive.new.best dive.new.point.items) }
+    ensures reached { OnTrue result (IsReached form.now.rows.items zone.now costs.now dive.new.best
+        dive.new.point.items) }
 {
     let mut next = Some(Node { level: 0, alive });
     while let Some(node) = next {

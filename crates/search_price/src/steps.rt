@@ -84,9 +84,9 @@ fn is_over(dive: &Dive, relaxed: &Relaxed, cost: &i128, up: bool) -> bool
     !may_undercut(dive, relaxed) || follows(up, cost) && !may_improve(dive)
 }
 
-/// Gives a variable the number at a step of its span, where the numbers before it are covered, and tells whether a point that
-/// is cheaper than the best so far may be left with it. Where no number at this step or a later one is to be tried, it gives the
-/// variable its whole span back.
+/// Gives a variable the number at a step of its span, where the numbers before it are covered, and tells whether a
+/// point that is cheaper than the best so far may be left with it. Where no number at this step or a later one is to be
+/// tried, it gives the variable its whole span back.
 pub fn place_step(
     dive: &mut Dive,
     form: &Form,
@@ -98,22 +98,30 @@ pub fn place_step(
     step: u64,
 ) -> Option<bool>
     requires priceable { IsPriceable form.now.spans.items zone.now costs.now }
-    requires relaxed { IsRelaxed form.now.spans.items form.now.rows.items zone.now costs.now relaxed.now }
+    requires relaxed { IsRelaxed form.now.spans.items form.now.rows.items zone.now costs.now
+        relaxed.now }
     requires tracked { IsTracked form.now.rows.items zone.now costs.now dive.old }
     requires paid { IsPaid relaxed.now dive.old }
     requires there { var < length zone.now }
-    requires can { All (CanMeetRow (slice_set dive.old.zone.items var (span_at zone.now var))) form.now.rows.items }
+    requires can { All (CanMeetRow (slice_set dive.old.zone.items var (span_at zone.now var)))
+        form.now.rows.items }
     requires follows { Follows up (slice_index_or relaxed.now.costs.items var (pos 0)) }
-    requires covered { AreCoveredTo form.now.rows.items (slice_set dive.old.zone.items var (span_at zone.now var)) costs.now up (span_at zone.now var) var step dive.old.best }
+    requires covered { AreCoveredTo form.now.rows.items (slice_set dive.old.zone.items var (span_at
+        zone.now var)) costs.now up (span_at zone.now var) var step dive.old.best }
     ensures tracked { IsTracked form.now.rows.items zone.now costs.now dive.new }
     ensures paid { IsPaid relaxed.now dive.new }
     ensures kept { IsKept dive.old dive.new }
     ensures step { IfSome result (λ goes_on. step < width (span_at zone.now var)) }
-    ensures zone { IfSome result (λ goes_on. dive.new.zone.items ≡ slice_set dive.old.zone.items var (single (step_value up (span_at zone.now var) step))) }
-    ensures yes { IfSome result (λ goes_on. OnTrue goes_on (All (CanMeetRow dive.new.zone.items) form.now.rows.items)) }
-    ensures no { IfSome result (λ goes_on. OnFalse goes_on (AllCovered form.now.rows.items dive.new.zone.items costs.now dive.new.best)) }
-    ensures whole { IfNone result (dive.new.zone.items ≡ slice_set dive.old.zone.items var (span_at zone.now var)) }
-    ensures covered { IfNone result (AllCovered form.now.rows.items dive.new.zone.items costs.now dive.new.best) }
+    ensures zone { IfSome result (λ goes_on. dive.new.zone.items ≡ slice_set dive.old.zone.items var
+        (single (step_value up (span_at zone.now var) step))) }
+    ensures yes { IfSome result (λ goes_on. OnTrue goes_on (All (CanMeetRow dive.new.zone.items)
+        form.now.rows.items)) }
+    ensures no { IfSome result (λ goes_on. OnFalse goes_on (AllCovered form.now.rows.items
+        dive.new.zone.items costs.now dive.new.best)) }
+    ensures whole { IfNone result (dive.new.zone.items ≡ slice_set dive.old.zone.items var (span_at
+        zone.now var)) }
+    ensures covered { IfNone result (AllCovered form.now.rows.items dive.new.zone.items costs.now
+        dive.new.best) }
 {
     let whole = zone[var];
     if step >= count_of(&whole) {
