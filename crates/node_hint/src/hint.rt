@@ -11,7 +11,8 @@ use block_form::Blocked;
 use bp_theory::{Items, Span};
 use branch_tree::Turn;
 use column_hint::{
-    Centre, Effort, Pools, Weighted, generate_columns, leaf_mults, serves, take_steps,
+    Centre, Effort, Pools, RestrictedMaster, Weighted, generate_columns, leaf_mults, serves,
+    take_steps,
 };
 use disagg::most_mixed;
 use point_hint::{
@@ -134,8 +135,41 @@ fn probed_point(
     search_point(alloc, b, turn, &guide, known)
 }
 
-// Column generation from a centre, and points from its columns, where columns serve and the centre has a bound that
-// doesn't reach what is known; the split that they want.
+// Column generation from a centre, where columns serve and the centre has a bound. There is no master where the bound
+// reaches what is known, before or after.
+fn generated(
+    alloc: Global,
+    b: &Blocked,
+    classes: &Classes,
+    pools: &mut Pools,
+    turn: &Turn,
+    centre: &mut Centre,
+    known: Option<i64>,
+) -> Result<Option<RestrictedMaster>, AllocError>
+    requires made_for { AreMadeFor b.now pools.old }
+    requires classes { AreSameClasses turn.now.zone b.now.blocking classes.now }
+    requires zone { IsZone b.now.named.program.spans turn.now.zone }
+    ensures made_for { AreMadeFor b.now pools.new }
+{
+    if !serves(b) {
+        return Ok(None);
+    }
+    let limit = limit_of(b, turn, known);
+    if centre.value == i128::MIN || is_reached(centre.value, limit) {
+        return Ok(None);
+    }
+    let effort = Effort {
+        known: limit,
+        with_partitions: turn.depth == 0,
+    };
+    let master = generate_columns(alloc, b, classes, &turn.zone, pools, centre, effort)?;
+    if is_reached(centre.value, limit) {
+        return Ok(None);
+    }
+    Ok(master)
+}
+
+// Points from the columns that are generated from a centre, where there are such, and the split that they want.
 fn search_columns(
     alloc: Global,
     b: &Blocked,
@@ -151,24 +185,10 @@ fn search_columns(
     requires zone { IsZone b.now.named.program.spans turn.now.zone }
     ensures made_for { AreMadeFor b.now pools.new }
 {
-    if !serves(b) {
-        return Ok(None);
-    }
-    let limit = limit_of(b, turn, incumbent.known);
-    if centre.value == i128::MIN || is_reached(centre.value, limit) {
-        return Ok(None);
-    }
-    let effort = Effort {
-        known: limit,
-        with_partitions: turn.depth == 0,
-    };
-    let Some(mut master) = generate_columns(alloc, b, classes, &turn.zone, pools, centre, effort)?
-    else {
+    let known = incumbent.known;
+    let Some(mut master) = generated(alloc, b, classes, pools, turn, centre, known)? else {
         return Ok(None);
     };
-    if is_reached(centre.value, limit) {
-        return Ok(None);
-    }
     let used = master.used(alloc)?;
     if turn.depth == 0 || incumbent.known.is_none() {
         let point = point_by_mean(
