@@ -77,37 +77,3 @@ pub fn by_block(alloc: Global, block: u32) -> Result<Proof, AllocError>
         picked: Picked::These(blocks),
     })
 }
-
-/// A proof once more.
-pub fn copied(alloc: Global, proof: &Proof) -> Result<Proof, AllocError>
-    ensures { IfOk result (λ copy. copy ≡ proof.now) }
-{
-    let mults = copied_mults(alloc, proof.mults.as_slice())?;
-    let picked = copied_picks(alloc, &proof.picked)?;
-    Ok(Proof {
-        scale: proof.scale,
-        mults,
-        picked,
-    })
-}
-
-// Multipliers once more.
-fn copied_mults(alloc: Global, mults: &[(u32, i64)]) -> Result<Items<(u32, i64)>, AllocError>
-    ensures { IfOk result (λ copy. copy ≡ mults.now) }
-{
-    let copy = mults.to_vec(alloc)?;
-    Ok(Items::from_vec(copy))
-}
-
-// Picked blocks once more.
-fn copied_picks(alloc: Global, picked: &Picked) -> Result<Picked, AllocError>
-    ensures { IfOk result (λ copy. copy ≡ picked.now) }
-{
-    match picked {
-        Picked::Every => Ok(Picked::Every),
-        Picked::These(blocks) => {
-            let copy = blocks.as_slice().to_vec(alloc)?;
-            Ok(Picked::These(Items::from_vec(copy)))
-        }
-    }
-}

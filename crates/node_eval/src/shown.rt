@@ -11,11 +11,11 @@ ghost use Rattle.search_laws.specs.GroveFacts.{IsSoundProof};
 ghost use Rattle.node_eval.specs.Shown.{IsShown, ShutsOff, row_proof};
 ghost use Rattle.node_eval.specs.Openings.{IsOpening, IsReached, IsOfNoUse, at_zero};
 
-use crate::proofs::{by_row, copied, every};
+use crate::proofs::{by_row, every};
 use block_class::Classes;
 use block_form::{Blocked, MAX_SCALE, Zone, fits, signs_fit};
 use bp_theory::Proof;
-use branch_tree::Turn;
+use branch_tree::{Turn, proof_copy};
 use lagr_bound::{Bounded, Work, bound, box_bound, round};
 use node_hint::{MOST_VISITS, PricingBudget};
 use pricing::Cap;
@@ -125,7 +125,7 @@ pub fn inherited(alloc: Global, b: &Blocked, turn: &Turn) -> Result<Shown, Alloc
 {
     // For the proof alone: `b` stands in the contract.
     let _ = b;
-    let proof = copied(alloc, &turn.proof)?;
+    let proof = proof_copy(alloc, &turn.proof)?;
     Ok(Shown {
         proof,
         bound: turn.bound,
