@@ -173,6 +173,13 @@ fn order_line(alloc: Global, order: &Order) -> Result<String, AllocError> {
             let blocks = if *blocks { "blocks" } else { "-" };
             format!(in alloc; "show {} {} {blocks}", lp.as_str(), name_of(dec))
         }
+        others => made_line(alloc, others),
+    }
+}
+
+/// An order that makes texts in short.
+fn made_line(alloc: Global, order: &Order) -> Result<String, AllocError> {
+    match order {
         Order::Gen {
             seed,
             size,
@@ -204,6 +211,9 @@ fn order_line(alloc: Global, order: &Order) -> Result<String, AllocError> {
         Order::Migrate { lp, cert, new, dec } => {
             let files = format!(in alloc; "{} {}", cert.as_str(), new.as_str())?;
             format!(in alloc; "migrate {} {files} {}", lp.as_str(), name_of(dec))
+        }
+        Order::Solve { .. } | Order::Check { .. } | Order::Show { .. } => {
+            String::from_str(alloc, "-")
         }
     }
 }
