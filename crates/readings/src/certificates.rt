@@ -346,44 +346,47 @@ fn reads_and_writes_changes_between_leaves(rt: HostRuntime) -> Result<(), Fail> 
     Ok(())
 }
 
+// Texts at fault in their version or their changes, with the line and the kind of the first fault.
+const FAULTY: [(&str, u64, CertKind); 8] = [
+    ("bpcert 3\n", 1, CertKind::Syntax),
+    ("bpcert 12\n", 1, CertKind::Syntax),
+    (
+        "bpcert 2\nclaim infeasible\nleaf 0 rows 0 priced 0\nend\n",
+        3,
+        CertKind::Syntax,
+    ),
+    (
+        "bpcert 1\nclaim infeasible\nleaf 0 change 0 priced 0\nend\n",
+        3,
+        CertKind::Syntax,
+    ),
+    (
+        "bpcert 2\nclaim infeasible\nleaf 0 change 1 1 0 priced 0\nend\n",
+        3,
+        CertKind::Number,
+    ),
+    (
+        "bpcert 2\nclaim infeasible\nsplit 1 0\nleaf 0 change 1 1 -1 priced 0\nleaf 0 change 1 1 -1 priced 0\nend\n",
+        5,
+        CertKind::Number,
+    ),
+    (
+        "bpcert 2\nclaim infeasible\nsplit 1 0\nleaf 0 change 1 1 -1 priced 0\nleaf 0 change 2 2 -1 1 3 priced 0\nend\n",
+        5,
+        CertKind::Number,
+    ),
+    (
+        "bpcert 2\nclaim infeasible\nleaf 0 change 1 1 1099511627777 priced 0\nend\n",
+        3,
+        CertKind::TooLarge,
+    ),
+];
+
 #[test]
 fn answers_the_first_fault_of_changes(rt: HostRuntime) -> Result<(), Fail> {
     let alloc = rt.alloc();
     let frame = two_rows(alloc)?;
-    for (text, line, kind) in [
-        ("bpcert 3\n", 1, CertKind::Syntax),
-        ("bpcert 12\n", 1, CertKind::Syntax),
-        (
-            "bpcert 2\nclaim infeasible\nleaf 0 rows 0 priced 0\nend\n",
-            3,
-            CertKind::Syntax,
-        ),
-        (
-            "bpcert 1\nclaim infeasible\nleaf 0 change 0 priced 0\nend\n",
-            3,
-            CertKind::Syntax,
-        ),
-        (
-            "bpcert 2\nclaim infeasible\nleaf 0 change 1 1 0 priced 0\nend\n",
-            3,
-            CertKind::Number,
-        ),
-        (
-            "bpcert 2\nclaim infeasible\nsplit 1 0\nleaf 0 change 1 1 -1 priced 0\nleaf 0 change 1 1 -1 priced 0\nend\n",
-            5,
-            CertKind::Number,
-        ),
-        (
-            "bpcert 2\nclaim infeasible\nsplit 1 0\nleaf 0 change 1 1 -1 priced 0\nleaf 0 change 2 2 -1 1 3 priced 0\nend\n",
-            5,
-            CertKind::Number,
-        ),
-        (
-            "bpcert 2\nclaim infeasible\nleaf 0 change 1 1 1099511627777 priced 0\nend\n",
-            3,
-            CertKind::TooLarge,
-        ),
-    ] {
+    for (text, line, kind) in FAULTY {
         assert_eq!(rt;
             fault_of(read(alloc, &frame, text.as_bytes())),
             Some((line, kind))
