@@ -1,5 +1,5 @@
 -- How large the sums of a bound can be.
-use Rattle.std.specs.Prelude.{ℕ, ◌+◌, ◌^◌, ◌<◌, ◌≤◌, unsigned_abs, sum_by, List, map, length, ℤ, pos, ◌*ℤ◌, All}
+use Rattle.std.specs.Prelude.{ℕ, ◌+◌, ◌<◌, ◌≤◌, unsigned_abs, sum_by, List, map, length, ℤ, pos, ◌*ℤ◌, All}
 use Rattle.bp_theory.specs.Limits.{greatest_multiplier, greatest_scale, most_rows, most_variables, number_limit, price_limit}
 use Rattle.std.specs.List.Sorted.{IsStrictlyIncreasing}
 use Rattle.bp_theory.specs.Blocking.{Copy, Block, Blocking, row_at}
