@@ -1,24 +1,23 @@
 -- Laws of the levels that a search stands below.
-use Rattle.std.proofs.Common.{◌≡◌, refl, sym, ap, subst, ◌∙◌, ℕ, zero, suc, ◌+◌, ◌-◌, ◌*◌, ◌^◌, ◌<◌, ◌≤◌, Bool, true, false, List, [], ◌∷◌, length, drop, get_or, set, arith}
+use Rattle.std.proofs.Common.{◌≡◌, refl, sym, ap, subst, ◌∙◌, ℕ, zero, suc, ◌+◌, ◌-◌, ◌*◌, ◌^◌, ◌<◌, ◌≤◌, Bool, List, [], ◌∷◌, length, drop, get_or, set, arith}
 use Rattle.std.proofs.Math.IntN.{ℤ, pos, negsuc, ◌-ℤ◌}
 use Rattle.std.proofs.Math.Nat.{suc-mul}
 use Rattle.std.proofs.Math.Numerals.{add-one}
 use Rattle.std.proofs.Math.Seq.{drop-cons}
-use Rattle.std.specs.Prelude.{Option, None, Some, IfSome, ◌≤ℤ◌, All, unsigned_abs}
+use Rattle.std.specs.Prelude.{Option, None, Some, IfSome, All}
 use Rattle.std.proofs.lemmas.Int.{ints}
 use Rattle.std.proofs.lemmas.List.{length-set, get_or-set_same, get_or-set_other}
 use Rattle.bp_theory.specs.Sums.{dot}
-use Rattle.bp_theory.specs.Program.{span_at, value_at, IsWithin}
-use Rattle.bp_theory.specs.Bound.{IsPoint}
+use Rattle.bp_theory.specs.Program.{span_at, IsWithin}
 use Rattle.bp_theory.specs.Classes.{width, count_to}
 use Rattle.bp_theory.specs.Trees.{IsSubzone}
 use Rattle.bp_theory.specs.declared.Span.{Span}
 use Rattle.bp_theory.specs.declared.Row.{Row}
 use Rattle.pricing.specs.Form.{HasShortEnds}
 use Rattle.search_price.specs.Reach.{CanMeetRow, IsNarrowed}
-use Rattle.search_price.specs.Best.{IsCovered, AllCovered, IsNoWorse}
+use Rattle.search_price.specs.Best.{AllCovered, IsNoWorse}
 use Rattle.search_price.specs.Relax.{IsUndercut}
-use Rattle.search_price.specs.Search.{IsTracked, IsPaid, IsOver, single, step_value, step_of, Follows}
+use Rattle.search_price.specs.Search.{IsTracked, IsPaid, IsOver, single, step_value, Follows}
 use Rattle.search_price.specs.Levels.{AreCoveredTo, widened, IsTried, IsFramed, IsBelow, nodes_of, rest_of, left_behind, left_from}
 use Rattle.search_price.specs.declared.dive.Dive.{Dive}
 use Rattle.search_price.specs.declared.frame.Frame.{Frame}
@@ -26,7 +25,7 @@ use Rattle.search_price.specs.declared.frame.Frame.TheVariants.{Passed, At}
 use Rattle.search_price.specs.declared.frame.Node.{Node}
 use Rattle.search_price.specs.declared.relax.Relaxed.{Relaxed}
 use Rattle.search_price.proofs.ReachLaws.{span_at-set}
-use Rattle.search_price.proofs.SearchLaws.{IsWholeAt, set_twice, set_back, whole_again, moved_form, narrowed_more, narrowed_past, covered_more, covered_all}
+use Rattle.search_price.proofs.SearchLaws.{IsWholeAt, set_twice, set_back, narrowed_more, narrowed_past, covered_more, covered_all}
 use Rattle.search_price.proofs.RelaxLaws.{covered_over}
 
 -- a widened zone is whole at the variable

@@ -1,4 +1,4 @@
-use Rattle.std.proofs.Common.{◌≡◌, sym, subst, ◌∙◌, ◌<◌, List, length, get_or, pos, arith}
+use Rattle.std.proofs.Common.{sym, subst, ◌∙◌, List, get_or, pos, arith}
 use Rattle.std.specs.Prelude.{All}
 use Rattle.std.proofs.lemmas.List.{get_or_read}
 use Rattle.bp_theory.specs.Program.{span_at}

@@ -1,4 +1,4 @@
-use Rattle.std.proofs.Common.{◌≡◌, sym, subst, ◌<◌}
+use Rattle.std.proofs.Common.{sym, subst, ◌<◌}
 use Rattle.std.specs.Prelude.{Option}
 use Rattle.search_price.specs.declared.frame.Node.{Node}
 use Rattle.search_price.proofs.LevelLaws.{left_ahead, ahead_less}

@@ -1,4 +1,4 @@
-use Rattle.std.proofs.Common.{◌≡◌, sym, ap, subst, ◌∙◌, ◌+◌, ◌<◌, ◌≤◌, suc, List, length, get_or, set, arith}
+use Rattle.std.proofs.Common.{sym, subst, ◌∙◌, ◌+◌, ◌≤◌, suc, get_or, set, arith}
 use Rattle.std.proofs.lemmas.List.{get_or_read}
 use Rattle.bp_theory.specs.Program.{span_at}
 use Rattle.search_price.specs.Levels.{left_behind}

@@ -1,4 +1,4 @@
-use Rattle.std.proofs.Common.{◌≡◌, sym, subst, ◌+◌, ◌<◌, ◌≤◌, List, length, arith}
+use Rattle.std.proofs.Common.{sym, subst, ◌<◌, arith}
 use Rattle.std.proofs.Math.Numerals.{add-one}
 use Rattle.search_price.specs.Levels.{IsBelow, left_from}
 use Rattle.search_price.proofs.SearchLaws.{narrowed_single}

@@ -1,4 +1,4 @@
-use Rattle.std.proofs.Common.{◌≡◌, ℕ, sym, ap, subst, ◌∙◌, suc, ◌+◌, ◌-◌, ◌<◌, ◌≤◌, List, length, arith}
+use Rattle.std.proofs.Common.{sym, ap, subst, ◌∙◌, ◌-◌, ◌≤◌, List, arith}
 use Rattle.std.proofs.Math.Numerals.{add-one}
 use Rattle.bp_theory.specs.declared.Span.{Span}
 use Rattle.search_price.specs.Best.{AllCovered}

@@ -1,4 +1,4 @@
-use Rattle.std.proofs.Common.{◌≡◌, refl, get_or, pos, ◌∙◌, sym, ap, subst, ◌<◌, List, length, set, arith}
+use Rattle.std.proofs.Common.{◌≡◌, refl, get_or, pos, ◌∙◌, sym, ap, subst, List, length, set, arith}
 use Rattle.std.proofs.Math.IntN.{ℤ}
 use Rattle.std.specs.Prelude.{Option}
 use Rattle.pricing.proofs.Passed.{passed_short}
