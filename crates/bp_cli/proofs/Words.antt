@@ -1,5 +1,5 @@
 -- What is right for the order that words give is right for the words, and no other status is.
-use Rattle.std.proofs.Common.{◌≡◌, ◌≢◌, ◌⊎◌, refl, subst, inl, inr, ℕ, Bool, List, [], Option, Some, None}
+use Rattle.std.proofs.Common.{◌≡◌, ◌≢◌, ◌⊎◌, refl, subst, inl, inr, ℕ, Bool, List, Option, Some, None}
 use Rattle.bp_shelf.specs.Shelf.{Files}
 use Rattle.branch_tree.specs.declared.outcome.Outcome.{Outcome}
 use Rattle.bp_words.specs.Orders.{IsOrderOf, AreRefused}

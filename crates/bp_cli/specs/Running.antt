@@ -1,5 +1,5 @@
 -- What a run answers, by its words and the told files.
-use Rattle.std.specs.Prelude.{◌≡◌, ◌≢◌, ℕ, List, [], Option, None}
+use Rattle.std.specs.Prelude.{◌≡◌, ℕ, List, [], Option, None}
 use Rattle.bp_shelf.specs.Shelf.{Files}
 use Rattle.search_laws.specs.declared.Event.{Event}
 use Rattle.branch_tree.specs.declared.outcome.Outcome.{Outcome}
