@@ -140,6 +140,10 @@ check_report (Rejected line kind) = rejected_report line kind
 abbrev pub merged_report : (maximises : Bool) → Outcome → List ℕ
 merged_report maximises o = count_line (codes "merged open ") (live_count (grove_of o).tree) ++ accepted_report (claim_of maximises o)
 
+-- the report on a certificate of so many nodes that was written anew
+abbrev pub migrated_report : (nodes : ℕ) → List ℕ
+migrated_report nodes = count_line (codes "migrated ") nodes
+
 -- ---- sizes
 
 -- the line of a class: its number and that of its first block, both from 1, how many blocks it has, and the variables and rows of one block

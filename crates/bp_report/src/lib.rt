@@ -8,6 +8,7 @@ mod demo;
 mod ended;
 mod lines;
 mod merged;
+mod migrated;
 mod refused;
 mod sizes;
 
@@ -16,6 +17,7 @@ pub use checked::check_text;
 pub use demo::{DEMO_STEPS, demo_text};
 pub use ended::{budget_text, ended_text, solve_text};
 pub use merged::merged_text;
+pub use migrated::migrated_text;
 pub use refused::{
     Refusal, blocks_text, cert_text, dec_text, from_text, leaf_text, lp_text, refusal_text,
     rows_text, words_text,

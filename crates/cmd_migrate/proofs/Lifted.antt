@@ -12,6 +12,7 @@ use Rattle.cert_text.specs.Fault.{IsText, IsCertText}
 use Rattle.cert_text.specs.Nodes.{nodes}
 use Rattle.cert_text.specs.Programs.{frame_for}
 use Rattle.cert_text.proofs.Fine.{text_nodes}
+use Rattle.bp_report.specs.Report.{migrated_report}
 use Rattle.bp_front.specs.Answers.{AnswersBy}
 use Rattle.bp_front.specs.Endings.{status_of}
 use Rattle.bp_front.specs.Front.{FilesCome, blocked}
@@ -21,7 +22,7 @@ use Rattle.bp_front.specs.declared.front.Halt.{Halt}
 use Rattle.bp_front.specs.declared.front.Halt.TheVariants.{Refused, Stopped}
 use Rattle.bp_front.proofs.Written.{right_answers}
 use Rattle.cmd_migrate.specs.declared.Migrated.{Migrated}
-use Rattle.cmd_migrate.specs.Migrates.{migrated_report, TextMigrates, missing, migrated, Migrates, stopped, went_on, answer_of}
+use Rattle.cmd_migrate.specs.Migrates.{TextMigrates, missing, migrated, Migrates, stopped, went_on, answer_of}
 
 -- ---- a text
 

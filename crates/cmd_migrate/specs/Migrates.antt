@@ -1,5 +1,5 @@
 -- What `migrate` answers by the files.
-use Rattle.std.specs.Prelude.{◌≡◌, ℕ, ◌++◌, List, [], codes, decimal, Option, Some, None}
+use Rattle.std.specs.Prelude.{◌≡◌, ℕ, List, [], Option, Some, None}
 use Rattle.bp_shelf.specs.Shelf.{Files}
 use Rattle.block_form.specs.Blocked.{BlockedProgram}
 use Rattle.cert_text.specs.Cert.{Cert}
@@ -9,13 +9,10 @@ use Rattle.cert_text.specs.Nodes.{nodes}
 use Rattle.cert_text.specs.Programs.{frame_for}
 use Rattle.cert_text.specs.declared.fault.CertKind.{CertKind}
 use Rattle.bp_report.specs.Refusals.{cert_refusal}
+use Rattle.bp_report.specs.Report.{migrated_report}
 use Rattle.bp_front.specs.Front.{FilesCome, blocked, ends}
 use Rattle.bp_front.specs.Written.{Answer, stops, Answered}
 use Rattle.cmd_migrate.specs.declared.Migrated.{Migrated}
-
--- the report on a certificate of so many nodes that was written anew
-abbrev pub migrated_report : (nodes : ℕ) → List ℕ
-migrated_report nodes = codes "migrated " ++ decimal nodes ++ codes "\n"
 
 -- what the file of a certificate is answered, beside a program in blocks: its first fault, or the text of version 2 of the certificate that it
 -- spells, which means the same

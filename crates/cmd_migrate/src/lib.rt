@@ -1,7 +1,7 @@
 //! The command `migrate`: the certificate of a file, written anew in version 2.
 #![tactic(auto)]
 
-ghost use Rattle.std.specs.Prelude.{◌≡◌, ◌≢◌, ◌⊎◌, ℕ, ◌-◌, ◌^◌, ◌++◌, List, [], min, decimal, OnOk, IfOk, IfErr, IsTrue, None, Some};
+ghost use Rattle.std.specs.Prelude.{◌≡◌, ◌≢◌, ◌⊎◌, ℕ, ◌-◌, ◌^◌, List, [], min, IfOk, IfErr, IsTrue, None, Some};
 ghost use Rattle.std.specs.Option.{option_map};
 ghost use Rattle.bp_shelf.specs.Shelf.{OthersAsBefore};
 ghost use Rattle.bp_front.specs.Halts.{CountsHalted};
@@ -12,16 +12,16 @@ ghost use Rattle.cert_text.specs.Text.{Two};
 ghost use Rattle.cert_text.specs.Fault.{IsText, IsCertText};
 ghost use Rattle.cert_text.specs.Kept.{kept_cert};
 ghost use Rattle.cert_text.specs.Nodes.{nodes};
+ghost use Rattle.bp_report.specs.Report.{migrated_report};
 ghost use Rattle.cmd_migrate.specs.Laws.{AreReadAlike, AreJudgedAlike};
-ghost use Rattle.cmd_migrate.specs.Migrates.{migrated_report, TextMigrates, Migrates, AnswersMigrate, answer_of};
+ghost use Rattle.cmd_migrate.specs.Migrates.{TextMigrates, Migrates, AnswersMigrate, answer_of};
 ghost use Rattle.cmd_migrate.specs.Files.{MigrateLeaves, MigrateWrites};
 
 use block_form::Blocked;
 use bp_front::{Ended, Halt, Reply, load, print, read_front, stopped, stopped_by};
-use bp_report::cert_text;
+use bp_report::{cert_text, migrated_text};
 use bp_shelf::{Shelf, ShelfFault, Sink};
 use cert_text::{Cert, CertFault, read_cert, rewrite};
-use itoa::Buffer;
 use std::alloc::{AllocError, Global};
 
 // A file is shorter than 2^62 bytes.
@@ -106,6 +106,7 @@ fn written_anew(alloc: Global, b: &Blocked, text: &[u8]) -> Result<Migrated, Hal
     ensures done { IfOk result (λ m. m.reply.status ≡ 0) }
     ensures halted { IfErr result (IsTextHalt (TextMigrates b.now (Some text.now))) }
 {
+    // For the proof alone: how long `text` can be.
     let _size = text.len();
     match read_cert(alloc, text, b) {
         Ok(cert) => Ok(written(alloc, &cert)?),
@@ -126,23 +127,6 @@ fn written(alloc: Global, cert: &Cert) -> Result<Migrated, AllocError>
         text,
         reply: Reply { status: 0, report },
     })
-}
-
-// The report on a certificate of so many nodes that was written anew.
-fn migrated_text(alloc: Global, nodes: u64) -> Result<Vec<u8>, AllocError>
-    ensures { IfOk result (λ text. text.items ≡ migrated_report nodes) }
-{
-    let mut text = Vec::from_slice(alloc, b"migrated ")?;
-    put_count(&mut text, nodes)?;
-    text.extend_from_slice(b"\n")?;
-    Ok(text)
-}
-
-// Adds a count in decimal digits.
-fn put_count(text: &mut Vec<u8>, count: u64) -> Result<(), AllocError>
-    ensures { OnOk result (text.new.items ≡ text.old.items ++ decimal count) }
-{
-    text.extend_from_slice(Buffer::new().format(count).as_bytes())
 }
 
 /// What holds of a certificate's text in any version and of its text in version 2: both are read as the same certificate, so
