@@ -1,13 +1,12 @@
 // The leaf that a tree begins with, and the leaves that come next once leaves are forked.
-ghost use Rattle.std.specs.Prelude.{◌≡◌, IfOk, IfSome};
+ghost use Rattle.std.specs.Prelude.{IfOk, IfSome};
 ghost use Rattle.branch_tree.specs.Groves.{IsGroveOf, IsLiveTurn};
 ghost use Rattle.branch_tree.specs.Turns.{IsTurn};
 
 use crate::told::Told;
 use crate::zones::is_sound;
 use block_form::{Blocked, Zone};
-use bp_theory::{Items, Picked, Proof};
-use branch_tree::{Grove, MAX_DEPTH, Turn};
+use branch_tree::{Grove, MAX_DEPTH, Turn, proof_copy};
 use std::alloc::{AllocError, Global};
 
 // The variable whose span is split.
@@ -130,31 +129,5 @@ fn fork_leaf(
     match grove.fork(alloc, b, turn, VAR, at, proof, turn.bound) {
         Ok(()) => Ok(()),
         Err(_) => grove.fork(alloc, b, turn, VAR, at, again, turn.bound),
-    }
-}
-
-// A proof once more.
-fn proof_copy(alloc: Global, proof: &Proof) -> Result<Proof, AllocError>
-    ensures { IfOk result (λ copy. copy ≡ proof.now) }
-{
-    let mults = proof.mults.as_slice().to_vec(alloc)?;
-    let picked = picked_copy(alloc, &proof.picked)?;
-    Ok(Proof {
-        scale: proof.scale,
-        mults: Items::from_vec(mults),
-        picked,
-    })
-}
-
-// Picked blocks once more.
-fn picked_copy(alloc: Global, picked: &Picked) -> Result<Picked, AllocError>
-    ensures { IfOk result (λ copy. copy ≡ picked.now) }
-{
-    match picked {
-        Picked::Every => Ok(Picked::Every),
-        Picked::These(blocks) => {
-            let copy = blocks.as_slice().to_vec(alloc)?;
-            Ok(Picked::These(Items::from_vec(copy)))
-        }
     }
 }
