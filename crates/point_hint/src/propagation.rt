@@ -2,8 +2,8 @@
 // point is a hint, which the model judges.
 use crate::guide::{Guide, Order};
 use crate::incumbent::{feasible_cost, is_below};
-use crate::reach::{has_lower, has_upper, product, sum_at};
-use crate::spans::{Spans, set, take_back, tighten};
+use crate::reach::{has_lower, has_upper, sum_at};
+use crate::spans::{Spans, cheap_end, set, take_back, tighten};
 use block_form::Blocked;
 use bp_theory::{Row, Span};
 use branch_tree::Turn;
@@ -154,7 +154,7 @@ fn turn_back(search: &mut Search) -> Result<bool, AllocError> {
 fn visit(b: &Blocked, guide: &Guide, search: &mut Search) -> Result<Node, AllocError> {
     search.effort = search.effort.saturating_add(search.terms);
     if tighten(b, search.known, &mut search.spans)? {
-        Ok(node_of(b, guide, search.spans.now.as_slice()))
+        Ok(node_of(b, guide, &search.spans))
     } else {
         Ok(Node::Empty)
     }
@@ -162,13 +162,13 @@ fn visit(b: &Blocked, guide: &Guide, search: &mut Search) -> Result<Node, AllocE
 
 // The split that is needed most urgently by a row that the cheap ends miss. Among rows that are alike it is the one of the
 // greatest multiplier.
-fn node_of(b: &Blocked, guide: &Guide, spans: &[Span]) -> Node {
+fn node_of(b: &Blocked, guide: &Guide, spans: &Spans) -> Node {
     let mut most: i128 = 0;
     let mut chosen = None;
     for number in 0..b.model().rows() {
         let row = b.model().row(number);
-        if let Some(more) = missed(row, guide, spans) {
-            match need_of(row, guide, spans, more) {
+        if let Some(more) = missed(row, spans.cheap_sum(number)) {
+            match need_of(row, guide, spans.now.as_slice(), more) {
                 None => return Node::Empty,
                 Some(need) => {
                     let price = sum_at(guide.prices.as_slice(), number as usize);
@@ -187,15 +187,8 @@ fn node_of(b: &Blocked, guide: &Guide, spans: &[Span]) -> Node {
     }
 }
 
-// For a row that the cheap ends miss, whether its sum is to be more.
-fn missed(row: &Row, guide: &Guide, spans: &[Span]) -> Option<bool> {
-    let mut sum: i128 = 0;
-    for term in row.terms.as_slice() {
-        if let Some(span) = spans.get(term.var as usize) {
-            let end = cheap_end(span, cost_of(guide, term.var));
-            sum = sum.saturating_add(product(&term.coef, &end));
-        }
-    }
+// For a row that a sum misses, whether the sum is to be more.
+fn missed(row: &Row, sum: i128) -> Option<bool> {
     if has_lower(row) && sum < i128::from(row.low) {
         Some(true)
     } else if has_upper(row) && sum > i128::from(row.rhs) {
@@ -284,11 +277,6 @@ fn halves(var: u32, span: &Span, up: bool) -> Split {
             other: high,
         }
     }
-}
-
-// The end of a span that costs least.
-fn cheap_end(span: &Span, cost: i64) -> i64 {
-    if cost < 0 { span.hi } else { span.lo }
 }
 
 // The cost of a variable.

@@ -3,9 +3,10 @@
 ghost use Rattle.std.specs.Prelude.{◌<◌, length};
 
 use crate::entries::Entries;
-use crate::reach::{Reach, ends, has_lower, has_upper, reach_of, term_ends};
+use crate::guide::dense_costs;
+use crate::reach::{Reach, at, ends, has_lower, has_upper, product, whole};
 use block_form::Blocked;
-use bp_theory::{Span, Term};
+use bp_theory::{Row, Span, Term};
 use std::alloc::{AllocError, Global};
 
 /// How often the cost is looked at where rows shrank spans.
@@ -14,15 +15,17 @@ const PASSES: u32 = 8;
 /// How many rows are looked at between, for each row.
 const LOOKS: u32 = 8;
 
-/// Spans that shrink, what they were before, in the order of the changes, what each row can reach over them, the rows
-/// that wait to be looked at since a span of theirs shrank, and how many terms were looked at.
+/// Spans that shrink, what they were before, in the order of the changes, what is kept of each row and of the costs, the
+/// rows that wait to be looked at since a side of theirs came nearer, and how many terms were looked at.
 #[derive(Drop)]
 pub struct Spans {
     pub now: Vec<Span>,
     pub before: Vec<(u32, Span)>,
     pub looked: u64,
     entries: Entries,
-    reaches: Vec<Reach>,
+    costs: Vec<i64>,
+    cost: Line,
+    lines: Vec<Line>,
     waiting: Vec<u32>,
     is_waiting: Vec<bool>,
 }
@@ -31,22 +34,106 @@ impl Spans {
     /// Spans where each row waits.
     pub fn make(alloc: Global, b: &Blocked, spans: &[Span]) -> Result<Spans, AllocError> {
         let rows = b.model().rows();
+        let costs = dense_costs(alloc, b)?;
         let mut waiting = Vec::new(alloc);
-        let mut reaches = Vec::new(alloc);
-        for row in 0..rows {
-            waiting.push(row)?;
-            reaches.push(reach_of(b.model().row(row).terms.as_slice(), spans))?;
+        let mut lines = Vec::new(alloc);
+        for number in 0..rows {
+            let row = b.model().row(number);
+            waiting.push(number)?;
+            lines.push(line_of(row, costs.as_slice(), spans))?;
         }
+        let mut cost = Line::new(true, false);
+        cost.add_all(b.model().costs(), costs.as_slice(), spans);
         Ok(Spans {
             now: spans.to_vec(alloc)?,
             before: Vec::new(alloc),
             looked: 0,
             entries: Entries::of(alloc, b)?,
-            reaches,
+            costs,
+            cost,
+            lines,
             waiting,
             is_waiting: Vec::from_elem(alloc, true, rows as usize)?,
         })
     }
+
+    /// The sum of a row where each variable is at the end of its span that costs least.
+    pub fn cheap_sum(&self, row: u32) -> i128 {
+        match self.lines.as_slice().get(row as usize) {
+            None => 0,
+            Some(line) => line.cheap,
+        }
+    }
+}
+
+// What is kept of a row over spans: what it can reach, its sum at the ends of the spans that cost least, which of its
+// sides count, and the most that one of its terms could reach over at first: no term reaches over more in spans that
+// shrank.
+#[derive(Clone, Copy)]
+struct Line {
+    reach: Reach,
+    cheap: i128,
+    widest: i128,
+    has_upper: bool,
+    has_lower: bool,
+}
+
+// By how much the ends of a span move, and the end that costs least.
+#[derive(Clone, Copy)]
+struct Move {
+    lo: i64,
+    hi: i64,
+    cheap: i64,
+}
+
+impl Line {
+    // A row without terms.
+    fn new(has_upper: bool, has_lower: bool) -> Line {
+        Line {
+            reach: Reach { least: 0, most: 0 },
+            cheap: 0,
+            widest: 0,
+            has_upper,
+            has_lower,
+        }
+    }
+
+    // Adds terms over spans.
+    fn add_all(&mut self, terms: &[Term], costs: &[i64], spans: &[Span]) {
+        for term in terms {
+            if let Some(span) = spans.get(term.var as usize) {
+                let own = ends(&term.coef, span);
+                let end = cheap_end(span, at(costs, term.var as usize));
+                self.reach.least = self.reach.least.saturating_add(own.least);
+                self.reach.most = self.reach.most.saturating_add(own.most);
+                self.cheap = self.cheap.saturating_add(product(&term.coef, &end));
+                self.widest = self.widest.max(own.most.saturating_sub(own.least));
+            }
+        }
+    }
+
+    // Moves with the span of a variable that has a coefficient; whether a side that counts comes nearer.
+    fn shift(&mut self, coef: &i64, step: &Move) -> bool {
+        let low = product(coef, &step.lo);
+        let high = product(coef, &step.hi);
+        let (least, most) = if *coef < 0 { (high, low) } else { (low, high) };
+        self.reach.least = self.reach.least.saturating_add(least);
+        self.reach.most = self.reach.most.saturating_add(most);
+        self.cheap = self.cheap.saturating_add(product(coef, &step.cheap));
+        (self.has_upper && least > 0) || (self.has_lower && most < 0)
+    }
+}
+
+// What is kept of a row.
+fn line_of(row: &Row, costs: &[i64], spans: &[Span]) -> Line {
+    let mut line = Line::new(has_upper(row), has_lower(row));
+    line.add_all(row.terms.as_slice(), costs, spans);
+    line
+}
+
+/// The end of a span that costs least.
+pub fn cheap_end(span: &Span, cost: i64) -> i64 {
+    if cost < 0 { span.hi } else { span.lo }
 }
 
 // The side that a sum of terms must keep: at most or at least a number.
@@ -119,9 +206,8 @@ fn tighten_by_cost(
         Some(known) => {
             let most = i128::from(known).saturating_sub(i128::from(b.model().constant()));
             let side = Side::AtMost(most.saturating_sub(1));
-            let costs = b.model().costs();
-            let reach = reach_of(costs, spans.now.as_slice());
-            tighten_by_side(costs, side, &reach, spans)
+            let line = spans.cost;
+            tighten_by_side(b.model().costs(), side, &line, spans)
         }
     }
 }
@@ -134,12 +220,12 @@ fn tighten_by_row(b: &Blocked, number: u32, spans: &mut Spans) -> Result<Found, 
     let terms = row.terms.as_slice();
     let mut found = Found::Same;
     if has_upper(row) {
-        let reach = reach_at(spans, number);
-        found = tighten_by_side(terms, Side::AtMost(i128::from(row.rhs)), &reach, spans)?;
+        let line = line_at(spans, number);
+        found = tighten_by_side(terms, Side::AtMost(i128::from(row.rhs)), &line, spans)?;
     }
     if found != Found::Nothing && has_lower(row) {
-        let reach = reach_at(spans, number);
-        let other = tighten_by_side(terms, Side::AtLeast(i128::from(row.low)), &reach, spans)?;
+        let line = line_at(spans, number);
+        let other = tighten_by_side(terms, Side::AtLeast(i128::from(row.low)), &line, spans)?;
         if other != Found::Same {
             found = other;
         }
@@ -147,71 +233,58 @@ fn tighten_by_row(b: &Blocked, number: u32, spans: &mut Spans) -> Result<Found, 
     Ok(found)
 }
 
-// What a row can reach over spans.
-fn reach_at(spans: &Spans, row: u32) -> Reach {
-    match spans.reaches.as_slice().get(row as usize) {
-        None => Reach { least: 0, most: 0 },
-        Some(reach) => *reach,
+// What is kept of a row.
+fn line_at(spans: &Spans, row: u32) -> Line {
+    match spans.lines.as_slice().get(row as usize) {
+        None => Line::new(false, false),
+        Some(line) => *line,
     }
 }
 
-// Tightens spans by one side of a sum of terms with what it can reach.
+// Tightens spans by one side of a sum of terms: each term may reach over no more than what the side leaves beyond the
+// end of the sum that is farthest from it.
 fn tighten_by_side(
     terms: &[Term],
     side: Side,
-    reach: &Reach,
+    line: &Line,
     spans: &mut Spans,
 ) -> Result<Found, AllocError> {
-    if misses(reach, side) {
+    let room = room_of(&line.reach, side);
+    if room < 0 {
         return Ok(Found::Nothing);
     }
-    if keeps(reach, side) {
+    if room >= line.widest || room >= line.reach.most.saturating_sub(line.reach.least) {
         return Ok(Found::Same);
     }
     spans.looked = spans.looked.saturating_add(terms.len() as u64);
     let mut found = Found::Same;
     for term in terms {
-        let own = term_ends(term, spans.now.as_slice());
-        let (room, may_stay) = match side {
-            Side::AtMost(most) => {
-                let room = most.saturating_sub(reach.least.saturating_sub(own.least));
-                (room, own.most <= room)
-            }
-            Side::AtLeast(least) => {
-                let room = least.saturating_sub(reach.most.saturating_sub(own.most));
-                (room, own.least >= room)
-            }
-        };
-        if !may_stay && shrink(term, side, room, spans)? {
+        if shrink(term, side, room, spans)? {
             found = Found::Change;
         }
     }
     Ok(found)
 }
 
-// Whether no sum of a reach keeps a side.
-fn misses(reach: &Reach, side: Side) -> bool {
+// How far the end of a reach that is farthest from a side is from it, below 0 where no sum keeps the side.
+fn room_of(reach: &Reach, side: Side) -> i128 {
     match side {
-        Side::AtMost(most) => reach.least > most,
-        Side::AtLeast(least) => reach.most < least,
+        Side::AtMost(most) => most.saturating_sub(reach.least),
+        Side::AtLeast(least) => reach.most.saturating_sub(least),
     }
 }
 
-// Whether each sum of a reach keeps a side.
-fn keeps(reach: &Reach, side: Side) -> bool {
-    match side {
-        Side::AtMost(most) => reach.most <= most,
-        Side::AtLeast(least) => reach.least >= least,
-    }
-}
-
-// Shrinks a term's span to what its room allows; whether it shrank.
+// Shrinks a term's span where it reaches over more than a room; whether it shrank.
 fn shrink(term: &Term, side: Side, room: i128, spans: &mut Spans) -> Result<bool, AllocError> {
     let Some(span) = spans.now.as_slice().get(term.var as usize) else {
         return Ok(false);
     };
     let old = *span;
-    let new = shrunk(&old, &term.coef, side, room);
+    let over = product(&term.coef, &old.hi.saturating_sub(old.lo));
+    if over <= room && over.saturating_neg() <= room {
+        return Ok(false);
+    }
+    let new = shrunk(&old, &term.coef, side, whole(room));
     if new.lo > new.hi || (new.lo == old.lo && new.hi == old.hi) {
         return Ok(false);
     }
@@ -219,102 +292,92 @@ fn shrink(term: &Term, side: Side, room: i128, spans: &mut Spans) -> Result<bool
     Ok(true)
 }
 
-/// Writes a span, and what it was before; the rows of its variable wait.
+/// Writes a span, and what it was before; the rows of its variable wait where a side comes nearer.
 pub fn set(spans: &mut Spans, var: u32, new: Span) -> Result<(), AllocError> {
-    let mut old = new;
-    if let Some(place) = spans.now.get_mut(var as usize) {
-        old = *place;
-        spans.before.push((var, old))?;
-        *place = new;
-    }
-    move_reaches(spans, var, &old, &new);
+    let Some(place) = spans.now.get_mut(var as usize) else {
+        return Ok(());
+    };
+    let old = *place;
+    *place = new;
+    spans.before.push((var, old))?;
+    let step = move_cost(spans, var, &old, &new);
     for entry in spans.entries.of_var(var) {
-        if let Some(waits) = spans.is_waiting.get_mut(entry.0 as usize) {
-            if !*waits {
-                *waits = true;
-                spans.waiting.push(entry.0)?;
+        let mut is_nearer = false;
+        if let Some(line) = spans.lines.get_mut(entry.0 as usize) {
+            is_nearer = line.shift(&entry.1, &step);
+        }
+        if is_nearer {
+            if let Some(waits) = spans.is_waiting.get_mut(entry.0 as usize) {
+                if !*waits {
+                    *waits = true;
+                    spans.waiting.push(entry.0)?;
+                }
             }
         }
     }
     Ok(())
 }
 
-// Moves what rows can reach where a variable's span changes.
-fn move_reaches(spans: &mut Spans, var: u32, old: &Span, new: &Span) {
-    for entry in spans.entries.of_var(var) {
-        if let Some(reach) = spans.reaches.get_mut(entry.0 as usize) {
-            let was = ends(&entry.1, old);
-            let is = ends(&entry.1, new);
-            reach.least = reach
-                .least
-                .saturating_add(is.least.saturating_sub(was.least));
-            reach.most = reach.most.saturating_add(is.most.saturating_sub(was.most));
-        }
-    }
+// Moves what is kept of the costs where a variable's span changes, and tells by how much it moves.
+fn move_cost(spans: &mut Spans, var: u32, old: &Span, new: &Span) -> Move {
+    let cost = at(spans.costs.as_slice(), var as usize);
+    let lo = new.lo.saturating_sub(old.lo);
+    let hi = new.hi.saturating_sub(old.hi);
+    let cheap = if cost < 0 { hi } else { lo };
+    let step = Move { lo, hi, cheap };
+    let _ = spans.cost.shift(&cost, &step);
+    step
 }
 
 /// Takes the last changes back, until so many are left.
 pub fn take_back(spans: &mut Spans, left: usize) {
     for _ in left..spans.before.len() {
         if let Some((var, old)) = spans.before.pop() {
-            let mut now = old;
-            if let Some(place) = spans.now.get_mut(var as usize) {
-                now = *place;
-                *place = old;
-            }
-            move_reaches(spans, var, &now, &old);
+            take_one_back(spans, var, &old);
         }
     }
 }
 
-// The part of a span where coefficient times number keeps a side.
-fn shrunk(span: &Span, coef: &i64, side: Side, room: i128) -> Span {
-    let (upper, turned) = match side {
-        Side::AtMost(_) => (*coef > 0, room),
-        Side::AtLeast(_) => (*coef < 0, negative(room)),
+// Gives a variable the span that it had before.
+fn take_one_back(spans: &mut Spans, var: u32, old: &Span) {
+    let Some(place) = spans.now.get_mut(var as usize) else {
+        return;
     };
-    let most = floored(turned, i128::from(coef.unsigned_abs()));
-    if *coef == 0 {
-        *span
-    } else if upper {
+    let now = *place;
+    *place = *old;
+    let step = move_cost(spans, var, &now, old);
+    for entry in spans.entries.of_var(var) {
+        if let Some(line) = spans.lines.get_mut(entry.0 as usize) {
+            let _ = line.shift(&entry.1, &step);
+        }
+    }
+}
+
+// The part of a span over which a term reaches no more than a room, from the end that is farthest from a side.
+fn shrunk(span: &Span, coef: &i64, side: Side, room: i64) -> Span {
+    let far = steps_in(room, coef);
+    let is_upper = match side {
+        Side::AtMost(_) => *coef > 0,
+        Side::AtLeast(_) => *coef < 0,
+    };
+    if is_upper {
         Span {
             lo: span.lo,
-            hi: within(most, span),
+            hi: span.hi.min(span.lo.saturating_add(far)),
         }
     } else {
         Span {
-            lo: within(negative(most), span),
+            lo: span.lo.max(span.hi.saturating_sub(far)),
             hi: span.hi,
         }
     }
 }
 
-// A number's negative.
-fn negative(number: i128) -> i128 {
-    let zero: i128 = 0;
-    zero.saturating_sub(number)
-}
-
-// A quotient rounded down, 0 where the divisor isn't positive.
-fn floored(number: i128, divisor: i128) -> i128 {
-    if divisor <= 0 {
+// How many steps of a coefficient fit into a room.
+fn steps_in(room: i64, coef: &i64) -> i64 {
+    let step = coef.unsigned_abs();
+    if step == 0 || room < 0 {
         return 0;
     }
-    let quotient = number / divisor;
-    if number % divisor < 0 {
-        quotient.saturating_sub(1)
-    } else {
-        quotient
-    }
-}
-
-// The number of a span that is nearest.
-fn within(number: i128, span: &Span) -> i64 {
-    if number <= i128::from(span.lo) {
-        span.lo
-    } else if number >= i128::from(span.hi) {
-        span.hi
-    } else {
-        number as i64
-    }
+    (room.unsigned_abs() / step) as i64
 }
