@@ -128,7 +128,14 @@ fn priced_blocks(
     }
     let costs = reduced_costs(alloc, block, mults)?;
     let mut pricer = KnapPricer::make(alloc, block)?;
-    price_by_table(alloc, &mut pricer, block, costs.as_slice(), &mut member, sides)
+    price_by_table(
+        alloc,
+        &mut pricer,
+        block,
+        costs.as_slice(),
+        &mut member,
+        sides,
+    )
 }
 
 // The reduced costs of a block's variables at multipliers by row, at the greatest scale.
