@@ -1,10 +1,12 @@
-//! Tests of what the linear programs in `f64` answer: factors of bases, the dual simplex, and the programs of columns.
-//! They stand apart from the crates that they test, which are then proved once.
+//! Tests of what linear programs answer: factors of bases, the dual simplex and the programs of columns in `f64`, and
+//! restricted masters in whole numbers. They stand apart from the crates that they test, which are then proved once.
 #![tactic(auto)]
 
 #[cfg(test)]
 mod columns;
 #[cfg(test)]
 mod factors;
+#[cfg(test)]
+mod masters;
 #[cfg(test)]
 mod programs;

@@ -3,4 +3,3 @@ pub mod LeastLaws
 pub mod Near
 pub mod Bounds
 pub mod Ends
-pub mod Shared

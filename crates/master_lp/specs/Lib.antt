@@ -1,3 +1,3 @@
--- No other crate cites these: they are words of contracts here.
+-- The tests in `engines` cite `Restricted`; else these are words of contracts here alone.
 pub mod Restricted
 pub mod Answer

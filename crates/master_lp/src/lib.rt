@@ -19,6 +19,3 @@ mod worth;
 pub use answer::MasterAnswer;
 pub use master::{Master, solve_master};
 pub use proposal::Proposal;
-
-#[cfg(test)]
-mod tests;

@@ -1,5 +1,5 @@
-use Rattle.master_lp.proofs.Shared.{one_column_modest_as}
-use Rattle.master_lp.proofs.tests.solved_once.Goals as goal
+use Rattle.engines.proofs.Shared.{one_column_modest_as}
+use Rattle.engines.proofs.masters.solved_once.Goals as goal
 
 pub solve-requires : goal.solve-requires
 solve-requires c = one_column_modest_as c.in_ok-master.master c.in_ok-master.ensures

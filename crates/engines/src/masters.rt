@@ -5,8 +5,8 @@ ghost use Rattle.bp_theory.specs.declared.MasterRow.{MasterRow as ARow};
 ghost use Rattle.search_laws.specs.declared.Column.{Column as AColumn};
 ghost use Rattle.master_lp.specs.Restricted.{IsModest};
 
-use crate::{Master, MasterAnswer, solve_master};
 use bp_theory::{Items, MasterRow, Sense};
+use master_lp::{Master, MasterAnswer, solve_master};
 use search_laws::Column;
 use std::alloc::Global;
 use std::process::Abort;
