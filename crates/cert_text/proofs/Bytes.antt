@@ -6,7 +6,7 @@ use Rattle.std.proofs.lemmas.List.Sums.{sum_by-append}
 use Rattle.std.proofs.lemmas.Bool.{cases_lt}
 use Rattle.std.proofs.lemmas.Bool.Decides.{nat_tests}
 use Rattle.cert_text.specs.Cert as texts
-use Rattle.cert_text.specs.Cert.{multiplier}
+use Rattle.cert_text.specs.Cert.{Tree, multiplier}
 use Rattle.cert_text.specs.Text.{Kind, first_kind, is_past, is_deep, value_fault, coordinate_fault}
 use Rattle.cert_text.specs.Fault.{line_behind}
 use Rattle.cert_text.specs.Words.{word_text}
@@ -15,10 +15,10 @@ use Rattle.cert_text.specs.Frames.{frame_of}
 use Rattle.cert_text.specs.Signed.{signed}
 use Rattle.cert_text.specs.Readers.{place_of, IsCount, slack}
 use Rattle.cert_text.specs.Stages.{at_bpcert, at_version, at_first_end, at_claim, at_kind, at_optimal, infeasible_end, at_bound, after_bound, at_value, claim_end, at_point, at_values, at_coordinate, at_node, at_scale, at_rows, at_count, at_pairs, at_row, row_gap, at_multiplier, at_priced, at_blocks, at_block, leaf_end, at_variable, variable_gap, at_place, split_end, at_end, last_end, over}
-use Rattle.cert_text.specs.Stages.{Stage, sort, IsOfSort, number_fault, behind_number}
+use Rattle.cert_text.specs.Stages.{Wait, Stage, sort, IsOfSort, number_fault, behind_number}
 use Rattle.cert_text.specs.declared.fault.CertKind.TheVariants.{TooLarge, Number, Length, Depth}
 use Rattle.cert_text.specs.declared.frame.Frame.{Frame}
-use Rattle.cert_text.specs.declared.reader.Reader.{Reader}
+use Rattle.cert_text.specs.declared.lines.Lines.{Lines}
 use Rattle.cert_text.specs.declared.spots.Sort.TheVariants.{Wordy}
 use Rattle.cert_text.specs.declared.spots.Spot.{Spot}
 use Rattle.cert_text.specs.declared.spots.Spot.TheVariants as s
@@ -76,40 +76,40 @@ pub line_first : (byte : ℕ) → byte ≢ 10 → line_behind (byte ∷ []) ≡ 
 line_first byte other = line_same [] byte other
 
 -- the sort of a reader's place
-pub sort_is : (r : Reader) (n : ℕ) (spot : Spot) → sort (place_of r n spot) ≡ spot_sort spot
-sort_is r n s.Bpcert = refl
-sort_is r n s.Version = refl
-sort_is r n s.FirstEnd = refl
-sort_is r n s.Claim = refl
-sort_is r n s.Kind = refl
-sort_is r n s.OptimalValue = refl
-sort_is r n s.InfeasibleEnd = refl
-sort_is r n s.BoundValue = refl
-sort_is r n s.AfterBound = refl
-sort_is r n s.KnownValue = refl
-sort_is r n s.ClaimEnd = refl
-sort_is r n s.Point = refl
-sort_is r n s.Values = refl
-sort_is r n s.Coordinate = refl
-sort_is r n s.Node = refl
-sort_is r n s.Scale = refl
-sort_is r n s.Rows = refl
-sort_is r n s.Count = refl
-sort_is r n s.Pairs = refl
-sort_is r n s.Row = refl
-sort_is r n s.RowGap = refl
-sort_is r n s.Multiplier = refl
-sort_is r n s.Priced = refl
-sort_is r n s.Blocks = refl
-sort_is r n s.Block = refl
-sort_is r n s.LeafEnd = refl
-sort_is r n s.Variable = refl
-sort_is r n s.VariableGap = refl
-sort_is r n s.Place = refl
-sort_is r n s.SplitEnd = refl
-sort_is r n s.End = refl
-sort_is r n s.LastEnd = refl
-sort_is r n s.Over = refl
+pub sort_is : (above : List Wait) (root : Tree) (r : Lines) (n : ℕ) (spot : Spot) → sort (place_of above root r n spot) ≡ spot_sort spot
+sort_is above root r n s.Bpcert = refl
+sort_is above root r n s.Version = refl
+sort_is above root r n s.FirstEnd = refl
+sort_is above root r n s.Claim = refl
+sort_is above root r n s.Kind = refl
+sort_is above root r n s.OptimalValue = refl
+sort_is above root r n s.InfeasibleEnd = refl
+sort_is above root r n s.BoundValue = refl
+sort_is above root r n s.AfterBound = refl
+sort_is above root r n s.KnownValue = refl
+sort_is above root r n s.ClaimEnd = refl
+sort_is above root r n s.Point = refl
+sort_is above root r n s.Values = refl
+sort_is above root r n s.Coordinate = refl
+sort_is above root r n s.Node = refl
+sort_is above root r n s.Scale = refl
+sort_is above root r n s.Rows = refl
+sort_is above root r n s.Count = refl
+sort_is above root r n s.Pairs = refl
+sort_is above root r n s.Row = refl
+sort_is above root r n s.RowGap = refl
+sort_is above root r n s.Multiplier = refl
+sort_is above root r n s.Priced = refl
+sort_is above root r n s.Blocks = refl
+sort_is above root r n s.Block = refl
+sort_is above root r n s.LeafEnd = refl
+sort_is above root r n s.Variable = refl
+sort_is above root r n s.VariableGap = refl
+sort_is above root r n s.Place = refl
+sort_is above root r n s.SplitEnd = refl
+sort_is above root r n s.End = refl
+sort_is above root r n s.LastEnd = refl
+sort_is above root r n s.Over = refl
 
 pub slack_small : (spot : Spot) → slack spot ≤ 1
 slack_small s.Bpcert = omega arith
@@ -194,75 +194,75 @@ IsCounting (at_count a ws o s) = Unit {0}
 IsCounting (at_priced a ws o s ps) = Unit {0}
 IsCounting _ = ⊥
 
-pub counting_is : (r : Reader) (n : ℕ) (spot : Spot) → IsCounting (place_of r n spot) → IsCount spot
-counting_is r n s.Bpcert is = is
-counting_is r n s.Version is = is
-counting_is r n s.FirstEnd is = is
-counting_is r n s.Claim is = is
-counting_is r n s.Kind is = is
-counting_is r n s.OptimalValue is = is
-counting_is r n s.InfeasibleEnd is = is
-counting_is r n s.BoundValue is = is
-counting_is r n s.AfterBound is = is
-counting_is r n s.KnownValue is = is
-counting_is r n s.ClaimEnd is = is
-counting_is r n s.Point is = is
-counting_is r n s.Values is = is
-counting_is r n s.Coordinate is = is
-counting_is r n s.Node is = is
-counting_is r n s.Scale is = is
-counting_is r n s.Rows is = is
-counting_is r n s.Count is = is
-counting_is r n s.Pairs is = is
-counting_is r n s.Row is = is
-counting_is r n s.RowGap is = is
-counting_is r n s.Multiplier is = is
-counting_is r n s.Priced is = is
-counting_is r n s.Blocks is = is
-counting_is r n s.Block is = is
-counting_is r n s.LeafEnd is = is
-counting_is r n s.Variable is = is
-counting_is r n s.VariableGap is = is
-counting_is r n s.Place is = is
-counting_is r n s.SplitEnd is = is
-counting_is r n s.End is = is
-counting_is r n s.LastEnd is = is
-counting_is r n s.Over is = is
+pub counting_is : (above : List Wait) (root : Tree) (r : Lines) (n : ℕ) (spot : Spot) → IsCounting (place_of above root r n spot) → IsCount spot
+counting_is above root r n s.Bpcert is = is
+counting_is above root r n s.Version is = is
+counting_is above root r n s.FirstEnd is = is
+counting_is above root r n s.Claim is = is
+counting_is above root r n s.Kind is = is
+counting_is above root r n s.OptimalValue is = is
+counting_is above root r n s.InfeasibleEnd is = is
+counting_is above root r n s.BoundValue is = is
+counting_is above root r n s.AfterBound is = is
+counting_is above root r n s.KnownValue is = is
+counting_is above root r n s.ClaimEnd is = is
+counting_is above root r n s.Point is = is
+counting_is above root r n s.Values is = is
+counting_is above root r n s.Coordinate is = is
+counting_is above root r n s.Node is = is
+counting_is above root r n s.Scale is = is
+counting_is above root r n s.Rows is = is
+counting_is above root r n s.Count is = is
+counting_is above root r n s.Pairs is = is
+counting_is above root r n s.Row is = is
+counting_is above root r n s.RowGap is = is
+counting_is above root r n s.Multiplier is = is
+counting_is above root r n s.Priced is = is
+counting_is above root r n s.Blocks is = is
+counting_is above root r n s.Block is = is
+counting_is above root r n s.LeafEnd is = is
+counting_is above root r n s.Variable is = is
+counting_is above root r n s.VariableGap is = is
+counting_is above root r n s.Place is = is
+counting_is above root r n s.SplitEnd is = is
+counting_is above root r n s.End is = is
+counting_is above root r n s.LastEnd is = is
+counting_is above root r n s.Over is = is
 
-pub is_counting : (r : Reader) (n : ℕ) (spot : Spot) → IsCount spot → IsCounting (place_of r n spot)
-is_counting r n s.Bpcert is = is
-is_counting r n s.Version is = is
-is_counting r n s.FirstEnd is = is
-is_counting r n s.Claim is = is
-is_counting r n s.Kind is = is
-is_counting r n s.OptimalValue is = is
-is_counting r n s.InfeasibleEnd is = is
-is_counting r n s.BoundValue is = is
-is_counting r n s.AfterBound is = is
-is_counting r n s.KnownValue is = is
-is_counting r n s.ClaimEnd is = is
-is_counting r n s.Point is = is
-is_counting r n s.Values is = is
-is_counting r n s.Coordinate is = is
-is_counting r n s.Node is = is
-is_counting r n s.Scale is = is
-is_counting r n s.Rows is = is
-is_counting r n s.Count is = is
-is_counting r n s.Pairs is = is
-is_counting r n s.Row is = is
-is_counting r n s.RowGap is = is
-is_counting r n s.Multiplier is = is
-is_counting r n s.Priced is = is
-is_counting r n s.Blocks is = is
-is_counting r n s.Block is = is
-is_counting r n s.LeafEnd is = is
-is_counting r n s.Variable is = is
-is_counting r n s.VariableGap is = is
-is_counting r n s.Place is = is
-is_counting r n s.SplitEnd is = is
-is_counting r n s.End is = is
-is_counting r n s.LastEnd is = is
-is_counting r n s.Over is = is
+pub is_counting : (above : List Wait) (root : Tree) (r : Lines) (n : ℕ) (spot : Spot) → IsCount spot → IsCounting (place_of above root r n spot)
+is_counting above root r n s.Bpcert is = is
+is_counting above root r n s.Version is = is
+is_counting above root r n s.FirstEnd is = is
+is_counting above root r n s.Claim is = is
+is_counting above root r n s.Kind is = is
+is_counting above root r n s.OptimalValue is = is
+is_counting above root r n s.InfeasibleEnd is = is
+is_counting above root r n s.BoundValue is = is
+is_counting above root r n s.AfterBound is = is
+is_counting above root r n s.KnownValue is = is
+is_counting above root r n s.ClaimEnd is = is
+is_counting above root r n s.Point is = is
+is_counting above root r n s.Values is = is
+is_counting above root r n s.Coordinate is = is
+is_counting above root r n s.Node is = is
+is_counting above root r n s.Scale is = is
+is_counting above root r n s.Rows is = is
+is_counting above root r n s.Count is = is
+is_counting above root r n s.Pairs is = is
+is_counting above root r n s.Row is = is
+is_counting above root r n s.RowGap is = is
+is_counting above root r n s.Multiplier is = is
+is_counting above root r n s.Priced is = is
+is_counting above root r n s.Blocks is = is
+is_counting above root r n s.Block is = is
+is_counting above root r n s.LeafEnd is = is
+is_counting above root r n s.Variable is = is
+is_counting above root r n s.VariableGap is = is
+is_counting above root r n s.Place is = is
+is_counting above root r n s.SplitEnd is = is
+is_counting above root r n s.End is = is
+is_counting above root r n s.LastEnd is = is
+is_counting above root r n s.Over is = is
 
 -- whether a number of pairs or blocks comes
 pub count_cases : (spot : Spot) → IsCount spot ⊎ (IsCount spot → ⊥)

@@ -4,10 +4,14 @@ use Rattle.std.proofs.lemmas.List.{take_more}
 use Rattle.cert_text.specs.Text.{Kind}
 use Rattle.cert_text.specs.Fault.{IsSeenFault, IsFirstCertFault}
 use Rattle.cert_text.specs.Frames.{frame_of}
-use Rattle.cert_text.specs.Standing.{Steps, Feeds, EndsTextAt, EndsWell, ReadsCertificate}
+use Rattle.cert_text.specs.Cert.{Tree}
+use Rattle.cert_text.specs.Stages.{Wait}
+use Rattle.cert_text.specs.Standing.{EndsTextAt, EndsWell, ReadsCertificate}
+use Rattle.cert_text.specs.Builders.{BuildsOn, Feeds}
 use Rattle.cert_text.specs.declared.fault.CertFault.{CertFault}
 use Rattle.cert_text.specs.declared.fault.CertFault.TheVariants.{At, NoMemory}
 use Rattle.cert_text.specs.declared.frame.Frame.{Frame}
+use Rattle.cert_text.specs.declared.lines.Lines.{Lines}
 use Rattle.cert_text.specs.declared.reader.Reader.{Reader}
 use Rattle.cert_text.proofs.LawProofs.{seen_faults_stay, seen_faults_are_first}
 use Rattle.cert_text.proofs.Leaving.{split_at}
@@ -32,7 +36,7 @@ pub joined : (text piece : List ℕ) (i byte : ℕ) → i < length piece → get
 joined text piece i byte less is = append_assoc text (take i piece) (byte ∷ []) ∙ ap (λ (xs : List ℕ). text ++ xs) (ap (λ (b : ℕ). take i piece ++ b ∷ []) (sym is) ∙ sym (take_more piece i 0 less))
 
 -- a fault at a byte of a piece is one behind the piece
-pub fed_fault : (frame : Frame) (new : Reader) (text piece : List ℕ) (i byte : ℕ) (e : CertFault) → i < length piece → get_or piece i 0 ≡ byte → Steps frame new (text ++ take i piece) byte (Err e) → Feeds frame new text piece (Err e)
+pub fed_fault : (frame : Frame) (new : Reader) (text piece : List ℕ) (i byte : ℕ) (e : CertFault) → i < length piece → get_or piece i 0 ≡ byte → BuildsOn frame new (text ++ take i piece) byte (Err e) → Feeds frame new text piece (Err e)
 fed_fault frame new text piece i byte NoMemory less is steps = tt
 fed_fault frame new text piece i byte (At line kind) less is steps =
     let rest = rest_of piece i byte less is in
@@ -47,15 +51,15 @@ read_fault frame new text NoMemory feeds = tt
 read_fault frame new text (At line kind) feeds = seen_faults_are_first (frame_of frame) text line kind feeds
 
 -- a fault at the end
-pub end_fault : (frame : Frame) (new : Reader) (text : List ℕ) (line : ℕ) (kind : Kind) (result : Result (Unit {0}) CertFault) → result ≡ Err (At line kind) → IsFirstCertFault (frame_of frame) text line kind → EndsWell frame new text result
-end_fault frame new text line kind result is fault = let P : Result (Unit {0}) CertFault → Type 0 = λ r. EndsWell frame new text r in subst P (sym is) fault
+pub end_fault : (above : List Wait) (root : Tree) (frame : Frame) (new : Lines) (text : List ℕ) (line : ℕ) (kind : Kind) (result : Result (Unit {0}) CertFault) → result ≡ Err (At line kind) → IsFirstCertFault (frame_of frame) text line kind → EndsWell above root frame new text result
+end_fault above root frame new text line kind result is fault = let P : Result (Unit {0}) CertFault → Type 0 = λ r. EndsWell above root frame new text r in subst P (sym is) fault
 
 -- a fault of the number with which the text ends
-pub number_fault : (frame : Frame) (new : Reader) (text : List ℕ) (e : CertFault) → EndsTextAt frame new text (Err e) → EndsWell frame new text (Err e)
-number_fault frame new text NoMemory ends = tt
-number_fault frame new text (At line kind) ends = ends
+pub number_fault : (above : List Wait) (root : Tree) (frame : Frame) (new : Lines) (text : List ℕ) (e : CertFault) → EndsTextAt above root frame new text (Err e) → EndsWell above root frame new text (Err e)
+number_fault above root frame new text NoMemory ends = tt
+number_fault above root frame new text (At line kind) ends = ends
 
 -- a fault that is there at the end
-pub finish_fault : (frame : Frame) (new : Reader) (text : List ℕ) (e : CertFault) → EndsWell frame new text (Err e) → ReadsCertificate frame text (Err e)
-finish_fault frame new text NoMemory ends = tt
-finish_fault frame new text (At line kind) ends = ends
+pub finish_fault : (above : List Wait) (root : Tree) (frame : Frame) (new : Lines) (text : List ℕ) (e : CertFault) → EndsWell above root frame new text (Err e) → ReadsCertificate frame text (Err e)
+finish_fault above root frame new text NoMemory ends = tt
+finish_fault above root frame new text (At line kind) ends = ends

@@ -11,22 +11,21 @@ use Rattle.std.specs.Prelude.{unwrap_or}
 use Rattle.std.specs.Option.{option_map}
 use Rattle.bp_theory.specs.Judgement.{named_value}
 use Rattle.bp_theory.specs.declared.Claim.{Claim}
-use Rattle.cert_text.specs.declared.sketch.Sketch.{Sketch}
 use Rattle.cert_text.specs.Words.{word_text}
 use Rattle.cert_text.specs.Frames.{frame_of}
 use Rattle.cert_text.specs.Written.{written_claim, written_tree}
 use Rattle.cert_text.specs.Sketch.{tree_of}
-use Rattle.cert_text.specs.Readers.{told_of, place_of, stage_of, root_of}
-use Rattle.cert_text.specs.Stages.{plain_of, told, at_bpcert, IsOfSort, IsOf, Follows, AtNode, AtClaim, AtFirstEnd, over}
+use Rattle.cert_text.specs.Readers.{told_of, place_of, stage_of}
+use Rattle.cert_text.specs.Stages.{Wait, plain_of, told, at_bpcert, IsOfSort, IsOf, Follows, AtNode, AtClaim, AtFirstEnd, over}
 use Rattle.cert_text.specs.Grammar.{Prefixed}
 use Rattle.cert_text.specs.Standing.{MayStand, Reached, IsInWord, IsBehindMinus, IsPart, StandsFor, Between}
 use Rattle.cert_text.specs.Kept.{kept_cert}
 use Rattle.cert_text.specs.declared.cert.Cert.{Cert as Kept}
 use Rattle.cert_text.specs.declared.fault.CertKind.TheVariants.{Syntax}
 use Rattle.cert_text.specs.declared.frame.Frame.{Frame}
-use Rattle.cert_text.specs.declared.reader.Part.{Part}
-use Rattle.cert_text.specs.declared.reader.Part.TheVariants.{Fresh, InWord, Minus}
-use Rattle.cert_text.specs.declared.reader.Reader.{Reader}
+use Rattle.cert_text.specs.declared.lines.Part.{Part}
+use Rattle.cert_text.specs.declared.lines.Part.TheVariants.{Fresh, InWord, Minus}
+use Rattle.cert_text.specs.declared.lines.Lines.{Lines}
 use Rattle.cert_text.specs.declared.spots.Sort.{Sort}
 use Rattle.cert_text.specs.declared.spots.Spot.{Spot}
 use Rattle.cert_text.specs.declared.spots.Spot.TheVariants as s
@@ -148,107 +147,106 @@ start_follow frame c ts = (
 )
 
 -- a reader that has read nothing
-pub begins_well : (frame : Frame) (r : Reader) → r.spot ≡ s.Bpcert → r.part ≡ Fresh → r.line ≡ 1 → r.left ≡ 0 → StandsFor frame r []
-begins_well frame r spot part line left =
-    let P : Spot → Type 0 = λ x. Reached (frame_of frame) (place_of r 0 x) false [] in
+pub begins_well : (root : Tree) (frame : Frame) (r : Lines) → r.spot ≡ s.Bpcert → r.part ≡ Fresh → r.line ≡ 1 → r.left ≡ 0 → r.depth ≡ 0 → r.highs.items ≡ [] → StandsFor [] root frame r []
+begins_well root frame r spot part line left depth highs =
+    let P : Spot → Type 0 = λ x. Reached (frame_of frame) (place_of [] root r 0 x) false [] in
     let start : Reached (frame_of frame) at_bpcert false [] = record { before = []; clean = tt; bytes = refl; read = λ rest may. tt; follow = λ c ts. start_follow (frame_of frame) c ts } in
-    let Q : Part → Type 0 = λ p. IsPart (frame_of frame) (stage_of r 0) p [] in
+    let Q : Part → Type 0 = λ p. IsPart (frame_of frame) (stage_of [] root r 0) p [] in
     record {
       count = 0;
-      counts = record { counted = inl left; line = line; short = inl (refl, spot) };
+      counts = record { counted = inl left; line = line; short = inl (refl, spot); highs = record { depth = depth; highs = highs } };
       part = subst Q (sym part) (subst P (sym spot) start);
     }
 
 -- only behind the last line is the text over
-over_spot : (frame : texts.Frame) (d : Cert) (r : Reader) (n : ℕ) (spot : Spot) → IsOver frame d (place_of r n spot) → spot ≡ s.Over
-over_spot frame d r n s.Bpcert is = absurd is
-over_spot frame d r n s.Version is = absurd is
-over_spot frame d r n s.FirstEnd is = absurd is
-over_spot frame d r n s.Claim is = absurd is
-over_spot frame d r n s.Kind is = absurd is
-over_spot frame d r n s.OptimalValue is = absurd is
-over_spot frame d r n s.InfeasibleEnd is = absurd is
-over_spot frame d r n s.BoundValue is = absurd is
-over_spot frame d r n s.AfterBound is = absurd is
-over_spot frame d r n s.KnownValue is = absurd is
-over_spot frame d r n s.ClaimEnd is = absurd is
-over_spot frame d r n s.Point is = absurd is
-over_spot frame d r n s.Values is = absurd is
-over_spot frame d r n s.Coordinate is = absurd is
-over_spot frame d r n s.Node is = absurd is
-over_spot frame d r n s.Scale is = absurd is
-over_spot frame d r n s.Rows is = absurd is
-over_spot frame d r n s.Count is = absurd is
-over_spot frame d r n s.Pairs is = absurd is
-over_spot frame d r n s.Row is = absurd is
-over_spot frame d r n s.RowGap is = absurd is
-over_spot frame d r n s.Multiplier is = absurd is
-over_spot frame d r n s.Priced is = absurd is
-over_spot frame d r n s.Blocks is = absurd is
-over_spot frame d r n s.Block is = absurd is
-over_spot frame d r n s.LeafEnd is = absurd is
-over_spot frame d r n s.Variable is = absurd is
-over_spot frame d r n s.VariableGap is = absurd is
-over_spot frame d r n s.Place is = absurd is
-over_spot frame d r n s.SplitEnd is = absurd is
-over_spot frame d r n s.End is = absurd is
-over_spot frame d r n s.LastEnd is = absurd is
-over_spot frame d r n s.Over is = refl
+over_spot : (above : List Wait) (root : Tree) (frame : texts.Frame) (d : Cert) (r : Lines) (n : ℕ) (spot : Spot) → IsOver frame d (place_of above root r n spot) → spot ≡ s.Over
+over_spot above root frame d r n s.Bpcert is = absurd is
+over_spot above root frame d r n s.Version is = absurd is
+over_spot above root frame d r n s.FirstEnd is = absurd is
+over_spot above root frame d r n s.Claim is = absurd is
+over_spot above root frame d r n s.Kind is = absurd is
+over_spot above root frame d r n s.OptimalValue is = absurd is
+over_spot above root frame d r n s.InfeasibleEnd is = absurd is
+over_spot above root frame d r n s.BoundValue is = absurd is
+over_spot above root frame d r n s.AfterBound is = absurd is
+over_spot above root frame d r n s.KnownValue is = absurd is
+over_spot above root frame d r n s.ClaimEnd is = absurd is
+over_spot above root frame d r n s.Point is = absurd is
+over_spot above root frame d r n s.Values is = absurd is
+over_spot above root frame d r n s.Coordinate is = absurd is
+over_spot above root frame d r n s.Node is = absurd is
+over_spot above root frame d r n s.Scale is = absurd is
+over_spot above root frame d r n s.Rows is = absurd is
+over_spot above root frame d r n s.Count is = absurd is
+over_spot above root frame d r n s.Pairs is = absurd is
+over_spot above root frame d r n s.Row is = absurd is
+over_spot above root frame d r n s.RowGap is = absurd is
+over_spot above root frame d r n s.Multiplier is = absurd is
+over_spot above root frame d r n s.Priced is = absurd is
+over_spot above root frame d r n s.Blocks is = absurd is
+over_spot above root frame d r n s.Block is = absurd is
+over_spot above root frame d r n s.LeafEnd is = absurd is
+over_spot above root frame d r n s.Variable is = absurd is
+over_spot above root frame d r n s.VariableGap is = absurd is
+over_spot above root frame d r n s.Place is = absurd is
+over_spot above root frame d r n s.SplitEnd is = absurd is
+over_spot above root frame d r n s.End is = absurd is
+over_spot above root frame d r n s.LastEnd is = absurd is
+over_spot above root frame d r n s.Over is = refl
 
 -- between two tokens of a text that isn't over
-pub cut_between : (frame : Frame) (r : Reader) (number : Bool) (text : List ℕ) (line : ℕ) → Between frame r number text → (r.spot ≡ s.Over → ⊥) → line ≡ r.line → IsFirstCertFault (frame_of frame) text line Syntax
-cut_between frame r number text line between ended at_line =
+pub cut_between : (above : List Wait) (root : Tree) (frame : Frame) (r : Lines) (number : Bool) (text : List ℕ) (line : ℕ) → Between above root frame r number text → (r.spot ≡ s.Over → ⊥) → line ≡ r.line → IsFirstCertFault (frame_of frame) text line Syntax
+cut_between above root frame r number text line between ended at_line =
     let L : ℕ → Type 0 = λ l. IsFirstCertFault (frame_of frame) text l Syntax in
     let P : List ℕ → Type 0 = λ t. IsFirstCertFault (frame_of frame) t (line_behind text) Syntax in
     subst L (sym (at_line ∙ between.counts.line)) (subst P (append-nil text)
     (leaves_first (frame_of frame) (text ++ []) [] (line_behind text)
-    (leaves_fresh (frame_of frame) (stage_of r between.count) number text [] [] between.reached (nothing number) (λ e. e) (λ v here. tt) (λ z of_sort. (tt, λ m is. tt)) (λ d o none. ended (over_spot (frame_of frame) d r between.count r.spot o)) (λ first begins. begins)))) where
+    (leaves_fresh (frame_of frame) (stage_of above root r between.count) number text [] [] between.reached (nothing number) (λ e. e) (λ v here. tt) (λ z of_sort. (tt, λ m is. tt)) (λ d o none. ended (over_spot above root (frame_of frame) d r between.count r.spot o)) (λ first begins. begins)))) where
       nothing : (number : Bool) → MayStand number []
       nothing true = tt
       nothing false = tt
 
 -- within a word
-pub cut_word : (frame : Frame) (r : Reader) (text : List ℕ) (word : Word) (count line : ℕ) → StandsFor frame r text → r.part ≡ InWord word count → line ≡ r.line → IsFirstCertFault (frame_of frame) text line Syntax
-cut_word frame r text word count line stands is at_line =
-    let Q : Part → Type 0 = λ p. IsPart (frame_of frame) (stage_of r stands.count) p text in
+pub cut_word : (above : List Wait) (root : Tree) (frame : Frame) (r : Lines) (text : List ℕ) (word : Word) (count line : ℕ) → StandsFor above root frame r text → r.part ≡ InWord word count → line ≡ r.line → IsFirstCertFault (frame_of frame) text line Syntax
+cut_word above root frame r text word count line stands is at_line =
+    let Q : Part → Type 0 = λ p. IsPart (frame_of frame) (stage_of above root r stands.count) p text in
     let both = subst Q is stands.part in
     let some = both.0 in
-    let part : IsInWord (frame_of frame) (stage_of r stands.count) word count text = both.1 in
+    let part : IsInWord (frame_of frame) (stage_of above root r stands.count) word count text = both.1 in
     let length_some : 0 < length (word_text word) = let less : count < length (word_text word) = part.within in omega arith in
     let bytes : text ≡ part.done ++ (take count (word_text word) ++ []) = part.bytes ∙ ap (λ (xs : List ℕ). part.done ++ xs) (sym (append-nil (take count (word_text word)))) in
     let P : List ℕ → Type 0 = λ t. IsFirstCertFault (frame_of frame) t line Syntax in
     let L : ℕ → Type 0 = λ l. IsFirstCertFault (frame_of frame) (part.done ++ (take count (word_text word) ++ [])) l Syntax in
     subst P (sym bytes) (subst L (sym (at_line ∙ stands.counts.line ∙ ap line_behind part.bytes))
     (leaves_first (frame_of frame) (part.done ++ (take count (word_text word) ++ [])) [] (line_behind (part.done ++ take count (word_text word)))
-    (leaves_word (frame_of frame) (stage_of r stands.count) part.number part.done [] [] word count part.reached part.comes some part.within (stands_part part.number (word_text word) [] count some length_some part.stands) tt (λ e. e))))
+    (leaves_word (frame_of frame) (stage_of above root r stands.count) part.number part.done [] [] word count part.reached part.comes some part.within (stands_part part.number (word_text word) [] count some length_some part.stands) tt (λ e. e))))
 
 -- behind a minus
-pub cut_minus : (frame : Frame) (r : Reader) (text : List ℕ) (line : ℕ) → StandsFor frame r text → r.part ≡ Minus → line ≡ r.line → IsFirstCertFault (frame_of frame) text line Syntax
-cut_minus frame r text line stands is at_line =
-    let Q : Part → Type 0 = λ p. IsPart (frame_of frame) (stage_of r stands.count) p text in
-    let part : IsBehindMinus (frame_of frame) (stage_of r stands.count) text = subst Q is stands.part in
+pub cut_minus : (above : List Wait) (root : Tree) (frame : Frame) (r : Lines) (text : List ℕ) (line : ℕ) → StandsFor above root frame r text → r.part ≡ Minus → line ≡ r.line → IsFirstCertFault (frame_of frame) text line Syntax
+cut_minus above root frame r text line stands is at_line =
+    let Q : Part → Type 0 = λ p. IsPart (frame_of frame) (stage_of above root r stands.count) p text in
+    let part : IsBehindMinus (frame_of frame) (stage_of above root r stands.count) text = subst Q is stands.part in
     let S : Sort → Type 0 = λ t. IsOfSort t (negsuc 0) in
     let P : List ℕ → Type 0 = λ t. IsFirstCertFault (frame_of frame) t line Syntax in
     let L : ℕ → Type 0 = λ l. IsFirstCertFault (frame_of frame) (part.done ++ 45 ∷ []) l Syntax in
     subst P (sym part.bytes) (subst L (sym (at_line ∙ stands.counts.line ∙ ap line_behind part.bytes))
     (leaves_first (frame_of frame) (part.done ++ 45 ∷ []) [] (line_behind (part.done ++ 45 ∷ []))
-    (leaves_minus (frame_of frame) (stage_of r stands.count) part.done [] [] part.reached (subst S (sym part.of_sort) tt) tt (λ e. e))))
+    (leaves_minus (frame_of frame) (stage_of above root r stands.count) part.done [] [] part.reached (subst S (sym part.of_sort) tt) tt (λ e. e))))
 
 -- the certificate that was read
-pub taken_well : (frame : Frame) (r : Reader) (text : List ℕ) (cert : Kept) → StandsFor frame r text → r.part ≡ Fresh → r.spot ≡ s.Over → cert.claim ≡ r.claim → cert.point ≡ r.point → cert.tree ≡ r.root → IsCertText (frame_of frame) (kept_cert cert) text
-taken_well frame r text cert stands fresh ended claim point tree =
+pub taken_well : (above : List Wait) (root : Tree) (frame : Frame) (r : Lines) (text : List ℕ) (cert : Kept) → StandsFor above root frame r text → r.part ≡ Fresh → r.spot ≡ s.Over → cert.claim ≡ r.claim → cert.point ≡ r.point → written_tree (tree_of cert.tree) ≡ root → IsCertText (frame_of frame) (kept_cert cert) text
+taken_well above root frame r text cert stands fresh ended claim point tree =
     let a = written_claim r.claim r.point in
-    let t = root_of r.root in
-    let Q : Part → Type 0 = λ p. IsPart (frame_of frame) (stage_of r stands.count) p text in
-    let P : Spot → Type 0 = λ x. Reached (frame_of frame) (place_of r stands.count x) false text in
-    let reached : Reached (frame_of frame) (over (told_of r) t) false text = subst P ended (subst Q fresh stands.part) in
-    let whole = (reached.follow (plain_of a t) []).1 (refl, refl) in
+    let Q : Part → Type 0 = λ p. IsPart (frame_of frame) (stage_of above root r stands.count) p text in
+    let P : Spot → Type 0 = λ x. Reached (frame_of frame) (place_of above root r stands.count x) false text in
+    let reached : Reached (frame_of frame) (over (told_of r) root) false text = subst P ended (subst Q fresh stands.part) in
+    let whole = (reached.follow (plain_of a root) []).1 (refl, refl) in
     let same : reached.before ≡ tokens_of (frame_of frame) whole.version whole.written = sym (append-nil reached.before) ∙ whole.tokens in
     let C : List Token → Type 0 = AreClean in
     let clean = subst C same reached.clean in
-    let kept : plain_of a t ≡ kept_cert cert =
-    ap (λ (x : texts.Claim). plain_of x t) (sym (same_claim r.claim r.point))
-    ∙ ap (λ (k : Claim). plain_of (written_claim k (unwrap_or (option_map (λ _. r.point) (named_value k)) [])) t) (sym claim)
-    ∙ ap (λ (zs : List ℤ). plain_of (written_claim cert.claim (unwrap_or (option_map (λ _. zs) (named_value cert.claim)) [])) t) (sym point)
-    ∙ ap (λ (x : Sketch). plain_of (written_claim cert.claim (unwrap_or (option_map (λ _. cert.point) (named_value cert.claim)) [])) (written_tree (tree_of x))) (sym tree) in
+    let kept : plain_of a root ≡ kept_cert cert =
+    ap (λ (x : texts.Claim). plain_of x root) (sym (same_claim r.claim r.point))
+    ∙ ap (λ (k : Claim). plain_of (written_claim k (unwrap_or (option_map (λ _. r.point) (named_value k)) [])) root) (sym claim)
+    ∙ ap (λ (zs : List ℤ). plain_of (written_claim cert.claim (unwrap_or (option_map (λ _. zs) (named_value cert.claim)) [])) root) (sym point)
+    ∙ ap (λ (x : Tree). plain_of (written_claim cert.claim (unwrap_or (option_map (λ _. cert.point) (named_value cert.claim)) [])) x) (sym tree) in
     (whole.version, record { written = whole.written; form = whole.form; clean = clean; bytes = reached.bytes ∙ ap text_of same; means = whole.means ∙ kept })

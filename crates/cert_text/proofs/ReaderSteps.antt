@@ -8,17 +8,18 @@ use Rattle.cert_text.specs.Words.{word_begins}
 use Rattle.cert_text.specs.Spots.{spot_sort}
 use Rattle.cert_text.specs.Frames.{frame_of}
 use Rattle.cert_text.specs.Signed.{signed}
-use Rattle.cert_text.specs.Readers.{IsBehind, IsCount, slack, count_behind, place_of, stage_of, TakesNatural, TakesWhole}
+use Rattle.cert_text.specs.Cert.{Tree}
+use Rattle.cert_text.specs.Readers.{HasHighs, IsBehind, IsCount, slack, count_behind, place_of, stage_of, TakesNatural, TakesWhole}
 use Rattle.cert_text.specs.Stages.{at_bpcert, at_version, at_first_end, at_claim, at_kind, at_optimal, infeasible_end, at_bound, after_bound, at_value, claim_end, at_point, at_values, at_coordinate, at_node, at_scale, at_rows, at_count, at_pairs, at_row, row_gap, at_multiplier, at_priced, at_blocks, at_block, leaf_end, at_variable, variable_gap, at_place, split_end, at_end, last_end, over}
-use Rattle.cert_text.specs.Stages.{Stage, words, sort, IsOfSort, is_deep_stage, number_fault, behind_number}
+use Rattle.cert_text.specs.Stages.{Wait, Stage, words, sort, IsOfSort, is_deep_stage, number_fault, behind_number}
 use Rattle.cert_text.specs.Standing.{MayStand, Reached, Comes, IsInNumber, IsBehindMinus, IsBehindDeepMinus, IsPart, CountFits, IsShort, KeepsCounts, StandsFor, Between, EndsNumberAt, EndsTextAt, is_digit}
 use Rattle.cert_text.specs.declared.fault.CertKind.TheVariants.{Syntax, Depth}
 use Rattle.cert_text.specs.declared.fault.CertFault.{CertFault}
 use Rattle.cert_text.specs.declared.fault.CertFault.TheVariants.{At, NoMemory}
 use Rattle.cert_text.specs.declared.frame.Frame.{Frame}
-use Rattle.cert_text.specs.declared.reader.Part.{Part}
-use Rattle.cert_text.specs.declared.reader.Part.TheVariants.{Fresh, Minus, DeepMinus, Digits}
-use Rattle.cert_text.specs.declared.reader.Reader.{Reader}
+use Rattle.cert_text.specs.declared.lines.Part.{Part}
+use Rattle.cert_text.specs.declared.lines.Part.TheVariants.{Fresh, Minus, DeepMinus, Digits}
+use Rattle.cert_text.specs.declared.lines.Lines.{Lines}
 use Rattle.cert_text.specs.declared.spots.Sort.{Sort}
 use Rattle.cert_text.specs.declared.spots.Sort.TheVariants.{Wordy, Natural, Whole}
 use Rattle.cert_text.specs.declared.spots.Spot.{Spot}
@@ -32,40 +33,40 @@ use Rattle.cert_text.proofs.DeepStages.{deep_number, no_shallow_deep}
 use Rattle.cert_text.proofs.Bytes.{line_same, sort_is, behind_wordy, IsCounting, counting_is, is_counting, count_cases, IsSmall, kept_alike, abs-signed}
 
 -- how much of a token has come, and the line, are no part of the place
-pub same_place : (r : Reader) (p : Part) (l n : ℕ) (spot : Spot) → place_of (record r { part = p; line = l }) n spot ≡ place_of r n spot
-same_place r p l n s.Bpcert = refl
-same_place r p l n s.Version = refl
-same_place r p l n s.FirstEnd = refl
-same_place r p l n s.Claim = refl
-same_place r p l n s.Kind = refl
-same_place r p l n s.OptimalValue = refl
-same_place r p l n s.InfeasibleEnd = refl
-same_place r p l n s.BoundValue = refl
-same_place r p l n s.AfterBound = refl
-same_place r p l n s.KnownValue = refl
-same_place r p l n s.ClaimEnd = refl
-same_place r p l n s.Point = refl
-same_place r p l n s.Values = refl
-same_place r p l n s.Coordinate = refl
-same_place r p l n s.Node = refl
-same_place r p l n s.Scale = refl
-same_place r p l n s.Rows = refl
-same_place r p l n s.Count = refl
-same_place r p l n s.Pairs = refl
-same_place r p l n s.Row = refl
-same_place r p l n s.RowGap = refl
-same_place r p l n s.Multiplier = refl
-same_place r p l n s.Priced = refl
-same_place r p l n s.Blocks = refl
-same_place r p l n s.Block = refl
-same_place r p l n s.LeafEnd = refl
-same_place r p l n s.Variable = refl
-same_place r p l n s.VariableGap = refl
-same_place r p l n s.Place = refl
-same_place r p l n s.SplitEnd = refl
-same_place r p l n s.End = refl
-same_place r p l n s.LastEnd = refl
-same_place r p l n s.Over = refl
+pub same_place : (above : List Wait) (root : Tree) (r : Lines) (p : Part) (l n : ℕ) (spot : Spot) → place_of above root (record r { part = p; line = l }) n spot ≡ place_of above root r n spot
+same_place above root r p l n s.Bpcert = refl
+same_place above root r p l n s.Version = refl
+same_place above root r p l n s.FirstEnd = refl
+same_place above root r p l n s.Claim = refl
+same_place above root r p l n s.Kind = refl
+same_place above root r p l n s.OptimalValue = refl
+same_place above root r p l n s.InfeasibleEnd = refl
+same_place above root r p l n s.BoundValue = refl
+same_place above root r p l n s.AfterBound = refl
+same_place above root r p l n s.KnownValue = refl
+same_place above root r p l n s.ClaimEnd = refl
+same_place above root r p l n s.Point = refl
+same_place above root r p l n s.Values = refl
+same_place above root r p l n s.Coordinate = refl
+same_place above root r p l n s.Node = refl
+same_place above root r p l n s.Scale = refl
+same_place above root r p l n s.Rows = refl
+same_place above root r p l n s.Count = refl
+same_place above root r p l n s.Pairs = refl
+same_place above root r p l n s.Row = refl
+same_place above root r p l n s.RowGap = refl
+same_place above root r p l n s.Multiplier = refl
+same_place above root r p l n s.Priced = refl
+same_place above root r p l n s.Blocks = refl
+same_place above root r p l n s.Block = refl
+same_place above root r p l n s.LeafEnd = refl
+same_place above root r p l n s.Variable = refl
+same_place above root r p l n s.VariableGap = refl
+same_place above root r p l n s.Place = refl
+same_place above root r p l n s.SplitEnd = refl
+same_place above root r p l n s.End = refl
+same_place above root r p l n s.LastEnd = refl
+same_place above root r p l n s.Over = refl
 
 -- a digit
 digit_low : (byte : ℕ) → is_digit byte ≡ true → (48 ≤ byte) × (byte ≤ 57)
@@ -78,8 +79,8 @@ no_digit byte is low high = grind (arith, nat_tests)
 fits_more : (spot : Spot) (left count size more : ℕ) → size ≤ more → CountFits spot left count size → CountFits spot left count more
 fits_more spot left count size more grows fits = ⊎_elim (λ same. inl same) (λ big. let a : 2 ^ 64 - 1 + slack spot ≤ left + more = let b : 2 ^ 64 - 1 + slack spot ≤ left + size = big.1 in omega arith in inr (big.0, a)) fits
 
-pub counts_push : (r : Reader) (p : Part) (count : ℕ) (text : List ℕ) (byte : ℕ) → byte ≢ 10 → KeepsCounts r count text → KeepsCounts (record r { part = p }) count (text ++ byte ∷ [])
-counts_push r p count text byte other k =
+pub counts_push : (above : List Wait) (r : Lines) (p : Part) (count : ℕ) (text : List ℕ) (byte : ℕ) → byte ≢ 10 → KeepsCounts above r count text → KeepsCounts above (record r { part = p }) count (text ++ byte ∷ [])
+counts_push above r p count text byte other k =
     let longer : length text ≤ length (text ++ byte ∷ []) = omega (arith, length-append text (byte ∷ [])) in
     let same = line_same text byte other in
     let first : text ≡ [] → line_behind (text ++ byte ∷ []) ≤ length (text ++ byte ∷ []) = λ none. let P : List ℕ → Type 0 = λ t. line_behind (t ++ byte ∷ []) ≤ length (t ++ byte ∷ []) in subst P (sym none) (one (line_same [] byte other)) in
@@ -87,28 +88,29 @@ counts_push r p count text byte other k =
       counted = fits_more r.spot r.left count (length text) (length (text ++ byte ∷ [])) longer k.counted;
       line = k.line ∙ sym same;
       short = inr (⊎_elim (λ begun. first begun.0) (λ few. let a : line_behind text ≤ length text = few in omega (arith, same, length-append text (byte ∷ []))) k.short);
+      highs = record { depth = k.highs.depth; highs = k.highs.highs };
     } where
       one : line_behind (byte ∷ []) ≡ line_behind [] → line_behind (byte ∷ []) ≤ length (byte ∷ [])
       one e = let base : line_behind [] ≡ 1 = refl in omega arith
 
 -- a reader that has no part of a token
-pub fresh_between : (frame : Frame) (r : Reader) (text : List ℕ) → StandsFor frame r text → r.part ≡ Fresh → Between frame r false text
-fresh_between frame r text stands is =
-    let P : Part → Type 0 = λ p. IsPart (frame_of frame) (stage_of r stands.count) p text in
+pub fresh_between : (above : List Wait) (root : Tree) (frame : Frame) (r : Lines) (text : List ℕ) → StandsFor above root frame r text → r.part ≡ Fresh → Between above root frame r false text
+fresh_between above root frame r text stands is =
+    let P : Part → Type 0 = λ p. IsPart (frame_of frame) (stage_of above root r stands.count) p text in
     record { count = stands.count; counts = stands.counts; reached = subst P is stands.part; worded = λ e. absurd (true≢false (sym e)); going = λ e. absurd (true≢false (sym e)) }
 
 -- where a number may come, none stands before
-unnumbered : (frame : Frame) (r : Reader) (number : Bool) (text : List ℕ) (between : Between frame r number text) (z : ℤ) → IsOfSort (sort (stage_of r between.count)) z → Reached (frame_of frame) (stage_of r between.count) false text
-unnumbered frame r true text between z of_sort = let P : Sort → Type 0 = λ t. IsOfSort t z in absurd (subst P (between.worded refl) of_sort)
-unnumbered frame r false text between z of_sort = between.reached
+unnumbered : (above : List Wait) (root : Tree) (frame : Frame) (r : Lines) (number : Bool) (text : List ℕ) (between : Between above root frame r number text) (z : ℤ) → IsOfSort (sort (stage_of above root r between.count)) z → Reached (frame_of frame) (stage_of above root r between.count) false text
+unnumbered above root frame r true text between z of_sort = let P : Sort → Type 0 = λ t. IsOfSort t z in absurd (subst P (between.worded refl) of_sort)
+unnumbered above root frame r false text between z of_sort = between.reached
 
 -- a reader's place with another part of a token
-place_part : (r : Reader) (p : Part) (n : ℕ) → stage_of (record r { part = p }) n ≡ stage_of r n
-place_part r p n = same_place r p r.line n r.spot
+place_part : (above : List Wait) (root : Tree) (r : Lines) (p : Part) (n : ℕ) → stage_of above root (record r { part = p }) n ≡ stage_of above root r n
+place_part above root r p n = same_place above root r p r.line n r.spot
 
 -- the first digit of a number
-pub digits_begun : (frame : Frame) (r : Reader) (number : Bool) (text : List ℕ) (byte : ℕ) (between : Between frame r number text) → is_digit byte ≡ true → IsOfSort (sort (stage_of r between.count)) (pos (byte - 48)) → is_deep_stage (stage_of r between.count) ≡ false → StandsFor frame (record r { part = Digits false (byte - 48) }) (text ++ byte ∷ [])
-digits_begun frame r number text byte between digit of_sort shallow =
+pub digits_begun : (above : List Wait) (root : Tree) (frame : Frame) (r : Lines) (number : Bool) (text : List ℕ) (byte : ℕ) (between : Between above root frame r number text) → is_digit byte ≡ true → IsOfSort (sort (stage_of above root r between.count)) (pos (byte - 48)) → is_deep_stage (stage_of above root r between.count) ≡ false → StandsFor above root frame (record r { part = Digits false (byte - 48) }) (text ++ byte ∷ [])
+digits_begun above root frame r number text byte between digit of_sort shallow =
     let range = digit_low byte digit in
     let low : 48 ≤ byte = range.0 in
     let high : byte ≤ 57 = range.1 in
@@ -120,10 +122,10 @@ digits_begun frame r number text byte between digit of_sort shallow =
     let P : Stage → Type 0 = λ stage. IsInNumber (frame_of frame) stage false (byte - 48) (text ++ byte ∷ []) in
     record {
       count = between.count;
-      counts = counts_push r (Digits false (byte - 48)) between.count text byte other between.counts;
-      part = subst P (sym (place_part r (Digits false (byte - 48)) between.count)) (record {
+      counts = counts_push above r (Digits false (byte - 48)) between.count text byte other between.counts;
+      part = subst P (sym (place_part above root r (Digits false (byte - 48)) between.count)) (record {
         done = text;
-        reached = unnumbered frame r number text between (pos (byte - 48)) of_sort;
+        reached = unnumbered above root frame r number text between (pos (byte - 48)) of_sort;
         number = byte - 48;
         of_sort = of_sort;
         shallow = shallow;
@@ -138,24 +140,24 @@ minus_line : (byte : ℕ) → byte ≡ 45 → byte ≢ 10
 minus_line byte is = λ e. omega arith
 
 -- a minus
-pub minus_begun : (frame : Frame) (r : Reader) (number : Bool) (text : List ℕ) (between : Between frame r number text) → sort (stage_of r between.count) ≡ Whole → is_deep_stage (stage_of r between.count) ≡ false → StandsFor frame (record r { part = Minus }) (text ++ 45 ∷ [])
-minus_begun frame r number text between is_whole shallow =
+pub minus_begun : (above : List Wait) (root : Tree) (frame : Frame) (r : Lines) (number : Bool) (text : List ℕ) (between : Between above root frame r number text) → sort (stage_of above root r between.count) ≡ Whole → is_deep_stage (stage_of above root r between.count) ≡ false → StandsFor above root frame (record r { part = Minus }) (text ++ 45 ∷ [])
+minus_begun above root frame r number text between is_whole shallow =
     let other : 45 ≢ 10 = minus_line 45 refl in
     let Q : Sort → Type 0 = λ t. IsOfSort t (negsuc 0) in
     let P : Stage → Type 0 = λ stage. IsBehindMinus (frame_of frame) stage (text ++ 45 ∷ []) in
     record {
       count = between.count;
-      counts = counts_push r Minus between.count text 45 other between.counts;
-      part = subst P (sym (place_part r Minus between.count)) (record { done = text; reached = unnumbered frame r number text between (negsuc 0) (subst Q (sym is_whole) tt); of_sort = is_whole; shallow = shallow; bytes = refl; lines = line_same text 45 other });
+      counts = counts_push above r Minus between.count text 45 other between.counts;
+      part = subst P (sym (place_part above root r Minus between.count)) (record { done = text; reached = unnumbered above root frame r number text between (negsuc 0) (subst Q (sym is_whole) tt); of_sort = is_whole; shallow = shallow; bytes = refl; lines = line_same text 45 other });
     }
 
 -- no token begins with the byte
-pub syntax_between : (frame : Frame) (r : Reader) (number : Bool) (text : List ℕ) (byte line : ℕ) (between : Between frame r number text) → MayStand number (byte ∷ [])
-    → ((v : Word) → Comes v (words (stage_of r between.count)) → word_begins v byte ≡ false)
-    → ((z : ℤ) → IsOfSort (sort (stage_of r between.count)) z → (48 ≤ byte → byte ≤ 57 → ⊥) × ((m : ℕ) → z ≡ negsuc m → byte ≢ 45)) → ((more : List ℕ) → IsDry (frame_of frame) (stage_of r between.count) (byte ∷ more)) → line ≡ r.line
+pub syntax_between : (above : List Wait) (root : Tree) (frame : Frame) (r : Lines) (number : Bool) (text : List ℕ) (byte line : ℕ) (between : Between above root frame r number text) → MayStand number (byte ∷ [])
+    → ((v : Word) → Comes v (words (stage_of above root r between.count)) → word_begins v byte ≡ false)
+    → ((z : ℤ) → IsOfSort (sort (stage_of above root r between.count)) z → (48 ≤ byte → byte ≤ 57 → ⊥) × ((m : ℕ) → z ≡ negsuc m → byte ≢ 45)) → ((more : List ℕ) → IsDry (frame_of frame) (stage_of above root r between.count) (byte ∷ more)) → line ≡ r.line
     → IsSeenFault (frame_of frame) (text ++ byte ∷ []) line Syntax
-syntax_between frame r number text byte line between may no_word no_number dry at_line =
-    let stage = stage_of r between.count in
+syntax_between above root frame r number text byte line between may no_word no_number dry at_line =
+    let stage = stage_of above root r between.count in
     let P : ℕ → Type 0 = λ l. IsSeenFault (frame_of frame) (text ++ byte ∷ []) l Syntax in
     subst P (sym (at_line ∙ between.counts.line))
     (leaves_seen (frame_of frame) (text ++ byte ∷ []) [] byte (line_behind text)
@@ -173,8 +175,8 @@ signed_text true zero positive = absurd (let none : 0 < 0 = positive refl in ome
 signed_text true (suc n) positive = let e : n + 1 ≡ suc n = omega arith in ap (λ (k : ℕ). 45 ∷ numeral k) e
 
 -- a reader within a number
-number_part : (frame : Frame) (r : Reader) (text : List ℕ) (negative : Bool) (value : ℕ) (stands : StandsFor frame r text) → r.part ≡ Digits negative value → IsInNumber (frame_of frame) (stage_of r stands.count) negative value text
-number_part frame r text negative value stands is = let P : Part → Type 0 = λ p. IsPart (frame_of frame) (stage_of r stands.count) p text in subst P is stands.part
+number_part : (above : List Wait) (root : Tree) (frame : Frame) (r : Lines) (text : List ℕ) (negative : Bool) (value : ℕ) (stands : StandsFor above root frame r text) → r.part ≡ Digits negative value → IsInNumber (frame_of frame) (stage_of above root r stands.count) negative value text
+number_part above root frame r text negative value stands is = let P : Part → Type 0 = λ p. IsPart (frame_of frame) (stage_of above root r stands.count) p text in subst P is stands.part
 
 -- a digit behind a 0, by the sign
 zero_by : (frame : Frame) (stage : Stage) (text done : List ℕ) (negative : Bool) (n byte line : ℕ) → n ≡ 0 → (IsTrue negative → 0 < n) → IsOfSort (sort stage) (signed negative n) → is_deep_stage stage ≡ false → text ≡ done ++ signed_numeral (signed negative n)
@@ -191,11 +193,11 @@ zero_by frame stage text done false n byte line e positive of_sort shallow bytes
     subst P (sym whole) (subst L (sym at_zero) (leaves_seen (frame_of frame) (done ++ 48 ∷ byte ∷ []) [] byte (line_behind (done ++ 48 ∷ [])) (λ more. leaves_zero (frame_of frame) stage done byte [] more reached (subst Q e of_sort) shallow digit)))
 
 -- a digit behind a 0
-pub zero_digit : (frame : Frame) (r : Reader) (text : List ℕ) (negative : Bool) (value byte line : ℕ) → StandsFor frame r text → r.part ≡ Digits negative value → value ≡ 0 → is_digit byte ≡ true → line ≡ r.line → IsSeenFault (frame_of frame) (text ++ byte ∷ []) line Syntax
-zero_digit frame r text negative value byte line stands is none digit at_line =
-    let part = number_part frame r text negative value stands is in
+pub zero_digit : (above : List Wait) (root : Tree) (frame : Frame) (r : Lines) (text : List ℕ) (negative : Bool) (value byte line : ℕ) → StandsFor above root frame r text → r.part ≡ Digits negative value → value ≡ 0 → is_digit byte ≡ true → line ≡ r.line → IsSeenFault (frame_of frame) (text ++ byte ∷ []) line Syntax
+zero_digit above root frame r text negative value byte line stands is none digit at_line =
+    let part = number_part above root frame r text negative value stands is in
     let zero_is : part.number ≡ 0 = zero_kept part.number part.kept in
-    zero_by frame (stage_of r stands.count) text part.done negative part.number byte line zero_is part.positive part.of_sort part.shallow part.bytes part.reached (digit_low byte digit) (at_line ∙ stands.counts.line) where
+    zero_by frame (stage_of above root r stands.count) text part.done negative part.number byte line zero_is part.positive part.of_sort part.shallow part.bytes part.reached (digit_low byte digit) (at_line ∙ stands.counts.line) where
       zero_kept : (n : ℕ) → value ≡ min n (2 ^ 64 - 1) → n ≡ 0
       zero_kept n kept = omega arith
 
@@ -224,10 +226,10 @@ saturates : (n d value next : ℕ) → value ≡ min n (2 ^ 64 - 1) → next ≡
 saturates n d value next kept next_is = omega arith
 
 -- one digit more
-pub digits_more : (frame : Frame) (r : Reader) (text : List ℕ) (negative : Bool) (value byte next : ℕ) → StandsFor frame r text → r.part ≡ Digits negative value → 0 < value → is_digit byte ≡ true
-    → next ≡ min (min (value * 10) (2 ^ 64 - 1) + (byte - 48)) (2 ^ 64 - 1) → StandsFor frame (record r { part = Digits negative next }) (text ++ byte ∷ [])
-digits_more frame r text negative value byte next stands is some digit next_is =
-    let part = number_part frame r text negative value stands is in
+pub digits_more : (above : List Wait) (root : Tree) (frame : Frame) (r : Lines) (text : List ℕ) (negative : Bool) (value byte next : ℕ) → StandsFor above root frame r text → r.part ≡ Digits negative value → 0 < value → is_digit byte ≡ true
+    → next ≡ min (min (value * 10) (2 ^ 64 - 1) + (byte - 48)) (2 ^ 64 - 1) → StandsFor above root frame (record r { part = Digits negative next }) (text ++ byte ∷ [])
+digits_more above root frame r text negative value byte next stands is some digit next_is =
+    let part = number_part above root frame r text negative value stands is in
     let range = digit_low byte digit in
     let low : 48 ≤ byte = range.0 in
     let high : byte ≤ 57 = range.1 in
@@ -243,12 +245,12 @@ digits_more frame r text negative value byte next stands is some digit next_is =
     let large : 0 < 10 * n + d = omega arith in
     record {
       count = stands.count;
-      counts = counts_push r (Digits negative next) stands.count text byte other stands.counts;
-      part = subst P (sym (place_part r (Digits negative next) stands.count)) (record {
+      counts = counts_push above r (Digits negative next) stands.count text byte other stands.counts;
+      part = subst P (sym (place_part above root r (Digits negative next) stands.count)) (record {
         done = part.done;
         reached = part.reached;
         number = 10 * n + d;
-        of_sort = of_size (sort (stage_of r stands.count)) negative n (10 * n + d) positive part.of_sort;
+        of_sort = of_size (sort (stage_of above root r stands.count)) negative n (10 * n + d) positive part.of_sort;
         shallow = part.shallow;
         positive = λ _. large;
         kept = saturates n d value next part.kept next_is;
@@ -260,10 +262,10 @@ digits_more frame r text negative value byte next stands is some digit next_is =
       sizes n kept = omega arith
 
 -- the first digit behind a minus
-pub digit_behind_minus : (frame : Frame) (r : Reader) (text : List ℕ) (byte : ℕ) → StandsFor frame r text → r.part ≡ Minus → is_digit byte ≡ true → byte ≢ 48 → StandsFor frame (record r { part = Digits true (byte - 48) }) (text ++ byte ∷ [])
-digit_behind_minus frame r text byte stands is digit positive_byte =
-    let Q : Part → Type 0 = λ p. IsPart (frame_of frame) (stage_of r stands.count) p text in
-    let part : IsBehindMinus (frame_of frame) (stage_of r stands.count) text = subst Q is stands.part in
+pub digit_behind_minus : (above : List Wait) (root : Tree) (frame : Frame) (r : Lines) (text : List ℕ) (byte : ℕ) → StandsFor above root frame r text → r.part ≡ Minus → is_digit byte ≡ true → byte ≢ 48 → StandsFor above root frame (record r { part = Digits true (byte - 48) }) (text ++ byte ∷ [])
+digit_behind_minus above root frame r text byte stands is digit positive_byte =
+    let Q : Part → Type 0 = λ p. IsPart (frame_of frame) (stage_of above root r stands.count) p text in
+    let part : IsBehindMinus (frame_of frame) (stage_of above root r stands.count) text = subst Q is stands.part in
     let range = digit_low byte digit in
     let low : 48 ≤ byte = range.0 in
     let high : byte ≤ 57 = range.1 in
@@ -279,8 +281,8 @@ digit_behind_minus frame r text byte stands is digit positive_byte =
     let S : Sort → Type 0 = λ t. IsOfSort t (signed true d) in
     record {
       count = stands.count;
-      counts = counts_push r (Digits true d) stands.count text byte other stands.counts;
-      part = subst P (sym (place_part r (Digits true d) stands.count)) (record {
+      counts = counts_push above r (Digits true d) stands.count text byte other stands.counts;
+      part = subst P (sym (place_part above root r (Digits true d) stands.count)) (record {
         done = part.done;
         reached = part.reached;
         number = d;
@@ -294,21 +296,21 @@ digit_behind_minus frame r text byte stands is digit positive_byte =
     }
 
 -- no positive digit behind a minus
-pub syntax_minus : (frame : Frame) (r : Reader) (text : List ℕ) (byte line : ℕ) → StandsFor frame r text → r.part ≡ Minus → (49 ≤ byte → byte ≤ 57 → ⊥) → line ≡ r.line → IsSeenFault (frame_of frame) (text ++ byte ∷ []) line Syntax
-syntax_minus frame r text byte line stands is other at_line =
-    let Q : Part → Type 0 = λ p. IsPart (frame_of frame) (stage_of r stands.count) p text in
-    let part : IsBehindMinus (frame_of frame) (stage_of r stands.count) text = subst Q is stands.part in
+pub syntax_minus : (above : List Wait) (root : Tree) (frame : Frame) (r : Lines) (text : List ℕ) (byte line : ℕ) → StandsFor above root frame r text → r.part ≡ Minus → (49 ≤ byte → byte ≤ 57 → ⊥) → line ≡ r.line → IsSeenFault (frame_of frame) (text ++ byte ∷ []) line Syntax
+syntax_minus above root frame r text byte line stands is other at_line =
+    let Q : Part → Type 0 = λ p. IsPart (frame_of frame) (stage_of above root r stands.count) p text in
+    let part : IsBehindMinus (frame_of frame) (stage_of above root r stands.count) text = subst Q is stands.part in
     let S : Sort → Type 0 = λ t. IsOfSort t (negsuc 0) in
     let whole : text ++ byte ∷ [] ≡ part.done ++ 45 ∷ byte ∷ [] = ap (λ (xs : List ℕ). xs ++ byte ∷ []) part.bytes ∙ append_assoc part.done (45 ∷ []) (byte ∷ []) in
     let at_minus : line ≡ line_behind (part.done ++ 45 ∷ []) = at_line ∙ stands.counts.line ∙ ap line_behind part.bytes in
     let P : List ℕ → Type 0 = λ t. IsSeenFault (frame_of frame) t line Syntax in
     let L : ℕ → Type 0 = λ l. IsSeenFault (frame_of frame) (part.done ++ 45 ∷ byte ∷ []) l Syntax in
     subst P (sym whole) (subst L (sym at_minus) (leaves_seen (frame_of frame) (part.done ++ 45 ∷ byte ∷ []) [] byte (line_behind (part.done ++ 45 ∷ []))
-    (λ more. leaves_minus (frame_of frame) (stage_of r stands.count) part.done (byte ∷ []) more part.reached (subst S (sym part.of_sort) tt) other (λ none. cc))))
+    (λ more. leaves_minus (frame_of frame) (stage_of above root r stands.count) part.done (byte ∷ []) more part.reached (subst S (sym part.of_sort) tt) other (λ none. cc))))
 
 -- a place where no number comes of a node that is too deep
-pub shallow_dry : (frame : Frame) (r : Reader) (n byte : ℕ) → is_deep_stage (stage_of r n) ≡ false → (more : List ℕ) → IsDry (frame_of frame) (stage_of r n) (byte ∷ more)
-shallow_dry frame r n byte shallow more first begins = no_shallow_deep (frame_of frame) (stage_of r n) first shallow
+pub shallow_dry : (above : List Wait) (root : Tree) (frame : Frame) (r : Lines) (n byte : ℕ) → is_deep_stage (stage_of above root r n) ≡ false → (more : List ℕ) → IsDry (frame_of frame) (stage_of above root r n) (byte ∷ more)
+shallow_dry above root frame r n byte shallow more first begins = no_shallow_deep (frame_of frame) (stage_of above root r n) first shallow
 
 -- ---- the number of a node that is too deep
 
@@ -323,83 +325,83 @@ deep_plain frame stage z m is of_sort minus =
     let wrong : negsuc m ≡ pos (nat_abs z) = sym minus ∙ plain in cc
 
 -- where it comes, no number stands before
-deep_unnumbered : (frame : Frame) (r : Reader) (number : Bool) (text : List ℕ) (between : Between frame r number text) → is_deep_stage (stage_of r between.count) ≡ true → Reached (frame_of frame) (stage_of r between.count) false text
-deep_unnumbered frame r number text between is =
+deep_unnumbered : (above : List Wait) (root : Tree) (frame : Frame) (r : Lines) (number : Bool) (text : List ℕ) (between : Between above root frame r number text) → is_deep_stage (stage_of above root r between.count) ≡ true → Reached (frame_of frame) (stage_of above root r between.count) false text
+deep_unnumbered above root frame r number text between is =
     let P : Sort → Type 0 = λ t. IsOfSort t (pos 0) in
-    unnumbered frame r number text between (pos 0) (subst P (sym (deep_number (frame_of frame) (stage_of r between.count) is).2) refl)
+    unnumbered above root frame r number text between (pos 0) (subst P (sym (deep_number (frame_of frame) (stage_of above root r between.count) is).2) refl)
 
 -- its first digit
-pub deep_digit : (frame : Frame) (r : Reader) (number : Bool) (text : List ℕ) (byte line : ℕ) (between : Between frame r number text) → is_deep_stage (stage_of r between.count) ≡ true → is_digit byte ≡ true → line ≡ r.line
+pub deep_digit : (above : List Wait) (root : Tree) (frame : Frame) (r : Lines) (number : Bool) (text : List ℕ) (byte line : ℕ) (between : Between above root frame r number text) → is_deep_stage (stage_of above root r between.count) ≡ true → is_digit byte ≡ true → line ≡ r.line
     → IsSeenFault (frame_of frame) (text ++ byte ∷ []) line Depth
-deep_digit frame r number text byte line between is digit at_line =
-    inr (inl (refl, deep_there (frame_of frame) (stage_of r between.count) text (byte ∷ []) line (deep_unnumbered frame r number text between is) is (inl (digit_low byte digit)) (at_line ∙ between.counts.line)))
+deep_digit above root frame r number text byte line between is digit at_line =
+    inr (inl (refl, deep_there (frame_of frame) (stage_of above root r between.count) text (byte ∷ []) line (deep_unnumbered above root frame r number text between is) is (inl (digit_low byte digit)) (at_line ∙ between.counts.line)))
 
 -- a minus in front of it
-pub deep_minus_begun : (frame : Frame) (r : Reader) (number : Bool) (text : List ℕ) (between : Between frame r number text) → is_deep_stage (stage_of r between.count) ≡ true → StandsFor frame (record r { part = DeepMinus }) (text ++ 45 ∷ [])
-deep_minus_begun frame r number text between is =
+pub deep_minus_begun : (above : List Wait) (root : Tree) (frame : Frame) (r : Lines) (number : Bool) (text : List ℕ) (between : Between above root frame r number text) → is_deep_stage (stage_of above root r between.count) ≡ true → StandsFor above root frame (record r { part = DeepMinus }) (text ++ 45 ∷ [])
+deep_minus_begun above root frame r number text between is =
     let other : 45 ≢ 10 = minus_line 45 refl in
     let P : Stage → Type 0 = λ stage. IsBehindDeepMinus (frame_of frame) stage (text ++ 45 ∷ []) in
     record {
       count = between.count;
-      counts = counts_push r DeepMinus between.count text 45 other between.counts;
-      part = subst P (sym (place_part r DeepMinus between.count)) (record { done = text; reached = deep_unnumbered frame r number text between is; deep = is; bytes = refl; lines = line_same text 45 other });
+      counts = counts_push above r DeepMinus between.count text 45 other between.counts;
+      part = subst P (sym (place_part above root r DeepMinus between.count)) (record { done = text; reached = deep_unnumbered above root frame r number text between is; deep = is; bytes = refl; lines = line_same text 45 other });
     }
 
 -- neither a digit nor a minus
-pub deep_other : (frame : Frame) (r : Reader) (number : Bool) (text : List ℕ) (byte line : ℕ) (between : Between frame r number text) → is_deep_stage (stage_of r between.count) ≡ true → MayStand number (byte ∷ [])
+pub deep_other : (above : List Wait) (root : Tree) (frame : Frame) (r : Lines) (number : Bool) (text : List ℕ) (byte line : ℕ) (between : Between above root frame r number text) → is_deep_stage (stage_of above root r between.count) ≡ true → MayStand number (byte ∷ [])
     → (48 ≤ byte → byte ≤ 57 → ⊥) → byte ≢ 45 → line ≡ r.line → IsSeenFault (frame_of frame) (text ++ byte ∷ []) line Syntax
-deep_other frame r number text byte line between is may no_digit no_minus at_line =
-    let stage = stage_of r between.count in
-    syntax_between frame r number text byte line between may
+deep_other above root frame r number text byte line between is may no_digit no_minus at_line =
+    let stage = stage_of above root r between.count in
+    syntax_between above root frame r number text byte line between may
     (λ v comes. absurd (deep_words frame stage v is comes))
     (λ z of_sort. (no_digit, λ m minus. absurd (deep_plain frame stage z m is of_sort minus)))
     (λ more first begins. ⊎_elim (λ digit. no_digit digit.0 digit.1) (λ minus. no_minus minus.0) begins)
     at_line
 
-deep_minus_part : (frame : Frame) (r : Reader) (text : List ℕ) (stands : StandsFor frame r text) → r.part ≡ DeepMinus → IsBehindDeepMinus (frame_of frame) (stage_of r stands.count) text
-deep_minus_part frame r text stands is = let Q : Part → Type 0 = λ p. IsPart (frame_of frame) (stage_of r stands.count) p text in subst Q is stands.part
+deep_minus_part : (above : List Wait) (root : Tree) (frame : Frame) (r : Lines) (text : List ℕ) (stands : StandsFor above root frame r text) → r.part ≡ DeepMinus → IsBehindDeepMinus (frame_of frame) (stage_of above root r stands.count) text
+deep_minus_part above root frame r text stands is = let Q : Part → Type 0 = λ p. IsPart (frame_of frame) (stage_of above root r stands.count) p text in subst Q is stands.part
 
 -- a digit behind the minus
-pub deep_minus_digit : (frame : Frame) (r : Reader) (text : List ℕ) (byte line : ℕ) → StandsFor frame r text → r.part ≡ DeepMinus → is_digit byte ≡ true → line ≡ r.line → IsSeenFault (frame_of frame) (text ++ byte ∷ []) line Depth
-deep_minus_digit frame r text byte line stands is digit at_line =
-    let part = deep_minus_part frame r text stands is in
+pub deep_minus_digit : (above : List Wait) (root : Tree) (frame : Frame) (r : Lines) (text : List ℕ) (byte line : ℕ) → StandsFor above root frame r text → r.part ≡ DeepMinus → is_digit byte ≡ true → line ≡ r.line → IsSeenFault (frame_of frame) (text ++ byte ∷ []) line Depth
+deep_minus_digit above root frame r text byte line stands is digit at_line =
+    let part = deep_minus_part above root frame r text stands is in
     let whole : text ++ byte ∷ [] ≡ part.done ++ 45 ∷ byte ∷ [] = ap (λ (xs : List ℕ). xs ++ byte ∷ []) part.bytes ∙ append_assoc part.done (45 ∷ []) (byte ∷ []) in
     let P : List ℕ → Type 0 = λ t. HasDeepNumber (frame_of frame) t line in
     inr (inl (
       refl,
       subst P (sym whole)
-          (deep_there (frame_of frame) (stage_of r stands.count) part.done (45 ∷ byte ∷ []) line part.reached part.deep (inr (refl, digit_low byte digit)) (at_line ∙ stands.counts.line ∙ part.lines)),
+          (deep_there (frame_of frame) (stage_of above root r stands.count) part.done (45 ∷ byte ∷ []) line part.reached part.deep (inr (refl, digit_low byte digit)) (at_line ∙ stands.counts.line ∙ part.lines)),
     ))
 
 -- the text goes on with no digit behind the minus, or ends
-pub deep_minus_leaves : (frame : Frame) (r : Reader) (text : List ℕ) (stands : StandsFor frame r text) (part : IsBehindDeepMinus (frame_of frame) (stage_of r stands.count) text) (rest more : List ℕ)
+pub deep_minus_leaves : (above : List Wait) (root : Tree) (frame : Frame) (r : Lines) (text : List ℕ) (stands : StandsFor above root frame r text) (part : IsBehindDeepMinus (frame_of frame) (stage_of above root r stands.count) text) (rest more : List ℕ)
     → (BeginsDigit (rest ++ more) → ⊥) → LeavesAt (frame_of frame) (part.done ++ 45 ∷ rest) (line_behind part.done) (45 ∷ rest) more
-deep_minus_leaves frame r text stands part rest more none =
-    let stage = stage_of r stands.count in
+deep_minus_leaves above root frame r text stands part rest more none =
+    let stage = stage_of above root r stands.count in
     leaves_fresh (frame_of frame) stage false part.done (45 ∷ rest) more part.reached tt (λ e. cc)
     (λ v comes. absurd (deep_words frame stage v part.deep comes))
     (λ z of_sort. ((λ low high. omega arith), λ m minus. absurd (deep_plain frame stage z m part.deep of_sort minus)))
     (λ d o e. cc)
     (λ first begins. ⊎_elim (λ digit. let low : 48 ≤ 45 = digit.0 in omega arith) (λ minus. none minus.1) begins)
 
-pub deep_minus_other : (frame : Frame) (r : Reader) (text : List ℕ) (byte line : ℕ) → StandsFor frame r text → r.part ≡ DeepMinus → (48 ≤ byte → byte ≤ 57 → ⊥) → line ≡ r.line → IsSeenFault (frame_of frame) (text ++ byte ∷ []) line Syntax
-deep_minus_other frame r text byte line stands is other at_line =
-    let part = deep_minus_part frame r text stands is in
+pub deep_minus_other : (above : List Wait) (root : Tree) (frame : Frame) (r : Lines) (text : List ℕ) (byte line : ℕ) → StandsFor above root frame r text → r.part ≡ DeepMinus → (48 ≤ byte → byte ≤ 57 → ⊥) → line ≡ r.line → IsSeenFault (frame_of frame) (text ++ byte ∷ []) line Syntax
+deep_minus_other above root frame r text byte line stands is other at_line =
+    let part = deep_minus_part above root frame r text stands is in
     let whole : text ++ byte ∷ [] ≡ part.done ++ 45 ∷ byte ∷ [] = ap (λ (xs : List ℕ). xs ++ byte ∷ []) part.bytes ∙ append_assoc part.done (45 ∷ []) (byte ∷ []) in
     let P : List ℕ → Type 0 = λ t. IsSeenFault (frame_of frame) t line Syntax in
     let L : ℕ → Type 0 = λ l. IsSeenFault (frame_of frame) (part.done ++ 45 ∷ byte ∷ []) l Syntax in
     subst P (sym whole) (subst L (sym (at_line ∙ stands.counts.line ∙ part.lines))
     (leaves_seen (frame_of frame) (part.done ++ 45 ∷ byte ∷ []) (byte ∷ []) 45 (line_behind part.done)
-    (λ more. deep_minus_leaves frame r text stands part (byte ∷ []) more (λ digit. other digit.0 digit.1))))
+    (λ more. deep_minus_leaves above root frame r text stands part (byte ∷ []) more (λ digit. other digit.0 digit.1))))
 
 -- the text ends behind the minus
-pub cut_deep_minus : (frame : Frame) (r : Reader) (text : List ℕ) (line : ℕ) → StandsFor frame r text → r.part ≡ DeepMinus → line ≡ r.line → IsFirstCertFault (frame_of frame) text line Syntax
-cut_deep_minus frame r text line stands is at_line =
-    let part = deep_minus_part frame r text stands is in
+pub cut_deep_minus : (above : List Wait) (root : Tree) (frame : Frame) (r : Lines) (text : List ℕ) (line : ℕ) → StandsFor above root frame r text → r.part ≡ DeepMinus → line ≡ r.line → IsFirstCertFault (frame_of frame) text line Syntax
+cut_deep_minus above root frame r text line stands is at_line =
+    let part = deep_minus_part above root frame r text stands is in
     let P : List ℕ → Type 0 = λ t. IsFirstCertFault (frame_of frame) t line Syntax in
     let L : ℕ → Type 0 = λ l. IsFirstCertFault (frame_of frame) (part.done ++ 45 ∷ []) l Syntax in
     subst P (sym part.bytes) (subst L (sym (at_line ∙ stands.counts.line ∙ part.lines))
-    (leaves_first (frame_of frame) (part.done ++ 45 ∷ []) (45 ∷ []) (line_behind part.done) (deep_minus_leaves frame r text stands part [] [] (λ digit. digit))))
+    (leaves_first (frame_of frame) (part.done ++ 45 ∷ []) (45 ∷ []) (line_behind part.done) (deep_minus_leaves above root frame r text stands part [] [] (λ digit. digit))))
 
 -- what is kept of a number is of its sort
 of_kept : (t : Sort) (negative : Bool) (n value : ℕ) → value ≡ min n (2 ^ 64 - 1) → IsOfSort t (signed negative n) → IsOfSort t (signed negative value)
@@ -533,15 +535,15 @@ fits_count new next n value size is none kept = ⊎_elim
     (cases_lt n (2 ^ 64))
 
 -- a number may not come first
-not_first_number : (r : Reader) (n : ℕ) (spot : Spot) (z : ℤ) → IsOfSort (sort (place_of r n spot)) z → spot ≡ s.Bpcert → ⊥
-not_first_number r n spot z of_sort is = let P : Spot → Type 0 = λ x. IsOfSort (sort (place_of r n x)) z in subst P is of_sort
+not_first_number : (above : List Wait) (root : Tree) (r : Lines) (n : ℕ) (spot : Spot) (z : ℤ) → IsOfSort (sort (place_of above root r n spot)) z → spot ≡ s.Bpcert → ⊥
+not_first_number above root r n spot z of_sort is = let P : Spot → Type 0 = λ x. IsOfSort (sort (place_of above root r n x)) z in subst P is of_sort
 
 -- a reader behind a faultless number
-pub number_ends : (frame : Frame) (old new : Reader) (text : List ℕ) (negative : Bool) (value : ℕ) → IsSmall (frame_of frame) → StandsFor frame old text → old.part ≡ Digits negative value
-    → ((n : ℕ) → number_fault (frame_of frame) (stage_of old n) (signed negative value) ≡ None) → IsBehind old new (signed negative value) value → Between frame new true text
-number_ends frame old new text negative value small stands is none moved =
-    let part = number_part frame old text negative value stands is in
-    let stage = stage_of old stands.count in
+pub number_ends : (above : List Wait) (root : Tree) (frame : Frame) (old new : Lines) (text : List ℕ) (negative : Bool) (value : ℕ) → IsSmall (frame_of frame) → StandsFor above root frame old text → old.part ≡ Digits negative value
+    → ((n : ℕ) → number_fault (frame_of frame) (stage_of above root old n) (signed negative value) ≡ None) → IsBehind old new (signed negative value) value → Between above root frame new true text
+number_ends above root frame old new text negative value small stands is none moved =
+    let part = number_part above root frame old text negative value stands is in
+    let stage = stage_of above root old stands.count in
     let of_value = of_kept (sort stage) negative part.number value part.kept part.of_sort in
     let alike = kept_alike (frame_of frame) stage negative part.number value small part.of_sort of_value part.kept in
     let clean : number_fault (frame_of frame) stage (signed negative part.number) ≡ None = alike.0 ∙ none stands.count in
@@ -549,36 +551,36 @@ number_ends frame old new text negative value small stands is none moved =
     let B : List ℕ → Type 0 = λ t. Reached (frame_of frame) (behind_number stage (signed negative part.number)) true t in
     let reached = subst B (sym part.bytes) there in
     let wordy = behind_wordy stage (signed negative part.number) part.of_sort in
-    let begun : IsShort new.spot text = ⊎_elim (λ e. absurd (not_first_number old stands.count old.spot (signed negative part.number) part.of_sort e.1)) (λ few. inr few) stands.counts.short in
+    let begun : IsShort new.spot text = ⊎_elim (λ e. absurd (not_first_number above root old stands.count old.spot (signed negative part.number) part.of_sort e.1)) (λ few. inr few) stands.counts.short in
     ⊎_elim
     (λ counts.
-    let counting = is_counting old stands.count old.spot counts in
+    let counting = is_counting above root old stands.count old.spot counts in
     let plain : signed negative part.number ≡ pos part.number = counting_sort stage (signed negative part.number) counting part.of_sort ∙ ap pos (abs-signed negative part.number) in
-    let place : stage_of new part.number ≡ behind_number stage (signed negative part.number) = moved.counted stands.count part.number counts ∙ ap (λ (z : ℤ). behind_number stage z) (sym plain) in
+    let place : stage_of above root new part.number ≡ behind_number stage (signed negative part.number) = moved.counted above root stands.count part.number counts ∙ ap (λ (z : ℤ). behind_number stage z) (sym plain) in
     let left : new.left ≡ value = moved.left ∙ count_behind-count old.spot old.left value counts in
     behind part.number place wordy reached begun (fits_count new.spot new.left part.number value (length text) left (moved.fresh counts) part.kept))
     (λ other.
-    let same : part.number ≡ value = ⊎_elim (λ e. e) (λ counting. absurd (other (counting_is old stands.count old.spot counting))) (alike.1 (none stands.count)) in
-    let place : stage_of new (count_behind old.spot stands.count value) ≡ behind_number stage (signed negative part.number) = moved.place stands.count ∙ ap (λ (k : ℕ). behind_number stage (signed negative k)) (sym same) in
+    let same : part.number ≡ value = ⊎_elim (λ e. e) (λ counting. absurd (other (counting_is above root old stands.count old.spot counting))) (alike.1 (none stands.count)) in
+    let place : stage_of above root new (count_behind old.spot stands.count value) ≡ behind_number stage (signed negative part.number) = moved.place above root stands.count ∙ ap (λ (k : ℕ). behind_number stage (signed negative k)) (sym same) in
     behind (count_behind old.spot stands.count value) place wordy reached begun (fits_behind old.spot new.spot old.left new.left stands.count (length text) value moved.left (moved.paced other) stands.counts.counted))
     (count_cases old.spot) where
-      behind : (count : ℕ) → {next : Stage} → stage_of new count ≡ next → sort next ≡ Wordy → Reached (frame_of frame) next true text → IsShort new.spot text → CountFits new.spot new.left count (length text) → Between frame new true text
+      behind : (count : ℕ) → {next : Stage} → stage_of above root new count ≡ next → sort next ≡ Wordy → Reached (frame_of frame) next true text → IsShort new.spot text → CountFits new.spot new.left count (length text) → Between above root frame new true text
       behind count {next} place wordy reached begun fits =
           let P : Stage → Type 0 = λ stage. Reached (frame_of frame) stage true text in
           record {
             count = count;
-            counts = record { counted = fits; line = moved.line ∙ stands.counts.line; short = begun };
+            counts = record { counted = fits; line = moved.line ∙ stands.counts.line; short = begun; highs = record { depth = moved.depth ∙ stands.counts.highs.depth; highs = moved.highs ∙ stands.counts.highs.highs } };
             reached = subst P (sym place) reached;
             worded = λ _. ap sort place ∙ wordy;
             going = λ _ e. moved.goes_on e;
           }
 
 -- a faulty number behind which a byte comes
-pub number_at_fault : (frame : Frame) (old : Reader) (text : List ℕ) (negative : Bool) (value byte line : ℕ) (kind : Kind) → IsSmall (frame_of frame) → StandsFor frame old text → old.part ≡ Digits negative value
-    → ((n : ℕ) → number_fault (frame_of frame) (stage_of old n) (signed negative value) ≡ Some kind) → is_digit byte ≡ false → line ≡ old.line → IsSeenFault (frame_of frame) (text ++ byte ∷ []) line kind
-number_at_fault frame old text negative value byte line kind small stands is fault other at_line =
-    let part = number_part frame old text negative value stands is in
-    let stage = stage_of old stands.count in
+pub number_at_fault : (above : List Wait) (root : Tree) (frame : Frame) (old : Lines) (text : List ℕ) (negative : Bool) (value byte line : ℕ) (kind : Kind) → IsSmall (frame_of frame) → StandsFor above root frame old text → old.part ≡ Digits negative value
+    → ((n : ℕ) → number_fault (frame_of frame) (stage_of above root old n) (signed negative value) ≡ Some kind) → is_digit byte ≡ false → line ≡ old.line → IsSeenFault (frame_of frame) (text ++ byte ∷ []) line kind
+number_at_fault above root frame old text negative value byte line kind small stands is fault other at_line =
+    let part = number_part above root frame old text negative value stands is in
+    let stage = stage_of above root old stands.count in
     let of_value = of_kept (sort stage) negative part.number value part.kept part.of_sort in
     let alike = kept_alike (frame_of frame) stage negative part.number value small part.of_sort of_value part.kept in
     let bytes : text ++ byte ∷ [] ≡ part.done ++ (signed_numeral (signed negative part.number) ++ byte ∷ []) = ap (λ (xs : List ℕ). xs ++ byte ∷ []) part.bytes ∙ append_assoc part.done (signed_numeral (signed negative part.number)) (byte ∷ []) in
@@ -586,11 +588,11 @@ number_at_fault frame old text negative value byte line kind small stands is fau
     subst P (sym bytes) (number_seen_faulty (frame_of frame) stage part.done [] byte (signed negative part.number) line kind part.reached part.of_sort (alike.0 ∙ fault stands.count) (no_digit byte other) (at_line ∙ stands.counts.line ∙ part.lines))
 
 -- a faulty number with which the text ends
-pub number_at_end : (frame : Frame) (old : Reader) (text : List ℕ) (negative : Bool) (value line : ℕ) (kind : Kind) → IsSmall (frame_of frame) → StandsFor frame old text → old.part ≡ Digits negative value
-    → ((n : ℕ) → number_fault (frame_of frame) (stage_of old n) (signed negative value) ≡ Some kind) → line ≡ old.line → IsFirstCertFault (frame_of frame) text line kind
-number_at_end frame old text negative value line kind small stands is fault at_line =
-    let part = number_part frame old text negative value stands is in
-    let stage = stage_of old stands.count in
+pub number_at_end : (above : List Wait) (root : Tree) (frame : Frame) (old : Lines) (text : List ℕ) (negative : Bool) (value line : ℕ) (kind : Kind) → IsSmall (frame_of frame) → StandsFor above root frame old text → old.part ≡ Digits negative value
+    → ((n : ℕ) → number_fault (frame_of frame) (stage_of above root old n) (signed negative value) ≡ Some kind) → line ≡ old.line → IsFirstCertFault (frame_of frame) text line kind
+number_at_end above root frame old text negative value line kind small stands is fault at_line =
+    let part = number_part above root frame old text negative value stands is in
+    let stage = stage_of above root old stands.count in
     let of_value = of_kept (sort stage) negative part.number value part.kept part.of_sort in
     let alike = kept_alike (frame_of frame) stage negative part.number value small part.of_sort of_value part.kept in
     let bytes : text ≡ part.done ++ (signed_numeral (signed negative part.number) ++ []) = part.bytes ∙ ap (λ (xs : List ℕ). part.done ++ xs) (sym (append-nil (signed_numeral (signed negative part.number)))) in
@@ -603,43 +605,43 @@ plain_value false n value kept is = refl
 plain_value true zero value kept is = let none : value ≡ 0 = omega arith in let P : ℕ → Type 0 = λ k. signed true k ≡ pos k in subst P (sym none) refl
 plain_value true (suc n) value kept is = absurd (cc)
 
-plain_sign : (frame : Frame) (old : Reader) (text : List ℕ) (negative : Bool) (value : ℕ) → StandsFor frame old text → old.part ≡ Digits negative value → spot_sort old.spot ≡ Natural → signed negative value ≡ pos value
-plain_sign frame old text negative value stands is natural =
-    let part = number_part frame old text negative value stands is in
+plain_sign : (above : List Wait) (root : Tree) (frame : Frame) (old : Lines) (text : List ℕ) (negative : Bool) (value : ℕ) → StandsFor above root frame old text → old.part ≡ Digits negative value → spot_sort old.spot ≡ Natural → signed negative value ≡ pos value
+plain_sign above root frame old text negative value stands is natural =
+    let part = number_part above root frame old text negative value stands is in
     let P : Sort → Type 0 = λ t. IsOfSort t (signed negative part.number) in
-    plain_value negative part.number value part.kept (subst P (sort_is old stands.count old.spot ∙ natural) part.of_sort)
+    plain_value negative part.number value part.kept (subst P (sort_is above root old stands.count old.spot ∙ natural) part.of_sort)
 
 -- what a reader does at the end of a number, from what it does with the number
-pub natural_behind : (frame : Frame) (old new : Reader) (text : List ℕ) (negative : Bool) (value byte : ℕ) (result : Result (Unit {0}) CertFault) → IsSmall (frame_of frame) → StandsFor frame old text → old.part ≡ Digits negative value → spot_sort old.spot ≡ Natural
-    → TakesNatural (frame_of frame) old new value result → is_digit byte ≡ false → EndsNumberAt frame new text byte result
-natural_behind frame old new text negative value byte (Ok u) small stands is natural takes other = let p = plain_sign frame old text negative value stands is natural in
-    let F : ℤ → Type 0 = λ z. ((n : ℕ) → number_fault (frame_of frame) (stage_of old n) z ≡ None) in
+pub natural_behind : (above : List Wait) (root : Tree) (frame : Frame) (old new : Lines) (text : List ℕ) (negative : Bool) (value byte : ℕ) (result : Result (Unit {0}) CertFault) → IsSmall (frame_of frame) → StandsFor above root frame old text → old.part ≡ Digits negative value → spot_sort old.spot ≡ Natural
+    → TakesNatural (frame_of frame) old new value result → is_digit byte ≡ false → EndsNumberAt above root frame new text byte result
+natural_behind above root frame old new text negative value byte (Ok u) small stands is natural takes other = let p = plain_sign above root frame old text negative value stands is natural in
+    let F : ℤ → Type 0 = λ z. ((n : ℕ) → number_fault (frame_of frame) (stage_of above root old n) z ≡ None) in
     let G : ℤ → Type 0 = λ z. IsBehind old new z value in
-    number_ends frame old new text negative value small stands is (subst F (sym p) takes.0) (subst G (sym p) takes.1)
-natural_behind frame old new text negative value byte (Err NoMemory) small stands is natural takes other = tt
-natural_behind frame old new text negative value byte (Err (At line kind)) small stands is natural takes other = let p = plain_sign frame old text negative value stands is natural in
-    let F : ℤ → Type 0 = λ z. ((n : ℕ) → number_fault (frame_of frame) (stage_of old n) z ≡ Some kind) in
-    number_at_fault frame old text negative value byte line kind small stands is (subst F (sym p) takes.1) other takes.0
+    number_ends above root frame old new text negative value small stands is (subst F (sym p) (λ n. takes.0 above root n stands.counts.highs)) (subst G (sym p) takes.1)
+natural_behind above root frame old new text negative value byte (Err NoMemory) small stands is natural takes other = tt
+natural_behind above root frame old new text negative value byte (Err (At line kind)) small stands is natural takes other = let p = plain_sign above root frame old text negative value stands is natural in
+    let F : ℤ → Type 0 = λ z. ((n : ℕ) → number_fault (frame_of frame) (stage_of above root old n) z ≡ Some kind) in
+    number_at_fault above root frame old text negative value byte line kind small stands is (subst F (sym p) (λ n. takes.1 above root n stands.counts.highs)) other takes.0
 
-pub natural_at_end : (frame : Frame) (old new : Reader) (text : List ℕ) (negative : Bool) (value : ℕ) (result : Result (Unit {0}) CertFault) → IsSmall (frame_of frame) → StandsFor frame old text → old.part ≡ Digits negative value → spot_sort old.spot ≡ Natural
-    → TakesNatural (frame_of frame) old new value result → EndsTextAt frame new text result
-natural_at_end frame old new text negative value (Ok u) small stands is natural takes = let p = plain_sign frame old text negative value stands is natural in
-    let F : ℤ → Type 0 = λ z. ((n : ℕ) → number_fault (frame_of frame) (stage_of old n) z ≡ None) in
+pub natural_at_end : (above : List Wait) (root : Tree) (frame : Frame) (old new : Lines) (text : List ℕ) (negative : Bool) (value : ℕ) (result : Result (Unit {0}) CertFault) → IsSmall (frame_of frame) → StandsFor above root frame old text → old.part ≡ Digits negative value → spot_sort old.spot ≡ Natural
+    → TakesNatural (frame_of frame) old new value result → EndsTextAt above root frame new text result
+natural_at_end above root frame old new text negative value (Ok u) small stands is natural takes = let p = plain_sign above root frame old text negative value stands is natural in
+    let F : ℤ → Type 0 = λ z. ((n : ℕ) → number_fault (frame_of frame) (stage_of above root old n) z ≡ None) in
     let G : ℤ → Type 0 = λ z. IsBehind old new z value in
-    number_ends frame old new text negative value small stands is (subst F (sym p) takes.0) (subst G (sym p) takes.1)
-natural_at_end frame old new text negative value (Err NoMemory) small stands is natural takes = tt
-natural_at_end frame old new text negative value (Err (At line kind)) small stands is natural takes = let p = plain_sign frame old text negative value stands is natural in
-    let F : ℤ → Type 0 = λ z. ((n : ℕ) → number_fault (frame_of frame) (stage_of old n) z ≡ Some kind) in
-    number_at_end frame old text negative value line kind small stands is (subst F (sym p) takes.1) takes.0
+    number_ends above root frame old new text negative value small stands is (subst F (sym p) (λ n. takes.0 above root n stands.counts.highs)) (subst G (sym p) takes.1)
+natural_at_end above root frame old new text negative value (Err NoMemory) small stands is natural takes = tt
+natural_at_end above root frame old new text negative value (Err (At line kind)) small stands is natural takes = let p = plain_sign above root frame old text negative value stands is natural in
+    let F : ℤ → Type 0 = λ z. ((n : ℕ) → number_fault (frame_of frame) (stage_of above root old n) z ≡ Some kind) in
+    number_at_end above root frame old text negative value line kind small stands is (subst F (sym p) (λ n. takes.1 above root n stands.counts.highs)) takes.0
 
-pub whole_behind : (frame : Frame) (old new : Reader) (text : List ℕ) (negative : Bool) (value byte : ℕ) (result : Result (Unit {0}) CertFault) → IsSmall (frame_of frame) → StandsFor frame old text → old.part ≡ Digits negative value
-    → TakesWhole (frame_of frame) old new negative value result → is_digit byte ≡ false → EndsNumberAt frame new text byte result
-whole_behind frame old new text negative value byte (Ok u) small stands is takes other = number_ends frame old new text negative value small stands is takes.0 takes.1
-whole_behind frame old new text negative value byte (Err NoMemory) small stands is takes other = tt
-whole_behind frame old new text negative value byte (Err (At line kind)) small stands is takes other = number_at_fault frame old text negative value byte line kind small stands is takes.1 other takes.0
+pub whole_behind : (above : List Wait) (root : Tree) (frame : Frame) (old new : Lines) (text : List ℕ) (negative : Bool) (value byte : ℕ) (result : Result (Unit {0}) CertFault) → IsSmall (frame_of frame) → StandsFor above root frame old text → old.part ≡ Digits negative value
+    → TakesWhole (frame_of frame) old new negative value result → is_digit byte ≡ false → EndsNumberAt above root frame new text byte result
+whole_behind above root frame old new text negative value byte (Ok u) small stands is takes other = number_ends above root frame old new text negative value small stands is (λ n. takes.0 above root n stands.counts.highs) takes.1
+whole_behind above root frame old new text negative value byte (Err NoMemory) small stands is takes other = tt
+whole_behind above root frame old new text negative value byte (Err (At line kind)) small stands is takes other = number_at_fault above root frame old text negative value byte line kind small stands is (λ n. takes.1 above root n stands.counts.highs) other takes.0
 
-pub whole_at_end : (frame : Frame) (old new : Reader) (text : List ℕ) (negative : Bool) (value : ℕ) (result : Result (Unit {0}) CertFault) → IsSmall (frame_of frame) → StandsFor frame old text → old.part ≡ Digits negative value
-    → TakesWhole (frame_of frame) old new negative value result → EndsTextAt frame new text result
-whole_at_end frame old new text negative value (Ok u) small stands is takes = number_ends frame old new text negative value small stands is takes.0 takes.1
-whole_at_end frame old new text negative value (Err NoMemory) small stands is takes = tt
-whole_at_end frame old new text negative value (Err (At line kind)) small stands is takes = number_at_end frame old text negative value line kind small stands is takes.1 takes.0
+pub whole_at_end : (above : List Wait) (root : Tree) (frame : Frame) (old new : Lines) (text : List ℕ) (negative : Bool) (value : ℕ) (result : Result (Unit {0}) CertFault) → IsSmall (frame_of frame) → StandsFor above root frame old text → old.part ≡ Digits negative value
+    → TakesWhole (frame_of frame) old new negative value result → EndsTextAt above root frame new text result
+whole_at_end above root frame old new text negative value (Ok u) small stands is takes = number_ends above root frame old new text negative value small stands is (λ n. takes.0 above root n stands.counts.highs) takes.1
+whole_at_end above root frame old new text negative value (Err NoMemory) small stands is takes = tt
+whole_at_end above root frame old new text negative value (Err (At line kind)) small stands is takes = number_at_end above root frame old text negative value line kind small stands is (λ n. takes.1 above root n stands.counts.highs) takes.0

@@ -1,19 +1,19 @@
 -- The words that may come at a place: where they lead, and that their first bytes tell them apart.
 use Rattle.std.proofs.Common.{◌≡◌, ◌≢◌, ℕ, ◌≤◌, Bool, true, false, not, List, [], ◌∷◌, drop, Option, Some, None, ℤ, refl, sym, ap, ◌∙◌, subst, inl, inr, ⊎_elim, arith, nat_eq, if◌then◌else◌}
 use Rattle.std.specs.Prelude.{slice_index_or}
-use Rattle.cert_text.specs.Cert.{These, Cert, Frame}
+use Rattle.cert_text.specs.Cert.{These, Tree, Cert, Frame}
 use Rattle.cert_text.specs.Text.{Kind, token_text}
 use Rattle.cert_text.specs.Fault.{EndsToken, EndIsSeen}
 use Rattle.cert_text.specs.Words.{word_text, word_token, word_begins}
 use Rattle.cert_text.specs.Spots.{spot_words, picked_word}
 use Rattle.cert_text.specs.Readers.{place_of}
 use Rattle.cert_text.specs.Standing.{Comes}
-use Rattle.cert_text.specs.declared.reader.Reader.{Reader}
+use Rattle.cert_text.specs.declared.lines.Lines.{Lines}
 use Rattle.cert_text.specs.declared.spots.Spot.{Spot}
 use Rattle.cert_text.specs.declared.spots.Spot.TheVariants as s
 use Rattle.cert_text.specs.declared.words.Word.{Word}
 use Rattle.cert_text.specs.declared.words.Word.TheVariants as w
-use Rattle.cert_text.specs.Stages.{proof_of, Stage, at_bpcert, at_version, at_first_end, at_claim, at_kind, at_optimal, infeasible_end, at_bound, after_bound, at_value, claim_end, at_point, at_values, at_coordinate, at_node, at_scale, at_rows, at_count, at_pairs, at_row, row_gap, at_multiplier, at_priced, at_blocks, at_block, leaf_end, at_variable, variable_gap, at_place, split_end, at_end, last_end, over, behind_leaf, words, after, sort, IsOfSort}
+use Rattle.cert_text.specs.Stages.{Wait, proof_of, Stage, at_bpcert, at_version, at_first_end, at_claim, at_kind, at_optimal, infeasible_end, at_bound, after_bound, at_value, claim_end, at_point, at_values, at_coordinate, at_node, at_scale, at_rows, at_count, at_pairs, at_row, row_gap, at_multiplier, at_priced, at_blocks, at_block, leaf_end, at_variable, variable_gap, at_place, split_end, at_end, last_end, over, behind_leaf, words, after, sort, IsOfSort}
 use Rattle.cert_text.proofs.StageProofs.{ForEach, Leads}
 use Rattle.cert_text.proofs.StageMoves.{word_leads}
 
@@ -269,46 +269,46 @@ abbrev pub heads : List (Word × Stage) → List Word
 heads [] = []
 heads (e ∷ es) = e.0 ∷ heads es
 
-pub words_are : (r : Reader) (n : ℕ) (spot : Spot) → heads (words (place_of r n spot)) ≡ spot_words r.version spot (not (nat_eq n 0))
-words_are r n s.Bpcert = refl
-words_are r n s.Version = refl
-words_are r n s.FirstEnd = refl
-words_are r n s.Claim = refl
-words_are r n s.Kind = refl
-words_are r n s.OptimalValue = refl
-words_are r n s.InfeasibleEnd = refl
-words_are r n s.BoundValue = refl
-words_are r n s.AfterBound = refl
-words_are r n s.KnownValue = refl
-words_are r n s.ClaimEnd = refl
-words_are r n s.Point = refl
-words_are r n s.Values = refl
-words_are r n s.Coordinate = refl
-words_are r n s.Node = refl
-words_are r n s.Scale = refl
-words_are r n s.Rows = refl
-words_are r n s.Count = refl
-words_are r n s.Pairs = pairs (nat_eq n 0) _ _ where
+pub words_are : (above : List Wait) (root : Tree) (r : Lines) (n : ℕ) (spot : Spot) → heads (words (place_of above root r n spot)) ≡ spot_words r.version spot (not (nat_eq n 0))
+words_are above root r n s.Bpcert = refl
+words_are above root r n s.Version = refl
+words_are above root r n s.FirstEnd = refl
+words_are above root r n s.Claim = refl
+words_are above root r n s.Kind = refl
+words_are above root r n s.OptimalValue = refl
+words_are above root r n s.InfeasibleEnd = refl
+words_are above root r n s.BoundValue = refl
+words_are above root r n s.AfterBound = refl
+words_are above root r n s.KnownValue = refl
+words_are above root r n s.ClaimEnd = refl
+words_are above root r n s.Point = refl
+words_are above root r n s.Values = refl
+words_are above root r n s.Coordinate = refl
+words_are above root r n s.Node = refl
+words_are above root r n s.Scale = refl
+words_are above root r n s.Rows = refl
+words_are above root r n s.Count = refl
+words_are above root r n s.Pairs = pairs (nat_eq n 0) _ _ where
   pairs : (t : Bool) (x y : Stage) → heads (if t then (w.Priced, x) ∷ [] else (w.Space, y) ∷ []) ≡ (if not t then w.Space ∷ [] else w.Priced ∷ [])
   pairs true x y = refl
   pairs false x y = refl
-words_are r n s.Row = refl
-words_are r n s.RowGap = refl
-words_are r n s.Multiplier = refl
-words_are r n s.Priced = refl
-words_are r n s.Blocks = blocks (nat_eq n 0) _ _ where
+words_are above root r n s.Row = refl
+words_are above root r n s.RowGap = refl
+words_are above root r n s.Multiplier = refl
+words_are above root r n s.Priced = refl
+words_are above root r n s.Blocks = blocks (nat_eq n 0) _ _ where
   blocks : (t : Bool) (x y : Stage) → heads (if t then (w.LineEnd, x) ∷ [] else (w.Space, y) ∷ []) ≡ (if not t then w.Space ∷ [] else w.LineEnd ∷ [])
   blocks true x y = refl
   blocks false x y = refl
-words_are r n s.Block = refl
-words_are r n s.LeafEnd = refl
-words_are r n s.Variable = refl
-words_are r n s.VariableGap = refl
-words_are r n s.Place = refl
-words_are r n s.SplitEnd = refl
-words_are r n s.End = refl
-words_are r n s.LastEnd = refl
-words_are r n s.Over = refl
+words_are above root r n s.Block = refl
+words_are above root r n s.LeafEnd = refl
+words_are above root r n s.Variable = refl
+words_are above root r n s.VariableGap = refl
+words_are above root r n s.Place = refl
+words_are above root r n s.SplitEnd = refl
+words_are above root r n s.End = refl
+words_are above root r n s.LastEnd = refl
+words_are above root r n s.Over = refl
 
 -- a word that is picked may come, and begins with the byte
 pub picked_comes : (byte : ℕ) (word : Word) (es : List (Word × Stage)) → picked_word byte (heads es) ≡ Some word → Comes word es × (word_begins word byte ≡ true)

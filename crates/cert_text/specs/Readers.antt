@@ -1,85 +1,116 @@
--- The place of a reader, and the texts that it stands for.
-use Rattle.std.specs.Prelude.{◌≡◌, ℕ, ◌+◌, ◌-◌, ◌≤◌, Bool, List, [], ◌∷◌, map, Some, None, Result, Ok, Err, ℤ, pos}
+-- The place of a reader of lines, below which splits, and what a byte makes of it.
+use Rattle.std.specs.Prelude.{◌≡◌, ℕ, ◌+◌, ◌-◌, ◌^◌, ◌≤◌, Bool, List, [], ◌∷◌, ◌++◌, length, min, map, Option, Some, None, Result, Ok, Err, ℤ, pos}
 use Rattle.cert_text.specs.Cert as texts
-use Rattle.cert_text.specs.Cert.{Shut, Tree, Every}
+use Rattle.cert_text.specs.Cert.{Tree, Split, Every}
 use Rattle.cert_text.specs.Versions.{version_of}
-use Rattle.cert_text.specs.Sketch.{tree_of}
-use Rattle.cert_text.specs.Written.{in_text, written_pair, written_claim, written_tree}
+use Rattle.cert_text.specs.Written.{in_text, written_pair, written_claim, written_proof}
 use Rattle.cert_text.specs.Signed.{signed}
-use Rattle.cert_text.specs.Stages.{Wait, low_of, high_of, proof_of, Told, Stage, at_bpcert, at_version, at_first_end, at_claim, at_kind, at_optimal, infeasible_end, at_bound, after_bound, at_value, claim_end, at_point, at_values, at_coordinate, at_node, at_scale, at_rows, at_count, at_pairs, at_row, row_gap, at_multiplier, at_priced, at_blocks, at_block, leaf_end, at_variable, variable_gap, at_place, split_end, at_end, last_end, over, number_fault, behind_number}
+use Rattle.cert_text.specs.Stages.{Wait, low_of, high_of, leaf_of, proof_of, Told, Stage, at_bpcert, at_version, at_first_end, at_claim, at_kind, at_optimal, infeasible_end, at_bound, after_bound, at_value, claim_end, at_point, at_values, at_coordinate, at_node, at_scale, at_rows, at_count, at_pairs, at_row, row_gap, at_multiplier, at_priced, at_blocks, at_block, leaf_end, at_variable, variable_gap, at_place, split_end, at_end, last_end, over, after, number_fault, behind_number}
 use Rattle.cert_text.specs.declared.fault.CertFault.{CertFault}
 use Rattle.cert_text.specs.declared.fault.CertFault.TheVariants.{At, NoMemory}
-use Rattle.cert_text.specs.declared.sketch.Sketch.{Sketch}
 use Rattle.cert_text.specs.declared.spots.Spot.{Spot}
 use Rattle.cert_text.specs.declared.spots.Spot.TheVariants as s
-use Rattle.cert_text.specs.declared.reader.Pending.{Pending}
-use Rattle.cert_text.specs.declared.reader.Pending.TheVariants.{Low, High}
-use Rattle.cert_text.specs.declared.reader.Reader.{Reader}
+use Rattle.cert_text.specs.declared.words.Word.{Word}
+use Rattle.cert_text.specs.declared.lines.Event.{Event}
+use Rattle.cert_text.specs.declared.lines.Event.TheVariants as e
+use Rattle.cert_text.specs.declared.lines.Lines.{Lines}
 
--- a split above the next tree
-abbrev pub wait_of : Pending → Wait
-wait_of (Low p) = low_of (in_text p.var) p.at
-wait_of (High p low) = high_of (in_text p.var) p.at (written_tree (tree_of low))
+-- a depth, up to the greatest one that is kept
+abbrev pub kept_depth : ℕ → ℕ
+kept_depth n = min n (2 ^ 64 - 1)
 
--- the splits above the next tree, the nearest first, in front of others
-abbrev pub waits_on : List Pending → List Wait → List Wait
-waits_on [] ws = ws
-waits_on (p ∷ ps) ws = waits_on ps (wait_of p ∷ ws)
+-- the depths of the high parts that are still to come, the nearest last
+abbrev pub highs_of : List Wait → List ℕ
+highs_of [] = []
+highs_of (low_of i z ∷ ws) = highs_of ws ++ kept_depth (length ws + 1) ∷ []
+highs_of (high_of i z low ∷ ws) = highs_of ws
 
-abbrev pub waits_of : List Pending → List Wait
-waits_of ps = waits_on ps []
+-- a reader keeps the depths of the next node and of the high parts still to come, where the next tree is below these splits
+pub record HasHighs (above : List Wait) (r : Lines) : Type 0 where
+  pub depth : r.depth ≡ kept_depth (length above)
+  pub highs : r.highs.items ≡ highs_of above
 
--- the tree that was read
-abbrev pub root_of : Sketch → Tree
-root_of tree = written_tree (tree_of tree)
+-- the splits above the next tree behind a whole tree
+abbrev pub waits_behind : List Wait → Tree → List Wait
+waits_behind [] t = []
+waits_behind (low_of i z ∷ ws) t = high_of i z t ∷ ws
+waits_behind (high_of i z low ∷ ws) t = waits_behind ws (Split i z low t)
 
--- what a reader's tree's next line stands behind
-abbrev pub told_of : Reader → Told
+-- the root behind a whole tree: the tree above all splits, or what it was
+abbrev pub root_behind : List Wait → Tree → Tree → Tree
+root_behind [] root t = t
+root_behind (low_of i z ∷ ws) root t = root
+root_behind (high_of i z low ∷ ws) root t = root_behind ws root (Split i z low t)
+
+-- the splits above the next tree behind a line
+abbrev pub waits_after : List Wait → Option Event → List Wait
+waits_after above None = above
+waits_after above (Some e.Claim) = []
+waits_after above (Some (e.Split p)) = low_of (in_text p.var) p.at ∷ above
+waits_after above (Some (e.Leaf is_open proof)) = waits_behind above (leaf_of is_open (written_proof proof))
+
+-- the root behind a line
+abbrev pub root_after : List Wait → Tree → Option Event → Tree
+root_after above root None = root
+root_after above root (Some e.Claim) = root
+root_after above root (Some (e.Split p)) = root
+root_after above root (Some (e.Leaf is_open proof)) = root_behind above root (leaf_of is_open (written_proof proof))
+
+-- what the tree's next line stands behind
+abbrev pub told_of : Lines → Told
 told_of r = record { version = version_of r.version; claim = written_claim r.claim r.point; had = map written_pair r.had.pairs.items }
 
--- the place of a reader with so many pairs or blocks still to come
-abbrev pub place_of : Reader → ℕ → Spot → Stage
-place_of r n s.Bpcert = at_bpcert
-place_of r n s.Version = at_version
-place_of r n s.FirstEnd = at_first_end (version_of r.version)
-place_of r n s.Claim = at_claim (version_of r.version)
-place_of r n s.Kind = at_kind (version_of r.version)
-place_of r n s.OptimalValue = at_optimal (version_of r.version)
-place_of r n s.InfeasibleEnd = infeasible_end (version_of r.version)
-place_of r n s.BoundValue = at_bound (version_of r.version)
-place_of r n s.AfterBound = after_bound (version_of r.version) r.bound
-place_of r n s.KnownValue = at_value (version_of r.version) r.bound
-place_of r n s.ClaimEnd = claim_end (version_of r.version) r.claim
-place_of r n s.Point = at_point (version_of r.version) r.claim
-place_of r n s.Values = at_values (version_of r.version) r.claim r.point
-place_of r n s.Coordinate = at_coordinate (version_of r.version) r.claim r.point
-place_of r n s.Node = at_node (told_of r) (waits_of r.pending.items)
-place_of r n s.Scale = at_scale (told_of r) (waits_of r.pending.items) r.is_open
-place_of r n s.Rows = at_rows (told_of r) (waits_of r.pending.items) r.is_open r.scale
-place_of r n s.Count = at_count (told_of r) (waits_of r.pending.items) r.is_open r.scale
-place_of r n s.Pairs = at_pairs (told_of r) (waits_of r.pending.items) r.is_open r.scale (map written_pair r.mults) r.last n
-place_of r n s.Row = at_row (told_of r) (waits_of r.pending.items) r.is_open r.scale (map written_pair r.mults) r.last n
-place_of r n s.RowGap = row_gap (told_of r) (waits_of r.pending.items) r.is_open r.scale (map written_pair r.mults) (in_text r.row) n
-place_of r n s.Multiplier = at_multiplier (told_of r) (waits_of r.pending.items) r.is_open r.scale (map written_pair r.mults) (in_text r.row) n
-place_of r n s.Priced = at_priced (told_of r) (waits_of r.pending.items) r.is_open r.scale (map written_pair r.mults)
-place_of r n s.Blocks = at_blocks (told_of r) (waits_of r.pending.items) r.is_open r.scale (map written_pair r.mults) (map in_text r.blocks) r.last n
-place_of r n s.Block = at_block (told_of r) (waits_of r.pending.items) r.is_open r.scale (map written_pair r.mults) (map in_text r.blocks) r.last n
-place_of r n s.LeafEnd = leaf_end (told_of r) (waits_of r.pending.items) r.is_open (proof_of r.scale (map written_pair r.mults) Every)
-place_of r n s.Variable = at_variable (told_of r) (waits_of r.pending.items)
-place_of r n s.VariableGap = variable_gap (told_of r) (waits_of r.pending.items) (in_text r.place.var)
-place_of r n s.Place = at_place (told_of r) (waits_of r.pending.items) (in_text r.place.var)
-place_of r n s.SplitEnd = split_end (told_of r) (waits_of r.pending.items) (in_text r.place.var) r.place.at
-place_of r n s.End = at_end (told_of r) (root_of r.root)
-place_of r n s.LastEnd = last_end (told_of r) (root_of r.root)
-place_of r n s.Over = over (told_of r) (root_of r.root)
+-- the place of a reader below these splits with so many pairs or blocks still to come; a whole tree is the root
+abbrev pub place_of : List Wait → Tree → Lines → ℕ → Spot → Stage
+place_of above root r n s.Bpcert = at_bpcert
+place_of above root r n s.Version = at_version
+place_of above root r n s.FirstEnd = at_first_end (version_of r.version)
+place_of above root r n s.Claim = at_claim (version_of r.version)
+place_of above root r n s.Kind = at_kind (version_of r.version)
+place_of above root r n s.OptimalValue = at_optimal (version_of r.version)
+place_of above root r n s.InfeasibleEnd = infeasible_end (version_of r.version)
+place_of above root r n s.BoundValue = at_bound (version_of r.version)
+place_of above root r n s.AfterBound = after_bound (version_of r.version) r.bound
+place_of above root r n s.KnownValue = at_value (version_of r.version) r.bound
+place_of above root r n s.ClaimEnd = claim_end (version_of r.version) r.claim
+place_of above root r n s.Point = at_point (version_of r.version) r.claim
+place_of above root r n s.Values = at_values (version_of r.version) r.claim r.point
+place_of above root r n s.Coordinate = at_coordinate (version_of r.version) r.claim r.point
+place_of above root r n s.Node = at_node (told_of r) above
+place_of above root r n s.Scale = at_scale (told_of r) above r.is_open
+place_of above root r n s.Rows = at_rows (told_of r) above r.is_open r.scale
+place_of above root r n s.Count = at_count (told_of r) above r.is_open r.scale
+place_of above root r n s.Pairs = at_pairs (told_of r) above r.is_open r.scale (map written_pair r.mults) r.last n
+place_of above root r n s.Row = at_row (told_of r) above r.is_open r.scale (map written_pair r.mults) r.last n
+place_of above root r n s.RowGap = row_gap (told_of r) above r.is_open r.scale (map written_pair r.mults) (in_text r.row) n
+place_of above root r n s.Multiplier = at_multiplier (told_of r) above r.is_open r.scale (map written_pair r.mults) (in_text r.row) n
+place_of above root r n s.Priced = at_priced (told_of r) above r.is_open r.scale (map written_pair r.mults)
+place_of above root r n s.Blocks = at_blocks (told_of r) above r.is_open r.scale (map written_pair r.mults) (map in_text r.blocks) r.last n
+place_of above root r n s.Block = at_block (told_of r) above r.is_open r.scale (map written_pair r.mults) (map in_text r.blocks) r.last n
+place_of above root r n s.LeafEnd = leaf_end (told_of r) above r.is_open (proof_of r.scale (map written_pair r.mults) Every)
+place_of above root r n s.Variable = at_variable (told_of r) above
+place_of above root r n s.VariableGap = variable_gap (told_of r) above (in_text r.place.var)
+place_of above root r n s.Place = at_place (told_of r) above (in_text r.place.var)
+place_of above root r n s.SplitEnd = split_end (told_of r) above (in_text r.place.var) r.place.at
+place_of above root r n s.End = at_end (told_of r) root
+place_of above root r n s.LastEnd = last_end (told_of r) root
+place_of above root r n s.Over = over (told_of r) root
 
-abbrev pub stage_of : Reader → ℕ → Stage
-stage_of r n = place_of r n r.spot
+abbrev pub stage_of : List Wait → Tree → Lines → ℕ → Stage
+stage_of above root r n = place_of above root r n r.spot
 
 -- what words leave as it is
-pub record Keeps (old new : Reader) : Type 0 where
+pub record Keeps (old new : Lines) : Type 0 where
   pub line : new.line ≡ old.line
   pub left : new.left ≡ old.left
+
+-- a word leads a reader to the place behind it, and ends a line that says this
+abbrev pub LeadsTo : Lines → Lines → Option Event → Word → Type 0
+LeadsTo old new event word = (above : List Wait) (root : Tree) (n : ℕ) → HasHighs above old → stage_of (waits_after above event) (root_after above root event) new n ≡ after (stage_of above root old n) word
+
+-- the depths are kept behind a line
+abbrev pub KeepsHighs : Lines → Lines → Option Event → Type 0
+KeepsHighs old new event = (above : List Wait) → HasHighs above old → HasHighs (waits_after above event) new
 
 -- how many pairs or blocks are still to come behind a number, where so many were
 abbrev pub count_behind : Spot → ℕ → ℕ → ℕ
@@ -104,23 +135,25 @@ slack s.Block = 1
 slack _ = 0
 
 -- a reader behind a faultless number; a number of pairs or blocks may be greater than it could keep
-pub record IsBehind (old new : Reader) (z : ℤ) (value : ℕ) : Type 0 where
-  pub place : (n : ℕ) → stage_of new (count_behind old.spot n value) ≡ behind_number (stage_of old n) z
-  pub counted : (n k : ℕ) → IsCount old.spot → stage_of new k ≡ behind_number (stage_of old n) (pos k)
+pub record IsBehind (old new : Lines) (z : ℤ) (value : ℕ) : Type 0 where
+  pub place : (above : List Wait) (root : Tree) (n : ℕ) → stage_of above root new (count_behind old.spot n value) ≡ behind_number (stage_of above root old n) z
+  pub counted : (above : List Wait) (root : Tree) (n k : ℕ) → IsCount old.spot → stage_of above root new k ≡ behind_number (stage_of above root old n) (pos k)
   pub left : new.left ≡ count_behind old.spot old.left value
   pub line : new.line ≡ old.line
+  pub depth : new.depth ≡ old.depth
+  pub highs : new.highs.items ≡ old.highs.items
   pub paced : (IsCount old.spot → ⊥) → slack new.spot + old.left ≤ slack old.spot + new.left
   pub fresh : IsCount old.spot → slack new.spot ≡ 0
   pub goes_on : new.spot ≡ s.Over → ⊥
 
 -- what a reader does with a number without a sign
-abbrev pub TakesNatural : texts.Frame → Reader → Reader → ℕ → Result (Unit {0}) CertFault → Type 0
-TakesNatural frame old new value (Ok _) = ((n : ℕ) → number_fault frame (stage_of old n) (pos value) ≡ None) × IsBehind old new (pos value) value
+abbrev pub TakesNatural : texts.Frame → Lines → Lines → ℕ → Result (Unit {0}) CertFault → Type 0
+TakesNatural frame old new value (Ok _) = ((above : List Wait) (root : Tree) (n : ℕ) → HasHighs above old → number_fault frame (stage_of above root old n) (pos value) ≡ None) × IsBehind old new (pos value) value
 TakesNatural frame old new value (Err NoMemory) = Unit {0}
-TakesNatural frame old new value (Err (At line kind)) = (line ≡ old.line) × ((n : ℕ) → number_fault frame (stage_of old n) (pos value) ≡ Some kind)
+TakesNatural frame old new value (Err (At line kind)) = (line ≡ old.line) × ((above : List Wait) (root : Tree) (n : ℕ) → HasHighs above old → number_fault frame (stage_of above root old n) (pos value) ≡ Some kind)
 
 -- what a reader does with a number with a sign
-abbrev pub TakesWhole : texts.Frame → Reader → Reader → Bool → ℕ → Result (Unit {0}) CertFault → Type 0
-TakesWhole frame old new negative value (Ok _) = ((n : ℕ) → number_fault frame (stage_of old n) (signed negative value) ≡ None) × IsBehind old new (signed negative value) value
+abbrev pub TakesWhole : texts.Frame → Lines → Lines → Bool → ℕ → Result (Unit {0}) CertFault → Type 0
+TakesWhole frame old new negative value (Ok _) = ((above : List Wait) (root : Tree) (n : ℕ) → HasHighs above old → number_fault frame (stage_of above root old n) (signed negative value) ≡ None) × IsBehind old new (signed negative value) value
 TakesWhole frame old new negative value (Err NoMemory) = Unit {0}
-TakesWhole frame old new negative value (Err (At line kind)) = (line ≡ old.line) × ((n : ℕ) → number_fault frame (stage_of old n) (signed negative value) ≡ Some kind)
+TakesWhole frame old new negative value (Err (At line kind)) = (line ≡ old.line) × ((above : List Wait) (root : Tree) (n : ℕ) → HasHighs above old → number_fault frame (stage_of above root old n) (signed negative value) ≡ Some kind)

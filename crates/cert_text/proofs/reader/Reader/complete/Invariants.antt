@@ -1,12 +1,13 @@
 use Rattle.std.proofs.Common.{◌≡◌, vec_len}
-use Rattle.cert_text.specs.Sketch.{tree_of}
-use Rattle.cert_text.specs.Written.{written_tree}
-use Rattle.cert_text.specs.Stages.{behind}
-use Rattle.cert_text.specs.Readers.{Keeps, told_of, waits_of}
+use Rattle.cert_text.specs.Readers.{waits_behind, root_behind}
+use Rattle.cert_text.specs.Builders.{waits_of, root_of}
 use Rattle.cert_text.proofs.reader.Reader.complete.Given as goal
 
 abbrev pub invariant-loop-pending : goal.invariant-loop-pending
-invariant-loop-pending l = (behind (told_of l.self) (waits_of l.self.pending.items) (written_tree (tree_of l.tree)) ≡ behind (told_of l.initial.self) (waits_of l.initial.self.pending.items) (written_tree (tree_of l.initial.tree))) × Keeps l.initial.self l.self
+invariant-loop-pending l =
+    (waits_behind (waits_of l.self.pending.items) (root_of l.tree) ≡ waits_behind (waits_of l.initial.self.pending.items) (root_of l.initial.tree))
+    × (root_behind (waits_of l.self.pending.items) (root_of l.self.root) (root_of l.tree) ≡ root_behind (waits_of l.initial.self.pending.items) (root_of l.initial.self.root) (root_of l.initial.tree))
+    × (l.self.lines ≡ l.initial.self.lines)
 
 abbrev pub decreases-loop-pending : goal.decreases-loop-pending
 decreases-loop-pending l = vec_len l.self.pending

@@ -1,5 +1,5 @@
 use Rattle.std.proofs.Common.{List, ℕ, refl, take, ◌++◌, subst, arith}
-use Rattle.cert_text.specs.Standing.{StandsFor}
+use Rattle.cert_text.specs.Builders.{Builds}
 use Rattle.cert_text.proofs.Feeding.{room, joined, fed_fault}
 use Rattle.cert_text.proofs.reader.Reader.feed.Goals as goal
 
@@ -16,5 +16,5 @@ loop-byte-preserved c =
     let piece = c.args.piece.now in
     let i = c.loop-byte.byte-index in
     λ text small stands.
-    let P : List ℕ → Type 0 = λ t. StandsFor c.args.frame.now c.step.new.self t in
+    let P : List ℕ → Type 0 = λ t. Builds c.args.frame.now c.step.new.self t in
     subst P (joined text piece i _ (omega arith) refl) (c.in-Ok.ensures (text ++ take i piece) (room text piece i _ (omega arith) refl small) (c.loop-byte.invariant text small stands))

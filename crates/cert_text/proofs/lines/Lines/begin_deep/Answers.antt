@@ -1,0 +1,26 @@
+use Rattle.std.proofs.Common.{Err, ap, ℕ, [], ◌∷◌, ◌++◌, refl, sym, subst}
+use Rattle.cert_text.specs.declared.fault.CertKind.TheVariants.{Syntax, Depth}
+use Rattle.cert_text.specs.declared.lines.Part.TheVariants.{DeepMinus}
+use Rattle.cert_text.specs.Standing.{StandsFor}
+use Rattle.cert_text.proofs.ReaderSteps.{deep_digit, deep_minus_begun, deep_other, no_digit}
+use Rattle.cert_text.proofs.WordSteps.{at_fault}
+use Rattle.cert_text.proofs.lines.Lines.begin_deep.Goals as goal
+
+pub returns-then-digit : goal.returns-then-digit
+returns-then-digit c =
+    let r = c.args.self.now in
+    λ above root frame text number small between is may. at_fault above root frame r text c.args.byte r.line Depth (Err c.fault.result) (ap Err c.fault.ensures)
+    (deep_digit above root frame r number text c.args.byte r.line between is (sym c.if-digit.ensures) refl)
+
+pub returns-then-byte-eq45 : goal.returns-then-byte-eq45
+returns-then-byte-eq45 c =
+    let r = c.args.self.now in
+    λ above root frame text number small between is may.
+    let P : ℕ → Type 0 = λ b. StandsFor above root frame (record r { part = DeepMinus }) (text ++ b ∷ []) in
+    subst P (sym c.if-byte-eq45.true) (deep_minus_begun above root frame r number text between is)
+
+pub returns : goal.returns
+returns c =
+    let r = c.args.self.now in
+    λ above root frame text number small between is may. at_fault above root frame r text c.args.byte r.line Syntax (Err c.fault-2.result) (ap Err c.fault-2.ensures)
+    (deep_other above root frame r number text c.args.byte r.line between is may (no_digit c.args.byte (sym c.if-digit.ensures)) c.if-byte-eq45.false refl)
