@@ -1,20 +1,20 @@
 // Columns that go together, for classes of identical blocks: each block of a class is priced in what those before it
 // leave of the rows' sides. One class gives one column a round otherwise. No bound comes from these.
 ghost use Rattle.std.specs.Prelude.{◌<◌, length};
-ghost use Rattle.bp_theory.specs.Trees.{IsZone};
 ghost use Rattle.knap_price.specs.Kept as by_table;
 ghost use Rattle.pricing.specs.Form.{AreOf};
+ghost use Rattle.search_price.specs.Kept as by_search;
 ghost use Rattle.column_hint.specs.Pools.{AreMadeFor};
 
-use crate::budget::alone;
 use crate::master::{RestrictedMaster, block_spans};
 use crate::pools::Pools;
 use block_class::Classes;
 use block_form::{Block, Blocked, Zone};
 use bp_theory::{Sense, Span};
 use knap_price::KnapPricer;
-use point_hint::{UNIT, at, narrow, product, sum_at};
+use point_hint::{UNIT, at, product, sum_at};
 use pricing::{Cap, Priced, Pricer, is_form, is_priceable};
+use search_price::SearchPricer;
 use std::alloc::{AllocError, Global};
 
 /// How many blocks of a class are priced at most.
@@ -30,10 +30,11 @@ struct Side {
     sense: Sense,
 }
 
-// What one class is priced with: its block's spans, and how many blocks are priced.
+// What one class is priced with: its block's spans, its reduced costs, and how many blocks are priced.
 #[derive(Drop)]
 struct Member {
     spans: Vec<Span>,
+    costs: Vec<i128>,
     many: u32,
 }
 
@@ -49,7 +50,6 @@ pub fn add_partition(
     round: u32,
 ) -> Result<(), AllocError>
     requires made_for { AreMadeFor b.now pools.old }
-    requires zone { IsZone b.now.named.program.spans zone.now }
     ensures made_for { AreMadeFor b.now pools.new }
 {
     let mut sides = sides_of(alloc, b, master)?;
@@ -59,7 +59,7 @@ pub fn add_partition(
         let size = master.size(class);
         if class < many && size > 1 {
             let first = classes.first(class);
-            let found = priced_blocks(alloc, b, zone, pools, mults, first, size, &mut sides)?;
+            let found = priced_blocks(alloc, b, zone, mults, first, size, &mut sides)?;
             add_points(alloc, b, pools, master, class, first, found)?;
         }
     }
@@ -102,40 +102,30 @@ fn priced_blocks(
     alloc: Global,
     b: &Blocked,
     zone: &Zone,
-    pools: &mut Pools,
     mults: &[i64],
     first: u32,
     size: u32,
     sides: &mut Vec<Side>,
-) -> Result<Vec<Vec<i64>>, AllocError>
-    requires made_for { AreMadeFor b.now pools.old }
-    requires zone { IsZone b.now.named.program.spans zone.now }
-    ensures made_for { AreMadeFor b.now pools.new }
-{
+) -> Result<Vec<Vec<i64>>, AllocError> {
     if first >= b.blocks() {
         return Ok(Vec::new(alloc));
     }
     let block = b.block(first);
-    let mut member = Member {
-        spans: block_spans(alloc, block, zone.spans())?,
-        many: size.min(MOST_BLOCKS),
-    };
-    if !KnapPricer::takes(block) {
-        return price_as_bounds(alloc, b, zone, pools, mults, first, &mut member, sides);
-    }
     if !is_form(block.rows(), block.spans()) {
         return Ok(Vec::new(alloc));
     }
-    let costs = reduced_costs(alloc, block, mults)?;
-    let mut pricer = KnapPricer::make(alloc, block)?;
-    price_by_table(
-        alloc,
-        &mut pricer,
-        block,
-        costs.as_slice(),
-        &mut member,
-        sides,
-    )
+    let mut member = Member {
+        spans: block_spans(alloc, block, zone.spans())?,
+        costs: reduced_costs(alloc, block, mults)?,
+        many: size.min(MOST_BLOCKS),
+    };
+    if KnapPricer::takes(block) {
+        let mut pricer = KnapPricer::make(alloc, block)?;
+        price_by_table(alloc, &mut pricer, block, &mut member, sides)
+    } else {
+        let mut pricer = SearchPricer::make(alloc, block)?;
+        price_by_search(alloc, &mut pricer, block, &mut member, sides)
+    }
 }
 
 // The reduced costs of a block's variables at multipliers by row, at the greatest scale.
@@ -156,7 +146,6 @@ fn price_by_table(
     alloc: Global,
     pricer: &mut KnapPricer,
     block: &Block,
-    costs: &[i128],
     member: &mut Member,
     sides: &mut Vec<Side>,
 ) -> Result<Vec<Vec<i64>>, AllocError>
@@ -167,74 +156,62 @@ fn price_by_table(
     for _ in 0..member.many {
         narrow_to(block, sides.as_slice(), &mut member.spans);
         let spans = member.spans.as_slice();
+        let costs = member.costs.as_slice();
         if !is_priceable(block.spans(), spans, costs) {
             break;
         }
-        let Priced::Least(_) = pricer.price(block, spans, costs, Cap::At(VISITS)) else {
-            break;
-        };
-        if !take(block, pricer.point(), sides) {
+        let found = pricer.price(block, spans, costs, Cap::At(VISITS));
+        if !keeps_point(alloc, found, block, pricer.point(), sides, &mut points)? {
             break;
         }
-        points.push(pricer.point().to_vec(alloc)?)?;
     }
     Ok(points)
 }
 
-// Prices blocks by the pricer of their bounds, one after the other, each in what those before it leave, until nothing is
-// left to take.
-fn price_as_bounds(
+// Prices blocks by a search, one after the other, each in what those before it leave, until nothing is left to take.
+fn price_by_search(
     alloc: Global,
-    b: &Blocked,
-    zone: &Zone,
-    pools: &mut Pools,
-    mults: &[i64],
-    first: u32,
+    pricer: &mut SearchPricer,
+    block: &Block,
     member: &mut Member,
     sides: &mut Vec<Side>,
 ) -> Result<Vec<Vec<i64>>, AllocError>
-    requires made_for { AreMadeFor b.now pools.old }
-    requires zone { IsZone b.now.named.program.spans zone.now }
-    requires there { first < length b.now.blocking.blocks }
-    ensures made_for { AreMadeFor b.now pools.new }
+    requires same_block { AreOf block.now (by_search.rows_of pricer.old)
+        (by_search.spans_of pricer.old) }
 {
-    let proof = alone(alloc, mults, first)?;
-    let block = b.block(first);
     let mut points = Vec::new(alloc);
     for _ in 0..member.many {
         narrow_to(block, sides.as_slice(), &mut member.spans);
-        let inner = spans_with(alloc, zone, block, member.spans.as_slice())?;
-        let left = narrow(b, zone.copy(alloc)?, inner.as_slice());
-        let classes = Classes::of(alloc, b, &left)?;
-        let cap = Cap::At(VISITS);
-        if !pools.budget.has_bound(b, &classes, &left, &proof, cap) {
+        let spans = member.spans.as_slice();
+        let costs = member.costs.as_slice();
+        if !is_priceable(block.spans(), spans, costs) {
             break;
         }
-        let Some(point) = pools.budget.work.point(first) else {
-            break;
-        };
-        if !take(block, point, sides) {
+        let found = pricer.price(block, spans, costs, Cap::At(VISITS));
+        if !keeps_point(alloc, found, block, pricer.point(), sides, &mut points)? {
             break;
         }
-        points.push(point.to_vec(alloc)?)?;
     }
     Ok(points)
 }
 
-// The spans of a zone, but for a block's own.
-fn spans_with(
+// Keeps a priced point and takes it out of the sides; whether it was found and takes anything.
+fn keeps_point(
     alloc: Global,
-    zone: &Zone,
+    found: Priced,
     block: &Block,
-    own: &[Span],
-) -> Result<Vec<Span>, AllocError> {
-    let mut all = zone.spans().to_vec(alloc)?;
-    for (var, span) in block.vars().iter().zip(own) {
-        if let Some(place) = all.get_mut(*var as usize) {
-            *place = *span;
-        }
+    point: &[i64],
+    sides: &mut Vec<Side>,
+    points: &mut Vec<Vec<i64>>,
+) -> Result<bool, AllocError> {
+    let Priced::Least(_) = found else {
+        return Ok(false);
+    };
+    if !take(block, point, sides) {
+        return Ok(false);
     }
-    Ok(all)
+    points.push(point.to_vec(alloc)?)?;
+    Ok(true)
 }
 
 // Narrows the upper ends of a block's spans to what rows leave.
