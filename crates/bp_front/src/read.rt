@@ -1,6 +1,6 @@
 // The first bytes of a file, by reads of one buffer.
 ghost use Rattle.std.specs.Prelude.{◌≡◌, ◌+◌, ℕ, ◌^◌, ◌<◌, ◌≤◌, List, Option, Some, None, IfOk, IfSome, OnOk, IsTrue, IsOk, IsSome, IsErrOf, vec_len, take, length};
-ghost use Rattle.bp_shelf.specs.Shelf.{CountsFailed};
+ghost use Rattle.bp_shelf.specs.Shelf.{CountsFailed, file_limit};
 ghost use Rattle.bp_front.specs.Reading.{HasFront};
 
 use bp_shelf::{Shelf, ShelfFault};
@@ -23,7 +23,7 @@ pub fn read_front<F: Shelf>(
     name: &str,
     most: usize,
 ) -> Result<Vec<u8>, ShelfFault>
-    requires { most < 2 ^ 62 }
+    requires { most < file_limit }
     ensures bytes { IsTrue (F.tells shelf.old) →
         IfOk result (λ front. IfSome (F.file shelf.old name.now)
         (λ all. front.items ≡ take most all)) }
@@ -65,7 +65,7 @@ fn read_more<F: Shelf>(
         IfSome (F.file shelf.old name.now) (λ all. front.new.items ≡ all)) }
     ensures len { IfOk result (λ count. vec_len front.new ≡ vec_len front.old + count) }
     ensures count { IfOk result (λ count. count ≤ length buffer.old) }
-    ensures far { 2 ^ 62 ≤ vec_len front.old → IfOk result (λ count. count ≡ 0) }
+    ensures far { file_limit ≤ vec_len front.old → IfOk result (λ count. count ≡ 0) }
     ensures within { OnOk result (vec_len front.new ≤ most) }
     ensures found { IsTrue (F.tells shelf.old) → IsOk result → IsSome (F.file shelf.old name.now) }
     ensures missing { IsTrue (F.tells shelf.old) → IsErrOf result ShelfFault.Missing →

@@ -1,6 +1,6 @@
 // The files of the system as a shelf.
 ghost use Rattle.std.specs.Prelude.{◌≡◌, ◌≤◌, ◌^◌, length, IfOk, IsOk, IsErrOf, is_ok};
-ghost use Rattle.bp_shelf.specs.Shelf.{CountsFailed};
+ghost use Rattle.bp_shelf.specs.Shelf.{CountsFailed, file_limit};
 
 use crate::whole::fill;
 use bp_shelf::{Shelf, ShelfFault};
@@ -45,7 +45,7 @@ impl<'a, R: Files> FileShelf<'a, R> {
 
     // Opens a file for writing as the options say, and writes the bytes.
     fn write_file(&self, how: &OpenOptions, name: &str, bytes: &[u8]) -> io::Result<()>
-        ensures { 2 ^ 62 ≤ length bytes.now → IsOk result → ⊥ }
+        ensures { file_limit ≤ length bytes.now → IsOk result → ⊥ }
     {
         if bytes.len() as u64 >= LIMIT {
             return Err(io::Error::from(ErrorKind::FileTooLarge));

@@ -29,6 +29,10 @@ most_parts = 8192
 abbrev pub most_prefixes : ℕ
 most_prefixes = 1048576
 
+-- the most cells of a table that prices a block of one row
+abbrev pub most_cells : ℕ
+most_cells = 1048576
+
 -- the greatest depth of a certificate's node
 abbrev pub greatest_depth : ℕ
 greatest_depth = 8256

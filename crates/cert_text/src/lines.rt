@@ -61,7 +61,7 @@ pub enum Event {
 }
 
 /// A reader of a certificate's lines. It keeps no tree: of the nodes that were read only the depths of the high parts
-/// that are still to come, at most 8,256, and the multipliers that the next leaf changes.
+/// that are still to come, at most 8,257, and the multipliers that the next leaf changes.
 #[derive(Drop)]
 pub struct Lines {
     spot: Spot,

@@ -2,6 +2,7 @@
 use Rattle.std.specs.Prelude.{◌≡◌, ℕ, ◌+◌, ◌*◌, ◌≤◌, unsigned_abs, sum_by, List, [], ◌∷◌, length, map, ℤ}
 use Rattle.std.specs.Int.{int_gap}
 use Rattle.std.specs.List.{range_with_len}
+use Rattle.bp_theory.specs.Limits.{most_cells}
 use Rattle.bp_theory.specs.Program.{span_at, coefficient}
 use Rattle.bp_theory.specs.declared.Span.{Span}
 use Rattle.bp_theory.specs.declared.Term.{Term}
@@ -20,10 +21,10 @@ abbrev pub first_terms : List Row → List Term
 first_terms [] = []
 first_terms (row ∷ rows) = row.terms
 
--- one row, and a table of at most 2 to the 20 cells
+-- one row, and a table of no more cells than a table may have
 pub record IsTaken (rows : List Row) (spans : List Span) : Type 0 where
   pub one : length rows ≡ 1
-  pub small : (length spans + 1) * (row_reach spans (first_terms rows) + 1) ≤ 1048576
+  pub small : (length spans + 1) * (row_reach spans (first_terms rows) + 1) ≤ most_cells
 
 -- the coefficients of each variable
 abbrev pub dense : List Term → ℕ → List ℤ

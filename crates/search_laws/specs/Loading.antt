@@ -1,6 +1,7 @@
 -- A tree that is loaded from a certificate: which leaves are shut, which live, and with which bound.
-use Rattle.std.specs.Prelude.{◌≡◌, ◌^◌, ◌-◌, ◌<◌, List, Option, ℤ, pos, unsigned_abs, All}
+use Rattle.std.specs.Prelude.{◌≡◌, ◌-◌, ◌<◌, List, Option, ℤ, pos, unsigned_abs, All}
 use Rattle.std.specs.Int.{int_min}
+use Rattle.bp_theory.specs.Limits.{number_limit}
 use Rattle.bp_theory.specs.Sums.{round_up}
 use Rattle.bp_theory.specs.Program.{Program}
 use Rattle.bp_theory.specs.Blocking.{Blocking}
@@ -14,9 +15,9 @@ use Rattle.bp_theory.specs.declared.Claim.TheVariants.{Optimal, Infeasible, Boun
 use Rattle.search_laws.specs.Grove.{GrowingTree, live, shut, fork}
 use Rattle.search_laws.specs.GroveFacts.{Settles}
 
--- a bound rounded: its quotient by the scale rounded up, cut off below 2 to the 62
+-- a bound rounded: its quotient by the scale rounded up, cut off below the limit of numbers
 abbrev pub rounded_bound : ℤ → Proof → ℤ
-rounded_bound v proof = int_min (round_up v proof.scale) (pos (2 ^ 62 - 1))
+rounded_bound v proof = int_min (round_up v proof.scale) (pos (number_limit - 1))
 
 -- a leaf of a certificate is shut where its proof settles its zone, and else live with its bound rounded
 abbrev pub LoadsLeaf : Blocking → Option ℤ → List Span → Proof → GrowingTree → Type 0
@@ -34,11 +35,11 @@ Loads b best zone (split v at low high) (shut own) = ⊥
 Loads b best zone (split v at low high) (fork w a first second) =
     (w ≡ v) × (a ≡ at) × Loads b best (low_part zone v at) low first × Loads b best (high_part zone v at) high second
 
--- a claim's bound is below 2 to the 62 in magnitude
+-- a claim's bound is below the limit of numbers in magnitude
 abbrev pub HasSmallBound : Claim → Type 0
 HasSmallBound (Optimal v) = Unit {0}
 HasSmallBound Infeasible = Unit {0}
-HasSmallBound (Bound bound v) = unsigned_abs bound < 2 ^ 62
+HasSmallBound (Bound bound v) = unsigned_abs bound < number_limit
 
 -- what reading a certificate shows: each proof fits, and the claim's bound is small
 pub record IsReadable (p : Program) (b : Blocking) (cert : Certificate) : Type 0 where
