@@ -13,7 +13,7 @@ from conftest import TOP, load_tool, run
 TOOL = TOP / "tools" / "check_certificate.py"
 checker = load_tool(TOOL)
 STATUS = {"accepted": 0, "refused": 3, "rejected": 6}
-PROGRAM_ALONE = re.compile(r"refused (lp [0-9]+ (limit|activity)|dec 0 limit|dec [0-9]+ (unknown-var|linking-list)|blocks var-place \S+)\n")
+PROGRAM_ALONE = re.compile(r"refused (lp [0-9]+ (limit|activity)|dec 0 limit|dec [0-9]+ unknown-var|blocks var-place \S+)\n")
 EXAMPLES = [
     ("cutting-stock/model.lp", "cutting-stock/model.cert", "cutting-stock/model.dec"),
     ("cutting-stock/harder.lp", "cutting-stock/harder.cert", "cutting-stock/harder.dec"),

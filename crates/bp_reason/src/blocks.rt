@@ -26,7 +26,6 @@ enum Part {
     Awaits(Keyword),
     Rows,
     Variables,
-    Links,
     Closed,
 }
 
@@ -230,7 +229,6 @@ impl Reader {
             Part::Awaits(keyword) => Ok(self.number(keyword, number_of(bytes))),
             Part::Rows => self.row(bytes, names),
             Part::Variables => { Ok((!names.reading.has_variable(bytes)).then_some("unknown-var")) }
-            Part::Links => Ok(Some("linking-list")),
         }
     }
 
@@ -252,7 +250,7 @@ impl Reader {
         self.part = match keyword {
             Keyword::Master => Part::Rows,
             Keyword::MasterVars => Part::Variables,
-            Keyword::Links => Part::Links,
+            Keyword::Links => Part::Variables,
             _ => Part::Awaits(keyword),
         };
         None

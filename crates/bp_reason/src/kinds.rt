@@ -37,7 +37,6 @@ unknown-row @ no row of the model has the name % here; an unnamed row is called 
 row-twice @ the row % is listed a second time; keep one of the two places
 unassigned @ CONSDEFAULTMASTER 0 asks for each row to be in a list, and one is in none; list it under MASTERCONSS, or write CONSDEFAULTMASTER 1
 unknown-var @ no variable of the model has the name % here; mend it, or leave it out
-linking-list @ % stands under LINKINGVARS, which may have nothing behind it; put a row of the variable under MASTERCONSS, and leave the name out
 limit @ % blocks are too many: 4096 are the most; put more rows together
 limit-size @ the text has more than 16777216 bytes, the most that is read
 ";

@@ -50,7 +50,6 @@ dec_kind_name dec.UnknownRow = codes "unknown-row"
 dec_kind_name dec.RowTwice = codes "row-twice"
 dec_kind_name dec.Unassigned = codes "unassigned"
 dec_kind_name dec.UnknownVar = codes "unknown-var"
-dec_kind_name dec.LinkingList = codes "linking-list"
 dec_kind_name dec.Limit = codes "limit"
 
 -- a kind of fault of the text of a certificate

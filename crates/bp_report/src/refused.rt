@@ -178,7 +178,6 @@ fn dec_kind_name(kind: DecKind) -> &'static [u8]
         DecKind::RowTwice => b"row-twice",
         DecKind::Unassigned => b"unassigned",
         DecKind::UnknownVar => b"unknown-var",
-        DecKind::LinkingList => b"linking-list",
         DecKind::Limit => b"limit",
     }
 }

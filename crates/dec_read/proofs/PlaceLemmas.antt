@@ -145,11 +145,15 @@ variable_sound m earlier s place name is e = record {
       (number_below m.names name (passes (is_among m.names name) kinds.UnknownVar e), subst (HasKnownPlace (block_count earlier)) is s.section);
 }
 
+linking_sound : (m : NamedProgram) (earlier : List Part) → IsSound m earlier → (name : List ℕ) → IsSound m (linking name ∷ earlier)
+unfolding section_behind has_come block_count refuses_unlisted rows_listed vars_listed
+linking_sound m earlier s name = record { few = s.few; uncounted = s.uncounted; awaited = s.awaited; section = s.section; rows = s.rows; vars = s.vars }
+
 word_sound : (m : NamedProgram) (earlier : List Part) → IsSound m earlier → (section : Section) (word : List ℕ) → section_behind earlier ≡ section → part_fault m earlier (part_by None section word) ≡ None
     → IsSound m (part_by None section word ∷ earlier)
 word_sound m earlier s Outside word is e = absurd (some_none kinds.Syntax e)
 word_sound m earlier s Closed word is e = absurd (some_none kinds.Syntax e)
-word_sound m earlier s Links word is e = absurd (some_none kinds.LinkingList e)
+word_sound m earlier s Links word is e = linking_sound m earlier s word
 word_sound m earlier s (Rows place) word is e = row_sound m earlier s place word is
 word_sound m earlier s (Vars place) word is e = variable_sound m earlier s place word is e
 word_sound m earlier s (Awaits k) word is e = by (number_of word) e

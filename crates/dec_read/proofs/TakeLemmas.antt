@@ -386,3 +386,26 @@ variable_taken m reader new earlier line first word place (Ok None) keeps good n
 variable_taken m reader new earlier line first word place (Ok (Some kind)) keeps good none is e others entry =
     taken m new earlier line first word (variable place word) (Some kind) good (plain_part m reader earlier first word (Vars place) keeps none is) e tt
 variable_taken m reader new earlier line first word place (Err f) keeps good none is e others entry = tt
+
+-- names under no place
+linking_kept : (m : NamedProgram) (reader : Reader) (earlier : List Part) (name : List ℕ) → Keeps m reader earlier → Keeps m reader (linking name ∷ earlier)
+unfolding section_behind has_come block_count refuses_unlisted rows_listed vars_listed
+linking_kept m reader earlier name keeps = record {
+  section = keeps.section;
+  presolved = keeps.presolved;
+  counted = keeps.counted;
+  defaulted = keeps.defaulted;
+  blocks = keeps.blocks;
+  few = keeps.few;
+  strict = keeps.strict;
+  rows = keeps.rows;
+  listed = keeps.listed;
+}
+
+pub linking_taken : (m : NamedProgram) (reader : Reader) (earlier : List Part) (line : ℕ) (first : Bool) (word : List ℕ) (fault : Option DecKind)
+    → Keeps m reader earlier → has_bad_byte word ≡ false → keyword_of first word ≡ None → reader.section ≡ Links → fault ≡ variable_fault m.names word
+    → Takes m reader earlier (token_of line first word) (Ok fault)
+linking_taken m reader earlier line first word None keeps good none is e =
+    taken m reader earlier line first word (linking word) None good (plain_part m reader earlier first word Links keeps none is) e (linking_kept m reader earlier word keeps)
+linking_taken m reader earlier line first word (Some kind) keeps good none is e =
+    taken m reader earlier line first word (linking word) (Some kind) good (plain_part m reader earlier first word Links keeps none is) e tt

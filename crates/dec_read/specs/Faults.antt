@@ -68,7 +68,7 @@ part_fault m earlier (keyword k) = keyword_fault (section_behind earlier) (has_c
 part_fault m earlier (number k n) = number_fault (block_count earlier) k n
 part_fault m earlier (row place name) = row_fault m.row_names (rows_listed earlier) name
 part_fault m earlier (variable place name) = variable_fault m.names name
-part_fault m earlier linking = Some kinds.LinkingList
+part_fault m earlier (linking name) = variable_fault m.names name
 part_fault m earlier stray = Some kinds.Syntax
 
 -- what is wrong with a token behind others

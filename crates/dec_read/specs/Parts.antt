@@ -18,7 +18,7 @@ pub data Part : Type 0 where
   number : Keyword → ℕ → Part
   row : Option ℕ → List ℕ → Part
   variable : Option ℕ → List ℕ → Part
-  linking : Part
+  linking : List ℕ → Part
   stray : Part
 
 -- the section that a keyword opens: the place of its number, or its names
@@ -57,7 +57,7 @@ part_in Outside word = stray
 part_in (Awaits k) word = number_part k (number_of word)
 part_in (Rows place) word = row place word
 part_in (Vars place) word = variable place word
-part_in Links word = linking
+part_in Links word = linking word
 part_in Closed word = stray
 
 -- a keyword wherever it stands, else by the section

@@ -26,8 +26,6 @@ pub enum DecKind {
     Unassigned,
     /// A name that no variable has.
     UnknownVar,
-    /// A name of a linking variable.
-    LinkingList,
     /// A text that is too long, or too many blocks.
     Limit,
 }

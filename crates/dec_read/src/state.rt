@@ -106,6 +106,20 @@ fn fault_of_number(blocks: u32, keyword: Keyword, n: u32) -> Option<DecKind>
     }
 }
 
+// What is wrong with the name of a variable.
+fn fault_of_variable(m: &Model, name: &[u8]) -> Option<DecKind>
+    requires { IsUtf8 name.now }
+    ensures { result ≡ variable_fault m.now.names name.now }
+{
+    let Ok(name) = str::from_utf8(name) else {
+        unreachable!()
+    };
+    match m.var_of(name) {
+        None => Some(DecKind::UnknownVar),
+        Some(_) => None,
+    }
+}
+
 // For each row: not listed, and so under the master.
 fn unlisted(alloc: Global, rows: usize) -> Result<Listing, AllocError>
     ensures places { IfOk result (λ listing. listing.places.items ≡ replicate rows None) }
@@ -297,7 +311,7 @@ impl Reader {
             },
             Section::Rows(place) => Ok(self.list_row(m, place, word)),
             Section::Vars(place) => self.list_variable(m, place, word),
-            Section::Links => Ok(Some(DecKind::LinkingList)),
+            Section::Links => Ok(fault_of_variable(m, word)),
         }
     }
 

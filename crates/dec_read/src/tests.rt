@@ -126,9 +126,9 @@ fn worked_texts_are_refused(rt: HostRuntime) {
     assert!(rt;
         is_fault(
             alloc,
-            b"NBLOCKS 1\nLINKINGVARS\nx11",
+            b"NBLOCKS 1\nLINKINGVARS\nx99",
             3,
-            DecKind::LinkingList
+            DecKind::UnknownVar
         )
     );
     assert!(rt; is_fault(alloc, b"PRESOLVED 1\nNBLOCKS 0", 1, DecKind::Presolved));

@@ -30,7 +30,7 @@ pub enum Section {
     Rows(Option<u32>),
     /// Names of variables of a block (from 0) or of the master.
     Vars(Option<u32>),
-    /// Names of linking variables.
+    /// Names of variables in rows of several blocks, which say nothing more than the rows do.
     Links,
     /// Nothing more.
     Closed,

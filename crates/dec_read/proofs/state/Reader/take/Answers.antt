@@ -1,9 +1,9 @@
 use Rattle.std.proofs.Common.{◌∙◌, sym, refl}
-use Rattle.dec_read.specs.Parts.{linking, stray, rows_listed}
-use Rattle.dec_read.specs.declared.words.Section.TheVariants.{Outside, Links, Closed}
+use Rattle.dec_read.specs.Parts.{stray, rows_listed}
+use Rattle.dec_read.specs.declared.words.Section.TheVariants.{Outside, Closed}
 use Rattle.dec_read.specs.declared.fault.DecKind.TheVariants as kinds
 use Rattle.dec_read.proofs.ListLemmas.{plain_is_text}
-use Rattle.dec_read.proofs.TakeLemmas.{bad_token, keyword_taken, number_taken, no_number_taken, stray_taken, row_taken, variable_taken}
+use Rattle.dec_read.proofs.TakeLemmas.{bad_token, keyword_taken, number_taken, no_number_taken, stray_taken, row_taken, variable_taken, linking_taken}
 use Rattle.dec_read.proofs.state.Reader.take.Goals as goal
 
 pub returns-then-holds_bad_byte : goal.returns-then-holds_bad_byte
@@ -46,5 +46,8 @@ returns-in-Vars c = λ earlier line keeps. variable_taken c.args.m.now c.args.se
     c.list_variable.ensures.fault c.list_variable.ensures.listed c.list_variable.ensures.entry
 
 pub returns-in-Links : goal.returns-in-Links
-returns-in-Links c = λ earlier line keeps. stray_taken c.args.m.now c.args.self.now c.args.self.now earlier line c.args.first c.args.word.now Links linking kinds.LinkingList keeps
-    (sym c.if-holds_bad_byte.ensures) (sym c.in_default.ensures) c.in-Links.is refl refl
+returns-in-Links c = λ earlier line keeps. linking_taken c.args.m.now c.args.self.now earlier line c.args.first c.args.word.now c.fault_of_variable.result keeps
+    (sym c.if-holds_bad_byte.ensures) (sym c.in_default.ensures) c.in-Links.is c.fault_of_variable.ensures
+
+pub fault_of_variable-requires : goal.fault_of_variable-requires
+fault_of_variable-requires c = plain_is_text c.args.word.now (sym c.if-holds_bad_byte.ensures)
