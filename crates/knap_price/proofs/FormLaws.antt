@@ -1,13 +1,14 @@
 -- What is known of a row, a zone and costs that a table prices.
-use Rattle.std.proofs.Common.{◌≡◌, refl, sym, ap, subst, ◌∙◌, ℕ, zero, suc, ◌+◌, ◌*◌, ◌^◌, ◌<◌, ◌≤◌, List, [], ◌∷◌, length, get_or, arith, vec_len}
-use Rattle.std.proofs.Math.IntN.{ℤ, pos, ◌+ℤ◌}
+use Rattle.std.proofs.Common.{◌≡◌, sym, ap, subst, ◌∙◌, ℕ, ◌+◌, ◌*◌, ◌^◌, ◌<◌, ◌≤◌, List, [], ◌∷◌, length, get_or, arith}
+use Rattle.std.proofs.Math.IntN.{ℤ, ◌+ℤ◌}
 use Rattle.std.specs.Int.{w128}
-use Rattle.std.proofs.lemmas.Int.{ints, fits_signed_from_abs}
+use Rattle.std.proofs.lemmas.Int.{ints, fits_signed_from_abs, to_z-of_z}
+use mir.Val.{of_z, to_z}
 use Rattle.bp_theory.specs.Sums.{dot}
 use Rattle.pricing.specs.Priced.{IsCheapest, HasNoPoint}
-use Rattle.knap_price.specs.Choices.{MeetsAt, IsChosen}
+use Rattle.knap_price.specs.Choices.{HasNoLoad, IsLeastLoad, IsPicked}
 use Rattle.knap_price.proofs.TableLaws.{worth_small}
-use Rattle.std.specs.Prelude.{Option, None, Some, FitsSigned, ◌<ℤ◌, ◌≤ℤ◌, unsigned_abs, sum_by, All}
+use Rattle.std.specs.Prelude.{FitsSigned, ◌≤ℤ◌, unsigned_abs, sum_by, All}
 use Rattle.std.specs.List.{AllByRecursion}
 use Rattle.std.proofs.lemmas.List.Elements.{recursion_from_All, All-from_recursion}
 use Rattle.bp_theory.specs.Program.{IsInside, reach}
@@ -19,17 +20,17 @@ use Rattle.bp_theory.specs.declared.Span.{Span}
 use Rattle.bp_theory.specs.declared.Term.{Term}
 use Rattle.bp_theory.specs.declared.Row.{Row}
 use Rattle.bp_theory.proofs.ZipLaws.{AllZip-length}
-use Rattle.pricing.specs.Form.{term_size, row_size, cost_size, IsForm, IsPriceable, HasShortEnds}
+use Rattle.pricing.specs.Form.{term_size, row_size, cost_size, IsPriceable, HasShortEnds}
 use Rattle.knap_price.specs.declared.items.Item.{Item}
 use Rattle.knap_price.specs.declared.form.Form.{Form}
-use Rattle.knap_price.specs.Taken.{row_reach, dense, first_terms, IsTaken}
+use Rattle.knap_price.specs.Taken.{row_reach, dense, first_terms}
 use Rattle.knap_price.specs.Loads.{items_of, point_of, none_of}
 use Rattle.knap_price.specs.Rooms.{room_for, room_of, form_room, cells_of}
-use Rattle.knap_price.specs.Tables.{IsTable, Reaches, worth_size, full_load}
+use Rattle.knap_price.specs.Tables.{worth_size, full_load}
 use Rattle.knap_price.proofs.LoadLaws.{point_of_load}
 use Rattle.knap_price.proofs.CoefLaws.{cost_size_is, dense_size}
-use Rattle.knap_price.proofs.StepLaws.{length-items_of, length-point_of, box_least-below, inside_root, room_shrinks, room_above}
-use Rattle.knap_price.proofs.PriceLaws.{IsTabled, none_priced, some_priced, one_row, reach_small, many_coefs, coefs_narrow, coefs_size, coefs_reach, items_heavy, items_small, items_worth, none_fits, short_inside, full_load-le}
+use Rattle.knap_price.proofs.StepLaws.{length-items_of, box_least-below, inside_root, room_shrinks, room_above}
+use Rattle.knap_price.proofs.PriceLaws.{IsTabled, none_priced, some_priced, reach_small, many_coefs, coefs_narrow, coefs_size, coefs_reach, items_heavy, items_small, items_worth, none_fits, short_inside, full_load-le}
 
 -- the first row, by any default
 pub first_is : (rows : List Row) (row : Row) → length rows ≡ 1 → row ≡ get_or rows 0 row → (rows ≡ row ∷ []) × (first_terms rows ≡ row.terms)
@@ -160,14 +161,14 @@ rows_fit n top room cells l h = omega (arith, h, mul-le-mul_left (n + 1) (more t
 pub last_fits : (n top cells c : ℕ) → (n + 1) * (top + 1) ≤ cells → c ≤ top → n * (top + 1) + c < cells
 last_fits n top cells c h l = omega (arith, h, l)
 
--- the table that was filled, as that of the row
+-- what is known of the row that is priced
 pub tabled : (f : Form) (zone : List Span) (costs : List ℤ) → IsPriceable f.spans.items zone costs → (row : Row) → row ≡ get_or f.rows.items 0 row
     → (items : List Item) → items ≡ items_of f.coefs.items zone costs
-    → (cells : ℕ → ℤ) (base : ℤ) (top : ℕ)
+    → (base : ℤ) (top : ℕ)
     → base ≡ dot f.coefs.items (point_of f.coefs.items zone costs (none_of f.coefs.items))
-    → IsTable items top cells → top ≡ room_for row.sense row.rhs base (full_load items)
-    → IsTabled row f.spans.items zone costs cells base top
-tabled f zone costs p row r items is cells base top b table t =
+    → top ≡ room_for row.sense row.rhs base (full_load items)
+    → IsTabled row f.spans.items zone costs base top
+tabled f zone costs p row r items is base top b t =
     let first = first_is f.rows.items row f.taken.one r in
     let coefs : f.coefs.items ≡ dense row.terms (length f.spans.items) =
     f.dense_coefs ∙ ap (λ (ts : List Term). dense ts (length f.spans.items)) first.1 in
@@ -175,55 +176,59 @@ tabled f zone costs p row r items is cells base top b table t =
       places = subst (HasVariablesBelow (length f.spans.items)) first.1 (terms_places f);
       priceable = p;
       base_is = b ∙ ap (λ as'. dot as' (point_of as' zone costs (none_of as'))) coefs;
-      table = subst (λ (xs : List Item). IsTable xs top cells) (is ∙ ap (λ as'. items_of as' zone costs) coefs) table;
       above = λ c more meets. subst (λ (xs : List Item). full_load xs < c) (is ∙ ap (λ as'. items_of as' zone costs) coefs)
           (room_above row base (full_load items) c (subst (λ n. n < c) t more) meets);
     }
 
--- no choice: no point
+-- no load: no point
 pub answer_none : (f : Form) (zone : List Span) (costs : List ℤ) (row : Row) → row ≡ get_or f.rows.items 0 row
-    → (cells : ℕ → ℤ) (base : ℤ) (top : ℕ)
-    → IsTabled row f.spans.items zone costs cells base top → IsChosen cells row base (top + 1) None → HasNoPoint f.rows.items zone
-answer_none f zone costs row r cells base top t chosen =
-    subst (λ (rows : List Row). HasNoPoint rows zone) (sym (first_is f.rows.items row f.taken.one r).0)
-    (none_priced row f.spans.items zone costs cells base top t chosen)
+    → (items : List Item) → items ≡ items_of f.coefs.items zone costs
+    → (base : ℤ) (top : ℕ)
+    → IsTabled row f.spans.items zone costs base top → HasNoLoad items row base top → HasNoPoint f.rows.items zone
+answer_none f zone costs row r items its base top t none =
+    let first = first_is f.rows.items row f.taken.one r in
+    let coefs : f.coefs.items ≡ dense row.terms (length f.spans.items) =
+    f.dense_coefs ∙ ap (λ (ts : List Term). dense ts (length f.spans.items)) first.1 in
+    subst (λ (rows : List Row). HasNoPoint rows zone) (sym first.0)
+    (none_priced row f.spans.items zone costs base top t
+    (subst (λ (xs : List Item). HasNoLoad xs row base top) (its ∙ ap (λ as'. items_of as' zone costs) coefs) none))
 
--- a choice: a load that reaches its cell is a cheapest point
+-- a load of least cost: its point is a cheapest point
 pub answer_some : (f : Form) (zone : List Span) (costs : List ℤ) (row : Row) → row ≡ get_or f.rows.items 0 row
     → (items : List Item) → items ≡ items_of f.coefs.items zone costs
-    → (cells : ℕ → ℤ) (base : ℤ) (top c : ℕ) (v base_cost : ℤ) (point : List ℤ)
-    → IsTabled row f.spans.items zone costs cells base top → IsChosen cells row base (top + 1) (Some c)
-    → (us : List ℕ) × Reaches items us c (cells c) × (point ≡ point_of f.coefs.items zone costs us)
-    → v ≡ base_cost +ℤ cells c
+    → (base : ℤ) (top : ℕ) (u v base_cost : ℤ) (point : List ℤ)
+    → IsTabled row f.spans.items zone costs base top → IsPicked items row base top f.coefs.items zone costs point u
+    → v ≡ base_cost +ℤ u
     → base_cost ≡ dot costs (point_of f.coefs.items zone costs (none_of f.coefs.items))
     → IsCheapest f.rows.items zone costs point v
-answer_some f zone costs row r items its cells base top c v base_cost point t chosen way is b =
+answer_some f zone costs row r items its base top u v base_cost point t picked is b =
     let first = first_is f.rows.items row f.taken.one r in
     let coefs : f.coefs.items ≡ dense row.terms (length f.spans.items) =
     f.dense_coefs ∙ ap (λ (ts : List Term). dense ts (length f.spans.items)) first.1 in
     subst (λ (rows : List Row). IsCheapest rows zone costs point v) (sym first.0)
-    (subst (λ (ys : List ℤ). IsCheapest (row ∷ []) zone costs ys v) (sym (way.2 ∙ ap (λ as'. point_of as' zone costs way.0) coefs))
-    (some_priced row f.spans.items zone costs cells base top c v way.0 t chosen
-    (subst (λ (xs : List Item). Reaches xs way.0 c (cells c)) (its ∙ ap (λ as'. items_of as' zone costs) coefs) way.1)
-    (is ∙ ap (λ z. z +ℤ cells c) (b ∙ ap (λ as'. dot costs (point_of as' zone costs (none_of as'))) coefs))))
+    (subst (λ (ys : List ℤ). IsCheapest (row ∷ []) zone costs ys v) (sym (picked.2 ∙ ap (λ as'. point_of as' zone costs picked.0) coefs))
+    (some_priced row f.spans.items zone costs base top u v picked.0 t
+    (subst (λ (xs : List Item). IsLeastLoad xs row base top picked.0 u) (its ∙ ap (λ as'. items_of as' zone costs) coefs) picked.1)
+    (is ∙ ap (λ z. z +ℤ u) (b ∙ ap (λ as'. dot costs (point_of as' zone costs (none_of as'))) coefs))))
 
--- a cost and a cell of the table fit together
-pub total_fits : (items : List Item) (us : List ℕ) (c : ℕ) (base_cost cell : ℤ) → Reaches items us c cell → worth_size items ≤ 2 ^ 117
-    → unsigned_abs base_cost ≤ 2 ^ 116 → FitsSigned w128 (base_cost +ℤ cell)
-total_fits items us c base_cost cell r small cost =
-    fits_signed_from_abs w128 (base_cost +ℤ cell)
-    (added base_cost cell cost (subst (λ z. unsigned_abs z ≤ 2 ^ 117) r.costs (omega (arith, small, worth_small items us r.fits))))
+-- a cost and a load's cost fit together
+pub total_fits : (items : List Item) (row : Row) (base : ℤ) (top : ℕ) (us : List ℕ) (base_cost u : ℤ) → IsLeastLoad items row base top us u → worth_size items ≤ 2 ^ 117
+    → unsigned_abs base_cost ≤ 2 ^ 116 → FitsSigned w128 (base_cost +ℤ u)
+total_fits items row base top us base_cost u l small cost =
+    fits_signed_from_abs w128 (base_cost +ℤ u)
+    (added base_cost u cost (subst (λ z. unsigned_abs z ≤ 2 ^ 117) l.costs (omega (arith, small, worth_small items us l.way.fits))))
   where
     added : (a b : ℤ) → unsigned_abs a ≤ 2 ^ 116 → unsigned_abs b ≤ 2 ^ 117 → unsigned_abs (a +ℤ b) < 2 ^ 127
     added a b h k = omega (arith, ints, h, k)
 
--- a load's point has a number for each variable
-pub way_length : (f : Form) (zone : List Span) (costs : List ℤ) → IsPriceable f.spans.items zone costs → (us : List ℕ) (c : ℕ) (v : ℤ)
-    → Reaches (items_of f.coefs.items zone costs) us c v → length (point_of f.coefs.items zone costs us) ≡ length f.spans.items
-way_length f zone costs p us c v r =
-    length-point_of f.coefs.items zone costs us (coefs_many f zone costs p) p.each
-    (sym (AllZip-length (λ (i : Item) (u : ℕ). u ≤ i.width) (items_of f.coefs.items zone costs) us r.fits) ∙ items_many f zone costs p (items_of f.coefs.items zone costs) refl)
-    ∙ zone_many f zone costs p
+-- a load's cost comes back as it was
+pub least_passed : (items : List Item) (row : Row) (base : ℤ) (top : ℕ) (us : List ℕ) (u : ℤ) → IsLeastLoad items row base top us u → worth_size items ≤ 2 ^ 117
+    → to_z w128 (of_z w128 u) ≡ u
+least_passed items row base top us u l small =
+    to_z-of_z w128 u (fits_signed_from_abs w128 u (near u (subst (λ z. unsigned_abs z ≤ 2 ^ 117) l.costs (omega (arith, small, worth_small items us l.way.fits)))))
+  where
+    near : (a : ℤ) → unsigned_abs a ≤ 2 ^ 117 → unsigned_abs a < 2 ^ 127
+    near a h = omega (arith, h)
 
 -- how many cells a table has, by what it is made of
 pub cells_are : (f : Form) → cells_of f.rows.items f.spans.items ≡ (length f.spans.items + 1) * (form_room f + 1)

@@ -2,6 +2,7 @@ pub mod LoadLaws
 pub mod TableLaws
 pub mod CoefLaws
 pub mod StepLaws
+pub mod PickLaws
 pub mod PriceLaws
 pub mod FormLaws
 pub mod SplitLaws

@@ -1,34 +1,33 @@
 -- Laws of pricing by a table.
-use Rattle.std.proofs.Common.{◌≡◌, ◌≢◌, refl, sym, ap, subst, ◌∙◌, ℕ, zero, suc, ◌+◌, ◌-◌, ◌*◌, ◌^◌, ◌<◌, ◌≤◌, max, Bool, true, false, List, [], ◌∷◌, map, length, get_or, take, arith, ⊎_elim, inl, inr}
-use Rattle.std.proofs.Math.IntN.{ℤ, pos, negsuc, neg_ℤ, ◌+ℤ◌, ◌-ℤ◌, ◌*ℤ◌}
+use Rattle.std.proofs.Common.{◌≡◌, refl, sym, ap, subst, ◌∙◌, ℕ, zero, suc, ◌+◌, ◌*◌, ◌^◌, ◌<◌, ◌≤◌, List, [], ◌∷◌, length, get_or, arith, ⊎_elim}
+use Rattle.std.proofs.Math.IntN.{ℤ, pos, negsuc, neg_ℤ, ◌+ℤ◌}
 use Rattle.std.proofs.Math.Nat.{mul-le-mul_left}
-use Rattle.std.specs.Prelude.{Option, Some, None, ◌≤ℤ◌, ◌<ℤ◌, ◌⊎◌, unsigned_abs, sum_by, FitsSigned, All}
-use Rattle.std.specs.Int.{w128, int_gap}
-use Rattle.std.specs.List.{AllZip, AllByRecursion, range_with_len}
+use Rattle.std.specs.Prelude.{◌≤ℤ◌, unsigned_abs, sum_by, All}
+use Rattle.std.specs.Int.{int_gap}
+use Rattle.std.specs.List.{AllByRecursion, range_with_len}
 use Rattle.std.proofs.lemmas.Bool.{cases_lt}
-use Rattle.std.proofs.lemmas.Int.{ints, fits_signed_from_abs}
+use Rattle.std.proofs.lemmas.Int.{ints}
 use Rattle.std.proofs.lemmas.List.{take_all, length-map, get_or-map}
-use Rattle.std.proofs.lemmas.List.FromFn.{length-range_with_len, get_or-range_with_len}
-use Rattle.std.proofs.lemmas.List.Elements.{recursion_from_All, All-from_recursion}
+use Rattle.std.proofs.lemmas.List.FromFn.{length-range_with_len}
+use Rattle.std.proofs.lemmas.List.Elements.{recursion_from_All}
 use Rattle.bp_theory.specs.Sums.{dot}
-use Rattle.bp_theory.specs.Program.{span_at, reach, coefficient, activity, IsWithin, IsInside, Meets, MeetsRow}
+use Rattle.bp_theory.specs.Program.{reach, coefficient, activity, IsWithin, Meets, MeetsRow}
 use Rattle.bp_theory.specs.Decomposition.{HasVariablesBelow}
 use Rattle.bp_theory.specs.Bound.{IsPoint}
-use Rattle.bp_theory.specs.Trees.{IsSubzone, IsSubspan, IsProper, IsZone}
+use Rattle.bp_theory.specs.Trees.{IsSubzone, IsSubspan, IsProper}
 use Rattle.bp_theory.specs.declared.Span.{Span}
 use Rattle.bp_theory.specs.declared.Term.{Term}
 use Rattle.bp_theory.specs.declared.Row.{Row}
 use Rattle.bp_theory.proofs.ZipLaws.{AllZip-length, AllZip_at}
-use Rattle.pricing.specs.Form.{term_size, row_size, cost_size, IsForm, IsPriceable, HasShortEnds}
+use Rattle.pricing.specs.Form.{term_size, cost_size, IsPriceable, HasShortEnds}
 use Rattle.pricing.specs.Priced.{IsCheapest, HasNoPoint}
 use Rattle.knap_price.specs.declared.items.Item.{Item}
-use Rattle.knap_price.specs.Taken.{term_reach, row_reach, dense, first_terms, IsTaken}
-use Rattle.knap_price.specs.Loads.{IsLoad, load, worth, item_of, number_of, items_of, point_of, none_of}
-use Rattle.knap_price.specs.Tables.{no_way, IsTable, Reaches, worth_size, full_load}
-use Rattle.knap_price.specs.Choices.{MeetsAt, IsChosen}
+use Rattle.knap_price.specs.Taken.{row_reach, dense}
+use Rattle.knap_price.specs.Loads.{IsLoad, load, worth, item_of, items_of, point_of, none_of}
+use Rattle.knap_price.specs.Tables.{worth_size, full_load}
+use Rattle.knap_price.specs.Choices.{MeetsAt, IsMeeting, HasNoLoad, IsLeastLoad}
 use Rattle.knap_price.proofs.LoadLaws.{IsLoadOf, load_of_point, IsPointOf, point_of_load}
 use Rattle.knap_price.proofs.CoefLaws.{size_by, cost_size_is, dense_size, dense_activity, coefficient_short, gap-le}
-use Rattle.knap_price.proofs.StepLaws.{length-items_of, length-none_of, cost-le}
 use Rattle.knap_price.proofs.TableLaws.{load-full}
 
 -- sizes in a smaller zone
@@ -151,23 +150,22 @@ reach_small n m h = omega (arith, h, mul-le-mul_left (m + 1) (least n))
     least : (k : ℕ) → 1 ≤ k + 1
     least k = omega arith
 
--- what pricing a zone by a table knows: the row alone, the coefficients, the base and the table up to the top
-pub record IsTabled (row : Row) (spans zone : List Span) (costs : List ℤ) (cells : ℕ → ℤ) (base : ℤ) (top : ℕ) : Type 0 where
+-- what pricing a zone by a table knows: the row alone, the coefficients, the base and how far weights go
+pub record IsTabled (row : Row) (spans zone : List Span) (costs : List ℤ) (base : ℤ) (top : ℕ) : Type 0 where
   pub places : HasVariablesBelow (length spans) row.terms
   pub priceable : IsPriceable spans zone costs
   pub base_is : base ≡ dot (dense row.terms (length spans)) (point_of (dense row.terms (length spans)) zone costs (none_of (dense row.terms (length spans))))
-  pub table : IsTable (items_of (dense row.terms (length spans)) zone costs) top cells
   pub above : (c : ℕ) → top < c → MeetsAt row base c → full_load (items_of (dense row.terms (length spans)) zone costs) < c
 
 pub many_coefs : (terms : List Term) (n : ℕ) → length (dense terms n) ≡ n
 many_coefs terms n = length-map (range_with_len 0 n) (coefficient terms) ∙ length-range_with_len 0 n
 
--- a point of the row is a load of a weight in the table at which the row is met
-pub point_in_table : (row : Row) (spans zone : List Span) (costs : List ℤ) (cells : ℕ → ℤ) (base : ℤ) (top : ℕ)
-    → IsTabled row spans zone costs cells base top → (y : List ℤ) → IsPoint (row ∷ []) zone y
-    → (c : ℕ) × (c ≤ top) × MeetsAt row base c × (cells c <ℤ no_way)
-    × ((dot costs (point_of (dense row.terms (length spans)) zone costs (none_of (dense row.terms (length spans)))) +ℤ cells c) ≤ℤ dot costs y)
-point_in_table row spans zone costs cells base top t y p =
+-- a point of the row is a load whose weight meets the row
+pub load_in_table : (row : Row) (spans zone : List Span) (costs : List ℤ) (base : ℤ) (top : ℕ)
+    → IsTabled row spans zone costs base top → (y : List ℤ) → IsPoint (row ∷ []) zone y
+    → (us : List ℕ) × IsMeeting (items_of (dense row.terms (length spans)) zone costs) row base top us
+    × ((dot costs (point_of (dense row.terms (length spans)) zone costs (none_of (dense row.terms (length spans)))) +ℤ worth (items_of (dense row.terms (length spans)) zone costs) us) ≤ℤ dot costs y)
+load_in_table row spans zone costs base top t y p =
     by (load_of_point (dense row.terms (length spans)) zone costs y coefs_many t.priceable.each
     (recursion_from_All (λ (s : Span). s.lo ≤ℤ s.hi) zone t.priceable.in_root.proper) p.inside)
   where
@@ -186,8 +184,8 @@ point_in_table row spans zone costs cells base top t y p =
         ∙ ap (λ n. dot (dense row.terms n) y) (sym (sym spans_many ∙ y_many))
 
     by : (us : List ℕ) × IsLoadOf (dense row.terms (length spans)) zone costs y us
-        → (c : ℕ) × (c ≤ top) × MeetsAt row base c × (cells c <ℤ no_way)
-        × ((dot costs (point_of (dense row.terms (length spans)) zone costs (none_of (dense row.terms (length spans)))) +ℤ cells c) ≤ℤ dot costs y)
+        → (us : List ℕ) × IsMeeting (items_of (dense row.terms (length spans)) zone costs) row base top us
+        × ((dot costs (point_of (dense row.terms (length spans)) zone costs (none_of (dense row.terms (length spans)))) +ℤ worth (items_of (dense row.terms (length spans)) zone costs) us) ≤ℤ dot costs y)
     by found =
         let weight : ℕ = load (items_of (dense row.terms (length spans)) zone costs) found.0 in
         let meets : MeetsAt row base weight =
@@ -198,41 +196,28 @@ point_in_table row spans zone costs cells base top t y p =
         (λ more. absurd (omega (arith, t.above weight more meets, load-full (items_of (dense row.terms (length spans)) zone costs) found.0 found.1.fits)))
         (λ less. less)
         (cases_lt top weight) in
-        let least : (cells weight <ℤ no_way) × (cells weight ≤ℤ worth (items_of (dense row.terms (length spans)) zone costs) found.0) =
-        t.table weight found.0 within found.1.fits refl in (
-          weight,
-          within,
-          meets,
-          least.0,
-          joined (dot costs (point_of (dense row.terms (length spans)) zone costs (none_of (dense row.terms (length spans))))) (cells weight)
-              (worth (items_of (dense row.terms (length spans)) zone costs) found.0) (dot costs y) least.1 found.1.costs,
-        )
-      where
-        joined : (b v w d : ℤ) → v ≤ℤ w → (b +ℤ w) ≤ℤ d → (b +ℤ v) ≤ℤ d
-        joined b v w d p q = omega (arith, ints, p, q)
+        (found.0, record { fits = found.1.fits; within = within; meets = meets }, found.1.costs)
 
--- no weight is chosen: there is no point
-pub none_priced : (row : Row) (spans zone : List Span) (costs : List ℤ) (cells : ℕ → ℤ) (base : ℤ) (top : ℕ)
-    → IsTabled row spans zone costs cells base top → IsChosen cells row base (top + 1) None → HasNoPoint (row ∷ []) zone
-none_priced row spans zone costs cells base top t chosen y p =
-    let found = point_in_table row spans zone costs cells base top t y p in
-    chosen found.0 (omega (arith, found.1)) found.2 found.3
+-- no load meets the row: there is no point
+pub none_priced : (row : Row) (spans zone : List Span) (costs : List ℤ) (base : ℤ) (top : ℕ)
+    → IsTabled row spans zone costs base top → HasNoLoad (items_of (dense row.terms (length spans)) zone costs) row base top → HasNoPoint (row ∷ []) zone
+none_priced row spans zone costs base top t none y p =
+    let found = load_in_table row spans zone costs base top t y p in none found.0 found.1
 
--- a weight is chosen: a load that reaches its cell is a cheapest point
-pub some_priced : (row : Row) (spans zone : List Span) (costs : List ℤ) (cells : ℕ → ℤ) (base : ℤ) (top c : ℕ) (v : ℤ) (us : List ℕ)
-    → IsTabled row spans zone costs cells base top → IsChosen cells row base (top + 1) (Some c)
-    → Reaches (items_of (dense row.terms (length spans)) zone costs) us c (cells c)
-    → v ≡ dot costs (point_of (dense row.terms (length spans)) zone costs (none_of (dense row.terms (length spans)))) +ℤ cells c
+-- the point of a load of least cost is a cheapest point
+pub some_priced : (row : Row) (spans zone : List Span) (costs : List ℤ) (base : ℤ) (top : ℕ) (u v : ℤ) (us : List ℕ)
+    → IsTabled row spans zone costs base top → IsLeastLoad (items_of (dense row.terms (length spans)) zone costs) row base top us u
+    → v ≡ dot costs (point_of (dense row.terms (length spans)) zone costs (none_of (dense row.terms (length spans)))) +ℤ u
     → IsCheapest (row ∷ []) zone costs (point_of (dense row.terms (length spans)) zone costs us) v
-some_priced row spans zone costs cells base top c v us t chosen reached is = record {
+some_priced row spans zone costs base top u v us t least is = record {
   is_point = record {
     inside = is_point.inside;
     meets = λ k d l. subst (MeetsRow (point_of (dense row.terms (length spans)) zone costs us)) (sym (only k d l)) meets;
   };
-  reached = is_point.costs ∙ ap (λ z. base_cost +ℤ z) reached.costs ∙ sym is;
+  reached = is_point.costs ∙ ap (λ z. base_cost +ℤ z) least.costs ∙ sym is;
   least = λ y p.
-      let found = point_in_table row spans zone costs cells base top t y p in
-      lower base_cost (cells c) (cells found.0) (dot costs y) v is (chosen.3 found.0 (omega (arith, found.1)) found.2) found.4;
+      let found = load_in_table row spans zone costs base top t y p in
+      lower base_cost u (worth (items_of (dense row.terms (length spans)) zone costs) found.0) (dot costs y) v is (least.least found.0 found.1) found.2;
 }
   where
     base_cost : ℤ
@@ -243,7 +228,7 @@ some_priced row spans zone costs cells base top c v us t chosen reached is = rec
 
     is_point : IsPointOf (dense row.terms (length spans)) zone costs us
     is_point = point_of_load (dense row.terms (length spans)) zone costs us (many_coefs row.terms (length spans) ∙ sym spans_many) t.priceable.each
-        (recursion_from_All (λ (s : Span). s.lo ≤ℤ s.hi) zone t.priceable.in_root.proper) reached.fits
+        (recursion_from_All (λ (s : Span). s.lo ≤ℤ s.hi) zone t.priceable.in_root.proper) least.way.fits
 
     y_many : length zone ≡ length (point_of (dense row.terms (length spans)) zone costs us)
     y_many = AllZip-length IsWithin zone (point_of (dense row.terms (length spans)) zone costs us) is_point.inside
@@ -256,9 +241,8 @@ some_priced row spans zone costs cells base top c v us t chosen reached is = rec
     meets : MeetsRow (point_of (dense row.terms (length spans)) zone costs us) row
     meets =
         subst (λ z. Meets row.sense row.low row.rhs z)
-        (sym (sum_is ∙ is_point.weighs ∙ ap (λ n. dot (dense row.terms (length spans)) (point_of (dense row.terms (length spans)) zone costs (none_of (dense row.terms (length spans)))) +ℤ pos n) reached.weighs
-        ∙ ap (λ z. z +ℤ pos c) (sym t.base_is)))
-        chosen.1
+        (sym (sum_is ∙ is_point.weighs ∙ ap (λ z. z +ℤ pos (load (items_of (dense row.terms (length spans)) zone costs) us)) (sym t.base_is)))
+        least.way.meets
 
     only : (k : ℕ) (d : Row) → k < length (row ∷ []) → get_or (row ∷ []) k d ≡ row
     only zero d l = refl

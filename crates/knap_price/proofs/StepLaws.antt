@@ -1,13 +1,12 @@
 -- Laws of the steps of pricing by a table.
-use Rattle.std.proofs.Common.{◌≡◌, ◌≢◌, refl, sym, ap, subst, ◌∙◌, ℕ, zero, suc, ◌+◌, ◌-◌, ◌*◌, ◌^◌, ◌<◌, ◌≤◌, max, Bool, true, false, List, [], ◌∷◌, map, length, get_or, set, take, drop, drop-cons, arith, ⊎_elim, inl, inr}
-use Rattle.std.proofs.Math.IntN.{ℤ, pos, negsuc, neg_ℤ, ◌+ℤ◌, ◌-ℤ◌, ◌*ℤ◌}
+use Rattle.std.proofs.Common.{◌≡◌, refl, sym, ap, subst, ◌∙◌, ℕ, zero, suc, ◌+◌, ◌*◌, ◌^◌, ◌<◌, ◌≤◌, List, [], ◌∷◌, length, get_or, take, arith, ⊎_elim}
+use Rattle.std.proofs.Math.IntN.{ℤ, pos, negsuc, ◌+ℤ◌, ◌*ℤ◌}
 use Rattle.std.proofs.Math.Nat.{mul-le-mul_left}
-use Rattle.std.specs.Prelude.{Option, Some, None, ◌≤ℤ◌, ◌<ℤ◌, ◌⊎◌, unsigned_abs, FitsSigned, All}
+use Rattle.std.specs.Prelude.{Option, Some, None, ◌≤ℤ◌, ◌<ℤ◌, unsigned_abs, FitsSigned}
 use Rattle.std.specs.Int.{w128, int_gap}
-use Rattle.std.specs.List.{AllZip, AllByRecursion}
 use Rattle.std.proofs.lemmas.Bool.{cases_lt}
 use Rattle.bp_theory.specs.Bound.{end_cost, box_least}
-use Rattle.bp_theory.specs.Trees.{IsSubzone, IsSubspan}
+use Rattle.bp_theory.specs.Trees.{IsSubzone}
 use Rattle.bp_theory.specs.declared.Sense.{Sense}
 use Rattle.bp_theory.specs.declared.Sense.TheVariants.{Le, Ge, Eq, In}
 use Rattle.knap_price.specs.Rooms.{room_for}
@@ -18,13 +17,11 @@ use Rattle.std.proofs.lemmas.List.{same_lists, ext_get_or}
 use Rattle.bp_theory.specs.Sums.{dot}
 use Rattle.bp_theory.specs.Program.{span_at, reach, IsWithin, IsInside, Meets}
 use Rattle.bp_theory.specs.declared.Span.{Span}
-use Rattle.bp_theory.proofs.ZipLaws.{AllZip-length}
 use Rattle.pricing.specs.Form.{cost_size}
 use Rattle.bp_theory.proofs.Whole.{le-mul_pos, le-mul_negsuc}
 use Rattle.pricing.proofs.EndLaws.{number-le_reach, product-within, end_cost-within}
 use Rattle.knap_price.specs.declared.items.Item.{Item}
-use Rattle.knap_price.specs.Loads.{IsLoad, load, worth, item_of, number_of, items_of, point_of, none_of}
-use Rattle.knap_price.specs.Tables.{no_way}
+use Rattle.knap_price.specs.Loads.{item_of, number_of, items_of, point_of, none_of}
 
 -- a scalar product, one number more
 pub dot_more : (fs ns : List ℤ) (k : ℕ) → k < length fs → k < length ns
@@ -253,9 +250,9 @@ get_or-none_of (a ∷ as') zero = refl
 get_or-none_of (a ∷ as') (suc k) = get_or-none_of as' k
 
 -- the choice with one weight more
-pub chosen_new : (cells : ℕ → ℤ) (row : Row) (base : ℤ) (w : ℕ) (best : Option ℕ) → IsChosen cells row base w best → MeetsAt row base w → IsBetter cells w best
-    → IsChosen cells row base (w + 1) (Some w)
-chosen_new cells row base w None had meets better = (
+pub chosen_new : (limit : ℤ) (cells : ℕ → ℤ) (row : Row) (base : ℤ) (w : ℕ) (best : Option ℕ) → IsChosen limit cells row base w best → MeetsAt row base w → IsBetter limit cells w best
+    → IsChosen limit cells row base (w + 1) (Some w)
+chosen_new limit cells row base w None had meets better = (
   omega arith,
   meets,
   better,
@@ -268,9 +265,9 @@ chosen_new cells row base w None had meets better = (
     same : (c : ℕ) → c ≡ w → cells w ≤ℤ cells c
     same c e = subst (λ k. cells w ≤ℤ cells k) (sym e) (omega (arith, ints))
 
-    by : (c : ℕ) → (cells c <ℤ no_way → ⊥) → cells w ≤ℤ cells c
-    by c n = by_lt_z (cells c) no_way (λ less. absurd (n less)) (λ more. omega (arith, ints, more, better))
-chosen_new cells row base w (Some b) had meets better = (
+    by : (c : ℕ) → (cells c <ℤ limit → ⊥) → cells w ≤ℤ cells c
+    by c n = by_lt_z (cells c) limit (λ less. absurd (n less)) (λ more. omega (arith, ints, more, better))
+chosen_new limit cells row base w (Some b) had meets better = (
   omega arith,
   meets,
   omega (arith, ints, better, had.2),
@@ -286,16 +283,16 @@ chosen_new cells row base w (Some b) had meets better = (
     lower : (c : ℕ) → cells b ≤ℤ cells c → cells w ≤ℤ cells c
     lower c p = omega (arith, ints, p, better)
 
-pub chosen_unmet : (cells : ℕ → ℤ) (row : Row) (base : ℤ) (w : ℕ) (best : Option ℕ) → IsChosen cells row base w best → (MeetsAt row base w → ⊥)
-    → IsChosen cells row base (w + 1) best
-chosen_unmet cells row base w None had fails = λ c l m less. ⊎_elim
+pub chosen_unmet : (limit : ℤ) (cells : ℕ → ℤ) (row : Row) (base : ℤ) (w : ℕ) (best : Option ℕ) → IsChosen limit cells row base w best → (MeetsAt row base w → ⊥)
+    → IsChosen limit cells row base (w + 1) best
+chosen_unmet limit cells row base w None had fails = λ c l m less. ⊎_elim
     (λ below. had c below m less)
     (λ above. fails (subst (MeetsAt row base) (here c above l) m))
     (cases_lt c w)
   where
     here : (c : ℕ) → w ≤ c → c < w + 1 → c ≡ w
     here c a l = omega (arith, a, l)
-chosen_unmet cells row base w (Some b) had fails = (
+chosen_unmet limit cells row base w (Some b) had fails = (
   omega (arith, had.0),
   had.1,
   had.2,
@@ -308,16 +305,16 @@ chosen_unmet cells row base w (Some b) had fails = (
     here : (c : ℕ) → w ≤ c → c < w + 1 → c ≡ w
     here c a l = omega (arith, a, l)
 
-pub chosen_no_better : (cells : ℕ → ℤ) (row : Row) (base : ℤ) (w : ℕ) (best : Option ℕ) → IsChosen cells row base w best → (IsBetter cells w best → ⊥)
-    → IsChosen cells row base (w + 1) best
-chosen_no_better cells row base w None had fails = λ c l m less. ⊎_elim
+pub chosen_no_better : (limit : ℤ) (cells : ℕ → ℤ) (row : Row) (base : ℤ) (w : ℕ) (best : Option ℕ) → IsChosen limit cells row base w best → (IsBetter limit cells w best → ⊥)
+    → IsChosen limit cells row base (w + 1) best
+chosen_no_better limit cells row base w None had fails = λ c l m less. ⊎_elim
     (λ below. had c below m less)
-    (λ above. fails (subst (λ k. cells k <ℤ no_way) (here c above l) less))
+    (λ above. fails (subst (λ k. cells k <ℤ limit) (here c above l) less))
     (cases_lt c w)
   where
     here : (c : ℕ) → w ≤ c → c < w + 1 → c ≡ w
     here c a l = omega (arith, a, l)
-chosen_no_better cells row base w (Some b) had fails = (
+chosen_no_better limit cells row base w (Some b) had fails = (
   omega (arith, had.0),
   had.1,
   had.2,

@@ -1,15 +1,14 @@
 -- Laws of tables: a part of an item, an item's row after that of the items behind it, and the least costs in rows.
-use Rattle.std.proofs.Common.{◌≡◌, ◌≢◌, refl, sym, ap, subst, ◌∙◌, ℕ, zero, suc, ◌+◌, ◌-◌, ◌*◌, ◌^◌, ◌<◌, ◌≤◌, List, [], ◌∷◌, ◌++◌, length, get_or, take, drop, drop-cons, arith, ⊎_elim, inl, inr}
+use Rattle.std.proofs.Common.{◌≡◌, ◌≢◌, refl, sym, ap, subst, ◌∙◌, ℕ, zero, suc, ◌+◌, ◌-◌, ◌*◌, ◌<◌, ◌≤◌, List, [], ◌∷◌, length, get_or, drop, drop-cons, arith, ⊎_elim, inl, inr}
 use Rattle.std.proofs.Math.IntN.{ℤ, pos, ◌+ℤ◌, ◌*ℤ◌, *ℤ-zero}
 use Rattle.std.proofs.Math.Nat.{mul-le-mul_left}
 use Rattle.std.specs.Prelude.{◌≤ℤ◌, ◌<ℤ◌, ◌⊎◌, unsigned_abs}
-use Rattle.std.specs.List.{AllZip}
 use Rattle.std.proofs.lemmas.Int.{ints, unsigned_abs-mul}
 use Rattle.std.proofs.lemmas.Bool.{cases_lt}
 use Rattle.bp_theory.proofs.Whole.{mul-add}
 use Rattle.knap_price.specs.declared.items.Item.{Item}
 use Rattle.knap_price.specs.Loads.{IsLoad, load, worth}
-use Rattle.knap_price.specs.Tables.{no_way, far, cell_at, row_from, row_at, Reaches, IsTable, Follows, IsTried, IsFirstRow, AreRows, IsLesser, HasPart, AreBounded, worth_size, full_load}
+use Rattle.knap_price.specs.Tables.{AreApart, cell_at, row_from, row_at, IsTable, Follows, IsTried, IsFirstRow, AreRows, IsLesser, HasPart, AreBounded, worth_size, full_load}
 
 -- the lesser of two costs, by equal numbers
 pub lesser_along : (a a' o o' g g' v : ℤ) → a ≡ a' → o ≡ o' → g ≡ g' → IsLesser a (o +ℤ g) v → IsLesser a' (o' +ℤ g') v
@@ -67,6 +66,50 @@ part_of_relaxing shift top weight gain end_gain before now l is r = record {
   light = r.light;
   heavy = λ c t h. subst (λ g. IsLesser (before c) (before (c - shift) +ℤ g) (now c)) is (r.heavy c (omega (arith, l, h)) t h);
 }
+
+-- cells of a row after while one unit is tried from the least weight up
+pub record IsJoining (shift top weight : ℕ) (gain : ℤ) (before now : ℕ → ℤ) : Type 0 where
+  pub light : (c : ℕ) → c ≤ top → c < shift → now c ≡ before c
+  pub heavy : (c : ℕ) → c < weight → c ≤ top → shift ≤ c → IsLesser (before c) (before (c - shift) +ℤ gain) (now c)
+
+pub joining_start : (shift top : ℕ) (gain : ℤ) (before now : ℕ → ℤ) → ((c : ℕ) → c ≤ top → c < shift → now c ≡ before c)
+    → IsJoining shift top shift gain before now
+joining_start shift top gain before now same = record { light = same; heavy = λ c l t h. absurd (omega (arith, l, h)) }
+
+-- a loop's step: one weight more
+pub joining_more : (shift top weight start next : ℕ) (gain step_gain : ℤ) (before : ℕ → ℤ) (was now : List ℤ)
+    → shift ≤ weight → start + top < next → weight ≤ top → gain ≡ step_gain
+    → ((c : ℕ) → c ≤ top → row_from was start c ≡ before c)
+    → IsJoining shift top weight gain before (row_from was next)
+    → IsLesser (row_from was start weight) (row_from was start (weight - shift) +ℤ step_gain) (row_from now next weight)
+    → ((k : ℕ) → k ≢ next + weight → cell_at now k ≡ cell_at was k)
+    → IsJoining shift top (weight + 1) gain before (row_from now next)
+joining_more shift top weight start next gain step_gain before was now m apart within same old j lesser others = record {
+  light = λ c t l. untouched c (lighter c l) ∙ j.light c t l;
+  heavy = λ c l t h. by c t h l (cases_lt c weight);
+}
+  where
+    untouched : (c : ℕ) → c ≢ weight → row_from now next c ≡ row_from was next c
+    untouched c n = others (next + c) (λ e. n (omega (arith, e)))
+
+    lighter : (c : ℕ) → c < shift → c ≢ weight
+    lighter c l e = omega (arith, l, e, m)
+
+    under : (c : ℕ) → c < weight → c ≢ weight
+    under c l e = omega (arith, l, e)
+
+    here : (c : ℕ) → c ≡ weight → IsLesser (before c) (before (c - shift) +ℤ gain) (row_from now next c)
+    here c e =
+        subst (λ k. IsLesser (before k) (before (k - shift) +ℤ gain) (row_from now next k)) (sym e)
+        (lesser_along (row_from was start weight) (before weight) (row_from was start (weight - shift)) (before (weight - shift))
+        step_gain gain (row_from now next weight)
+        (old weight within) (old (weight - shift) (omega (arith, within))) (sym same) lesser)
+
+    by : (c : ℕ) → c ≤ top → shift ≤ c → c < weight + 1 → (c < weight) ⊎ (weight ≤ c)
+        → IsLesser (before c) (before (c - shift) +ℤ gain) (row_from now next c)
+    by c t h l (inl less) =
+        subst (λ z. IsLesser (before c) (before (c - shift) +ℤ gain) z) (sym (untouched c (under c less))) (j.heavy c less t h)
+    by c t h l (inr more) = here c (omega (arith, l, more))
 
 -- costs of no units, and of units together
 no_units : (item : Item) (z : ℤ) → z +ℤ item.cost *ℤ pos 0 ≡ z
@@ -161,6 +204,18 @@ tried_part item top done units above before now few part tried = record { least 
         (λ (heavy : item.weight * units ≤ c). ⊎_elim (λ same. kept c t same) (λ better. moved c t heavy better) (part.heavy c t heavy).either)
         (cases_lt c (item.weight * units))
 
+-- at the loop's end one unit has been tried
+pub tried_joined : (item : Item) (top weight : ℕ) (gain : ℤ) (above now : ℕ → ℤ) → item.width ≡ 1 → top < weight → gain ≡ item.cost *ℤ pos 1
+    → IsJoining (item.weight * 1) top weight gain above now → IsTried item item.width top above now
+tried_joined item top weight gain above now one over is j =
+    subst (λ n. IsTried item n top above now) (sym one)
+    (tried_part item top 0 1 above above now (omega arith)
+    (record {
+      light = j.light;
+      heavy = λ c t h. subst (λ g. IsLesser (above c) (above (c - item.weight * 1) +ℤ g) (now c)) is (j.heavy c (omega (arith, over, t)) t h);
+    })
+    (tried_start item top above above (λ c t. refl)))
+
 -- cells stay small
 pub tried_bounded : (item : Item) (done top bound : ℕ) (above now : ℕ → ℤ) → IsTried item done top above now → AreBounded bound top above
     → AreBounded (bound + unsigned_abs item.cost * done) top now
@@ -190,41 +245,41 @@ tried_along item units top above above' now now' same_above same_now tried = rec
     carried n n' a a' g p q h = omega (arith, ints, p, q, h)
 
 -- rows that are written no more
-pub rows_kept : (items : List Item) (top : ℕ) (before now : List ℤ) → ((k : ℕ) → k < (length items + 1) * (top + 1) → cell_at now k ≡ cell_at before k)
-    → AreRows items top (row_at before top) → AreRows items top (row_at now top)
-rows_kept [] top before now same rows = record {
+pub rows_kept : (beyond : ℤ) (items : List Item) (top : ℕ) (before now : List ℤ) → ((k : ℕ) → k < (length items + 1) * (top + 1) → cell_at now k ≡ cell_at before k)
+    → AreRows beyond items top (row_at before top) → AreRows beyond items top (row_at now top)
+rows_kept beyond [] top before now same rows = record {
   none = same (0 * (top + 1) + 0) (omega arith) ∙ rows.none;
   others = λ c l t. same (0 * (top + 1) + c) (omega (arith, t)) ∙ rows.others c l t;
 }
-rows_kept (i ∷ is) top before now same rows = (
+rows_kept beyond (i ∷ is) top before now same rows = (
   tried_along i i.width top (row_at before top (length is)) (row_at now top (length is)) (row_at before top (suc (length is))) (row_at now top (suc (length is)))
       (λ c t. same (length is * (top + 1) + c) (omega (arith, t)))
       (λ c t. same (suc (length is) * (top + 1) + c) (omega (arith, t)))
       rows.0,
-  rows_kept is top before now (λ k l. same k (omega (arith, l))) rows.1,
+  rows_kept beyond is top before now (λ k l. same k (omega (arith, l))) rows.1,
 )
 
 -- one item more in front
-pub rows_more : (items : List Item) (item : Item) (top start : ℕ) (before now : List ℤ) → start ≡ length items * (top + 1)
-    → AreRows items top (row_at before top)
+pub rows_more : (beyond : ℤ) (items : List Item) (item : Item) (top start : ℕ) (before now : List ℤ) → start ≡ length items * (top + 1)
+    → AreRows beyond items top (row_at before top)
     → IsTried item item.width top (row_from before start) (row_from now (start + (top + 1)))
     → ((k : ℕ) → k < start + (top + 1) → cell_at now k ≡ cell_at before k)
-    → AreRows (item ∷ items) top (row_at now top)
-rows_more items item top start before now is rows tried same = (
+    → AreRows beyond (item ∷ items) top (row_at now top)
+rows_more beyond items item top start before now is rows tried same = (
   tried_along item item.width top (row_from before start) (row_at now top (length items)) (row_from now (start + (top + 1))) (row_at now top (suc (length items)))
       (λ c t. same (length items * (top + 1) + c) (omega (arith, t, is)) ∙ ap (λ n. cell_at before (n + c)) (sym is))
       (λ c t. ap (λ n. cell_at now (n + c)) (next is))
       tried,
-  rows_kept items top before now (λ k l. same k (omega (arith, l, is))) rows,
+  rows_kept beyond items top before now (λ k l. same k (omega (arith, l, is))) rows,
 )
   where
     next : start ≡ length items * (top + 1) → suc (length items) * (top + 1) ≡ start + (top + 1)
     next e = omega (arith, e)
 
 -- the row of no items
-pub rows_first : (items : List Item) (top : ℕ) (rows : ℕ → ℕ → ℤ) → AreRows items top rows → IsFirstRow top (rows 0)
-rows_first [] top rows h = h
-rows_first (i ∷ is) top rows h = rows_first is top rows h.1
+pub rows_first : (beyond : ℤ) (items : List Item) (top : ℕ) (rows : ℕ → ℕ → ℤ) → AreRows beyond items top rows → IsFirstRow beyond top (rows 0)
+rows_first beyond [] top rows h = h
+rows_first beyond (i ∷ is) top rows h = rows_first beyond is top rows h.1
 
 -- a load's cost stays within the size of the items' costs
 pub worth_small : (items : List Item) (us : List ℕ) → IsLoad items us → unsigned_abs (worth items us) ≤ worth_size items
@@ -238,20 +293,20 @@ worth_small (i ∷ is) (u ∷ us) h =
     added a b m n h k = omega (arith, ints, h, k)
 
 -- cells of rows are small
-first_bounded : (top : ℕ) (row : ℕ → ℤ) → IsFirstRow top row → AreBounded (2 ^ 126) top row
-first_bounded top row first zero t = omega (arith, ints, first.none)
-first_bounded top row first (suc c) t = omega (arith, ints, first.others (suc c) (omega arith) t)
+first_bounded : (beyond : ℤ) (top : ℕ) (row : ℕ → ℤ) → IsFirstRow beyond top row → AreBounded (unsigned_abs beyond) top row
+first_bounded beyond top row first zero t = subst (λ z. unsigned_abs z ≤ unsigned_abs beyond) (sym first.none) (omega arith)
+first_bounded beyond top row first (suc c) t = subst (λ z. unsigned_abs z ≤ unsigned_abs beyond) (sym (first.others (suc c) (omega arith) t)) (omega arith)
 
-pub rows_bounded : (items : List Item) (top : ℕ) (rows : ℕ → ℕ → ℤ) → AreRows items top rows → AreBounded (2 ^ 126 + worth_size items) top (rows (length items))
-rows_bounded [] top rows h c t = omega (arith, first_bounded top (rows 0) h c t)
-rows_bounded (i ∷ is) top rows h c t =
-    omega (arith, tried_bounded i i.width top (2 ^ 126 + worth_size is) (rows (length is)) (rows (suc (length is))) h.0 (rows_bounded is top rows h.1) c t)
+pub rows_bounded : (beyond : ℤ) (items : List Item) (top : ℕ) (rows : ℕ → ℕ → ℤ) → AreRows beyond items top rows → AreBounded (unsigned_abs beyond + worth_size items) top (rows (length items))
+rows_bounded beyond [] top rows h c t = omega (arith, first_bounded beyond top (rows 0) h c t)
+rows_bounded beyond (i ∷ is) top rows h c t =
+    omega (arith, tried_bounded i i.width top (unsigned_abs beyond + worth_size is) (rows (length is)) (rows (suc (length is))) h.0 (rows_bounded beyond is top rows h.1) c t)
 
 -- the row of the items from a place on, and how it comes from the next
-pub rows_at : (items : List Item) (top : ℕ) (rows : ℕ → ℕ → ℤ) → AreRows items top rows → (k : ℕ) (d : Item) → k < length items
+pub rows_at : (beyond : ℤ) (items : List Item) (top : ℕ) (rows : ℕ → ℕ → ℤ) → AreRows beyond items top rows → (k : ℕ) (d : Item) → k < length items
     → IsTried (get_or items k d) (get_or items k d).width top (rows (length items - (k + 1))) (rows (length items - k))
-rows_at [] top rows h k d l = absurd (omega arith)
-rows_at (i ∷ is) top rows h zero d l =
+rows_at beyond [] top rows h k d l = absurd (omega arith)
+rows_at beyond (i ∷ is) top rows h zero d l =
     subst (λ n. IsTried i i.width top (rows n) (rows (suc (length is) - 0))) (less (length is))
     (subst (λ n. IsTried i i.width top (rows (length is)) (rows n)) (same (length is)) h.0)
   where
@@ -260,9 +315,9 @@ rows_at (i ∷ is) top rows h zero d l =
 
     same : (n : ℕ) → suc n ≡ suc n - 0
     same n = omega arith
-rows_at (i ∷ is) top rows h (suc k) d l =
+rows_at beyond (i ∷ is) top rows h (suc k) d l =
     subst (λ n. IsTried (get_or is k d) (get_or is k d).width top (rows n) (rows (suc (length is) - suc k))) (one (length is) (k + 1) (suc k + 1) (more k))
-    (subst (λ n. IsTried (get_or is k d) (get_or is k d).width top (rows (length is - (k + 1))) (rows n)) (one (length is) k (suc k) refl) (rows_at is top rows h.1 k d (omega (arith, l))))
+    (subst (λ n. IsTried (get_or is k d) (get_or is k d).width top (rows (length is - (k + 1))) (rows n)) (one (length is) k (suc k) refl) (rows_at beyond is top rows h.1 k d (omega (arith, l))))
   where
     one : (n a b : ℕ) → b ≡ suc a → n - a ≡ suc n - b
     one n a b e = omega (arith, e)
@@ -270,46 +325,55 @@ rows_at (i ∷ is) top rows h (suc k) d l =
     more : (k : ℕ) → suc k + 1 ≡ suc (k + 1)
     more k = omega arith
 
-pub rows_bounded_at : (items : List Item) (top : ℕ) (rows : ℕ → ℕ → ℤ) → AreRows items top rows → (k : ℕ) → k ≤ length items
-    → AreBounded (2 ^ 126 + worth_size items) top (rows (length items - k))
-rows_bounded_at items top rows h zero l c t =
-    subst (λ n. unsigned_abs (rows n c) ≤ 2 ^ 126 + worth_size items) (same (length items)) (rows_bounded items top rows h c t)
+pub rows_bounded_at : (beyond : ℤ) (items : List Item) (top : ℕ) (rows : ℕ → ℕ → ℤ) → AreRows beyond items top rows → (k : ℕ) → k ≤ length items
+    → AreBounded (unsigned_abs beyond + worth_size items) top (rows (length items - k))
+rows_bounded_at beyond items top rows h zero l c t =
+    subst (λ n. unsigned_abs (rows n c) ≤ unsigned_abs beyond + worth_size items) (same (length items)) (rows_bounded beyond items top rows h c t)
   where
     same : (n : ℕ) → n ≡ n - 0
     same n = omega arith
-rows_bounded_at [] top rows h (suc k) l c t = absurd (omega arith)
-rows_bounded_at (i ∷ is) top rows h (suc k) l c t =
-    subst (λ n. unsigned_abs (rows n c) ≤ 2 ^ 126 + worth_size (i ∷ is)) (one (length is) k)
-    (omega (arith, rows_bounded_at is top rows h.1 k (omega (arith, l)) c t))
+rows_bounded_at beyond [] top rows h (suc k) l c t = absurd (omega arith)
+rows_bounded_at beyond (i ∷ is) top rows h (suc k) l c t =
+    subst (λ n. unsigned_abs (rows n c) ≤ unsigned_abs beyond + worth_size (i ∷ is)) (one (length is) k)
+    (omega (arith, rows_bounded_at beyond is top rows h.1 k (omega (arith, l)) c t))
   where
     one : (n a : ℕ) → n - a ≡ suc n - suc a
     one n a = omega arith
 
 -- the last row has the least costs of loads
-pub rows_least : (items : List Item) (top : ℕ) (rows : ℕ → ℕ → ℤ) → AreRows items top rows → (c : ℕ) (us : List ℕ) → c ≤ top → IsLoad items us → load items us ≡ c
+pub rows_least : (beyond : ℤ) (items : List Item) (top : ℕ) (rows : ℕ → ℕ → ℤ) → AreRows beyond items top rows → (c : ℕ) (us : List ℕ) → c ≤ top → IsLoad items us → load items us ≡ c
     → rows (length items) c ≤ℤ worth items us
-rows_least [] top rows h c us t fits weighs = omega (arith, ints, ap (rows 0) (sym weighs), h.none)
-rows_least (i ∷ is) top rows h c [] t fits weighs = absurd fits
-rows_least (i ∷ is) top rows h c (u ∷ us) t fits weighs =
+rows_least beyond [] top rows h c us t fits weighs = omega (arith, ints, ap (rows 0) (sym weighs), h.none)
+rows_least beyond (i ∷ is) top rows h c [] t fits weighs = absurd fits
+rows_least beyond (i ∷ is) top rows h c (u ∷ us) t fits weighs =
     joined (rows (suc (length is)) c) (rows (length is) (c - i.weight * u)) (i.cost *ℤ pos u) (worth is us)
     (h.0.least c u t fits.0 (omega (arith, weighs)))
-    (rows_least is top rows h.1 (c - i.weight * u) us (omega (arith, t)) fits.1 (omega (arith, weighs)))
+    (rows_least beyond is top rows h.1 (c - i.weight * u) us (omega (arith, t)) fits.1 (omega (arith, weighs)))
   where
     joined : (n a g w : ℤ) → n ≤ℤ (a +ℤ g) → a ≤ℤ w → n ≤ℤ (g +ℤ w)
     joined n a g w p q = omega (arith, ints, p, q)
 
-pub rows_table : (items : List Item) (top : ℕ) (rows : ℕ → ℕ → ℤ) → AreRows items top rows → worth_size items ≤ 2 ^ 117 → IsTable items top (rows (length items))
-rows_table items top rows h small c us t fits weighs =
-    (within (rows (length items) c) (worth items us) (rows_least items top rows h c us t fits weighs) (worth_small items us fits), rows_least items top rows h c us t fits weighs)
+pub rows_table : (limit beyond : ℤ) (items : List Item) (top : ℕ) (rows : ℕ → ℕ → ℤ) → AreRows beyond items top rows → AreApart (worth_size items) limit beyond
+    → IsTable limit items top (rows (length items))
+rows_table limit beyond items top rows h apart c us t fits weighs =
+    (within (rows (length items) c) (worth items us) (rows_least beyond items top rows h c us t fits weighs) (worth_small items us fits), rows_least beyond items top rows h c us t fits weighs)
   where
-    within : (a w : ℤ) → a ≤ℤ w → unsigned_abs w ≤ worth_size items → a <ℤ no_way
-    within a w p q = omega (arith, ints, p, q, small)
+    within : (a w : ℤ) → a ≤ℤ w → unsigned_abs w ≤ worth_size items → a <ℤ limit
+    within a w p q = omega (arith, ints, p, q, apart.below)
 
 -- the items from a place on
 pub worth_size-drop : (items : List Item) (k : ℕ) → worth_size (drop k items) ≤ worth_size items
 worth_size-drop items zero = omega arith
 worth_size-drop [] (suc k) = omega arith
 worth_size-drop (i ∷ is) (suc k) = omega (arith, worth_size-drop is k)
+
+pub worth_size-next : (items : List Item) (k : ℕ) (d : Item) → k < length items
+    → worth_size (drop k items) ≡ unsigned_abs (get_or items k d).cost * (get_or items k d).width + worth_size (drop (k + 1) items)
+worth_size-next items k d l =
+    ap worth_size (drop-cons items k d l) ∙ ap (λ n. unsigned_abs (get_or items k d).cost * (get_or items k d).width + worth_size (drop n items)) (one k)
+  where
+    one : (n : ℕ) → suc n ≡ n + 1
+    one n = omega arith
 
 pub worth_size-at : (items : List Item) (k : ℕ) (d : Item) → k < length items → unsigned_abs (get_or items k d).cost * (get_or items k d).width ≤ worth_size items
 worth_size-at [] k d l = absurd (omega arith)

@@ -1,5 +1,5 @@
 -- Laws of the way back through a table.
-use Rattle.std.proofs.Common.{◌≡◌, refl, sym, ap, subst, ◌∙◌, ℕ, zero, suc, ◌+◌, ◌-◌, ◌*◌, ◌^◌, ◌<◌, ◌≤◌, List, [], ◌∷◌, ◌++◌, length, get_or, take, arith}
+use Rattle.std.proofs.Common.{◌≡◌, sym, ap, subst, ◌∙◌, ℕ, zero, suc, ◌+◌, ◌-◌, ◌*◌, ◌<◌, ◌≤◌, List, [], ◌∷◌, ◌++◌, length, get_or, take, arith}
 use Rattle.std.proofs.Math.IntN.{ℤ, pos, ◌+ℤ◌, ◌*ℤ◌}
 use Rattle.std.proofs.Math.Nat.{mul-le-mul_left}
 use Rattle.std.specs.Prelude.{◌<ℤ◌, unsigned_abs}
@@ -8,7 +8,7 @@ use Rattle.std.proofs.lemmas.List.{take_more, take_all, length-take-le}
 use Rattle.bp_theory.proofs.ZipLaws.{AllZip-length}
 use Rattle.knap_price.specs.declared.items.Item.{Item}
 use Rattle.knap_price.specs.Loads.{IsLoad, load, worth}
-use Rattle.knap_price.specs.Tables.{no_way, Reaches, Follows, IsFirstRow, AreRows, worth_size}
+use Rattle.knap_price.specs.Tables.{AreApart, Reaches, Follows, IsFirstRow, AreRows, worth_size}
 use Rattle.knap_price.proofs.TableLaws.{worth_small, rows_first}
 
 -- units of one item more at the end
@@ -88,10 +88,11 @@ traced_more items rows weight k left u us d l few follows t =
     weighs m e h = omega (arith, e, h)
 
 -- at the end nothing is left, since the cell tells a load
-pub traced_end : (items : List Item) (top : ℕ) (rows : ℕ → ℕ → ℤ) (weight k left : ℕ) (us : List ℕ) → AreRows items top rows → worth_size items ≤ 2 ^ 117
-    → weight ≤ top → k ≡ length items → rows (length items) weight <ℤ no_way → IsTraced items rows weight k left us
+pub traced_end : (limit beyond : ℤ) (items : List Item) (top : ℕ) (rows : ℕ → ℕ → ℤ) (weight k left : ℕ) (us : List ℕ) → AreRows beyond items top rows
+    → AreApart (worth_size items) limit beyond
+    → weight ≤ top → k ≡ length items → rows (length items) weight <ℤ limit → IsTraced items rows weight k left us
     → Reaches items us weight (rows (length items) weight)
-traced_end items top rows weight k left us h small t e way traced = by left fits weighs costs
+traced_end limit beyond items top rows weight k left us h apart t e way traced = by left fits weighs costs
   where
     whole : take k items ≡ items
     whole = take_all k items (omega (arith, e))
@@ -109,11 +110,11 @@ traced_end items top rows weight k left us h small t e way traced = by left fits
     costs = traced.costs ∙ ap (λ (is : List Item). worth is us +ℤ rows (length items - k) left) whole
         ∙ ap (λ n. worth items us +ℤ rows n left) (ap (λ n. length items - n) e ∙ none (length items))
 
-    first : IsFirstRow top (rows 0)
-    first = rows_first items top rows h
+    first : IsFirstRow beyond top (rows 0)
+    first = rows_first beyond items top rows h
 
-    far_off : (n w f : ℤ) → n ≡ w +ℤ f → f ≡ pos (2 ^ 126) → unsigned_abs w ≤ worth_size items → n <ℤ no_way → ⊥
-    far_off n w f p q m l = omega (arith, ints, p, q, m, l, small)
+    far_off : (n w f : ℤ) → n ≡ w +ℤ f → f ≡ beyond → unsigned_abs w ≤ worth_size items → n <ℤ limit → ⊥
+    far_off n w f p q m l = omega (arith, ints, p, q, m, l, apart.above)
 
     by : (left : ℕ) → IsLoad items us → load items us + left ≡ weight → rows (length items) weight ≡ worth items us +ℤ rows 0 left
         → Reaches items us weight (rows (length items) weight)

@@ -1,5 +1,5 @@
 -- The sizes of what pricing by a table keeps.
-use Rattle.std.specs.Prelude.{◌≡◌, ℕ, ◌+◌, ◌*◌, min, List, [], ◌∷◌, length, ℤ}
+use Rattle.std.specs.Prelude.{◌≡◌, ℕ, ◌+◌, ◌*◌, min, List, [], ◌∷◌, length, vec_len, ℤ}
 use Rattle.std.specs.Int.{int_gap}
 use Rattle.bp_theory.specs.Bound.{box_least}
 use Rattle.bp_theory.specs.declared.Sense.{Sense}
@@ -7,6 +7,7 @@ use Rattle.bp_theory.specs.declared.Sense.TheVariants.{Le, Ge, Eq, In}
 use Rattle.bp_theory.specs.declared.Row.{Row}
 use Rattle.bp_theory.specs.declared.Span.{Span}
 use Rattle.knap_price.specs.Taken.{dense, first_terms, row_reach}
+use Rattle.knap_price.specs.declared.cells.Cells.{Cells}
 use Rattle.knap_price.specs.declared.form.Form.{Form}
 use Rattle.knap_price.specs.declared.form.Table.{Table}
 
@@ -30,6 +31,10 @@ form_room form = room_of form.rows.items (box_least form.spans.items form.coefs.
 abbrev pub cells_of : List Row → List Span → ℕ
 cells_of rows spans =
     (length spans + 1) * (room_of rows (box_least spans (dense (first_terms rows) (length spans))) (row_reach spans (first_terms rows)) + 1)
+
+-- how many cells there are
+abbrev pub count_of : Cells → ℕ
+count_of cells = vec_len cells.long
 
 -- a table has a place for each variable
 pub record HasRoom (form : Form) (table : Table) : Type 0 where

@@ -11,16 +11,28 @@ no_way = pos (2 ^ 125)
 abbrev pub far : ℤ
 far = pos (2 ^ 126)
 
+-- the same two numbers of tables in 64 bits
+abbrev pub short_no_way : ℤ
+short_no_way = pos (2 ^ 60)
+
+abbrev pub short_far : ℤ
+short_far = pos (2 ^ 61)
+
+-- all loads' costs are less than a limit, and stay above it with a number beyond
+pub record AreApart (size : ℕ) (limit beyond : ℤ) : Type 0 where
+  pub below : pos size <ℤ limit
+  pub above : (limit +ℤ pos size) ≤ℤ beyond
+
 -- a load of this weight and cost
 pub record Reaches (items : List Item) (us : List ℕ) (c : ℕ) (v : ℤ) : Type 0 where
   pub fits : IsLoad items us
   pub weighs : load items us ≡ c
   pub costs : worth items us ≡ v
 
--- each cell up to a greatest weight is a least cost of the loads of its weight
-abbrev pub IsTable : List Item → (top : ℕ) → (ℕ → ℤ) → Type 0
-IsTable items top cells =
-    (c : ℕ) (us : List ℕ) → c ≤ top → IsLoad items us → load items us ≡ c → (cells c <ℤ no_way) × (cells c ≤ℤ worth items us)
+-- each cell up to a greatest weight is a least cost of the loads of its weight, and less than a limit where it has one
+abbrev pub IsTable : (limit : ℤ) → List Item → (top : ℕ) → (ℕ → ℤ) → Type 0
+IsTable limit items top cells =
+    (c : ℕ) (us : List ℕ) → c ≤ top → IsLoad items us → load items us ≡ c → (cells c <ℤ limit) × (cells c ≤ℤ worth items us)
 
 -- the cell at a place
 abbrev pub cell_at : List ℤ → ℕ → ℤ
@@ -43,15 +55,15 @@ pub record IsTried (item : Item) (units top : ℕ) (above now : ℕ → ℤ) : T
   pub least : (c u : ℕ) → c ≤ top → u ≤ units → item.weight * u ≤ c → now c ≤ℤ (above (c - item.weight * u) +ℤ item.cost *ℤ pos u)
   pub reached : (c : ℕ) → c ≤ top → (u : ℕ) × (u ≤ units) × Follows item above c (now c) u
 
--- the row of no items: one load of no weight, which costs nothing
-pub record IsFirstRow (top : ℕ) (row : ℕ → ℤ) : Type 0 where
+-- the row of no items: one load of no weight, which costs nothing, and a number beyond all costs at each other weight
+pub record IsFirstRow (beyond : ℤ) (top : ℕ) (row : ℕ → ℤ) : Type 0 where
   pub none : row 0 ≡ pos 0
-  pub others : (c : ℕ) → 0 < c → c ≤ top → row c ≡ far
+  pub others : (c : ℕ) → 0 < c → c ≤ top → row c ≡ beyond
 
 -- rows of least costs, the last one of all items, and before it those without the first
-abbrev pub AreRows : List Item → (top : ℕ) → (rows : ℕ → ℕ → ℤ) → Type 0
-AreRows [] top rows = IsFirstRow top (rows 0)
-AreRows (i ∷ is) top rows = IsTried i i.width top (rows (length is)) (rows (suc (length is))) × AreRows is top rows
+abbrev pub AreRows : (beyond : ℤ) → List Item → (top : ℕ) → (rows : ℕ → ℕ → ℤ) → Type 0
+AreRows beyond [] top rows = IsFirstRow beyond top (rows 0)
+AreRows beyond (i ∷ is) top rows = IsTried i i.width top (rows (length is)) (rows (suc (length is))) × AreRows beyond is top rows
 
 -- the lesser of two costs
 pub record IsLesser (a b v : ℤ) : Type 0 where

@@ -1,7 +1,8 @@
 // The pricer by a table.
-ghost use Rattle.knap_price.specs.Rooms.{HasRoom, cells_of};
+ghost use Rattle.knap_price.specs.Rooms.{HasRoom, cells_of, count_of};
 ghost use Rattle.std.specs.Prelude.{◌≡◌, ◌≤◌, length, vec_len};
 
+use crate::cells::Cells;
 use crate::coefs::is_taken;
 use crate::form::{Form, Table};
 use crate::items::Item;
@@ -27,7 +28,7 @@ impl KnapPlan {
     ghost use Rattle.pricing.specs.Priced.{IsPriced};
     ghost use Rattle.pricing.specs.declared.Cap.TheVariants.{Never};
     ghost use Rattle.knap_price.specs.Kept.{plan_rows, plan_spans, plan_point};
-    ghost use Rattle.knap_price.specs.Rooms.{cells_of};
+    ghost use Rattle.knap_price.specs.Rooms.{cells_of, count_of};
     ghost use Rattle.knap_price.specs.Taken.{IsTaken};
 
     /// The plan of a block that a table takes.
@@ -60,17 +61,17 @@ impl KnapPlan {
     /// The least cost over the points of a block in a zone, if there is a point, which `point` then gives.
     pub fn price(
         &mut self,
-        cells: &mut Vec<i128>,
+        cells: &mut Cells,
         block: &Block,
         zone: &[Span],
         costs: &[i128],
     ) -> Priced
         requires same_block { AreOf block.now (plan_rows self.old) (plan_spans self.old) }
         requires priceable { IsPriceable (plan_spans self.old) zone.now costs.now }
-        requires cells { cells_of (plan_rows self.old) (plan_spans self.old) ≤ vec_len cells.old }
+        requires cells { cells_of (plan_rows self.old) (plan_spans self.old) ≤ count_of cells.old }
         ensures answer { IsPriced (plan_rows self.old) zone.now costs.now Never result
             (plan_point self.new) }
-        ensures cells { vec_len cells.new ≡ vec_len cells.old }
+        ensures cells { count_of cells.new ≡ count_of cells.old }
         ensures same_rows { plan_rows self.new ≡ plan_rows self.old }
         ensures same_spans { plan_spans self.new ≡ plan_spans self.old }
     {
@@ -100,8 +101,8 @@ impl KnapPlan {
 #[derive(Drop)]
 pub struct KnapPricer {
     plan: KnapPlan,
-    cells: Vec<i128>,
-    ghost enough: { cells_of plan.form.rows.items plan.form.spans.items ≤ vec_len cells },
+    cells: Cells,
+    ghost enough: { cells_of plan.form.rows.items plan.form.spans.items ≤ count_of cells },
 }
 
 impl KnapPricer {
@@ -127,7 +128,7 @@ impl KnapPricer {
         ensures { IfOk result (λ pricer. AreOf block.now (rows_of pricer) (spans_of pricer)) }
     {
         let plan = KnapPlan::make(alloc, block)?;
-        let cells = Vec::from_elem(alloc, 0, plan.cells())?;
+        let cells = Cells::make(alloc, plan.cells())?;
         Ok(KnapPricer { plan, cells })
     }
 }

@@ -9,7 +9,7 @@ ghost use Rattle.pricing.specs.Form.{HasShortEnds, cost_size};
 ghost use Rattle.knap_price.specs.Loads.{items_of, point_of, none_of};
 ghost use Rattle.knap_price.specs.Choices.{IsBetter, IsChosen};
 ghost use Rattle.knap_price.specs.Rooms.{room_for};
-ghost use Rattle.knap_price.specs.Tables.{row_from, full_load};
+ghost use Rattle.knap_price.specs.Tables.{no_way, row_from, full_load};
 
 use crate::items::{Item, make_item, number_with};
 use crate::table::NO_WAY;
@@ -85,7 +85,7 @@ pub fn set_items(
 }
 
 /// Whether a sum meets a row.
-fn meets(row: &Row, sum: &i128) -> bool
+pub fn meets(row: &Row, sum: &i128) -> bool
     ensures { IsTrue result ↔ Meets row.now.sense row.now.low row.now.rhs sum.now }
 {
     match row.sense {
@@ -139,7 +139,7 @@ fn room_of(side: &i64, base: &i128, reach: usize) -> usize
 fn improves(cells: &[i128], start: usize, weight: usize, best: Option<usize>) -> bool
     requires there { start + weight < length cells.now }
     requires best { IfSome best (λ b. start + b < length cells.now) }
-    ensures { IsTrue result ↔ IsBetter (row_from cells.now start) weight best }
+    ensures { IsTrue result ↔ IsBetter no_way (row_from cells.now start) weight best }
 {
     match best {
         Some(known) => cells[start + weight] < cells[start + known],
@@ -152,7 +152,7 @@ pub fn choose(cells: &[i128], start: usize, row: &Row, base: &i128, top: usize) 
     requires room { start + top < length cells.now }
     requires small { top ≤ 2 ^ 20 }
     requires base { unsigned_abs base.now ≤ 2 ^ 116 }
-    ensures { IsChosen (row_from cells.now start) row.now base.now (top + 1) result }
+    ensures { IsChosen no_way (row_from cells.now start) row.now base.now (top + 1) result }
 {
     let mut best = None;
     for weight in 0..top + 1 {
@@ -173,8 +173,8 @@ fn better_of(
     requires there { start + weight < length cells.now }
     requires small { weight ≤ 2 ^ 20 }
     requires base { unsigned_abs base.now ≤ 2 ^ 116 }
-    requires best { IsChosen (row_from cells.now start) row.now base.now weight best }
-    ensures { IsChosen (row_from cells.now start) row.now base.now (weight + 1) result }
+    requires best { IsChosen no_way (row_from cells.now start) row.now base.now weight best }
+    ensures { IsChosen no_way (row_from cells.now start) row.now base.now (weight + 1) result }
 {
     let sum = moved(base, weight);
     if !meets(row, &sum) {
@@ -187,7 +187,7 @@ fn better_of(
 }
 
 /// A sum that is so much greater.
-fn moved(base: &i128, weight: usize) -> i128
+pub fn moved(base: &i128, weight: usize) -> i128
     requires small { weight ≤ 2 ^ 20 }
     requires base { unsigned_abs base.now ≤ 2 ^ 116 }
     ensures { result ≡ base.now +ℤ pos weight }

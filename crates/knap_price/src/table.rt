@@ -102,7 +102,7 @@ fn add_item(cells: &mut [i128], start: usize, item: &Item, top: usize)
 fn begin(cells: &mut [i128], top: usize)
     requires room { top < length cells.old }
     ensures len { length cells.new ≡ length cells.old }
-    ensures row { IsFirstRow top (row_from cells.new 0) }
+    ensures row { IsFirstRow far top (row_from cells.new 0) }
 {
     cells[..top + 1].fill(FAR);
     cells[0] = 0;
@@ -116,7 +116,7 @@ fn fill_rows(cells: &mut [i128], items: &[Item], top: usize)
     requires small { All (λ item. item.weight * item.width ≤ 2 ^ 20) items.now }
     requires cost { worth_size items.now ≤ 2 ^ 117 }
     ensures len { length cells.new ≡ length cells.old }
-    ensures rows { AreRows items.now top (row_at cells.new top) }
+    ensures rows { AreRows far items.now top (row_at cells.new top) }
 {
     begin(cells, top);
     let mut start = 0;
@@ -134,7 +134,7 @@ pub fn fill(cells: &mut Vec<i128>, items: &[Item], top: usize)
     requires small { All (λ item. item.weight * item.width ≤ 2 ^ 20) items.now }
     requires cost { worth_size items.now ≤ 2 ^ 117 }
     ensures len { vec_len cells.new ≡ vec_len cells.old }
-    ensures rows { AreRows items.now top (row_at cells.new.items top) }
+    ensures rows { AreRows far items.now top (row_at cells.new.items top) }
 {
     fill_rows(cells, items, top);
 }

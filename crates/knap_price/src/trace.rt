@@ -3,7 +3,7 @@ ghost use Rattle.std.specs.Prelude.{◌≡◌, ◌<◌, ◌≤◌, ◌+◌, ◌*
 ghost use Rattle.bp_theory.specs.Trees.{IsProper};
 ghost use Rattle.pricing.specs.Form.{HasShortEnds};
 ghost use Rattle.knap_price.specs.Loads.{items_of, point_of};
-ghost use Rattle.knap_price.specs.Tables.{no_way, cell_at, row_from, row_at, Reaches, AreRows, AreBounded, Follows, worth_size};
+ghost use Rattle.knap_price.specs.Tables.{no_way, far, cell_at, row_from, row_at, Reaches, AreRows, AreBounded, Follows, worth_size};
 
 use crate::items::{Item, number_with};
 use bp_theory::Span;
@@ -89,7 +89,7 @@ pub fn trace(
     requires small { All (λ item. item.weight * item.width ≤ 2 ^ 20) items.now }
     requires cost { worth_size items.now ≤ 2 ^ 117 }
     requires room { (length zone.now + 1) * (top + 1) ≤ length cells.now }
-    requires rows { AreRows items.now top (row_at cells.now top) }
+    requires rows { AreRows far items.now top (row_at cells.now top) }
     requires weight { weight ≤ top }
     requires way { row_at cells.now top (length zone.now) weight <ℤ no_way }
     ensures { (us : List ℕ) × Reaches items.now us weight

@@ -1,7 +1,7 @@
-use Rattle.std.proofs.Common.{◌≡◌, ◌∙◌, refl, sym, ap, subst, ◌+◌, ◌-◌, ◌*◌, ◌^◌, ◌<◌, ◌≤◌, ℕ, suc, List, [], ◌∷◌, length, drop, drop-cons, get_or, arith, pos}
+use Rattle.std.proofs.Common.{◌≡◌, ◌∙◌, sym, ap, subst, ◌+◌, ◌-◌, ◌*◌, ◌^◌, ◌<◌, ◌≤◌, ℕ, suc, List, ◌∷◌, length, drop, drop-cons, get_or, arith, pos}
 use Rattle.std.specs.Prelude.{unsigned_abs}
 use Rattle.knap_price.specs.declared.items.Item.{Item}
-use Rattle.knap_price.specs.Tables.{row_from, row_at, AreRows, worth_size}
+use Rattle.knap_price.specs.Tables.{far, row_from, row_at, AreRows}
 use Rattle.knap_price.proofs.TableLaws.{rows_bounded, rows_more, worth_size-drop, worth_size-at}
 use Rattle.knap_price.proofs.table.fill_rows.Goals as goal
 
@@ -14,7 +14,7 @@ add_item-requires-clause-bounded c = λ w t.
     subst (λ n. unsigned_abs (row_from c.loop-k.cells n w) ≤ 2 ^ 126 + 2 ^ 117) (sym c.loop-k.invariant.start)
     (omega (
       arith,
-      rows_bounded (drop c.loop-k.k c.args.items.now) c.args.top (row_at c.loop-k.cells c.args.top) c.loop-k.invariant.rows w t,
+      rows_bounded far (drop c.loop-k.k c.args.items.now) c.args.top (row_at c.loop-k.cells c.args.top) c.loop-k.invariant.rows w t,
       c.requires.cost,
       worth_size-drop c.args.items.now c.loop-k.k,
     ))
@@ -30,8 +30,8 @@ loop-k-preserved c =
       len = c.add_item.ensures.len ∙ c.loop-k.invariant.len;
       start = ap (λ n. n + (c.args.top + 1)) c.loop-k.invariant.start ∙ next (length (drop c.loop-k.k c.args.items.now)) c.args.top
           ∙ ap (λ (xs : List Item). length xs * (c.args.top + 1)) (sym front);
-      rows = subst (λ (xs : List Item). AreRows xs c.args.top (row_at c.add_item.new.cells c.args.top)) (sym front)
-          (rows_more (drop c.loop-k.k c.args.items.now) (get_or c.args.items.now (c.loop-k.k - 1) none) c.args.top c.loop-k.start c.loop-k.cells c.add_item.new.cells
+      rows = subst (λ (xs : List Item). AreRows far xs c.args.top (row_at c.add_item.new.cells c.args.top)) (sym front)
+          (rows_more far (drop c.loop-k.k c.args.items.now) (get_or c.args.items.now (c.loop-k.k - 1) none) c.args.top c.loop-k.start c.loop-k.cells c.add_item.new.cells
           c.loop-k.invariant.start c.loop-k.invariant.rows c.add_item.ensures.tried c.add_item.ensures.below);
     }
   where

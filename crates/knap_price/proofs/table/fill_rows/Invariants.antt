@@ -1,10 +1,10 @@
 use Rattle.std.proofs.Common.{◌≡◌, ◌+◌, ◌*◌, drop, length}
-use Rattle.knap_price.specs.Tables.{row_at, AreRows}
+use Rattle.knap_price.specs.Tables.{far, row_at, AreRows}
 use Rattle.knap_price.proofs.table.fill_rows.Given as goal
 
 abbrev pub invariant-loop-k : goal.invariant-loop-k
 invariant-loop-k l = record {
   len : length l.cells ≡ length l.initial.cells;
   start : l.start ≡ length (drop l.k l.items) * (l.top + 1);
-  rows : AreRows (drop l.k l.items) l.top (row_at l.cells l.top);
+  rows : AreRows far (drop l.k l.items) l.top (row_at l.cells l.top);
 }

@@ -1,5 +1,4 @@
-use Rattle.std.proofs.Common.{◌≡◌, ◌∙◌, refl, sym, ap, subst, ◌+◌, ◌-◌, ◌*◌, ◌^◌, ◌<◌, ◌≤◌, ◌++◌, ◌∷◌, ℕ, List, [], pos, length, vec_len, get_or, set, arith, ⊎_elim}
-use Rattle.std.proofs.Math.IntN.{ℤ}
+use Rattle.std.proofs.Common.{◌≡◌, ◌∙◌, sym, ap, subst, ◌+◌, ◌-◌, ◌*◌, ◌^◌, ◌<◌, ◌≤◌, ◌++◌, ◌∷◌, ℕ, List, [], pos, length, get_or, set, arith, ⊎_elim}
 use Rattle.std.specs.Prelude.{◌<ℤ◌, unsigned_abs}
 use Rattle.std.specs.Int.{w64}
 use mir.Val.{of_z, to_z}
@@ -8,10 +7,11 @@ use Rattle.std.proofs.lemmas.Bool.{cases_eq, cases_lt}
 use Rattle.bp_theory.specs.Program.{span_at}
 use Rattle.pricing.proofs.Passed.{passed_short}
 use Rattle.knap_price.specs.declared.items.Item.{Item}
-use Rattle.knap_price.specs.Loads.{item_of, number_of, items_of}
-use Rattle.knap_price.specs.Tables.{no_way, row_from, row_at, Reaches, Follows, worth_size}
+use Rattle.knap_price.specs.Loads.{item_of, number_of}
+use Rattle.knap_price.specs.Tables.{no_way, far, row_from, row_at, Reaches, Follows, worth_size}
 use Rattle.knap_price.proofs.StepLaws.{length-items_of, get_or-items_of, point_from_places}
 use Rattle.knap_price.proofs.TableLaws.{rows_at, rows_bounded_at, worth_size-at}
+use Rattle.knap_price.proofs.PickLaws.{apart}
 use Rattle.knap_price.proofs.TraceLaws.{traced_start, traced_count, traced_more, traced_end, next_row, row_fits}
 use Rattle.knap_price.proofs.trace.trace.Goals as goal
 
@@ -82,7 +82,7 @@ units_at-units-requires-clause-bounded c = λ w t.
     subst (λ m. unsigned_abs (row_from c.args.cells.now m w) ≤ 2 ^ 126 + 2 ^ 117) (sym above)
     (omega (
       arith,
-      rows_bounded_at c.args.items.now c.args.top (row_at c.args.cells.now c.args.top) c.requires.rows (c.loop-k.k + 1) (omega (arith, there)) w (omega (arith, t, low)),
+      rows_bounded_at far c.args.items.now c.args.top (row_at c.args.cells.now c.args.top) c.requires.rows (c.loop-k.k + 1) (omega (arith, there)) w (omega (arith, t, low)),
       c.requires.cost,
     ))
 
@@ -101,7 +101,7 @@ units_at-units-requires-clause-some c =
     (subst (λ m. (u : ℕ) × (u ≤ (get_or c.args.items.now c.loop-k.k (record { weight = 0; width = 0; cost = pos 0 })).width)
     × Follows (get_or c.args.items.now c.loop-k.k (record { weight = 0; width = 0; cost = pos 0 })) (row_at c.args.cells.now c.args.top (length c.args.items.now - (c.loop-k.k + 1))) c.loop-k.left
     (row_from c.args.cells.now m c.loop-k.left) u) (sym here)
-    ((rows_at c.args.items.now c.args.top (row_at c.args.cells.now c.args.top) c.requires.rows c.loop-k.k (record { weight = 0; width = 0; cost = pos 0 }) there).reached c.loop-k.left low))
+    ((rows_at far c.args.items.now c.args.top (row_at c.args.cells.now c.args.top) c.requires.rows c.loop-k.k (record { weight = 0; width = 0; cost = pos 0 }) there).reached c.loop-k.left low))
 
 pub number_with-requires-clause-fits : goal.number_with-requires-clause-fits
 number_with-requires-clause-fits c =
@@ -173,8 +173,8 @@ returns c =
     traced_count c.args.items.now (row_at c.args.cells.now c.args.top) c.args.weight c.loop-k.k c.loop-k.left c.loop-k.invariant.way.0 (omega (arith, end)) c.loop-k.invariant.way.1 in (
       c.loop-k.invariant.way.0,
       subst (λ n. Reaches c.args.items.now c.loop-k.invariant.way.0 c.args.weight (row_at c.args.cells.now c.args.top n c.args.weight)) many
-          (traced_end c.args.items.now c.args.top (row_at c.args.cells.now c.args.top) c.args.weight c.loop-k.k c.loop-k.left c.loop-k.invariant.way.0
-          c.requires.rows c.requires.cost c.requires.weight end
+          (traced_end no_way far c.args.items.now c.args.top (row_at c.args.cells.now c.args.top) c.args.weight c.loop-k.k c.loop-k.left c.loop-k.invariant.way.0
+          c.requires.rows (apart (worth_size c.args.items.now) c.requires.cost) c.requires.weight end
           (subst (λ n. row_at c.args.cells.now c.args.top n c.args.weight <ℤ no_way) (sym many) c.requires.way) c.loop-k.invariant.way.1),
       point_from_places c.loop-k.point.items c.args.coefs.now c.args.zone.now c.args.costs.now c.loop-k.invariant.way.0
           c.requires.coefs c.requires.costs (count ∙ end ∙ many)
