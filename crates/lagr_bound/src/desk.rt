@@ -8,6 +8,7 @@ use crate::costs::reduced_cost;
 use crate::pricers::{BlockPricer, GraphRoom};
 use block_form::{Block, Zone};
 use bp_theory::{Proof, Span};
+use knap_price::Cells;
 use pricing::{Cap, Priced};
 use std::alloc::{AllocError, Global};
 
@@ -21,7 +22,8 @@ pub struct Desk {
 }
 
 impl Desk {
-    ghost use Rattle.std.specs.Prelude.{◌≡◌, IfOk, vec_len};
+    ghost use Rattle.std.specs.Prelude.{◌≡◌, IfOk};
+    ghost use Rattle.knap_price.specs.Rooms.{count_of};
     ghost use Rattle.lagr_bound.specs.Pricers.{IsEnough, IsFitting};
     ghost use Rattle.bp_theory.specs.Bound.{spans_of};
     ghost use Rattle.bp_theory.specs.Trees.{IsZone};
@@ -52,7 +54,7 @@ impl Desk {
     /// Prices the block in a zone at its reduced costs.
     pub fn price(
         &mut self,
-        cells: &mut Vec<i128>,
+        cells: &mut Cells,
         block: &Block,
         zone: &Zone,
         proof: &Proof,
@@ -62,11 +64,11 @@ impl Desk {
         requires zone { IsZone block.now.spans (spans_of zone.now block.now.block) }
         requires block { IsSmallBlock zone.now proof.now block.now.block }
         requires proof { IsSmallProof proof.now }
-        requires cells { IsEnough (vec_len cells.old) (form_of self.old).rows
+        requires cells { IsEnough (count_of cells.old) (form_of self.old).rows
             (form_of self.old).spans }
         ensures answer { IsPriced block.now.block.rows (spans_of zone.now block.now.block)
             (reduced_costs proof.now block.now.block) cap result (priced_point self.new) }
-        ensures cells { vec_len cells.new ≡ vec_len cells.old }
+        ensures cells { count_of cells.new ≡ count_of cells.old }
         ensures form { form_of self.new ≡ form_of self.old }
     {
         fill_costs(&mut self.costs, block, proof);

@@ -5,6 +5,7 @@ ghost use Rattle.bp_theory.specs.Trees.{IsZone};
 ghost use Rattle.block_form.specs.Blocked.{IsFormed};
 ghost use Rattle.search_laws.specs.Spread.{block_at};
 ghost use Rattle.pricing.specs.Priced.{IsPriced};
+ghost use Rattle.knap_price.specs.Rooms.{count_of};
 ghost use Rattle.lagr_bound.specs.Desks.{form_of, priced_point};
 ghost use Rattle.lagr_bound.specs.Forms.{form_at, form_in, forms_in};
 ghost use Rattle.lagr_bound.specs.Works.{forms_of};
@@ -18,12 +19,13 @@ use crate::plain::box_least;
 use crate::work::Work;
 use block_form::{Block, Blocked, Zone};
 use bp_theory::Proof;
+use knap_price::Cells;
 use pricing::{Cap, Priced};
 
 /// Prices a block at the desk of a number, which is that of its form.
 pub fn price_at(
     desks: &mut Vec<Desk>,
-    cells: &mut Vec<i128>,
+    cells: &mut Cells,
     seat: usize,
     block: &Block,
     zone: &Zone,
@@ -32,7 +34,7 @@ pub fn price_at(
 ) -> Priced
     requires there { seat < vec_len desks.old }
     requires same_block { form_at (map form_of desks.old.items) seat ≡ form_in block.now }
-    requires cells { AreEnough (vec_len cells.old) (map form_of desks.old.items) }
+    requires cells { AreEnough (count_of cells.old) (map form_of desks.old.items) }
     requires zone { IsZone block.now.spans (spans_of zone.now block.now.block) }
     requires block { IsSmallBlock zone.now proof.now block.now.block }
     requires proof { IsSmallProof proof.now }
@@ -40,7 +42,7 @@ pub fn price_at(
         (reduced_costs proof.now block.now.block) cap result
         (slice_index_or (map priced_point desks.new.items) seat []) }
     ensures len { vec_len desks.new ≡ vec_len desks.old }
-    ensures cells { vec_len cells.new ≡ vec_len cells.old }
+    ensures cells { count_of cells.new ≡ count_of cells.old }
     ensures forms { map form_of desks.new.items ≡ map form_of desks.old.items }
 {
     desks[seat].price(cells, block, zone, proof, cap)

@@ -5,7 +5,7 @@ ghost use Rattle.state_price.specs.Kept.{rows_of as states_rows, spans_of as sta
 
 use block_form::Block;
 use bp_theory::Span;
-use knap_price::{KnapPlan, KnapPricer};
+use knap_price::{Cells, KnapPlan, KnapPricer};
 use pricing::{Cap, Priced, Pricer};
 use search_price::SearchPricer;
 use state_price::StatePricer;
@@ -57,9 +57,10 @@ pub enum BlockPricer {
 }
 
 impl BlockPricer {
-    ghost use Rattle.std.specs.Prelude.{◌≡◌, IfOk, vec_len};
+    ghost use Rattle.std.specs.Prelude.{◌≡◌, IfOk};
     ghost use Rattle.pricing.specs.Form.{IsForm, IsPriceable, AreOf};
     ghost use Rattle.pricing.specs.Priced.{IsPriced};
+    ghost use Rattle.knap_price.specs.Rooms.{count_of};
     ghost use Rattle.lagr_bound.specs.Pricers.{rows_of, spans_of, kept_point, IsEnough, IsFitting};
 
     /// Made of a block's rows and of its spans at the root. A graph that is tried takes from what may be spent, whether it
@@ -99,7 +100,7 @@ impl BlockPricer {
     /// The least cost over the points of a block in a zone, if there is a point.
     pub fn price(
         &mut self,
-        cells: &mut Vec<i128>,
+        cells: &mut Cells,
         block: &Block,
         zone: &[Span],
         costs: &[i128],
@@ -107,10 +108,10 @@ impl BlockPricer {
     ) -> Priced
         requires same_block { AreOf block.now (rows_of self.old) (spans_of self.old) }
         requires priceable { IsPriceable (spans_of self.old) zone.now costs.now }
-        requires cells { IsEnough (vec_len cells.old) (rows_of self.old) (spans_of self.old) }
+        requires cells { IsEnough (count_of cells.old) (rows_of self.old) (spans_of self.old) }
         ensures answer { IsPriced (rows_of self.old) zone.now costs.now cap result
             (kept_point self.new) }
-        ensures cells { vec_len cells.new ≡ vec_len cells.old }
+        ensures cells { count_of cells.new ≡ count_of cells.old }
         ensures same_rows { rows_of self.new ≡ rows_of self.old }
         ensures same_spans { spans_of self.new ≡ spans_of self.old }
     {

@@ -1,5 +1,6 @@
 // What pricing all blocks of a program takes.
 ghost use Rattle.std.specs.Prelude.{◌≡◌, ◌<◌, All, length, map, vec_len};
+ghost use Rattle.knap_price.specs.Rooms.{count_of};
 ghost use Rattle.lagr_bound.specs.Desks.{form_of};
 ghost use Rattle.lagr_bound.specs.Forms.{form_at, span_count};
 ghost use Rattle.lagr_bound.specs.Pricers.{AreEnough};
@@ -12,6 +13,7 @@ use crate::seats::seated;
 use crate::told::{Told, silence};
 use block_form::{Blocked, Zone};
 use bp_theory::Proof;
+use knap_price::Cells;
 use pricing::{Cap, Priced};
 use std::alloc::{AllocError, Global};
 
@@ -24,11 +26,11 @@ pub struct Work {
     pub(crate) seats: Vec<usize>,
     pub(crate) told: Vec<Told>,
     pub(crate) known: Vec<Option<i128>>,
-    pub(crate) cells: Vec<i128>,
+    pub(crate) cells: Cells,
     ghost there: { All (λ seat. seat < vec_len desks) seats.items },
     ghost points: { map room_of told.items ≡ map span_count (map (form_at (map form_of desks.items)) seats.items) },
     ghost room: { vec_len known ≡ vec_len seats },
-    ghost enough: { AreEnough (vec_len cells) (map form_of desks.items) },
+    ghost enough: { AreEnough (count_of cells) (map form_of desks.items) },
 }
 
 impl Work {
@@ -53,7 +55,7 @@ impl Work {
         let (seats, firsts) = seated(alloc, b)?;
         let (desks, most) = desks_of(alloc, b, firsts.as_slice())?;
         let told = rooms_of(alloc, b)?;
-        let cells = Vec::from_elem(alloc, 0, most)?;
+        let cells = Cells::make(alloc, most)?;
         Ok(Work {
             desks,
             seats,

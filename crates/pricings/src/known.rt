@@ -93,7 +93,7 @@ const ODD_SUM: Numbers = ([2, 4, 3], Sense::Eq, [7, 7]);
 
 const NEVER: Cap = Cap::Never;
 
-const KNOWN: [Known; 32] = [
+const KNOWN: [Known; 34] = [
     (
         Kind::Table,
         NEVER,
@@ -414,6 +414,26 @@ const KNOWN: [Known; 32] = [
         [5, 4, 1],
         Found::Answer(Priced::Least(5), [0, 1, 1, 0]),
     ),
+    (
+        Kind::Table,
+        NEVER,
+        [2, 1],
+        WHOLE,
+        [SIX, NONE],
+        LOW,
+        [-(1 << 58), -(1 << 57), 0],
+        Found::Answer(Priced::Least(-(3 << 57)), [1, 1, 0, 0]),
+    ),
+    (
+        Kind::Table,
+        NEVER,
+        [2, 1],
+        WHOLE,
+        [SIX, NONE],
+        LOW,
+        [-(1 << 58) - 1, -(1 << 57), 0],
+        Found::Answer(Priced::Least(-(3 << 57) - 1), [1, 1, 0, 0]),
+    ),
 ];
 
 // The problem of these numbers.
@@ -440,7 +460,7 @@ fn is_wanted(found: &Found, wanted: &Found) -> bool {
 // The place of a problem with another answer than the wanted one.
 fn wrong(alloc: Global) -> Result<Option<usize>, AllocError> {
     let mut wrong = None;
-    for place in 0..32 {
+    for place in 0..34 {
         let known = KNOWN[place];
         let found = asked(alloc, known.0, &problem_of(&known), known.1)?;
         if !is_wanted(&found, &known.7) {
