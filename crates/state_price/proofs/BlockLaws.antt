@@ -17,7 +17,8 @@ use Rattle.bp_theory.specs.declared.Sense.TheVariants.{Le, Ge, Eq, In}
 use Rattle.bp_theory.specs.declared.Row.{Row}
 use Rattle.state_price.specs.Layers.{spans_in, IsCompletion, AreLayersOf, lower_side, upper_side, window_in, IsRoot}
 use Rattle.state_price.specs.Graphs.{IsGraphOf}
-use Rattle.state_price.specs.Expansions.{IsRight}
+use Rattle.state_price.specs.Expansions.{IsEndState, IsRight}
+use Rattle.state_price.specs.Limits.{HasManyArcs, HasManyNodes, IsBare, IsBeyond}
 use Rattle.state_price.specs.declared.graph.Arc.{Arc}
 use Rattle.state_price.specs.declared.layers.Layer.{Layer}
 
@@ -107,3 +108,24 @@ layers_short layers spans same short =
     by : (ls : List Layer) → AllByRecursion HasShortEnds (spans_in ls) → AllByRecursion (λ (l : Layer). HasShortEnds l.span) ls
     by [] h = tt
     by (x ∷ xs) h = (h.0, by xs h.1)
+
+-- a block without layers whose state allows no end has no point
+pub bare_block : (rows : List Row) (spans : List Span) (layers : List Layer) (hulls windows : List Span)
+    → AreLayersOf rows spans layers hulls → IsRoot rows hulls windows → layers ≡ [] → (IsEndState windows → ⊥) → IsBare rows spans
+bare_block rows spans layers hulls windows l root none ends = (
+  sym l.spans_are ∙ ap (λ (ls : List Layer). spans_in ls) none,
+  λ ys h.
+      by ys (subst (λ (ls : List Layer). IsCompletion ls windows ys) none (point_completion rows spans layers hulls windows ys (record { sense = Le; low = pos 0; rhs = pos 0; terms = [] }) l root h)),
+)
+  where
+    by : (ys : List ℤ) → IsCompletion [] windows ys → ⊥
+    by [] x = ends (λ k d lt. subst (λ (s : Span). IsWithin s (pos 0)) (get_or_default windows k (record { lo = pos 0; hi = pos 0 }) d lt) (x.meets k lt))
+    by (y ∷ ys) x = absurd x.inside
+
+-- what stands in the way of a graph of a block's layers stands in that of the block's
+pub beyond_by : (rows : List Row) (spans : List Span) (layers : List Layer) (hulls windows : List Span) → AreLayersOf rows spans layers hulls → IsRoot rows hulls windows
+    → HasManyArcs (length windows) (spans_in layers) ⊎ HasManyNodes (spans_in layers) ⊎ ((layers ≡ []) × (IsEndState windows → ⊥)) → IsBeyond rows spans
+beyond_by rows spans layers hulls windows l root (inl arcs) =
+    inr (inr (inl (subst (λ (ss : List Span). HasManyArcs (length rows) ss) l.spans_are (subst (λ n. HasManyArcs n (spans_in layers)) root.each arcs))))
+beyond_by rows spans layers hulls windows l root (inr (inl cells)) = inr (inr (inr (inl (subst (λ (ss : List Span). HasManyNodes ss) l.spans_are cells))))
+beyond_by rows spans layers hulls windows l root (inr (inr (none, ends))) = inr (inr (inr (inr (bare_block rows spans layers hulls windows l root none ends))))

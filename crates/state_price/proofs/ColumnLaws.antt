@@ -62,7 +62,7 @@ by_places y =
     many = length-map (range_with_len 0 (length y)) (value_at y) ∙ length-range_with_len 0 (length y)
 
 -- coefficients by place are a list
-coefs_by_places : (terms : List Term) (n : ℕ) (coefs : List ℤ) → AreCoefs terms n coefs → coefs ≡ map (coefficient terms) (range_with_len 0 n)
+pub coefs_by_places : (terms : List Term) (n : ℕ) (coefs : List ℤ) → AreCoefs terms n coefs → coefs ≡ map (coefficient terms) (range_with_len 0 n)
 coefs_by_places terms n coefs h =
     ext_get_or (pos 0) coefs (map (coefficient terms) (range_with_len 0 n)) (h.each ∙ sym many)
     (λ j l. h.coefs_are j ∙ sym (get_or-map-range_with_len (coefficient terms) 0 n j j (pos 0) (omega (arith, l, h.each)) (omega arith)))

@@ -1,16 +1,18 @@
 -- Laws of one layer's arcs as they are made.
 use Rattle.std.proofs.Common.{◌≡◌, refl, sym, ap, subst, ◌∙◌, ℕ, zero, suc, ◌+◌, ◌<◌, ◌≤◌, List, [], ◌∷◌, ◌++◌, length, get_or, arith, inl, inr, ⊎_elim}
-use Rattle.std.proofs.Math.IntN.{ℤ, pos, ◌+ℤ◌}
-use Rattle.std.specs.Prelude.{◌≤ℤ◌, ◌<ℤ◌, ◌⊎◌}
-use Rattle.std.proofs.lemmas.Int.{ints, by_lt_z}
+use Rattle.std.proofs.Math.IntN.{ℤ, pos, ◌+ℤ◌, ◌-ℤ◌, ◌*ℤ◌}
+use Rattle.std.specs.Prelude.{◌≤ℤ◌, ◌<ℤ◌, ◌⊎◌, All}
+use Rattle.std.specs.Int.{int_min, int_max}
+use Rattle.std.proofs.lemmas.List.{get_or_default}
+use Rattle.std.proofs.lemmas.Int.{ints, clamps, by_lt_z}
 use Rattle.std.proofs.lemmas.Bool.{cases_lt}
-use Rattle.bp_theory.specs.Program.{IsWithin}
+use Rattle.bp_theory.specs.Program.{span_at, IsWithin}
 use Rattle.bp_theory.specs.Classes.{width}
 use Rattle.bp_theory.specs.declared.Span.{Span}
-use Rattle.state_price.specs.Windows.{IsFound, IsGrown}
-use Rattle.state_price.specs.Layers.{IsShaped}
-use Rattle.state_price.specs.Graphs.{arc_at, Leads}
-use Rattle.state_price.specs.Expansions.{state_at, HaveRows, IsStateOf, IsLeft, IsGone, IsSound, IsServed, IsBuilt, IsExpanded}
+use Rattle.state_price.specs.Windows.{clip, coef_of, IsEmpty, IsFound, IsGrown}
+use Rattle.state_price.specs.Layers.{IsShaped, AreBare}
+use Rattle.state_price.specs.Graphs.{arc_at, AreOrdered, Leads}
+use Rattle.state_price.specs.Expansions.{state_at, IsEndState, HaveRows, IsStateOf, IsLeft, IsGone, IsSound, IsServed, IsBuilt, IsExpanded}
 use Rattle.state_price.specs.declared.graph.Arc.{Arc}
 use Rattle.state_price.specs.declared.layers.Layer.{Layer}
 
@@ -46,6 +48,65 @@ served_more layer states arcs arc i y (inr (j, leads)) =
 up_to : (y end : ℤ) → y <ℤ (end +ℤ pos 1) → (y <ℤ end) ⊎ (y ≡ end)
 up_to y end l = by_lt_z y end (λ less. inl less) (λ more. inr (omega (arith, ints)))
 
+-- where an arc starts in a list with one more at the end
+old_from : (arcs : List Arc) (arc : Arc) (j : ℕ) → j < length arcs → (arc_at (arcs ++ (arc ∷ [])) j).from ≡ (arc_at arcs j).from
+old_from arcs arc j l = ap (λ (a : Arc). a.from) (old_at arcs arc (record { from = 0; to = 0; label = record { lo = pos 0; hi = pos 0 } }) j l)
+
+new_from : (arcs : List Arc) (arc : Arc) (j : ℕ) → j ≡ length arcs → (arc_at (arcs ++ (arc ∷ [])) j).from ≡ arc.from
+new_from arcs arc j e =
+    ap (λ n. (arc_at (arcs ++ (arc ∷ [])) n).from) e
+    ∙ ap (λ (a : Arc). a.from) (new_at arcs arc (record { from = 0; to = 0; label = record { lo = pos 0; hi = pos 0 } }))
+
+-- arcs start at no node behind one
+upto_more : (arcs : List Arc) (arc : Arc) (from : ℕ) → arc.from ≡ from → ((j : ℕ) → j < length arcs → (arc_at arcs j).from ≤ from)
+    → (j : ℕ) → j < length (arcs ++ (arc ∷ [])) → (arc_at (arcs ++ (arc ∷ [])) j).from ≤ from
+upto_more arcs arc from is upto j l = ⊎_elim
+    (λ less. omega (arith, old_from arcs arc j less, upto j less))
+    (λ above. omega (arith, new_from arcs arc j (omega (arith, l, above, longer arcs arc)), is))
+    (cases_lt j (length arcs))
+
+-- they stay in order
+ordered_more : (arcs : List Arc) (arc : Arc) (from : ℕ) → arc.from ≡ from → ((j : ℕ) → j < length arcs → (arc_at arcs j).from ≤ from)
+    → AreOrdered arcs → AreOrdered (arcs ++ (arc ∷ []))
+ordered_more arcs arc from is upto ordered j k le l = ⊎_elim
+    (λ less. omega (arith, old_from arcs arc k less, old_from arcs arc j (omega (arith, le, less)), ordered j k le less))
+    (λ above. omega (arith, new_from arcs arc k (omega (arith, l, above, longer arcs arc)), is, upto_more arcs arc from is upto j (omega (arith, le, l))))
+    (cases_lt k (length arcs))
+
+-- a window that is left of a hull to which nothing can be added has nothing but 0
+zero_left : (w : Span) (d : ℤ) (h : Span) → h ≡ record { lo = pos 0; hi = pos 0 } → (IsEmpty (clip w d h) → ⊥) → IsWithin (clip w d h) (pos 0)
+zero_left w d h e filled =
+    subst (λ (x : Span). IsWithin (clip w d x) (pos 0)) (sym e) (by w.lo w.hi d (subst (λ (x : Span). IsEmpty (clip w d x) → ⊥) e filled))
+  where
+    crossed : (a b : ℤ) → (b <ℤ a → ⊥) → a ≤ℤ b
+    crossed a b none = by_lt_z b a (λ less. absurd (none less)) (λ more. more)
+
+    by : (a b d : ℤ) → (int_min (b -ℤ d) (pos 0) <ℤ int_max (a -ℤ d) (pos 0) → ⊥)
+        → IsWithin (record { lo = int_max (a -ℤ d) (pos 0); hi = int_min (b -ℤ d) (pos 0) }) (pos 0)
+    by a b d none = record {
+      above = low (a -ℤ d) (b -ℤ d) (crossed (int_max (a -ℤ d) (pos 0)) (int_min (b -ℤ d) (pos 0)) none);
+      below = high (a -ℤ d) (b -ℤ d) (crossed (int_max (a -ℤ d) (pos 0)) (int_min (b -ℤ d) (pos 0)) none);
+    }
+      where
+        low : (a b : ℤ) → int_max a (pos 0) ≤ℤ int_min b (pos 0) → int_max a (pos 0) ≤ℤ pos 0
+        low a b p = omega (arith, ints, clamps)
+
+        high : (a b : ℤ) → int_max a (pos 0) ≤ℤ int_min b (pos 0) → pos 0 ≤ℤ int_min b (pos 0)
+        high a b p = omega (arith, ints, clamps)
+
+-- so the state that is left behind the last layer allows the end
+left_end : (layer : Layer) (state : List Span) (y : ℤ) (left : List Span) → length layer.hulls ≡ length state → IsLeft layer state y left → AreBare layer.hulls → IsEndState left
+left_end layer state y left each m bare k d l =
+    subst (λ (s : Span). IsWithin s (pos 0)) (get_or_default left k (record { lo = pos 0; hi = pos 0 }) d l)
+    (m.joins.onto (λ row. pos 0) (λ row r. refl) holds k l)
+  where
+    holds : (row : ℕ) → row < length m.moved → IsWithin (span_at m.moved row) (pos 0)
+    holds row r =
+        let there : row < length state = omega (arith, r, m.moves.each) in
+        subst (λ (s : Span). IsWithin s (pos 0)) (sym (m.moves.windows row there))
+        (zero_left (span_at state row) (coef_of layer.column row *ℤ y) (span_at layer.hulls row) (bare row (omega (arith, there, each)))
+        (λ e. m.filled row r (subst (λ (s : Span). IsEmpty s) (sym (m.moves.windows row there)) e)))
+
 -- a number that leaves nothing
 pub built_gone : (layer : Layer) (states : List (List Span)) (from : ℕ) (y : ℤ) (next : List (List Span)) (arcs : List Arc)
     → IsGone layer (state_at states from) y → IsBuilt layer states from y next arcs → IsBuilt layer states from (y +ℤ pos 1) next arcs
@@ -54,6 +115,9 @@ built_gone layer states from y next arcs gone b = record {
   before = b.before;
   rows = b.rows;
   here = λ z within less. by z within (up_to z y less);
+  ordered = b.ordered;
+  upto = b.upto;
+  ends = b.ends;
 }
   where
     by : (z : ℤ) → IsWithin layer.span z → (z <ℤ y) ⊎ (z ≡ y) → IsServed layer states arcs from z
@@ -84,17 +148,31 @@ kept_rows rows before now state (inr more) each have = subst (HaveRows rows) (sy
         ap (λ n. length (get_or (before ++ (state ∷ [])) n d)) last ∙ ap (λ (s : List Span). length s) (new_at before state d) ∙ each)
         (cases_lt k (length before))
 
+kept_each : (P : List Span → Type 0) (before now : List (List Span)) (state : List Span) → IsGrown before state now → P state → All P before → All P now
+kept_each P before now state (inl same) is have = subst (λ (ss : List (List Span)). All P ss) (sym same) have
+kept_each P before now state (inr more) is have = subst (λ (ss : List (List Span)). All P ss) (sym more) here
+  where
+    here : All P (before ++ (state ∷ []))
+    here k d l = ⊎_elim
+        (λ less. subst P (sym (old_at before state d k less)) (have k d less))
+        (λ above. let last : k ≡ length before = omega (arith, l, above, longer before state) in
+        subst (λ n. P (get_or (before ++ (state ∷ [])) n d)) (sym last) (subst P (sym (new_at before state d)) is))
+        (cases_lt k (length before))
+
 -- a number that leads to a state
 pub built_moved : (layer : Layer) (states : List (List Span)) (from : ℕ) (y : ℤ) (next now : List (List Span)) (arcs : List Arc) (moved : List Span) (to : ℕ) (arc : Arc)
-    → from < length states → IsWithin layer.span y → length layer.column ≡ length (state_at states from)
+    → from < length states → IsWithin layer.span y → length layer.column ≡ length (state_at states from) → length layer.hulls ≡ length (state_at states from)
     → IsLeft layer (state_at states from) y moved → IsFound now moved to → IsGrown next moved now
     → arc ≡ record { from = from; to = to; label = record { lo = y; hi = y } }
     → IsBuilt layer states from y next arcs → IsBuilt layer states from (y +ℤ pos 1) now (arcs ++ (arc ∷ []))
-built_moved layer states from y next now arcs moved to arc there within shaped m found grown is b = record {
+built_moved layer states from y next now arcs moved to arc there within shaped each m found grown is b = record {
   sound = sound;
   before = λ i z less inside. served_more layer states arcs arc i z (b.before i z less inside);
   rows = kept_rows (length layer.column) next now moved grown ((m.joins.each ∙ m.moves.each) ∙ sym shaped) b.rows;
   here = λ z inside less. by z inside (up_to z y less);
+  ordered = ordered_more arcs arc from (ap (λ (a : Arc). a.from) is) b.upto b.ordered;
+  upto = upto_more arcs arc from (ap (λ (a : Arc). a.from) is) b.upto;
+  ends = λ bare. kept_each IsEndState next now moved grown (left_end layer (state_at states from) y moved each m bare) (b.ends bare);
 }
   where
     none : Arc
@@ -146,6 +224,9 @@ built_none layer states = record {
   before = λ i y l within. absurd (omega arith);
   rows = λ k d l. absurd (omega arith);
   here = λ y within less. absurd (none layer.span.lo y within.above less);
+  ordered = λ j k le l. absurd (omega (arith, l));
+  upto = λ j l. absurd (omega (arith, l));
+  ends = λ bare k d l. absurd (omega (arith, l));
 }
   where
     none : (a b : ℤ) → a ≤ℤ b → b <ℤ a → ⊥
@@ -163,6 +244,9 @@ built_state layer states from next arcs b = record {
       (cases_lt i from);
   rows = b.rows;
   here = λ y within less. absurd (none layer.span.lo y within.above less);
+  ordered = b.ordered;
+  upto = λ j l. omega (arith, b.upto j l);
+  ends = b.ends;
 }
   where
     none : (a b : ℤ) → a ≤ℤ b → b <ℤ a → ⊥
@@ -181,6 +265,8 @@ built_all layer states next arcs from all b = record {
   sound = b.sound;
   rows = b.rows;
   served = λ i y l within. b.before i y (omega (arith, l, all)) within;
+  ordered = b.ordered;
+  ends = b.ends;
 }
 
 -- the same of a state that was read
@@ -195,6 +281,6 @@ pub read_left : (layer : Layer) (states : List (List Span)) (from : ℕ) (y : �
     → arc ≡ record { from = from; to = to; label = record { lo = y; hi = y } }
     → IsBuilt layer states from y next arcs → IsBuilt layer states from (y +ℤ pos 1) now (arcs ++ (arc ∷ []))
 read_left layer states from y next now arcs state left to arc at within shaped m found grown is built =
-    built_moved layer states from y next now arcs left to arc at.there within (shaped.column ∙ ap (λ (s : List Span). length s) (sym at.same))
+    built_moved layer states from y next now arcs left to arc at.there within (shaped.column ∙ ap (λ (s : List Span). length s) (sym at.same)) (shaped.hulls ∙ ap (λ (s : List Span). length s) (sym at.same))
     (subst (λ (s : List Span). IsLeft layer s y left) (sym at.same) m)
     found grown is built

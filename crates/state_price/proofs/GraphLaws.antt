@@ -1,14 +1,15 @@
 -- Laws of graphs: their ways are what completes their states.
 use Rattle.std.proofs.Common.{◌≡◌, sym, ap, subst, ◌∙◌, ℕ, zero, suc, ◌+◌, ◌<◌, ◌≤◌, List, [], ◌∷◌, ◌++◌, length, get_or, arith, inl, inr, drop, append_assoc, drop-cons}
 use Rattle.std.proofs.Math.IntN.{ℤ, pos}
-use Rattle.std.specs.Prelude.{◌^◌}
+use Rattle.std.specs.Prelude.{◌^◌, All}
 use Rattle.std.specs.List.{AllByRecursion}
 use Rattle.std.proofs.lemmas.List.{get_or_default}
+use Rattle.std.proofs.Math.ListN.{drop_of_length-le}
 use Rattle.std.proofs.lemmas.List.Elements.{recursion_from_All, All-from_recursion}
 use Rattle.bp_theory.specs.declared.Span.{Span}
 use Rattle.state_price.specs.Windows.{AreAlike}
-use Rattle.state_price.specs.Layers.{row_sum, IsCompletion, AreHulls, AreTwins, IsShaped, AreLayers}
-use Rattle.state_price.specs.Graphs.{arc_at, IsWay, IsArcSafe, IsStepSafe, IsSafe}
+use Rattle.state_price.specs.Layers.{row_sum, IsCompletion, AreHulls, AreTwins, AreBare, AreClosed, IsShaped, AreLayers}
+use Rattle.state_price.specs.Graphs.{arc_at, AreOrdered, IsWay, IsArcSafe, IsStepSafe, IsSafe}
 use Rattle.state_price.specs.Expansions.{state_at, HaveRows, IsLeft, IsServed, IsExpanded, IsRight, AreRight, IsEndState}
 use Rattle.state_price.specs.declared.graph.Arc.{Arc}
 use Rattle.state_price.specs.declared.layers.Layer.{Layer}
@@ -73,6 +74,23 @@ layer_at rows [] k d h l = absurd (omega arith)
 layer_at rows (x ∷ xs) zero d h l = (h.0, h.1, h.2)
 layer_at rows (x ∷ xs) (suc k) d h l = layer_at rows xs k d h.3 (omega arith)
 
+-- behind the last layer nothing can be added
+closed_at : (rows : ℕ) (layers : List Layer) (k : ℕ) (d : Layer) → AreLayers rows layers → k < length layers → AreClosed (drop (suc k) layers) (get_or layers k d).hulls
+closed_at rows [] k d h l = absurd (omega arith)
+closed_at rows (x ∷ xs) zero d h l = h.4
+closed_at rows (x ∷ xs) (suc k) d h l = closed_at rows xs k d h.3 (omega arith)
+
+pub last_bare : (rows : ℕ) (layers : List Layer) (k : ℕ) (l : Layer) → AreLayers rows layers → k < length layers → length layers ≤ k + 1 → l ≡ get_or layers k l → AreBare l.hulls
+last_bare rows layers k l h there last is =
+    subst (λ (x : Layer). AreBare x.hulls) (sym is)
+    (subst (λ (ls : List Layer). AreClosed ls (get_or layers k l).hulls) none (closed_at rows layers k l h there))
+  where
+    none : drop (suc k) layers ≡ []
+    none = drop_of_length-le layers all
+      where
+        all : length layers ≤ suc k
+        all = omega (arith, last)
+
 -- a loop's step: one layer more
 pub graph_more : (rows : ℕ) (layers : List Layer) (k : ℕ) (d : Layer) (l : Layer) (root : List Span) (states next : List (List Span)) (arcs : List Arc) (steps : List (List Arc))
     → k < length layers → l ≡ get_or layers k d → AreLayers rows layers → HaveRows rows states → IsExpanded l states next arcs
@@ -105,6 +123,14 @@ graph_more rows layers k d l root states next arcs steps there is shaped have x 
 
     now : AreRight (l ∷ drop (suc k) layers) states (arcs ∷ rest)
     now = expanded_right l (drop (suc k) layers) states next arcs rest each hulls twins x (subst (λ n. AreRight (drop n layers) next rest) one right)
+
+-- arcs stay in order
+pub ordered_more : (steps : List (List Arc)) (arcs : List Arc) → All AreOrdered steps → AreOrdered arcs → All AreOrdered (steps ++ (arcs ∷ []))
+ordered_more steps arcs have more = All-from_recursion AreOrdered (steps ++ (arcs ∷ [])) (joined steps (recursion_from_All AreOrdered steps have))
+  where
+    joined : (ss : List (List Arc)) → AllByRecursion AreOrdered ss → AllByRecursion AreOrdered (ss ++ (arcs ∷ []))
+    joined [] h = (more, tt)
+    joined (s ∷ ss) h = (h.0, joined ss h.1)
 
 -- arcs stay safe
 pub graph_safe : (l : Layer) (states next : List (List Span)) (arcs : List Arc) (steps : List (List Arc)) (wide wider : ℕ)

@@ -10,4 +10,6 @@ pub mod ColumnLaws
 pub mod BlockLaws
 pub mod TwinLaws
 pub mod LayerLaws
+pub mod LimitLaws
+pub mod SizeLaws
 pub mod MergeLaws

@@ -1,5 +1,5 @@
 -- Coefficients by row and by variable, and hulls with one variable more.
-use Rattle.std.specs.Prelude.{◌≡◌, ℕ, ◌<◌, List, [], length, slice_index_or, ℤ, pos, ◌+ℤ◌}
+use Rattle.std.specs.Prelude.{◌≡◌, ℕ, ◌<◌, ◌^◌, ◌⊎◌, unsigned_abs, List, [], length, slice_index_or, ℤ, pos, ◌+ℤ◌}
 use Rattle.bp_theory.specs.Program.{coefficient, span_at}
 use Rattle.bp_theory.specs.Bound.{end_cost}
 use Rattle.bp_theory.specs.declared.Span.{Span}
@@ -26,6 +26,10 @@ pub record IsColumn (dense : List (List ℤ)) (var : ℕ) (column : List ℤ) : 
 -- a hull with one variable more in front
 abbrev pub hull_with : (hull : Span) (coef : ℤ) (span : Span) → Span
 hull_with hull coef span = record { lo = hull.lo +ℤ end_cost span coef; hi = hull.hi +ℤ top_cost span coef }
+
+-- a hull's end is more than 2 to the 62 in magnitude
+abbrev pub IsLong : (hull : Span) → Type 0
+IsLong hull = (2 ^ 62 < unsigned_abs hull.lo) ⊎ (2 ^ 62 < unsigned_abs hull.hi)
 
 -- the hulls of all rows
 pub record AreWidened (hulls : List Span) (column : List ℤ) (span : Span) (wider : List Span) : Type 0 where

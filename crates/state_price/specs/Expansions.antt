@@ -1,10 +1,10 @@
 -- One layer of a graph: from its states to those of the next.
-use Rattle.std.specs.Prelude.{◌≡◌, ℕ, ◌<◌, ◌⊎◌, List, [], length, slice_index_or, ℤ, pos, ◌<ℤ◌, All}
+use Rattle.std.specs.Prelude.{◌≡◌, ℕ, ◌<◌, ◌≤◌, ◌⊎◌, List, [], length, slice_index_or, ℤ, pos, ◌<ℤ◌, All}
 use Rattle.bp_theory.specs.Program.{IsWithin}
 use Rattle.bp_theory.specs.declared.Span.{Span}
-use Rattle.state_price.specs.Windows.{IsMoved, IsLost, IsJoined, IsVoid}
-use Rattle.state_price.specs.Graphs.{arc_at, Leads, IsWay}
-use Rattle.state_price.specs.Layers.{IsCompletion}
+use Rattle.state_price.specs.Windows.{IsMoved, IsLost, IsJoined, IsVoid, AreFilled}
+use Rattle.state_price.specs.Graphs.{arc_at, AreOrdered, Leads, IsWay}
+use Rattle.state_price.specs.Layers.{AreBare, IsCompletion}
 use Rattle.state_price.specs.declared.graph.Arc.{Arc}
 use Rattle.state_price.specs.declared.layers.Layer.{Layer}
 
@@ -16,6 +16,10 @@ state_at states k = slice_index_or states k []
 abbrev pub HaveRows : (rows : ℕ) → List (List Span) → Type 0
 HaveRows rows states = All (λ s. length s ≡ rows) states
 
+-- a state that allows that no variables are left
+abbrev pub IsEndState : List Span → Type 0
+IsEndState state = All (λ w. IsWithin w (pos 0)) state
+
 -- a state has this number
 pub record IsStateOf (states : List (List Span)) (from : ℕ) (state : List Span) : Type 0 where
   pub there : from < length states
@@ -25,6 +29,7 @@ pub record IsStateOf (states : List (List Span)) (from : ℕ) (state : List Span
 pub record IsLeft (layer : Layer) (state : List Span) (y : ℤ) (left : List Span) : Type 0 where
   pub moved : List Span
   pub moves : IsMoved layer.column layer.hulls state y moved
+  pub filled : AreFilled moved
   pub joins : IsJoined layer.twins moved left
 
 -- it leaves nothing of it: a row has nothing left, or no sums lie in the windows as they are moved
@@ -49,12 +54,17 @@ pub record IsBuilt (layer : Layer) (states : List (List Span)) (from : ℕ) (end
   pub before : (i : ℕ) (y : ℤ) → i < from → IsWithin layer.span y → IsServed layer states arcs i y
   pub rows : HaveRows (length layer.column) next
   pub here : (y : ℤ) → IsWithin layer.span y → y <ℤ end → IsServed layer states arcs from y
+  pub ordered : AreOrdered arcs
+  pub upto : (j : ℕ) → j < length arcs → (arc_at arcs j).from ≤ from
+  pub ends : AreBare layer.hulls → All IsEndState next
 
 -- each arc is sound, and each number of each state is served
 pub record IsExpanded (layer : Layer) (states next : List (List Span)) (arcs : List Arc) : Type 0 where
   pub sound : (j : ℕ) → j < length arcs → IsSound layer states next (arc_at arcs j)
   pub rows : HaveRows (length layer.column) next
   pub served : (i : ℕ) (y : ℤ) → i < length states → IsWithin layer.span y → IsServed layer states arcs i y
+  pub ordered : AreOrdered arcs
+  pub ends : AreBare layer.hulls → All IsEndState next
 
 -- the ways from a node are what completes its state
 pub record IsRight (layers : List Layer) (state : List Span) (steps : List (List Arc)) (node : ℕ) : Type 0 where
@@ -64,7 +74,3 @@ pub record IsRight (layers : List Layer) (state : List Span) (steps : List (List
 -- those from each node of the first layer
 abbrev pub AreRight : (layers : List Layer) (states : List (List Span)) (steps : List (List Arc)) → Type 0
 AreRight layers states steps = (i : ℕ) → i < length states → IsRight layers (state_at states i) steps i
-
--- a state that allows that no variables are left
-abbrev pub IsEndState : List Span → Type 0
-IsEndState state = All (λ w. IsWithin w (pos 0)) state

@@ -1,5 +1,5 @@
 -- Graphs of layers, and their ways.
-use Rattle.std.specs.Prelude.{◌≡◌, ℕ, ◌<◌, ◌^◌, List, [], ◌∷◌, length, slice_index_or, ℤ, pos, All}
+use Rattle.std.specs.Prelude.{◌≡◌, ℕ, ◌<◌, ◌≤◌, ◌^◌, List, [], ◌∷◌, length, slice_index_or, ℤ, pos, All}
 use Rattle.bp_theory.specs.Program.{IsWithin}
 use Rattle.bp_theory.specs.Bound.{IsPoint}
 use Rattle.bp_theory.specs.declared.Span.{Span}
@@ -9,6 +9,10 @@ use Rattle.state_price.specs.declared.graph.Arc.{Arc}
 -- the arc of a number
 abbrev pub arc_at : List Arc → ℕ → Arc
 arc_at arcs j = slice_index_or arcs j (record { from = 0; to = 0; label = record { lo = pos 0; hi = pos 0 } })
+
+-- arcs stand in the order of the nodes that they start at
+abbrev pub AreOrdered : List Arc → Type 0
+AreOrdered arcs = (j k : ℕ) → j ≤ k → k < length arcs → (arc_at arcs j).from ≤ (arc_at arcs k).from
 
 -- an arc starts and ends at nodes below a number
 pub record IsArcSafe (wide : ℕ) (arc : Arc) : Type 0 where

@@ -28,6 +28,15 @@ pub record IsCompletion (layers : List Layer) (state : List Span) (ys : List ℤ
 abbrev pub AreHulls : List Layer → List Span → Type 0
 AreHulls layers hulls = (row : ℕ) (ys : List ℤ) → row < length hulls → IsInside (spans_in layers) ys → IsWithin (span_at hulls row) (row_sum layers row ys)
 
+-- hulls to which nothing can be added
+abbrev pub AreBare : List Span → Type 0
+AreBare hulls = (row : ℕ) → row < length hulls → span_at hulls row ≡ record { lo = pos 0; hi = pos 0 }
+
+-- behind the last layer nothing can be added
+abbrev pub AreClosed : List Layer → List Span → Type 0
+AreClosed [] hulls = AreBare hulls
+AreClosed (l ∷ ls) hulls = Unit {0}
+
 -- rows whose sums over the layers' variables are those of other rows
 pub record AreTwins (layers : List Layer) (twins : List ℕ) : Type 0 where
   pub below : (row : ℕ) → row < length twins → twin_at twins row < length twins
@@ -40,10 +49,10 @@ pub record IsShaped (rows : ℕ) (l : Layer) : Type 0 where
   pub twins : length l.twins ≡ rows
   pub below : All (λ twin. twin < rows) l.twins
 
--- each layer is shaped, and has the hulls and twins of those behind it
+-- each layer is shaped, and has the hulls and twins of those behind it, which are none behind the last
 abbrev pub AreLayers : (rows : ℕ) → List Layer → Type 0
 AreLayers rows [] = Unit {0}
-AreLayers rows (l ∷ ls) = IsShaped rows l × AreHulls ls l.hulls × AreTwins ls l.twins × AreLayers rows ls
+AreLayers rows (l ∷ ls) = IsShaped rows l × AreHulls ls l.hulls × AreTwins ls l.twins × AreLayers rows ls × AreClosed ls l.hulls
 
 -- the lower side of a row where it has one, within a hull
 abbrev pub lower_side : Sense → (low least : ℤ) → ℤ

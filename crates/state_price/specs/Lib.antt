@@ -9,3 +9,4 @@ pub mod Kept
 pub mod Columns
 pub mod Rooms
 pub mod Merges
+pub mod Limits

@@ -12,6 +12,10 @@ clip window added hull = record { lo = int_max (window.lo -ℤ added) hull.lo; h
 abbrev pub IsEmpty : Span → Type 0
 IsEmpty window = window.hi <ℤ window.lo
 
+-- each window has a sum
+abbrev pub AreFilled : List Span → Type 0
+AreFilled state = (row : ℕ) → row < length state → IsEmpty (span_at state row) → ⊥
+
 -- a coefficient of a column
 abbrev pub coef_of : List ℤ → ℕ → ℤ
 coef_of column row = slice_index_or column row (pos 0)

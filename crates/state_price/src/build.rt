@@ -1,10 +1,12 @@
 // The graph of a block.
-ghost use Rattle.std.specs.Prelude.{◌≡◌, ◌≤◌, ◌^◌, ◌↔◌, ℕ, pos, All, IfOk, IfSome, IsTrue, length, vec_len};
+ghost use Rattle.std.specs.Prelude.{◌≡◌, ◌<◌, ◌≤◌, ◌^◌, ◌↔◌, ◌⊎◌, ℕ, [], pos, All, IfOk, IfSome, IfNone, IsTrue, length, vec_len};
+ghost use Rattle.bp_theory.specs.Classes.{prefixes};
 ghost use Rattle.bp_theory.specs.Program.{IsWithin};
 ghost use Rattle.pricing.specs.Form.{IsForm, HasShortEnds};
-ghost use Rattle.state_price.specs.Graphs.{IsGraphOf};
-ghost use Rattle.state_price.specs.Layers.{AreLayers};
+ghost use Rattle.state_price.specs.Graphs.{AreOrdered, IsGraphOf};
+ghost use Rattle.state_price.specs.Layers.{AreLayers, spans_in};
 ghost use Rattle.state_price.specs.Expansions.{IsRight, IsEndState};
+ghost use Rattle.state_price.specs.Limits.{AreManyArcs, HasManyArcs, HasManyNodes, IsBeyond};
 
 use crate::columns::layers_of;
 use crate::expand::{Frontier, MOST_STATES, expand};
@@ -56,16 +58,22 @@ fn larger(a: usize, b: usize) -> usize
 
 /// How many arcs a graph of so many rows may have.
 fn room_for(rows: usize) -> usize
-    ensures { result ≤ 2 ^ 18 }
+    ensures few { result ≤ 2 ^ 18 }
+    ensures many { (arcs : ℕ) → result < arcs → AreManyArcs rows arcs }
 {
     MOST_ARCS.min(MOST_WINDOWS / rows.max(1))
 }
 
-/// The graph of layers from a first state on; none where it has too many arcs or states.
+/// The graph of layers from a first state on; none only where more numbers are tried than it may have arcs, or where there are
+/// no layers and the state doesn't allow that.
 fn graph_of(alloc: Global, layers: &[Layer], root: Items<Span>) -> Result<Option<Graph>, AllocError>
     requires layers { AreLayers (length root) layers.now }
     requires short { All (λ l. HasShortEnds l.span) layers.now }
     ensures many { IfOk result (λ made. IfSome made (λ g. vec_len g.steps ≡ length layers.now)) }
+    ensures none { IfOk result (λ made. IfNone made (HasManyArcs (length root) (spans_in layers.now) ⊎
+        ((layers.now ≡ []) × (IsEndState root → ⊥)))) }
+    ensures thin { IfOk result (λ made. IfSome made (λ g. g.wide ≤ prefixes (spans_in layers.now))) }
+    ensures ordered { IfOk result (λ made. IfSome made (λ g. All AreOrdered g.steps.items)) }
     ensures narrow { IfOk result (λ made. IfSome made (λ g. g.wide ≤ 2 ^ 20)) }
     ensures right { IfOk result (λ made. IfSome made
         (λ g. IsRight layers.now root g.steps.items 0)) }
@@ -94,7 +102,8 @@ fn graph_of(alloc: Global, layers: &[Layer], root: Items<Span>) -> Result<Option
     Ok(Some(Graph { steps, wide, made }))
 }
 
-/// The graph of layers from a first state on, with its nodes merged from behind; none where it then has too many.
+/// The graph of layers from a first state on, with its nodes merged from behind; none only where there is none before, or where
+/// it then has too many nodes. Merging makes no layer wider.
 fn merged_of(
     alloc: Global,
     layers: &[Layer],
@@ -102,6 +111,8 @@ fn merged_of(
 ) -> Result<Option<Graph>, AllocError>
     requires layers { AreLayers (length root) layers.now }
     requires short { All (λ l. HasShortEnds l.span) layers.now }
+    ensures none { IfOk result (λ made. IfNone made (HasManyArcs (length root) (spans_in layers.now) ⊎
+        HasManyNodes (spans_in layers.now) ⊎ ((layers.now ≡ []) × (IsEndState root → ⊥)))) }
     ensures many { IfOk result (λ made. IfSome made (λ g. vec_len g.steps ≡ length layers.now)) }
     ensures right { IfOk result (λ made. IfSome made
         (λ g. IsRight layers.now root g.steps.items 0)) }
@@ -110,19 +121,22 @@ fn merged_of(
         Some(graph) => graph,
         None => return Ok(None),
     };
+    let wide = graph.wide;
     let merged = match merge(alloc, graph)? {
         Some(merged) => merged,
         None => return Ok(None),
     };
-    if merged.wide.saturating_mul(layers.len()) > MOST_CELLS {
+    if merged.wide.min(wide).saturating_mul(layers.len()) > MOST_CELLS {
         return Ok(None);
     }
     Ok(Some(merged))
 }
 
-/// The graph whose ways are the points of rows within spans; none where the limits don't allow it.
+/// The graph whose ways are the points of rows within spans; none only where a limit may be passed, or where there are no spans
+/// and no point.
 pub fn build(alloc: Global, rows: &[Row], spans: &[Span]) -> Result<Option<Graph>, AllocError>
     requires { IsForm rows.now spans.now }
+    ensures none { IfOk result (λ made. IfNone made (IsBeyond rows.now spans.now)) }
     ensures many { IfOk result (λ made. IfSome made (λ g. vec_len g.steps ≡ length spans.now)) }
     ensures graph { IfOk result (λ made. IfSome made
         (λ g. IsGraphOf rows.now spans.now g.steps.items)) }

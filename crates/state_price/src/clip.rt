@@ -1,8 +1,8 @@
 // The windows of sums after a variable has a number.
-ghost use Rattle.std.specs.Prelude.{◌≡◌, ◌<◌, ◌≤◌, ◌^◌, ◌*ℤ◌, ◌-ℤ◌, ◌≤ℤ◌, MatchOption, length, vec_len, unsigned_abs};
+ghost use Rattle.std.specs.Prelude.{◌≡◌, ◌<◌, ◌≤◌, ◌^◌, ◌*ℤ◌, ◌-ℤ◌, ◌≤ℤ◌, MatchOption, IfSome, length, vec_len, unsigned_abs};
 ghost use Rattle.std.specs.Bool.{OnTrue, OnFalse};
 ghost use Rattle.std.specs.Int.{int_min, int_max};
-ghost use Rattle.state_price.specs.Windows.{clip, IsEmpty, IsMoved, IsLost};
+ghost use Rattle.state_price.specs.Windows.{clip, IsEmpty, IsMoved, IsLost, AreFilled};
 
 use bp_theory::Span;
 
@@ -49,8 +49,9 @@ fn shortened(number: &i128, least: &i64, most: &i64) -> i64
 /// What a window of sums leaves to the variables behind one that has a number: it moves by what that number adds, and is
 /// clipped to what these variables can add up to. None where nothing is left.
 pub fn clipped(window: &Span, coef: &i64, number: &i64, hull: &Span) -> Option<Span>
-    ensures { MatchOption result (IsEmpty (clip window.now (coef.now *ℤ number.now) hull.now))
+    ensures left { MatchOption result (IsEmpty (clip window.now (coef.now *ℤ number.now) hull.now))
         (λ left. left ≡ clip window.now (coef.now *ℤ number.now) hull.now) }
+    ensures filled { IfSome result (λ left. IsEmpty left → ⊥) }
 {
     let added = product(coef, number);
     let lo = lower_end(&window.lo, &added, &hull.lo);
@@ -96,6 +97,7 @@ pub fn move_state(
     ensures room { vec_len moved.new ≡ vec_len moved.old }
     ensures moved { OnTrue result (IsMoved column.now hulls.now state.now number.now
         moved.new.items) }
+    ensures filled { OnTrue result (AreFilled moved.new.items) }
     ensures lost { OnFalse result (IsLost column.now hulls.now state.now number.now) }
 {
     if is_lost(state, column, hulls, number) {

@@ -1,13 +1,18 @@
 // The layers of a block.
-ghost use Rattle.std.specs.Prelude.{◌≡◌, ◌<◌, ◌≤◌, ◌^◌, ◌+ℤ◌, unsigned_abs, IfOk, IfSome, All, length};
+ghost use Rattle.std.specs.Prelude.{◌≡◌, ◌<◌, ◌≤◌, ◌^◌, ◌+ℤ◌, unsigned_abs, IfOk, IfSome, IfNone, All, ℕ, List, ◌*◌, ◌⊎◌, sum_by, FitsSigned, length};
 ghost use Rattle.bp_theory.specs.Bound.{end_cost};
+ghost use Rattle.bp_theory.specs.Program.{span_at};
 ghost use Rattle.pricing.specs.Ends.{top_cost};
 ghost use Rattle.bp_theory.specs.Decomposition.{HasVariablesBelow};
-ghost use Rattle.std.specs.Bool.{OnTrue};
+ghost use Rattle.std.specs.Bool.{OnTrue, OnFalse};
+ghost use Rattle.std.specs.Int.{w64};
+ghost use Rattle.bp_theory.specs.Limits.{number_limit};
+ghost use Rattle.bp_theory.specs.declared.Span.{Span};
 ghost use Rattle.state_price.specs.Windows.{coef_of};
-ghost use Rattle.pricing.specs.Form.{IsForm};
+ghost use Rattle.pricing.specs.Form.{IsForm, term_size, row_size};
 ghost use Rattle.state_price.specs.Layers.{AreLayersOf};
-ghost use Rattle.state_price.specs.Columns.{AreCoefs, AreDense, IsColumn, hull_with, AreWidened, AreZeros};
+ghost use Rattle.state_price.specs.Limits.{most_coefs, HasLongSpan};
+ghost use Rattle.state_price.specs.Columns.{AreCoefs, AreDense, IsColumn, IsLong, hull_with, AreWidened, AreZeros};
 
 use crate::clip::product;
 use crate::expand::count_of;
@@ -31,7 +36,8 @@ pub struct Layers {
 
 /// Adds a number to a sum. Tells whether the sum fits.
 fn add_to(sum: &mut i64, more: &i64) -> bool
-    ensures { OnTrue result (sum.new ≡ sum.old +ℤ more.now) }
+    ensures sum { OnTrue result (sum.new ≡ sum.old +ℤ more.now) }
+    ensures over { OnFalse result (FitsSigned w64 (sum.old +ℤ more.now) → ⊥) }
 {
     match sum.checked_add(*more) {
         Some(total) => {
@@ -42,10 +48,13 @@ fn add_to(sum: &mut i64, more: &i64) -> bool
     }
 }
 
-/// The coefficient of each variable in a row; none where one doesn't fit 64 bits.
+/// The coefficient of each variable in a row; none only where the terms add up to 2^62 in every spans, and then one may not fit
+/// 64 bits.
 fn coefs_of(alloc: Global, terms: &[Term], count: usize) -> Result<Option<Items<i64>>, AllocError>
     requires { HasVariablesBelow count terms.now }
-    ensures { IfOk result (λ made. IfSome made (λ coefs. AreCoefs terms.now count coefs)) }
+    ensures none { IfOk result (λ made. IfNone made
+        ((spans : List Span) → sum_by (term_size spans) terms.now < number_limit → ⊥)) }
+    ensures coefs { IfOk result (λ made. IfSome made (λ coefs. AreCoefs terms.now count coefs)) }
 {
     let mut coefs = Vec::from_elem(alloc, 0, count)?;
     for term in terms {
@@ -57,14 +66,16 @@ fn coefs_of(alloc: Global, terms: &[Term], count: usize) -> Result<Option<Items<
     Ok(Some(Items::from_vec(coefs)))
 }
 
-/// The coefficients of each row.
+/// The coefficients of each row; none only where a row is too large in every spans.
 fn dense_rows(
     alloc: Global,
     rows: &[Row],
     count: usize,
 ) -> Result<Option<Items<Items<i64>>>, AllocError>
     requires { All (λ row. HasVariablesBelow count row.terms) rows.now }
-    ensures { IfOk result (λ made. IfSome made (λ dense. AreDense rows.now count dense)) }
+    ensures none { IfOk result (λ made. IfNone made
+        ((spans : List Span) → All (λ row. row_size spans row < number_limit) rows.now → ⊥)) }
+    ensures dense { IfOk result (λ made. IfSome made (λ dense. AreDense rows.now count dense)) }
 {
     let mut dense = Items::new(alloc);
     for row in rows {
@@ -127,7 +138,8 @@ fn end_with(end: &i64, product: &i128) -> i128
 
 /// Whether a number is at most 2 to the 62 in magnitude.
 fn is_short(number: &i128) -> bool
-    ensures { OnTrue result (unsigned_abs number.now ≤ 2 ^ 62) }
+    ensures short { OnTrue result (unsigned_abs number.now ≤ 2 ^ 62) }
+    ensures long { OnFalse result (2 ^ 62 < unsigned_abs number.now) }
 {
     number.unsigned_abs() <= 1 << 62
 }
@@ -140,9 +152,10 @@ fn shortened(number: &i128) -> i64
     *number as i64
 }
 
-/// What variables can add up to with one more in front; none where it may not fit 64 bits.
+/// What variables can add up to with one more in front; none only where an end is more than 2^62 in magnitude.
 fn widened(hull: &Span, coef: &i64, span: &Span) -> Option<Span>
-    ensures { IfSome result (λ wider. wider ≡ hull_with hull.now coef.now span.now) }
+    ensures none { IfNone result (IsLong (hull_with hull.now coef.now span.now)) }
+    ensures wider { IfSome result (λ wider. wider ≡ hull_with hull.now coef.now span.now) }
 {
     let least = least_product(coef, span);
     let most = most_product(coef, span);
@@ -157,7 +170,7 @@ fn widened(hull: &Span, coef: &i64, span: &Span) -> Option<Span>
     })
 }
 
-/// What variables can add up to in each row with one more in front.
+/// What variables can add up to in each row with one more in front; none only where that is too much in a row.
 fn hulls_with(
     alloc: Global,
     hulls: &[Span],
@@ -165,7 +178,9 @@ fn hulls_with(
     span: &Span,
 ) -> Result<Option<Items<Span>>, AllocError>
     requires { length column.now ≡ length hulls.now }
-    ensures { IfOk result (λ made. IfSome made
+    ensures none { IfOk result (λ made. IfNone made ((row : ℕ) × (row < length hulls.now) ×
+        IsLong (hull_with (span_at hulls.now row) (coef_of column.now row) span.now))) }
+    ensures wider { IfOk result (λ made. IfSome made
         (λ wider. AreWidened hulls.now column.now span.now wider)) }
 {
     let mut wider = Vec::new(alloc);
@@ -189,7 +204,7 @@ fn zero_hulls(alloc: Global, count: usize) -> Result<Items<Span>, AllocError>
     Ok(Items::from_vec(hulls))
 }
 
-/// The layers of a block by the coefficients of its rows.
+/// The layers of a block by the coefficients of its rows; none only where a variable has too many numbers.
 fn layers_from(
     alloc: Global,
     rows: &[Row],
@@ -198,7 +213,8 @@ fn layers_from(
 ) -> Result<Option<Layers>, AllocError>
     requires form { IsForm rows.now spans.now }
     requires coefs { AreDense rows.now (length spans.now) dense.now }
-    ensures { IfOk result (λ made. IfSome made
+    ensures none { IfOk result (λ made. IfNone made (HasLongSpan spans.now)) }
+    ensures layers { IfOk result (λ made. IfSome made
         (λ l. AreLayersOf rows.now spans.now l.layers.items l.hulls)) }
 {
     let mut layers = Vec::new(alloc);
@@ -228,11 +244,12 @@ fn layers_from(
     Ok(Some(Layers { layers, hulls }))
 }
 
-/// The layers of a block; none where it has too many coefficients or a variable too many numbers, or where a sum may
-/// not fit 64 bits.
+/// The layers of a block; none only where it has too many coefficients or a variable too many numbers.
 pub fn layers_of(alloc: Global, rows: &[Row], spans: &[Span]) -> Result<Option<Layers>, AllocError>
     requires { IsForm rows.now spans.now }
-    ensures { IfOk result (λ made. IfSome made
+    ensures none { IfOk result (λ made. IfNone made
+        ((most_coefs < length rows.now * length spans.now) ⊎ HasLongSpan spans.now)) }
+    ensures layers { IfOk result (λ made. IfSome made
         (λ l. AreLayersOf rows.now spans.now l.layers.items l.hulls)) }
 {
     if rows.len().saturating_mul(spans.len()) > MOST_COEFS {

@@ -1,5 +1,5 @@
 // One layer of the graph: from its states to those of the next.
-ghost use Rattle.std.specs.Prelude.{◌≡◌, ◌<◌, ◌≤◌, ◌+◌, ◌^◌, ◌+ℤ◌, pos, IfOk, IfSome, List, length, vec_len};
+ghost use Rattle.std.specs.Prelude.{◌≡◌, ◌<◌, ◌≤◌, ◌+◌, ◌*◌, ◌^◌, min, max, IfNone, ◌+ℤ◌, pos, IfOk, IfSome, List, length, vec_len};
 ghost use Rattle.std.specs.Bool.{OnTrue, OnFalse};
 ghost use Rattle.bp_theory.specs.Program.{IsWithin};
 ghost use Rattle.bp_theory.specs.declared.Span.{Span};
@@ -18,9 +18,6 @@ use std::alloc::{AllocError, Global};
 
 /// The most states of a layer.
 pub const MOST_STATES: usize = 1 << 20;
-
-/// The most windows of the states of a layer.
-const MOST_WINDOWS: usize = 1 << 22;
 
 /// The arcs so far from a layer, and the states of the next that they lead to.
 #[derive(Drop)]
@@ -110,6 +107,8 @@ fn place(
     ensures arcs { IfOk result (λ _. length frontier.new.arcs ≤ length frontier.old.arcs + 1) }
     ensures states { IfOk result (λ _. vec_len frontier.new.states.list ≤
         vec_len frontier.old.states.list + 1) }
+    ensures fewer { IfOk result (λ _. vec_len frontier.old.states.list ≤ length frontier.old.arcs →
+        vec_len frontier.new.states.list ≤ length frontier.new.arcs) }
     ensures built { IfOk result (λ _. (states : List (List Span)) →
         IsStateOf states from state.now → IsWithin layer.now.span number.now →
         IsBuilt layer.now states from number.now frontier.old.states.list.items frontier.old.arcs →
@@ -125,17 +124,16 @@ fn place(
 }
 
 /// Whether a layer has as many arcs or states as it may have.
-fn is_full(frontier: &Frontier, rows: usize, room: usize) -> bool
+fn is_full(frontier: &Frontier, room: usize) -> bool
+    ensures full { OnTrue result (min room (2 ^ 20) ≤
+        max (length frontier.now.arcs) (vec_len frontier.now.states.list)) }
     ensures arcs { OnFalse result (length frontier.now.arcs < room) }
     ensures states { OnFalse result (vec_len frontier.now.states.list < 2 ^ 20) }
 {
-    let states = frontier.states.list.len();
-    frontier.arcs.len() >= room
-        || states >= MOST_STATES
-        || states.saturating_mul(rows) >= MOST_WINDOWS
+    frontier.arcs.len() >= room || frontier.states.list.len() >= MOST_STATES
 }
 
-/// Tries each number of a state. Tells whether there was room.
+/// Tries each number of a state. Tells whether there was room, which is short only where there are more numbers.
 fn expand_state(
     frontier: &mut Frontier,
     moved: &mut Vec<Span>,
@@ -153,6 +151,13 @@ fn expand_state(
     ensures room { vec_len moved.new ≡ vec_len moved.old }
     ensures arcs { IfOk result (λ _. length frontier.new.arcs ≤ room) }
     ensures states { IfOk result (λ _. vec_len frontier.new.states.list ≤ 2 ^ 20) }
+    ensures fewer { IfOk result (λ _. vec_len frontier.old.states.list ≤ length frontier.old.arcs →
+        vec_len frontier.new.states.list ≤ length frontier.new.arcs) }
+    ensures many { IfOk result (λ _.
+        length frontier.new.arcs ≤ length frontier.old.arcs + width layer.now.span) }
+    ensures full { IfOk result (λ fits. OnFalse fits (
+        vec_len frontier.old.states.list ≤ length frontier.old.arcs →
+        min room (2 ^ 20) < length frontier.old.arcs + width layer.now.span)) }
     ensures built { IfOk result (λ fits. OnTrue fits ((states : List (List Span)) →
         IsStateOf states from state.now →
         IsBuilt layer.now states from layer.now.span.lo frontier.old.states.list.items
@@ -160,7 +165,7 @@ fn expand_state(
         frontier.new.states.list.items frontier.new.arcs)) }
 {
     for step in 0..count_of(&layer.span) {
-        if is_full(frontier, state.len(), room) {
+        if is_full(frontier, room) {
             return Ok(false);
         }
         let number = number_at(&layer.span, step);
@@ -169,7 +174,8 @@ fn expand_state(
     Ok(true)
 }
 
-/// The arcs from the states of a layer, and the states of the next; none where that takes more arcs or states than may be.
+/// The arcs from the states of a layer, and the states of the next; none only where the states have more numbers to try than
+/// there is room for arcs.
 pub fn expand(
     alloc: Global,
     layer: &Layer,
@@ -182,6 +188,12 @@ pub fn expand(
     requires few { vec_len states.now ≤ 2 ^ 20 }
     ensures arcs { IfOk result (λ made. IfSome made (λ f. length f.arcs ≤ room)) }
     ensures states { IfOk result (λ made. IfSome made (λ f. vec_len f.states.list ≤ 2 ^ 20)) }
+    ensures none { IfOk result (λ made. IfNone made
+        (min room (2 ^ 20) < vec_len states.now * width layer.now.span)) }
+    ensures many { IfOk result (λ made. IfSome made
+        (λ f. length f.arcs ≤ vec_len states.now * width layer.now.span)) }
+    ensures fewer { IfOk result (λ made. IfSome made
+        (λ f. vec_len f.states.list ≤ length f.arcs)) }
     ensures expanded { IfOk result (λ made. IfSome made
         (λ f. IsExpanded layer.now states.now.items f.states.list.items f.arcs)) }
 {

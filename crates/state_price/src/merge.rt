@@ -1,7 +1,7 @@
 // Merging from behind: layer by layer from the last to the first, nodes with the same arcs become one, and nodes without a
 // way to the end none. The numbers on the ways from the root stay the same.
-ghost use Rattle.std.specs.Prelude.{◌≡◌, ◌<◌, ◌≤◌, ◌+◌, ◌^◌, ◌⊎◌, ◌∷◌, [], ◌++◌, ℕ, List, ℤ, All, IfOk, IfSome, OnOk, length, vec_len};
-ghost use Rattle.state_price.specs.Graphs.{arc_at, IsWay, IsArcSafe, IsStepSafe, IsSafe};
+ghost use Rattle.std.specs.Prelude.{◌≡◌, ◌<◌, ◌≤◌, ◌+◌, ◌^◌, ◌⊎◌, ◌∷◌, [], ◌++◌, ℕ, List, ℤ, All, IfOk, IfSome, IfNone, OnOk, length, vec_len};
+ghost use Rattle.state_price.specs.Graphs.{arc_at, AreOrdered, IsWay, IsArcSafe, IsStepSafe, IsSafe};
 ghost use Rattle.state_price.specs.Merges.{gone, node_at, IsCopied, IsMerged, IsRooted, AreFew, HasSameWays};
 
 use crate::fans::{Fans, GONE};
@@ -62,6 +62,8 @@ fn copy_node(
     ensures start { fans.new.start ≡ fans.old.start }
     ensures copied { IfOk result (λ end. IsCopied arcs.now behind.now from first end
         fans.old.arcs.items fans.new.arcs.items) }
+    ensures stops { IfOk result (λ end. end < length arcs.now →
+        (arc_at arcs.now end).from ≡ from → ⊥) }
 {
     for place in first..arcs.len() {
         if arcs[place].from as usize != from {
@@ -75,7 +77,9 @@ fn copy_node(
 /// One more than the node that the last arc starts at.
 fn count_of(arcs: &[Arc]) -> usize
     requires { All (IsArcSafe (2 ^ 20)) arcs.now }
-    ensures { result ≤ 2 ^ 20 }
+    ensures few { result ≤ 2 ^ 20 }
+    ensures above { AreOrdered arcs.now → (j : ℕ) → j < length arcs.now →
+        (arc_at arcs.now j).from < result }
 {
     match arcs.last() {
         Some(arc) => arc.from as usize + 1,
@@ -83,11 +87,12 @@ fn count_of(arcs: &[Arc]) -> usize
     }
 }
 
-/// A layer whose nodes are merged, where those of the next have become others; none where the arcs are not in the order of
-/// their nodes.
+/// A layer whose nodes are merged, where those of the next have become others; none only where the arcs are not in the order
+/// of their nodes.
 fn merge_layer(alloc: Global, arcs: &[Arc], behind: &[u32]) -> Result<Option<Merged>, AllocError>
     requires safe { All (IsArcSafe (2 ^ 20)) arcs.now }
-    ensures { IfOk result (λ made. IfSome made
+    ensures none { IfOk result (λ made. IfNone made (AreOrdered arcs.now → ⊥)) }
+    ensures merged { IfOk result (λ made. IfSome made
         (λ m. IsMerged arcs.now behind.now m.arcs m.nodes.items)) }
 {
     let count = count_of(arcs);
@@ -107,7 +112,8 @@ fn merge_layer(alloc: Global, arcs: &[Arc], behind: &[u32]) -> Result<Option<Mer
     }))
 }
 
-/// Merges the nodes of each layer, from the last to the first, and answers what the root has become.
+/// Merges the nodes of each layer, from the last to the first, and answers what the root has become; none only where the arcs
+/// of a layer are not in the order of their nodes.
 fn merge_layers(
     steps: &mut Vec<Items<Arc>>,
     alloc: Global,
@@ -116,6 +122,7 @@ fn merge_layers(
     requires rooted { 0 < wide }
     requires narrow { wide ≤ 2 ^ 20 }
     requires safe { IsSafe wide steps.old.items }
+    ensures none { IfOk result (λ made. IfNone made (All AreOrdered steps.old.items → ⊥)) }
     ensures many { IfOk result (λ made. IfSome made (λ _. vec_len steps.new ≡ vec_len steps.old)) }
     ensures few { IfOk result (λ made. IfSome made (λ _. AreFew steps.new.items)) }
     ensures rooted { IfOk result (λ made. IfSome made
@@ -185,9 +192,10 @@ fn wide_of(steps: &Vec<Items<Arc>>) -> usize
     wide
 }
 
-/// A graph with its nodes merged; none where the arcs of a layer are not in the order of their nodes.
+/// A graph with its nodes merged; none only where the arcs of a layer are not in the order of their nodes.
 pub fn merge(alloc: Global, graph: Graph) -> Result<Option<Graph>, AllocError>
     requires narrow { graph.wide ≤ 2 ^ 20 }
+    ensures none { IfOk result (λ made. IfNone made (All AreOrdered graph.steps.items → ⊥)) }
     ensures many { IfOk result (λ made. IfSome made (λ g. vec_len g.steps ≡ vec_len graph.steps)) }
     ensures same { IfOk result (λ made. IfSome made
         (λ g. HasSameWays graph.steps.items g.steps.items)) }

@@ -30,9 +30,10 @@ pub struct StatePricer {
 }
 
 impl StatePricer {
-    ghost use Rattle.std.specs.Prelude.{IfOk, IfSome};
+    ghost use Rattle.std.specs.Prelude.{IfOk, IfSome, IfNone};
     ghost use Rattle.pricing.specs.Form.{IsForm, AreOf};
     ghost use Rattle.state_price.specs.Kept.{rows_of, spans_of};
+    ghost use Rattle.state_price.specs.Limits.{IsBeyond};
 
     /// The pricer of a block, if its graph keeps the limits: at most 2^18 arcs and 2^22 windows that they lead to
     /// (arcs times rows), at most 2^22 windows in the states of a layer, at most 2^21 nodes if each layer had as many as the
@@ -40,7 +41,9 @@ impl StatePricer {
     /// of a variable. So it holds at most 36 MiB, and while it is made at most 200 MiB.
     pub fn make(alloc: Global, block: &Block) -> Result<Option<StatePricer>, AllocError>
         requires { IsForm block.now.block.rows block.now.spans }
-        ensures { IfOk result (λ made. IfSome made
+        ensures none { IfOk result (λ made. IfNone made
+            (IsBeyond block.now.block.rows block.now.spans)) }
+        ensures block { IfOk result (λ made. IfSome made
             (λ pricer. AreOf block.now (rows_of pricer) (spans_of pricer))) }
     {
         let rows = block.rows();

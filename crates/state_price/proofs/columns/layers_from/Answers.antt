@@ -1,12 +1,13 @@
-use Rattle.std.proofs.Common.{◌≡◌, refl, sym, subst, ◌+◌, ◌-◌, ℕ, List, [], length, arith}
+use Rattle.std.proofs.Common.{◌≡◌, refl, sym, subst, ◌+◌, ◌-◌, ◌<◌, ℕ, List, [], length, arith}
 use Rattle.std.proofs.Math.IntN.{ℤ}
-use Rattle.std.specs.Prelude.{Option, IfSome}
+use Rattle.std.specs.Prelude.{Option, IfSome, IfNone}
 use Rattle.bp_theory.specs.Program.{span_at}
 use Rattle.bp_theory.specs.declared.Span.{Span}
-use Rattle.state_price.specs.Columns.{AreWidened, AreRefined}
+use Rattle.state_price.specs.Windows.{coef_of}
+use Rattle.state_price.specs.Columns.{IsLong, hull_with, AreWidened, AreRefined}
 use Rattle.state_price.specs.declared.layers.Layer.{Layer}
 use Rattle.state_price.proofs.ColumnLaws.{dense_wide}
-use Rattle.state_price.proofs.LayerLaws.{IsSoFar, so_far_none, so_far_more, so_far_all}
+use Rattle.state_price.proofs.LayerLaws.{IsSoFar, so_far_none, so_far_more, so_far_all, so_far_fits}
 use Rattle.state_price.proofs.columns.layers_from.Goals as goal
 
 pub loop-var-init : goal.loop-var-init
@@ -24,7 +25,7 @@ pub loop-var-preserved : goal.loop-var-preserved
 loop-var-preserved c =
     let back : c.loop-var.var ≡ c.loop-var.var - 1 + 1 = omega (arith, c.loop-var-test.true) in
     let wider : AreWidened c.as_slice.result.now c.as_slice-in-loop-var.result.now (span_at c.args.spans.now (c.loop-var.var - 1)) c.in-Some.wider =
-    subst (λ (o : Option (List Span)). IfSome o (λ (w : List Span). AreWidened c.as_slice.result.now c.as_slice-in-loop-var.result.now (span_at c.args.spans.now (c.loop-var.var - 1)) w)) c.in-Some.is c.in_ok-wider.ensures in
+    subst (λ (o : Option (List Span)). IfSome o (λ (w : List Span). AreWidened c.as_slice.result.now c.as_slice-in-loop-var.result.now (span_at c.args.spans.now (c.loop-var.var - 1)) w)) c.in-Some.is c.in_ok-wider.ensures.wider in
     let refined : AreRefined c.loop-var.twins c.in_ok-column.column c.in_ok-finer.finer =
     subst (λ (ts : List ℕ). AreRefined ts c.in_ok-column.column c.in_ok-finer.finer) c.as_slice-in-loop-var-2.ensures
     (subst (λ (cs : List ℤ). AreRefined c.as_slice-in-loop-var-2.result.now cs c.in_ok-finer.finer) c.as_slice-in-loop-var-3.ensures c.in_ok-finer.ensures) in
@@ -39,7 +40,24 @@ loop-var-preserved c =
     c.in_ok-push.ensures.items
     (subst (λ n. IsSoFar (length c.args.rows.now) c.args.spans.now c.args.dense.now n c.loop-var.layers.items c.loop-var.hulls c.loop-var.twins) back c.loop-var.invariant)
 
-pub returns : goal.returns
-returns c =
+pub returns-clause-layers : goal.returns-clause-layers
+returns-clause-layers c =
     so_far_all c.args.rows.now c.args.spans.now c.args.dense.now c.loop-var.var c.loop-var.layers.items c.reverse.new.self.items c.loop-var.hulls c.loop-var.twins
     (omega (arith, c.loop-var-test.false)) c.reverse.ensures.items c.requires.coefs c.requires.form.places c.loop-var.invariant
+
+pub returns-in-None-clause-none : goal.returns-in-None-clause-none
+returns-in-None-clause-none c =
+    let back : c.loop-var.var ≡ c.loop-var.var - 1 + 1 = omega (arith, c.loop-var-test.true) in
+    let none : (row : ℕ) × (row < length c.as_slice.result.now) × IsLong (hull_with (span_at c.as_slice.result.now row) (coef_of c.as_slice-in-loop-var.result.now row) (span_at c.args.spans.now (c.loop-var.var - 1))) =
+    subst (λ (o : Option (List Span)). IfNone o ((row : ℕ) × (row < length c.as_slice.result.now)
+    × IsLong (hull_with (span_at c.as_slice.result.now row) (coef_of c.as_slice-in-loop-var.result.now row) (span_at c.args.spans.now (c.loop-var.var - 1)))))
+    c.in-None.is c.in_ok-wider.ensures.none in
+    absurd (so_far_fits c.args.rows.now c.args.spans.now c.args.dense.now (c.loop-var.var - 1) c.loop-var.layers.items c.loop-var.hulls c.loop-var.twins c.in_ok-column.column
+    (span_at c.args.spans.now (c.loop-var.var - 1))
+    (omega (arith, c.loop-var-test.true, c.loop-var.auto.var)) c.requires.coefs
+    (λ row l. omega (arith, dense_wide c.args.rows.now (length c.args.spans.now) c.args.dense.now c.requires.coefs row [] (omega (arith, l, c.requires.coefs.many)), c.loop-var-test.true, c.loop-var.auto.var))
+    c.requires.form.sizes refl c.in_ok-column.ensures
+    (subst (λ n. IsSoFar (length c.args.rows.now) c.args.spans.now c.args.dense.now n c.loop-var.layers.items c.loop-var.hulls c.loop-var.twins) back c.loop-var.invariant)
+    (subst (λ (hs : List Span). (row : ℕ) × (row < length hs) × IsLong (hull_with (span_at hs row) (coef_of c.in_ok-column.column row) (span_at c.args.spans.now (c.loop-var.var - 1)))) c.as_slice.ensures
+    (subst (λ (cs : List ℤ). (row : ℕ) × (row < length c.as_slice.result.now) × IsLong (hull_with (span_at c.as_slice.result.now row) (coef_of cs row) (span_at c.args.spans.now (c.loop-var.var - 1))))
+    c.as_slice-in-loop-var.ensures none)))

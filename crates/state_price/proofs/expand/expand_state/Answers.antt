@@ -18,6 +18,8 @@ loop-step-preserved c =
       room = omega (arith, c.in_ok-place.ensures.room, c.loop-step.invariant.room);
       arcs = omega (arith, c.in_ok-place.ensures.arcs, c.if-is_full.ensures.arcs);
       states = omega (arith, c.in_ok-place.ensures.states, c.if-is_full.ensures.states);
+      many = omega (arith, c.in_ok-place.ensures.arcs, c.loop-step.invariant.many);
+      fewer = λ before. c.in_ok-place.ensures.fewer (c.loop-step.invariant.fewer before);
       built = λ states at b.
           subst (λ y. IsBuilt c.args.layer.now states c.args.from y c.place.new.frontier.states.list.items c.place.new.frontier.arcs)
           (one_more (to_z w64 (of_z w64 c.number_at-number.result)) c.args.layer.now.span.lo c.loop-step.step same)

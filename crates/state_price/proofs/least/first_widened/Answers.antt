@@ -1,5 +1,5 @@
 use Rattle.std.proofs.Common.{◌≡◌, ◌∙◌, refl, sym, subst, ◌<◌, arith, length}
-use Rattle.std.proofs.Math.IntN.{ℤ, pos}
+use Rattle.std.proofs.Math.IntN.{pos}
 use Rattle.std.specs.Prelude.{◌<ℤ◌, IsTrue, false}
 use Rattle.std.proofs.lemmas.List.{get_or_read}
 use Rattle.pricing.proofs.Passed.{passed}
