@@ -1,5 +1,5 @@
--- The limits of a graph, and the blocks that may pass one. No layer has more states than there are beginnings of assignments to the variables before it, and an arc is a number after such a
--- beginning; states that are one make both fewer.
+-- The limits of a graph, and the blocks that may pass one. A layer has no more states than there are assignments to the variables before it, and no more arcs than there are those with one number
+-- more: where states are one, or rows leave nothing, it has fewer. How many fewer is not told here, so a block that may pass a limit may have a graph all the same.
 use Rattle.std.specs.Prelude.{◌≡◌, ℕ, ◌-◌, ◌*◌, ◌^◌, ◌<◌, ◌⊎◌, List, [], length}
 use Rattle.bp_theory.specs.Program.{span_at}
 use Rattle.bp_theory.specs.Classes.{width, prefixes}
@@ -51,7 +51,7 @@ HasLongSpan spans = (var : ℕ) × (var < length spans) × (most_numbers < width
 abbrev pub IsBare : List Row → List Span → Type 0
 IsBare rows spans = (spans ≡ []) × HasNoPoint rows spans
 
--- a block may pass a limit, or has nothing to make a graph of
+-- a graph with an arc for each beginning would pass a limit, or there is nothing to make a graph of
 abbrev pub IsBeyond : List Row → List Span → Type 0
 IsBeyond rows spans =
     (most_coefs < length rows * length spans) ⊎ HasLongSpan spans ⊎ HasManyArcs (length rows) spans ⊎ HasManyNodes spans ⊎ IsBare rows spans

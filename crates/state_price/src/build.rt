@@ -6,7 +6,7 @@ ghost use Rattle.pricing.specs.Form.{IsForm, HasShortEnds};
 ghost use Rattle.state_price.specs.Graphs.{AreOrdered, IsGraphOf};
 ghost use Rattle.state_price.specs.Layers.{AreLayers, spans_in};
 ghost use Rattle.state_price.specs.Expansions.{IsRight, IsEndState};
-ghost use Rattle.state_price.specs.Limits.{AreManyArcs, HasManyArcs, HasManyNodes, IsBeyond};
+ghost use Rattle.state_price.specs.Limits.{beginnings, AreManyArcs, HasManyArcs, HasManyNodes, IsBeyond};
 
 use crate::columns::layers_of;
 use crate::expand::{Frontier, MOST_STATES, expand};
@@ -70,6 +70,8 @@ fn graph_of(alloc: Global, layers: &[Layer], root: Items<Span>) -> Result<Option
     requires layers { AreLayers (length root) layers.now }
     requires short { All (λ l. HasShortEnds l.span) layers.now }
     ensures many { IfOk result (λ made. IfSome made (λ g. vec_len g.steps ≡ length layers.now)) }
+    ensures made { IfOk result (λ made. IfSome made
+        (λ g. g.made ≤ beginnings (spans_in layers.now))) }
     ensures none { IfOk result (λ made. IfNone made (HasManyArcs (length root) (spans_in layers.now) ⊎
         ((layers.now ≡ []) × (IsEndState root → ⊥)))) }
     ensures thin { IfOk result (λ made. IfSome made (λ g. g.wide ≤ prefixes (spans_in layers.now))) }
@@ -114,6 +116,8 @@ fn merged_of(
     ensures none { IfOk result (λ made. IfNone made (HasManyArcs (length root) (spans_in layers.now) ⊎
         HasManyNodes (spans_in layers.now) ⊎ ((layers.now ≡ []) × (IsEndState root → ⊥)))) }
     ensures many { IfOk result (λ made. IfSome made (λ g. vec_len g.steps ≡ length layers.now)) }
+    ensures made { IfOk result (λ made. IfSome made
+        (λ g. g.made ≤ beginnings (spans_in layers.now))) }
     ensures right { IfOk result (λ made. IfSome made
         (λ g. IsRight layers.now root g.steps.items 0)) }
 {
@@ -138,6 +142,7 @@ pub fn build(alloc: Global, rows: &[Row], spans: &[Span]) -> Result<Option<Graph
     requires { IsForm rows.now spans.now }
     ensures none { IfOk result (λ made. IfNone made (IsBeyond rows.now spans.now)) }
     ensures many { IfOk result (λ made. IfSome made (λ g. vec_len g.steps ≡ length spans.now)) }
+    ensures made { IfOk result (λ made. IfSome made (λ g. g.made ≤ beginnings spans.now)) }
     ensures graph { IfOk result (λ made. IfSome made
         (λ g. IsGraphOf rows.now spans.now g.steps.items)) }
 {

@@ -197,6 +197,7 @@ pub fn merge(alloc: Global, graph: Graph) -> Result<Option<Graph>, AllocError>
     requires narrow { graph.wide ≤ 2 ^ 20 }
     ensures none { IfOk result (λ made. IfNone made (All AreOrdered graph.steps.items → ⊥)) }
     ensures many { IfOk result (λ made. IfSome made (λ g. vec_len g.steps ≡ vec_len graph.steps)) }
+    ensures made { IfOk result (λ made. IfSome made (λ g. g.made ≡ graph.made)) }
     ensures same { IfOk result (λ made. IfSome made
         (λ g. HasSameWays graph.steps.items g.steps.items)) }
 {

@@ -6,6 +6,7 @@ ghost use Rattle.bp_theory.specs.declared.Span.{Span};
 ghost use Rattle.bp_theory.specs.declared.Row.{Row};
 ghost use Rattle.state_price.specs.Graphs.{IsFaithful};
 ghost use Rattle.state_price.specs.Rooms.{HasRoom};
+ghost use Rattle.state_price.specs.Limits.{beginnings};
 
 use crate::build::build;
 use crate::graph::Graph;
@@ -27,18 +28,22 @@ pub struct StatePricer {
     ghost ways: { IsFaithful rows.items spans.items graph.steps.items },
     ghost many: { length graph.steps.items ≡ length spans.items },
     ghost room: { HasRoom graph work },
+    ghost few: { graph.made ≤ beginnings spans.items },
 }
 
 impl StatePricer {
-    ghost use Rattle.std.specs.Prelude.{IfOk, IfSome, IfNone};
+    ghost use Rattle.std.specs.Prelude.{◌≤◌, IfOk, IfSome, IfNone};
     ghost use Rattle.pricing.specs.Form.{IsForm, AreOf};
     ghost use Rattle.state_price.specs.Kept.{rows_of, spans_of};
-    ghost use Rattle.state_price.specs.Limits.{IsBeyond};
+    ghost use Rattle.state_price.specs.Limits.{beginnings, IsBeyond};
 
     /// The pricer of a block, if its graph keeps the limits: at most 2^18 arcs and 2^22 windows that they lead to
     /// (arcs times rows), at most 2^22 windows in the states of a layer, at most 2^21 nodes if each layer had as many as the
     /// widest once nodes with the same arcs are one, at most 2^20 coefficients with zeros counted, and at most 4,096 numbers
-    /// of a variable. So it holds at most 36 MiB, and while it is made at most 200 MiB.
+    /// of a variable. So it holds at most 36 MiB, and while it is made at most 200 MiB. There is none only where a graph with
+    /// an arc for each beginning of an assignment would pass one of these, or where there are no variables and no point
+    /// (`IsBeyond`): a block of few beginnings has a graph. One of many beginnings may have a graph too, since its beginnings
+    /// share states; whether it has, no clause tells.
     pub fn make(alloc: Global, block: &Block) -> Result<Option<StatePricer>, AllocError>
         requires { IsForm block.now.block.rows block.now.spans }
         ensures none { IfOk result (λ made. IfNone made
@@ -72,8 +77,10 @@ impl StatePricer {
         many
     }
 
-    /// How many arcs it took to make its graph, before nodes with the same arcs became one.
-    pub fn made(&self) -> usize {
+    /// How many arcs it took to make its graph, before nodes with the same arcs became one: no more than beginnings.
+    pub fn made(&self) -> usize
+        ensures { result ≤ beginnings (spans_of self.now) }
+    {
         self.graph.made
     }
 }
