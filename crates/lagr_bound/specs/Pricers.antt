@@ -1,13 +1,15 @@
 -- What the pricer of a block keeps, whichever it is.
-use Rattle.std.specs.Prelude.{ℕ, ◌≤◌, Bool, true, false, List, All, ℤ}
+use Rattle.std.specs.Prelude.{◌≡◌, ℕ, ◌+◌, ◌≤◌, ◌⊎◌, Bool, true, false, List, [], All, ℤ}
 use Rattle.bp_theory.specs.declared.Span.{Span}
 use Rattle.bp_theory.specs.declared.Row.{Row}
 use Rattle.knap_price.specs.Kept as by_table
 use Rattle.knap_price.specs.Rooms.{cells_of}
 use Rattle.knap_price.specs.Taken.{IsTaken}
 use Rattle.state_price.specs.Kept as by_states
+use Rattle.state_price.specs.Limits.{beginnings, IsBeyond}
 use Rattle.search_price.specs.Kept as by_search
 use Rattle.lagr_bound.specs.Forms.{BlockForm}
+use Rattle.lagr_bound.specs.declared.pricers.GraphRoom.{GraphRoom}
 use Rattle.lagr_bound.specs.declared.pricers.BlockPricer.{BlockPricer}
 use Rattle.lagr_bound.specs.declared.pricers.BlockPricer.TheVariants.{Table, States, Search}
 
@@ -48,3 +50,22 @@ abbrev pub IsFitting : BlockPricer → Type 0
 IsFitting (Table plan) = IsTaken (by_table.plan_rows plan) (by_table.plan_spans plan)
 IsFitting (States pricer) = IsTaken (by_states.rows_of pricer) (by_states.spans_of pricer) → ⊥
 IsFitting (Search pricer) = IsTaken (by_search.rows_of pricer) (by_search.spans_of pricer) → ⊥
+
+-- whether it is a search
+abbrev pub is_search : BlockPricer → Bool
+is_search (Table plan) = false
+is_search (States pricer) = false
+is_search (Search pricer) = true
+
+-- nothing more may be spent on graphs
+abbrev pub IsSpent : GraphRoom → Type 0
+IsSpent room = (room.arcs ≡ 0) ⊎ (room.declined ≡ 0)
+
+-- what may stand in the way of a graph of a block that no table takes
+abbrev pub IsUngraphed : GraphRoom → List Row → List Span → Type 0
+IsUngraphed room rows spans = IsSpent room ⊎ (rows ≡ []) ⊎ IsBeyond rows spans
+
+-- a block took no more arcs than it has beginnings, and it counts as one that no graph suits only where it may pass a limit
+pub record HasSpent (before : GraphRoom) (rows : List Row) (spans : List Span) (now : GraphRoom) : Type 0 where
+  pub arcs : before.arcs ≤ now.arcs + beginnings spans
+  pub declined : (now.declined ≡ before.declined) ⊎ IsBeyond rows spans

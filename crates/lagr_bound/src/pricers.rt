@@ -1,7 +1,9 @@
 // Whichever pricer suits a block.
-ghost use Rattle.std.specs.Prelude.{IfOk, IfSome};
+ghost use Rattle.std.specs.Prelude.{◌≡◌, IfOk, IfSome, IfNone};
 ghost use Rattle.pricing.specs.Form.{IsForm, AreOf};
 ghost use Rattle.state_price.specs.Kept.{rows_of as states_rows, spans_of as states_spans};
+
+ghost use Rattle.lagr_bound.specs.Pricers.{IsUngraphed, HasSpent};
 
 use block_form::Block;
 use bp_theory::Span;
@@ -25,6 +27,12 @@ pub struct GraphRoom {
 }
 
 impl GraphRoom {
+    ghost use Rattle.std.specs.Prelude.{◌≡◌, ◌+◌, ◌≤◌, ◌⊎◌, [], IfSome, IfNone};
+    ghost use Rattle.std.specs.Bool.{OnFalse};
+    ghost use Rattle.state_price.specs.Kept.{spans_of};
+    ghost use Rattle.state_price.specs.Limits.{beginnings};
+    ghost use Rattle.lagr_bound.specs.Pricers.{IsSpent};
+
     /// All that may be spent for a program.
     pub fn whole() -> GraphRoom {
         GraphRoom {
@@ -34,12 +42,19 @@ impl GraphRoom {
     }
 
     // Whether a graph of a block is tried.
-    fn serves(&self, block: &Block) -> bool {
+    fn serves(&self, block: &Block) -> bool
+        ensures { OnFalse result (IsSpent self.now ⊎ (block.now.block.rows ≡ [])) }
+    {
         self.arcs > 0 && self.declined > 0 && !block.rows().is_empty()
     }
 
     // Spends what a graph that was tried took.
-    fn spend(&mut self, made: &Option<StatePricer>) {
+    fn spend(&mut self, made: &Option<StatePricer>)
+        ensures arcs { IfSome made.now (λ pricer.
+            self.old.arcs ≤ self.new.arcs + beginnings (spans_of pricer)) }
+        ensures suited { IfSome made.now (λ _. self.new.declined ≡ self.old.declined) }
+        ensures none { IfNone made.now (self.new.arcs ≡ self.old.arcs) }
+    {
         match made {
             Some(pricer) => self.arcs = self.arcs.saturating_sub(pricer.made()),
             None => self.declined = self.declined.saturating_sub(1),
@@ -57,14 +72,15 @@ pub enum BlockPricer {
 }
 
 impl BlockPricer {
-    ghost use Rattle.std.specs.Prelude.{◌≡◌, IfOk};
+    ghost use Rattle.std.specs.Prelude.{◌≡◌, IfOk, IsTrue};
     ghost use Rattle.pricing.specs.Form.{IsForm, IsPriceable, AreOf};
     ghost use Rattle.pricing.specs.Priced.{IsPriced};
     ghost use Rattle.knap_price.specs.Rooms.{count_of};
-    ghost use Rattle.lagr_bound.specs.Pricers.{rows_of, spans_of, kept_point, IsEnough, IsFitting};
+    ghost use Rattle.lagr_bound.specs.Pricers.{rows_of, spans_of, kept_point, is_search, IsEnough, IsFitting, IsUngraphed, HasSpent};
 
     /// Made of a block's rows and of its spans at the root. A graph that is tried takes from what may be spent, whether it
-    /// suits the block or not. The only error is want of memory.
+    /// suits the block or not. There is a search only where nothing more may be spent, or where the block has no rows or so
+    /// many beginnings of assignments that its graph may pass a limit (`IsUngraphed`). The only error is want of memory.
     pub fn make(
         alloc: Global,
         block: &Block,
@@ -73,6 +89,10 @@ impl BlockPricer {
         requires { IsForm block.now.block.rows block.now.spans }
         ensures block { IfOk result (λ pricer. AreOf block.now (rows_of pricer) (spans_of pricer)) }
         ensures kind { IfOk result (λ pricer. IsFitting pricer) }
+        ensures search { IfOk result (λ pricer. IsTrue (is_search pricer) →
+            IsUngraphed room.old block.now.block.rows block.now.spans) }
+        ensures spent { IfOk result (λ _.
+            HasSpent room.old block.now.block.rows block.now.spans room.new) }
     {
         if KnapPricer::takes(block) {
             let plan = KnapPlan::make(alloc, block)?;
@@ -141,7 +161,11 @@ fn states_of(
     room: &mut GraphRoom,
 ) -> Result<Option<StatePricer>, AllocError>
     requires { IsForm block.now.block.rows block.now.spans }
-    ensures { IfOk result (λ made. IfSome made
+    ensures none { IfOk result (λ made. IfNone made
+        (IsUngraphed room.old block.now.block.rows block.now.spans)) }
+    ensures spent { IfOk result (λ _.
+        HasSpent room.old block.now.block.rows block.now.spans room.new) }
+    ensures block { IfOk result (λ made. IfSome made
         (λ pricer. AreOf block.now (states_rows pricer) (states_spans pricer))) }
 {
     if !room.serves(block) {
