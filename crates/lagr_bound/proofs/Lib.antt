@@ -6,4 +6,5 @@ pub mod PickedLemmas
 pub mod PartLemmas
 pub mod SharedLemmas
 pub mod DeskLemmas
+pub mod GraphLemmas
 pub mod SeatLemmas

@@ -1,5 +1,5 @@
 -- What the pricer of a block keeps, whichever it is.
-use Rattle.std.specs.Prelude.{◌≡◌, ℕ, ◌+◌, ◌≤◌, ◌⊎◌, Bool, true, false, List, [], All, ℤ}
+use Rattle.std.specs.Prelude.{◌≡◌, ℕ, ◌+◌, ◌^◌, ◌≤◌, ◌⊎◌, Bool, true, false, List, [], All, ℤ}
 use Rattle.bp_theory.specs.declared.Span.{Span}
 use Rattle.bp_theory.specs.declared.Row.{Row}
 use Rattle.knap_price.specs.Kept as by_table
@@ -56,6 +56,10 @@ abbrev pub is_search : BlockPricer → Bool
 is_search (Table plan) = false
 is_search (States pricer) = false
 is_search (Search pricer) = true
+
+-- how many arcs it may take to make the graphs of a program's blocks, together, until no more are made
+abbrev pub most_graph_arcs : ℕ
+most_graph_arcs = 2 ^ 19
 
 -- nothing more may be spent on graphs
 abbrev pub IsSpent : GraphRoom → Type 0

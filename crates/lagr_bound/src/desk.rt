@@ -22,9 +22,9 @@ pub struct Desk {
 }
 
 impl Desk {
-    ghost use Rattle.std.specs.Prelude.{◌≡◌, IfOk};
+    ghost use Rattle.std.specs.Prelude.{◌≡◌, IfOk, IsTrue};
     ghost use Rattle.knap_price.specs.Rooms.{count_of};
-    ghost use Rattle.lagr_bound.specs.Pricers.{IsEnough, IsFitting};
+    ghost use Rattle.lagr_bound.specs.Pricers.{is_search, IsEnough, IsFitting, IsUngraphed, HasSpent};
     ghost use Rattle.bp_theory.specs.Bound.{spans_of};
     ghost use Rattle.bp_theory.specs.Trees.{IsZone};
     ghost use Rattle.pricing.specs.Form.{IsForm};
@@ -39,6 +39,10 @@ impl Desk {
         requires { IsForm block.now.block.rows block.now.spans }
         ensures form { IfOk result (λ desk. form_of desk ≡ form_in block.now) }
         ensures kind { IfOk result (λ desk. IsFitting desk.pricer) }
+        ensures search { IfOk result (λ desk. IsTrue (is_search desk.pricer) →
+            IsUngraphed room.old (form_of desk).rows (form_of desk).spans) }
+        ensures spent { IfOk result (λ desk.
+            HasSpent room.old (form_of desk).rows (form_of desk).spans room.new) }
     {
         let pricer = BlockPricer::make(alloc, block, room)?;
         let many = block.spans().len();

@@ -2,7 +2,7 @@
 ghost use Rattle.std.specs.Prelude.{◌≡◌, ◌<◌, ◌≤◌, ℕ, None, IfOk, All, length, map, vec_len, slice_index_or};
 ghost use Rattle.block_form.specs.Blocked.{IsFormed};
 ghost use Rattle.lagr_bound.specs.declared.desk.Desk.{Desk};
-ghost use Rattle.lagr_bound.specs.Desks.{form_of};
+ghost use Rattle.lagr_bound.specs.Desks.{form_of, HaveGraphs};
 ghost use Rattle.lagr_bound.specs.Forms.{form_at, forms_in, span_count};
 ghost use Rattle.lagr_bound.specs.Pricers.{AreEnough, IsFitting};
 ghost use Rattle.lagr_bound.specs.Told.{told_point, room_of};
@@ -33,6 +33,7 @@ pub fn desks_of(
         blocks.now) }
     ensures kinds { IfOk result (λ made. All (λ (desk : Desk). IsFitting desk.pricer)
         made.0.items) }
+    ensures graphs { IfOk result (λ made. HaveGraphs made.0.items) }
     ensures cells { IfOk result (λ made. AreEnough made.1 (map form_of made.0.items)) }
 {
     let mut desks = Vec::new(alloc);

@@ -2,7 +2,6 @@
 ghost use Rattle.std.specs.Prelude.{◌≡◌, IfOk, IfSome, IfNone};
 ghost use Rattle.pricing.specs.Form.{IsForm, AreOf};
 ghost use Rattle.state_price.specs.Kept.{rows_of as states_rows, spans_of as states_spans};
-
 ghost use Rattle.lagr_bound.specs.Pricers.{IsUngraphed, HasSpent};
 
 use block_form::Block;
@@ -31,10 +30,13 @@ impl GraphRoom {
     ghost use Rattle.std.specs.Bool.{OnFalse};
     ghost use Rattle.state_price.specs.Kept.{spans_of};
     ghost use Rattle.state_price.specs.Limits.{beginnings};
-    ghost use Rattle.lagr_bound.specs.Pricers.{IsSpent};
+    ghost use Rattle.lagr_bound.specs.Pricers.{IsSpent, most_graph_arcs};
 
     /// All that may be spent for a program.
-    pub fn whole() -> GraphRoom {
+    pub fn whole() -> GraphRoom
+        ensures arcs { result.arcs ≡ most_graph_arcs }
+        ensures declined { result.declined ≡ 2 }
+    {
         GraphRoom {
             arcs: MOST_ARCS,
             declined: MOST_DECLINED,

@@ -43,13 +43,17 @@ impl Work {
     ghost use Rattle.lagr_bound.specs.Forms.{forms_in, form_at, span_count};
     ghost use Rattle.lagr_bound.specs.Sizes.{reduced_costs};
     ghost use Rattle.lagr_bound.specs.Told.{told_point};
+    ghost use Rattle.lagr_bound.specs.Desks.{HaveGraphs};
     ghost use Rattle.lagr_bound.specs.Works.{forms_of, point_at, priced_at, IsSilent, HasTables};
 
-    /// The pricers of a program's blocks, which tell no point. A block has a table exactly where a table takes it.
+    /// The pricers of a program's blocks, which tell no point. A block has a table exactly where a table takes it. Where no
+    /// desk's graph may pass a limit, and the desks' beginnings of assignments are fewer in all than the arcs that may be
+    /// spent, each other block with rows has a graph of states (`HaveGraphs`).
     pub fn make(alloc: Global, b: &Blocked) -> Result<Work, AllocError>
         ensures forms { IfOk result (λ work. forms_of work ≡ forms_in b.now) }
         ensures silent { IfOk result (λ work. IsSilent work) }
         ensures tables { IfOk result (λ work. HasTables b.now work) }
+        ensures graphs { IfOk result (λ work. HaveGraphs work.desks.items) }
     {
         let known = Vec::from_elem(alloc, None, b.blocks() as usize)?;
         let (seats, firsts) = seated(alloc, b)?;

@@ -3,6 +3,7 @@ use Rattle.lagr_bound.specs.Forms.{forms_in}
 use Rattle.lagr_bound.specs.Pricers.{IsFitting}
 use Rattle.lagr_bound.specs.declared.desk.Desk.{Desk}
 use Rattle.lagr_bound.proofs.DeskLemmas.{has_form, form_in_at, one_desk_more, enough_more, all_more}
+use Rattle.lagr_bound.proofs.GraphLemmas.{spending_more, graphs_more}
 use Rattle.lagr_bound.proofs.desks.desks_of.Goals as goal
 
 pub make-requires : goal.make-requires
@@ -22,4 +23,8 @@ loop-number-preserved c =
           c.larger-most.ensures.first c.larger-most.ensures.second c.loop-number.invariant.1 c.cells.ensures,
       subst (All (λ (desk : Desk). IsFitting desk.pricer)) (sym c.in_ok-push.ensures.items)
           (all_more (λ (desk : Desk). IsFitting desk.pricer) c.loop-number.desks.items c.in_ok-desk.desk c.loop-number.invariant.2 c.in_ok-desk.ensures.kind),
+      spending_more c.loop-number.room c.make.new.room c.loop-number.desks.items c.push.new.self.items c.in_ok-desk.desk c.in_ok-push.ensures.items
+          c.in_ok-desk.ensures.spent c.loop-number.invariant.3,
+      graphs_more c.loop-number.room c.loop-number.desks.items c.push.new.self.items c.in_ok-desk.desk c.in_ok-push.ensures.items
+          c.in_ok-desk.ensures.search c.loop-number.invariant.3 c.loop-number.invariant.4,
     )
