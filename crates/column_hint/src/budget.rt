@@ -117,6 +117,30 @@ impl PricingBudget {
         Ok(None)
     }
 
+    /// Whether a proof has a bound in a zone, within a cap for each block. The points that reach it are told then. No price
+    /// of the leaf's is spent.
+    pub(crate) fn has_bound(
+        &mut self,
+        b: &Blocked,
+        classes: &Classes,
+        zone: &Zone,
+        proof: &Proof,
+        cap: Cap,
+    ) -> bool
+        requires made_for { forms_of self.old.work ≡ forms_in b.now }
+        requires classes { AreSameClasses zone.now b.now.blocking classes.now }
+        requires zone { IsZone b.now.named.program.spans zone.now }
+        ensures made_for { forms_of self.new.work ≡ forms_of self.old.work }
+    {
+        if !fits(b, proof) {
+            return false;
+        }
+        match bound(&mut self.work, b, classes, zone, proof, cap) {
+            Bounded::Whole(_) => true,
+            _ => false,
+        }
+    }
+
     /// The proof of multipliers by row at the greatest scale, each rounded to a scale, which prices the blocks that hints
     /// price.
     pub fn proof_at(&self, alloc: Global, mults: &[i64], scale: u32) -> Result<Proof, AllocError> {
@@ -274,6 +298,18 @@ impl PricingBudget {
             }
         }
     }
+}
+
+/// The proof of multipliers by row at the greatest scale that prices one block alone.
+pub fn alone(alloc: Global, mults: &[i64], block: u32) -> Result<Proof, AllocError> {
+    let mut picks = Vec::new(alloc);
+    picks.push(block)?;
+    let mults = entries(alloc, mults, i64::from(MAX_SCALE))?;
+    Ok(Proof {
+        scale: MAX_SCALE,
+        mults: Items::from_vec(mults),
+        picked: Picked::These(Items::from_vec(picks)),
+    })
 }
 
 // Whether a block has one point in the box of a zone.

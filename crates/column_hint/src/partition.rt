@@ -1,20 +1,20 @@
 // Columns that go together, for classes of identical blocks: each block of a class is priced in what those before it
 // leave of the rows' sides. One class gives one column a round otherwise. No bound comes from these.
 ghost use Rattle.std.specs.Prelude.{◌<◌, length};
+ghost use Rattle.bp_theory.specs.Trees.{IsZone};
 ghost use Rattle.knap_price.specs.Kept as by_table;
 ghost use Rattle.pricing.specs.Form.{AreOf};
-ghost use Rattle.search_price.specs.Kept as by_search;
 ghost use Rattle.column_hint.specs.Pools.{AreMadeFor};
 
+use crate::budget::alone;
 use crate::master::{RestrictedMaster, block_spans};
 use crate::pools::Pools;
 use block_class::Classes;
 use block_form::{Block, Blocked, Zone};
-use bp_theory::{Sense, Span};
+use bp_theory::{Proof, Sense, Span};
 use knap_price::KnapPricer;
-use point_hint::{UNIT, at, product, sum_at};
+use point_hint::{UNIT, at, narrow, product, sum_at};
 use pricing::{Cap, Priced, Pricer, is_form, is_priceable};
-use search_price::SearchPricer;
 use std::alloc::{AllocError, Global};
 
 /// How many blocks of a class are priced at most.
@@ -30,11 +30,10 @@ struct Side {
     sense: Sense,
 }
 
-// What one class is priced with: its block's spans, its reduced costs, and how many blocks are priced.
+// What one class is priced with: its block's spans, and how many blocks are priced.
 #[derive(Drop)]
 struct Member {
     spans: Vec<Span>,
-    costs: Vec<i128>,
     many: u32,
 }
 
@@ -50,6 +49,7 @@ pub fn add_partition(
     round: u32,
 ) -> Result<(), AllocError>
     requires made_for { AreMadeFor b.now pools.old }
+    requires zone { IsZone b.now.named.program.spans zone.now }
     ensures made_for { AreMadeFor b.now pools.new }
 {
     let mut sides = sides_of(alloc, b, master)?;
@@ -59,7 +59,7 @@ pub fn add_partition(
         let size = master.size(class);
         if class < many && size > 1 {
             let first = classes.first(class);
-            let found = priced_blocks(alloc, b, zone, mults, first, size, &mut sides)?;
+            let found = priced_blocks(alloc, b, zone, pools, mults, first, size, &mut sides)?;
             add_points(alloc, b, pools, master, class, first, found)?;
         }
     }
@@ -97,16 +97,22 @@ fn sides_of(
     Ok(sides)
 }
 
-// The points of blocks of a class, each priced in what those before it leave.
+// The points of blocks of a class, each priced in what those before it leave: by a table of their own where one takes
+// the block, else as their bounds are, by a graph or a search that is made already.
 fn priced_blocks(
     alloc: Global,
     b: &Blocked,
     zone: &Zone,
+    pools: &mut Pools,
     mults: &[i64],
     first: u32,
     size: u32,
     sides: &mut Vec<Side>,
-) -> Result<Vec<Vec<i64>>, AllocError> {
+) -> Result<Vec<Vec<i64>>, AllocError>
+    requires made_for { AreMadeFor b.now pools.old }
+    requires zone { IsZone b.now.named.program.spans zone.now }
+    ensures made_for { AreMadeFor b.now pools.new }
+{
     if first >= b.blocks() {
         return Ok(Vec::new(alloc));
     }
@@ -116,16 +122,21 @@ fn priced_blocks(
     }
     let mut member = Member {
         spans: block_spans(alloc, block, zone.spans())?,
-        costs: reduced_costs(alloc, block, mults)?,
         many: size.min(MOST_BLOCKS),
     };
-    if KnapPricer::takes(block) {
-        let mut pricer = KnapPricer::make(alloc, block)?;
-        price_by_table(alloc, &mut pricer, block, &mut member, sides)
-    } else {
-        let mut pricer = SearchPricer::make(alloc, block)?;
-        price_by_search(alloc, &mut pricer, block, &mut member, sides)
+    if !KnapPricer::takes(block) {
+        return price_as_bounds(alloc, b, zone, pools, mults, first, &mut member, sides);
     }
+    let costs = reduced_costs(alloc, block, mults)?;
+    let mut pricer = KnapPricer::make(alloc, block)?;
+    price_by_table(
+        alloc,
+        &mut pricer,
+        block,
+        costs.as_slice(),
+        &mut member,
+        sides,
+    )
 }
 
 // The reduced costs of a block's variables at multipliers by row, at the greatest scale.
@@ -146,6 +157,7 @@ fn price_by_table(
     alloc: Global,
     pricer: &mut KnapPricer,
     block: &Block,
+    costs: &[i128],
     member: &mut Member,
     sides: &mut Vec<Side>,
 ) -> Result<Vec<Vec<i64>>, AllocError>
@@ -156,62 +168,97 @@ fn price_by_table(
     for _ in 0..member.many {
         narrow_to(block, sides.as_slice(), &mut member.spans);
         let spans = member.spans.as_slice();
-        let costs = member.costs.as_slice();
         if !is_priceable(block.spans(), spans, costs) {
             break;
         }
-        let found = pricer.price(block, spans, costs, Cap::At(VISITS));
-        if !keeps_point(alloc, found, block, pricer.point(), sides, &mut points)? {
+        let Priced::Least(_) = pricer.price(block, spans, costs, Cap::At(VISITS)) else {
+            break;
+        };
+        if !take(block, pricer.point(), sides) {
             break;
         }
+        points.push(pricer.point().to_vec(alloc)?)?;
     }
     Ok(points)
 }
 
-// Prices blocks by a search, one after the other, each in what those before it leave, until nothing is left to take.
-fn price_by_search(
+// Prices blocks by the pricer of their bounds, one after the other, each in what those before it leave, until nothing is
+// left to take.
+fn price_as_bounds(
     alloc: Global,
-    pricer: &mut SearchPricer,
-    block: &Block,
+    b: &Blocked,
+    zone: &Zone,
+    pools: &mut Pools,
+    mults: &[i64],
+    first: u32,
     member: &mut Member,
     sides: &mut Vec<Side>,
 ) -> Result<Vec<Vec<i64>>, AllocError>
-    requires same_block { AreOf block.now (by_search.rows_of pricer.old)
-        (by_search.spans_of pricer.old) }
+    requires made_for { AreMadeFor b.now pools.old }
+    requires zone { IsZone b.now.named.program.spans zone.now }
+    requires there { first < length b.now.blocking.blocks }
+    ensures made_for { AreMadeFor b.now pools.new }
 {
+    let proof = alone(alloc, mults, first)?;
     let mut points = Vec::new(alloc);
     for _ in 0..member.many {
-        narrow_to(block, sides.as_slice(), &mut member.spans);
-        let spans = member.spans.as_slice();
-        let costs = member.costs.as_slice();
-        if !is_priceable(block.spans(), spans, costs) {
+        let spans = &mut member.spans;
+        let Some(point) = next_point(alloc, b, zone, pools, &proof, first, spans, sides)? else {
             break;
-        }
-        let found = pricer.price(block, spans, costs, Cap::At(VISITS));
-        if !keeps_point(alloc, found, block, pricer.point(), sides, &mut points)? {
-            break;
-        }
+        };
+        points.push(point)?;
     }
     Ok(points)
 }
 
-// Keeps a priced point and takes it out of the sides; whether it was found and takes anything.
-fn keeps_point(
+// The point of a block that is priced as its bounds are in what is left of the sides, and taken out of them. There is none
+// where the block has no point there, its pricing is cut, or the point takes nothing.
+fn next_point(
     alloc: Global,
-    found: Priced,
-    block: &Block,
-    point: &[i64],
+    b: &Blocked,
+    zone: &Zone,
+    pools: &mut Pools,
+    proof: &Proof,
+    first: u32,
+    spans: &mut Vec<Span>,
     sides: &mut Vec<Side>,
-    points: &mut Vec<Vec<i64>>,
-) -> Result<bool, AllocError> {
-    let Priced::Least(_) = found else {
-        return Ok(false);
+) -> Result<Option<Vec<i64>>, AllocError>
+    requires made_for { AreMadeFor b.now pools.old }
+    requires zone { IsZone b.now.named.program.spans zone.now }
+    requires there { first < length b.now.blocking.blocks }
+    ensures made_for { AreMadeFor b.now pools.new }
+{
+    let block = b.block(first);
+    narrow_to(block, sides.as_slice(), spans);
+    let inner = spans_with(alloc, zone, block, spans.as_slice())?;
+    let left = narrow(b, zone.copy(alloc)?, inner.as_slice());
+    let classes = Classes::of(alloc, b, &left)?;
+    if !pools.has_bound(b, &classes, &left, proof, Cap::At(VISITS)) {
+        return Ok(None);
+    }
+    let Some(point) = pools.budget.work.point(first) else {
+        return Ok(None);
     };
     if !take(block, point, sides) {
-        return Ok(false);
+        return Ok(None);
     }
-    points.push(point.to_vec(alloc)?)?;
-    Ok(true)
+    Ok(Some(point.to_vec(alloc)?))
+}
+
+// The spans of a zone, but for a block's own.
+fn spans_with(
+    alloc: Global,
+    zone: &Zone,
+    block: &Block,
+    own: &[Span],
+) -> Result<Vec<Span>, AllocError> {
+    let mut all = zone.spans().to_vec(alloc)?;
+    for (var, span) in block.vars().iter().zip(own) {
+        if let Some(place) = all.get_mut(*var as usize) {
+            *place = *span;
+        }
+    }
+    Ok(all)
 }
 
 // Narrows the upper ends of a block's spans to what rows leave.

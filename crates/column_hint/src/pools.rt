@@ -7,8 +7,10 @@ ghost use Rattle.column_hint.specs.Pools.{AreMadeFor, IsStoreOf};
 use crate::budget::PricingBudget;
 use block_class::Classes;
 use block_form::{Blocked, Zone};
+use bp_theory::Proof;
 use col_pool::{Added, Column, Pool, PoolFault};
 use lone_leaf::{LoneLeaves, serves};
+use pricing::Cap;
 use std::alloc::{AllocError, Global};
 
 /// How many numbers the points of all columns may have until pools are emptied.
@@ -96,6 +98,24 @@ impl Pools {
         ensures made_for { AreMadeFor b.now self.new }
     {
         self.budget.round(alloc, b, classes, zone, mults, point)
+    }
+
+    /// Whether a proof has a bound in a zone, within a cap for each block. The points that reach it are told then. No price
+    /// of the leaf's is spent.
+    pub(crate) fn has_bound(
+        &mut self,
+        b: &Blocked,
+        classes: &Classes,
+        zone: &Zone,
+        proof: &Proof,
+        cap: Cap,
+    ) -> bool
+        requires made_for { AreMadeFor b.now self.old }
+        requires classes { AreSameClasses zone.now b.now.blocking classes.now }
+        requires zone { IsZone b.now.named.program.spans zone.now }
+        ensures made_for { AreMadeFor b.now self.new }
+    {
+        self.budget.has_bound(b, classes, zone, proof, cap)
     }
 
     /// Adds the points that the last bound told.
