@@ -25,7 +25,7 @@ pub record HasSeedAndSize (rows : List Row) : Type 0 where
 
 -- what `gen` and `demo` state has a seed and a size
 pub gen_has : (rows : List Row) (order : Order) → HasValues (codes "gen") rows order → HasSeedAndSize rows
-gen_has rows (Solve lp dec steps cert from leaf workers order) has = absurd (apart 103 115 (codes "en") (codes "olve") (λ e. omega arith) has.0)
+gen_has rows (Solve given) has = absurd (apart 103 115 (codes "en") (codes "olve") (λ e. omega arith) has.0)
 gen_has rows (Check lp cert dec) has = absurd (apart 103 99 (codes "en") (codes "heck") (λ e. omega arith) has.0)
 gen_has rows (Show lp dec blocks) has = absurd (apart 103 115 (codes "en") (codes "how") (λ e. omega arith) has.0)
 gen_has rows (Gen seed size lp dec) has = record { seed = seed; size = size; seeds = has.1; sizes = has.2 }
@@ -36,7 +36,7 @@ gen_has rows (Merge lp one other new dec) has = absurd (apart 103 109 (codes "en
 gen_has rows (Migrate lp cert new dec) has = absurd (apart 103 109 (codes "en") (codes "igrate") (λ e. omega arith) has.0)
 
 pub demo_has : (rows : List Row) (order : Order) → HasValues (codes "demo") rows order → HasSeedAndSize rows
-demo_has rows (Solve lp dec steps cert from leaf workers order) has = absurd (apart 100 115 (codes "emo") (codes "olve") (λ e. omega arith) has.0)
+demo_has rows (Solve given) has = absurd (apart 100 115 (codes "emo") (codes "olve") (λ e. omega arith) has.0)
 demo_has rows (Check lp cert dec) has = absurd (apart 100 99 (codes "emo") (codes "heck") (λ e. omega arith) has.0)
 demo_has rows (Show lp dec blocks) has = absurd (apart 100 115 (codes "emo") (codes "how") (λ e. omega arith) has.0)
 demo_has rows (Gen seed size lp dec) has = absurd (apart 100 103 (codes "emo") (codes "en") (λ e. omega arith) has.0)
@@ -71,11 +71,11 @@ together named start crew turns (Some k) from workers order leaf_is from_is work
 
 -- the numbers of a stated order are in their ranges
 in_range : (met : Option (Text × List Row)) (order : Order) → IsStated met order → IsInRange order
-in_range met (Solve lp dec steps cert from leaf workers order) stated = (
-  at_most steps (within (first_of (codes "steps") stated.rows) 0 most_steps steps stated.values.3),
-  within (first_of (codes "workers") stated.rows) 1 most_workers workers stated.values.7,
+in_range met (Solve given) stated = (
+  at_most given.steps (within (first_of (codes "steps") stated.rows) 0 most_steps given.steps stated.values.3),
+  within (first_of (codes "workers") stated.rows) 1 most_workers given.workers stated.values.7,
   together (first_of (codes "leaf") stated.rows) (first_of (codes "from") stated.rows) (first_of (codes "workers") stated.rows)
-      (first_of (codes "order") stated.rows) leaf from workers order stated.values.6 stated.values.5 stated.values.7 stated.values.8 stated.values.9,
+      (first_of (codes "order") stated.rows) given.leaf given.from given.workers given.order stated.values.6 stated.values.5 stated.values.7 stated.values.8 stated.values.9,
 ) where
   at_most : (n : Option ℕ) → IfSome n (λ k. (0 ≤ k) × (k ≤ most_steps)) → IfSome n (λ k. k ≤ most_steps)
   at_most None is = tt

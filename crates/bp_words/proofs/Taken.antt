@@ -231,7 +231,16 @@ solve_states words e =
     let order = number_stated 0 most_seed (first_of (codes "order") rows) (λ text is. first_good good (codes "order") rows text level.0 is) in
     ⊎_elim
     (λ (well : IsLeafPlaced rows). inl (
-      Solve lp.0 (first_of (codes "dec") rows) steps.0 (first_of (codes "cert") rows) (first_of (codes "from") rows) leaf.0 workers.0 order.0,
+      Solve (record {
+        lp = lp.0;
+        dec = first_of (codes "dec") rows;
+        steps = steps.0;
+        cert = first_of (codes "cert") rows;
+        from = first_of (codes "from") rows;
+        leaf = leaf.0;
+        workers = workers.0;
+        order = order.0;
+      }),
       record {
         name = codes "solve";
         rows = rows;

@@ -40,12 +40,12 @@ IsLeafPlaced rows =
 
 -- an order has the values that stand in the rows of the subcommand
 abbrev pub HasValues : Text → List Row → Order → Type 0
-HasValues name rows (Solve lp dec steps cert from leaf workers order) =
-    (name ≡ codes "solve") × (first_of (codes "lp") rows ≡ Some lp) × (first_of (codes "dec") rows ≡ dec)
-    × MayHaveNumber (first_of (codes "steps") rows) 0 most_steps steps × (first_of (codes "cert") rows ≡ cert)
-    × (first_of (codes "from") rows ≡ from) × MayHaveNumber (first_of (codes "leaf") rows) 1 most_leaf leaf
-    × MayHaveNumber (first_of (codes "workers") rows) 1 most_workers workers × MayHaveNumber (first_of (codes "order") rows) 0 most_seed order
-    × IsLeafPlaced rows
+HasValues name rows (Solve given) =
+    (name ≡ codes "solve") × (first_of (codes "lp") rows ≡ Some given.lp) × (first_of (codes "dec") rows ≡ given.dec)
+    × MayHaveNumber (first_of (codes "steps") rows) 0 most_steps given.steps × (first_of (codes "cert") rows ≡ given.cert)
+    × (first_of (codes "from") rows ≡ given.from) × MayHaveNumber (first_of (codes "leaf") rows) 1 most_leaf given.leaf
+    × MayHaveNumber (first_of (codes "workers") rows) 1 most_workers given.workers
+    × MayHaveNumber (first_of (codes "order") rows) 0 most_seed given.order × IsLeafPlaced rows
 HasValues name rows (Check lp cert dec) =
     (name ≡ codes "check") × (first_of (codes "lp") rows ≡ Some lp) × (first_of (codes "cert") rows ≡ Some cert)
     × (first_of (codes "dec") rows ≡ dec)
@@ -73,9 +73,9 @@ HasValues name rows (Migrate lp cert new dec) =
 
 -- the numbers of an order are in their ranges, and a leaf goes with a certificate to go on from and without a crew
 abbrev pub IsInRange : Order → Type 0
-IsInRange (Solve lp dec steps cert from leaf workers order) =
-    IfSome steps (λ n. n ≤ most_steps) × IfSome workers (λ n. (1 ≤ n) × (n ≤ most_workers))
-    × IfSome leaf (λ n. (1 ≤ n) × IsSome from × (workers ≡ None) × (order ≡ None))
+IsInRange (Solve given) =
+    IfSome given.steps (λ n. n ≤ most_steps) × IfSome given.workers (λ n. (1 ≤ n) × (n ≤ most_workers))
+    × IfSome given.leaf (λ n. (1 ≤ n) × IsSome given.from × (given.workers ≡ None) × (given.order ≡ None))
 IsInRange (Check lp cert dec) = Unit {0}
 IsInRange (Show lp dec blocks) = Unit {0}
 IsInRange (Gen seed size lp dec) = (1 ≤ size) × (size ≤ most_size)

@@ -6,30 +6,34 @@ use crate::text::Text;
 use std::alloc::AllocError;
 use thiserror::Error;
 
+/// The files and the numbers of an order to solve.
+#[derive(Drop)]
+pub struct SolveOrder {
+    /// The LP file.
+    pub lp: Text,
+    /// The decomposition's file, where there is one.
+    pub dec: Option<Text>,
+    /// After how many steps to stop, at most 2^60, where a number is given.
+    pub steps: Option<u64>,
+    /// The file for the certificate.
+    pub cert: Option<Text>,
+    /// The file of the certificate to go on from, where there is one.
+    pub from: Option<Text>,
+    /// The open leaf of that certificate below which alone to work, by its number from 1, where one is given.
+    pub leaf: Option<u64>,
+    /// How many workers there are, 1 to 64, where a number is given.
+    pub workers: Option<u32>,
+    /// The seed of the order in which the workers have their turns, where one is given.
+    pub order: Option<u64>,
+}
+
 /// What a command line orders.
 #[derive(Drop)]
 pub enum Order {
     /// Solve the LP file by a decomposition, from the start or from where a certificate stopped, by a crew where workers or
     /// their order are given, and write a certificate where a file is named for it. A leaf goes with a certificate to go on
     /// from, and without a crew.
-    Solve {
-        /// The LP file.
-        lp: Text,
-        /// The decomposition's file, where there is one.
-        dec: Option<Text>,
-        /// After how many steps to stop, at most 2^60, where a number is given.
-        steps: Option<u64>,
-        /// The file for the certificate.
-        cert: Option<Text>,
-        /// The file of the certificate to go on from, where there is one.
-        from: Option<Text>,
-        /// The open leaf of that certificate below which alone to work, by its number from 1, where one is given.
-        leaf: Option<u64>,
-        /// How many workers there are, 1 to 64, where a number is given.
-        workers: Option<u32>,
-        /// The seed of the order in which the workers have their turns, where one is given.
-        order: Option<u64>,
-    },
+    Solve(SolveOrder),
     /// Check a certificate of the LP file.
     Check {
         /// The LP file.

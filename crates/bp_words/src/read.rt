@@ -6,7 +6,7 @@ ghost use Rattle.bp_words.specs.Orders.{IsNumber, HasNumber, MayHaveNumber, is_s
 ghost use Rattle.bp_words.specs.declared.order.Order.{Order};
 
 use crate::command::{MOST_LEAF, MOST_SIZE, MOST_STEPS, MOST_WORKERS, make_command};
-use crate::order::{Order, WordFault};
+use crate::order::{Order, SolveOrder, WordFault};
 use crate::text::Text;
 use clap::ArgMatches;
 use clap::error::ErrorKind;
@@ -92,7 +92,7 @@ fn solve_order(alloc: Global, solve: &ArgMatches) -> Result<Order, WordFault>
     let leaf = optional_number(solve, "leaf", 1, MOST_LEAF)?;
     let workers = optional_count(solve, "workers", 1, MOST_WORKERS)?;
     let order = optional_number(solve, "order", 0, u64::MAX)?;
-    Ok(Order::Solve {
+    Ok(Order::Solve(SolveOrder {
         lp,
         dec,
         steps,
@@ -101,7 +101,7 @@ fn solve_order(alloc: Global, solve: &ArgMatches) -> Result<Order, WordFault>
         leaf,
         workers,
         order,
-    })
+    }))
 }
 
 // Whether a leaf is named only beside a certificate to go on from, and not beside a crew.

@@ -1,5 +1,5 @@
 // Command lines, and the order that each gives.
-use bp_words::{Order, Text, WordFault, read_words};
+use bp_words::{Order, SolveOrder, Text, WordFault, read_words};
 use std::alloc::{AllocError, Global};
 use std::test::Fail;
 
@@ -137,35 +137,22 @@ fn number_of(alloc: Global, number: Option<u64>) -> Result<String, AllocError> {
 }
 
 /// An order to solve in short: the files, the steps, the leaf, the workers and their order.
-fn solve_line(
-    alloc: Global,
-    files: (&str, &str, &str, &str),
-    numbers: (Option<u64>, Option<u64>, Option<u32>, Option<u64>),
-) -> Result<String, AllocError> {
-    let steps = number_of(alloc, numbers.0)?;
-    let leaf = number_of(alloc, numbers.1)?;
-    let workers = number_of(alloc, numbers.2.map(u64::from))?;
-    let order = number_of(alloc, numbers.3)?;
-    let (lp, dec, cert, from) = files;
+fn solve_line(alloc: Global, given: &SolveOrder) -> Result<String, AllocError> {
+    let lp = given.lp.as_str();
+    let dec = name_of(&given.dec);
+    let steps = number_of(alloc, given.steps)?;
+    let cert = name_of(&given.cert);
+    let from = name_of(&given.from);
+    let leaf = number_of(alloc, given.leaf)?;
+    let workers = number_of(alloc, given.workers.map(u64::from))?;
+    let order = number_of(alloc, given.order)?;
     format!(in alloc; "solve {lp} {dec} {steps} {cert} {from} {leaf} {workers} {order}")
 }
 
 /// An order in short.
 fn order_line(alloc: Global, order: &Order) -> Result<String, AllocError> {
     match order {
-        Order::Solve {
-            lp,
-            dec,
-            steps,
-            cert,
-            from,
-            leaf,
-            workers,
-            order,
-        } => {
-            let files = (lp.as_str(), name_of(dec), name_of(cert), name_of(from));
-            solve_line(alloc, files, (*steps, *leaf, *workers, *order))
-        }
+        Order::Solve(given) => solve_line(alloc, given),
         Order::Check { lp, cert, dec } => {
             format!(in alloc; "check {} {} {}", lp.as_str(), cert.as_str(), name_of(dec))
         }
@@ -212,7 +199,7 @@ fn made_line(alloc: Global, order: &Order) -> Result<String, AllocError> {
             let files = format!(in alloc; "{} {}", cert.as_str(), new.as_str())?;
             format!(in alloc; "migrate {} {files} {}", lp.as_str(), name_of(dec))
         }
-        Order::Solve { .. } | Order::Check { .. } | Order::Show { .. } => {
+        Order::Solve(_) | Order::Check { .. } | Order::Show { .. } => {
             String::from_str(alloc, "-")
         }
     }
