@@ -1,11 +1,17 @@
 -- The headline of the order that words give.
-use Rattle.std.proofs.Common.{◌≡◌, subst, inl, inr, ◌⊎◌, ℕ, Bool, IsTrue, List, Option, Some, None}
+use Rattle.std.proofs.Common.{◌≡◌, ◌≢◌, subst, inl, inr, ◌⊎◌, ℕ, Bool, IsTrue, List, Option, Some, None, IfSome}
+use Rattle.bp_theory.specs.declared.Claim.{Claim}
 use Rattle.bp_shelf.specs.Shelf.{Files}
 use Rattle.branch_tree.specs.declared.outcome.Outcome.{Outcome}
 use Rattle.bp_words.specs.Orders.{IsOrderOf}
 use Rattle.bp_words.specs.declared.order.Order.{Order}
+use Rattle.bp_words.specs.declared.order.SolveOrder.{SolveOrder}
 use Rattle.bp_words.specs.declared.order.Order.TheVariants.{Solve, Check, Show, Gen, Demo, Detect, Propose, Merge, Migrate}
-use Rattle.bp_front.specs.Answers.{AnswersBy, IsStatus}
+use Rattle.bp_report.specs.Report.{accepted_report}
+use Rattle.bp_front.specs.Answers.{AnswersBy, FilesStand, IsStatus}
+use Rattle.cmd_check.specs.Checks.{AnswersCheck}
+use Rattle.cmd_solve.specs.Solves.{AnswersSolve}
+use Rattle.cmd_solve.specs.Saves.{HasCertificate}
 use Rattle.bp_cli.specs.Running.{Answers, refused, ordered, AnswersOrder, OfOrder, HasWritten}
 use Rattle.bp_cli.specs.Headline.{SolvesTruly, SolvesAccepted, ChecksTruly, IsOutcomeStatus}
 use Rattle.bp_cli.specs.Promises.{SolvesDecomposed, WritesCertificate}
@@ -28,7 +34,7 @@ pub solved : (words : List (List ℕ)) (files : Files) (kept : Option Outcome) (
 solved words files kept status tells before now answers heard = λ order is. by order (of_words words order files kept status tells before now is answers)
   where
     by : (order : Order) → AnswersBy (AnswersOrder order files kept) status tells before now → SolvesTruly order files kept status before now
-    by (Solve lp dec steps cert from leaf workers turns) right = solves_truly files lp dec steps from leaf kept status tells before now right heard
+    by (Solve given) right = solves_truly files given.lp given.dec given.steps given.from given.leaf kept status tells before now right heard
     by (Check lp cert dec) right = tt
     by (Show lp dec blocks) right = tt
     by (Gen seed size lp dec) right = tt
@@ -43,9 +49,9 @@ pub accepts : (words : List (List ℕ)) (files : Files) (kept : Option Outcome) 
 accepts words files kept status tells before now known answers = λ order is. by order (of_words words order files kept status tells before now is answers)
   where
     by : (order : Order) → AnswersBy (AnswersOrder order files kept) status tells before now → SolvesAccepted order files status
-    by (Solve lp None steps cert None leaf workers turns) right = solves_accepted files lp steps leaf kept status tells before now known right
-    by (Solve lp None steps cert (Some from) leaf workers turns) right = tt
-    by (Solve lp (Some dec) steps cert from leaf workers turns) right = tt
+    by (Solve given) right = λ plain anew. solves_accepted files given.lp given.steps given.leaf kept status tells before now known
+        (subst (λ (from : Option (List ℕ)). AnswersBy (AnswersSolve files given.lp None given.steps from given.leaf kept) status tells before now) anew
+        (subst (λ (dec : Option (List ℕ)). AnswersBy (AnswersSolve files given.lp dec given.steps given.from given.leaf kept) status tells before now) plain right))
     by (Check lp cert dec) right = tt
     by (Show lp dec blocks) right = tt
     by (Gen seed size lp dec) right = tt
@@ -60,8 +66,8 @@ pub decomposes : (words : List (List ℕ)) (files : Files) (kept : Option Outcom
 decomposes words files kept status tells before now known answers = λ order is. by order (of_words words order files kept status tells before now is answers)
   where
     by : (order : Order) → AnswersBy (AnswersOrder order files kept) status tells before now → SolvesDecomposed order files status
-    by (Solve lp dec steps cert None leaf workers turns) right = solves_decomposed files lp dec steps leaf kept status tells before now known right
-    by (Solve lp dec steps cert (Some from) leaf workers turns) right = tt
+    by (Solve given) right = λ anew. solves_decomposed files given.lp given.dec given.steps given.leaf kept status tells before now known
+        (subst (λ (from : Option (List ℕ)). AnswersBy (AnswersSolve files given.lp given.dec given.steps from given.leaf kept) status tells before now) anew right)
     by (Check lp cert dec) right = tt
     by (Show lp dec blocks) right = tt
     by (Gen seed size lp dec) right = tt
@@ -82,12 +88,20 @@ pub certifies : (words : List (List ℕ)) (files left : Files) (kept : Option Ou
 certifies words files left kept status tells before now known answers written = λ order is.
     by order kept known (of_words words order files kept status tells before now is answers) (written order is)
   where
+    saved : (given : SolveOrder) (cert : Option (List ℕ)) (k : Option Outcome) → (k ≡ None) ⊎ IsOutcomeStatus status
+        → AnswersBy (AnswersSolve files given.lp given.dec given.steps given.from given.leaf k) status tells before now
+        → HasCertificate files given.lp given.dec cert left k → FilesStand cert files left
+        → IfSome cert (λ name. IfSome k (λ outcome.
+        name ≢ given.lp → given.dec ≢ Some name → (claim : Claim) × AnswersCheck left given.lp name given.dec 0 (accepted_report claim)))
+    saved given (Some cert) (Some o) shown right has stands =
+        writes_certificate files left given.lp cert given.dec o has stands
+        (kept_outcome files given.lp given.dec given.steps given.from given.leaf o status tells before now right (its_status o status shown))
+    saved given (Some cert) None shown right has stands = tt
+    saved given None k shown right has stands = tt
+
     by : (order : Order) (k : Option Outcome) → (k ≡ None) ⊎ IsOutcomeStatus status → AnswersBy (AnswersOrder order files k) status tells before now → HasWritten order files left k status
         → WritesCertificate order left k
-    by (Solve lp dec steps (Some cert) from leaf workers turns) (Some o) shown right has =
-        writes_certificate files left lp cert dec o has.0 has.1 (kept_outcome files lp dec steps from leaf o status tells before now right (its_status o status shown))
-    by (Solve lp dec steps (Some cert) from leaf workers turns) None shown right has = tt
-    by (Solve lp dec steps None from leaf workers turns) k shown right has = tt
+    by (Solve given) k shown right has = saved given given.cert k shown right has.0 has.1
     by (Check lp cert dec) k shown right has = tt
     by (Show lp dec blocks) k shown right has = tt
     by (Gen seed size lp dec) k shown right has = tt
@@ -102,7 +116,7 @@ pub checked : (words : List (List ℕ)) (files : Files) (kept : Option Outcome) 
 checked words files kept status tells before now answers heard = λ order is. by order (of_words words order files kept status tells before now is answers)
   where
     by : (order : Order) → AnswersBy (AnswersOrder order files kept) status tells before now → ChecksTruly order files status before now
-    by (Solve lp dec steps cert from leaf workers turns) right = tt
+    by (Solve given) right = tt
     by (Check lp cert dec) right = λ zero. checks_truly files lp cert dec status tells before now (λ a b c. let answer = right a b c in (answer.0, answer.1.1, answer.2)) heard zero
     by (Show lp dec blocks) right = tt
     by (Gen seed size lp dec) right = tt

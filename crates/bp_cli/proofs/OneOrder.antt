@@ -7,6 +7,7 @@ use Rattle.clap.specs.Words.{Row, Text, first_of}
 use Rattle.bp_words.specs.CommandLine.{most_steps, most_leaf, most_seed, most_size, most_workers}
 use Rattle.bp_words.specs.Orders.{HasNumber, MayHaveNumber, IsLeafPlaced, HasValues, IsOrderOf, AreRefused}
 use Rattle.bp_words.specs.declared.order.Order.{Order}
+use Rattle.bp_words.specs.declared.order.SolveOrder.{SolveOrder}
 use Rattle.bp_words.specs.declared.order.Order.TheVariants.{Solve, Check, Show, Gen, Demo, Detect, Propose, Merge, Migrate}
 
 -- a value that is there is one
@@ -36,9 +37,27 @@ apart name s t a b same other =
     let both : true ≡ false = sym same ∙ ap (λ (u : Text). bytes_eq s u) (sym a ∙ b) ∙ other in
     absurd (cc)
 
-solves : (a b : Text) (c d : Option Text) (m n : Option ℕ) (e f g h : Option Text) (i j k l x y : Option ℕ) → a ≡ b → c ≡ d → m ≡ n → e ≡ f → g ≡ h
-    → i ≡ j → k ≡ l → x ≡ y → Solve a c m e g i k x ≡ Solve b d n f h j l y
-solves a b c d m n e f g h i j k l x y p q r s t u v w = rw (p, q, r, s, t, u, v, w) refl
+-- the words of an order to solve, one by one
+abbrev solve_of : (lp : Text) (dec : Option Text) (steps : Option ℕ) (cert from : Option Text) (leaf workers order : Option ℕ) → Order
+solve_of lp dec steps cert from leaf workers order = Solve (record {
+  lp = lp;
+  dec = dec;
+  steps = steps;
+  cert = cert;
+  from = from;
+  leaf = leaf;
+  workers = workers;
+  order = order;
+})
+
+solves_of : (a b : Text) (c d : Option Text) (m n : Option ℕ) (e f g h : Option Text) (i j k l x y : Option ℕ) → a ≡ b → c ≡ d → m ≡ n → e ≡ f → g ≡ h
+    → i ≡ j → k ≡ l → x ≡ y → solve_of a c m e g i k x ≡ solve_of b d n f h j l y
+solves_of a b c d m n e f g h i j k l x y p q r s t u v w = rw (p, q, r, s, t, u, v, w) refl
+
+solves : (a b : SolveOrder) → a.lp ≡ b.lp → a.dec ≡ b.dec → a.steps ≡ b.steps → a.cert ≡ b.cert → a.from ≡ b.from → a.leaf ≡ b.leaf
+    → a.workers ≡ b.workers → a.order ≡ b.order → Solve a ≡ Solve b
+solves a b p q r s t u v w =
+    solves_of a.lp b.lp a.dec b.dec a.steps b.steps a.cert b.cert a.from b.from a.leaf b.leaf a.workers b.workers a.order b.order p q r s t u v w
 
 checks : (a b c d : Text) (e f : Option Text) → a ≡ b → c ≡ d → e ≡ f → Check a c e ≡ Check b d f
 checks a b c d e f p q r = rw (p, q, r) refl
@@ -66,20 +85,21 @@ migrates a b c d e f i k p q r s = rw (p, q, r, s) refl
 
 -- a subcommand with its rows states one order
 pub one_stated : (name : Text) (rows : List Row) (o p : Order) → HasValues name rows o → HasValues name rows p → o ≡ p
-one_stated name rows (Solve a b c d i k m o) (Solve e f g h j l n p) x y =
-    solves a e b f c g d h i j k l m n o p (one_value (first_of (codes "lp") rows) a e x.1 y.1) (one_given (first_of (codes "dec") rows) b f x.2 y.2)
-    (may_be_one (first_of (codes "steps") rows) 0 most_steps c g x.3 y.3) (one_given (first_of (codes "cert") rows) d h x.4 y.4)
-    (one_given (first_of (codes "from") rows) i j x.5 y.5) (may_be_one (first_of (codes "leaf") rows) 1 most_leaf k l x.6 y.6)
-    (may_be_one (first_of (codes "workers") rows) 1 most_workers m n x.7 y.7) (may_be_one (first_of (codes "order") rows) 0 most_seed o p x.8 y.8)
-one_stated name rows (Solve a b c d i k m o) (Check e f g) x y = apart name (codes "solve") (codes "check") x.0 y.0 refl refl
-one_stated name rows (Solve a b c d i k m o) (Show e f g) x y = apart name (codes "solve") (codes "show") x.0 y.0 refl refl
-one_stated name rows (Solve a b c d i k m o) (Gen e f g h) x y = apart name (codes "solve") (codes "gen") x.0 y.0 refl refl
-one_stated name rows (Solve a b c d i k m o) (Demo e f) x y = apart name (codes "solve") (codes "demo") x.0 y.0 refl refl
-one_stated name rows (Solve a b c d i k m o) (Detect e f g) x y = apart name (codes "solve") (codes "detect") x.0 y.0 refl refl
-one_stated name rows (Solve a b c d i k m o) (Propose e f) x y = apart name (codes "solve") (codes "propose") x.0 y.0 refl refl
-one_stated name rows (Solve a b c d i k m o) (Merge e f g h j) x y = apart name (codes "solve") (codes "merge") x.0 y.0 refl refl
-one_stated name rows (Solve a b c d i k m o) (Migrate e f g h) x y = apart name (codes "solve") (codes "migrate") x.0 y.0 refl refl
-one_stated name rows (Check a b c) (Solve e f g h j l n p) x y = apart name (codes "check") (codes "solve") x.0 y.0 refl refl
+one_stated name rows (Solve a) (Solve b) x y =
+    solves a b (one_value (first_of (codes "lp") rows) a.lp b.lp x.1 y.1) (one_given (first_of (codes "dec") rows) a.dec b.dec x.2 y.2)
+    (may_be_one (first_of (codes "steps") rows) 0 most_steps a.steps b.steps x.3 y.3) (one_given (first_of (codes "cert") rows) a.cert b.cert x.4 y.4)
+    (one_given (first_of (codes "from") rows) a.from b.from x.5 y.5) (may_be_one (first_of (codes "leaf") rows) 1 most_leaf a.leaf b.leaf x.6 y.6)
+    (may_be_one (first_of (codes "workers") rows) 1 most_workers a.workers b.workers x.7 y.7)
+    (may_be_one (first_of (codes "order") rows) 0 most_seed a.order b.order x.8 y.8)
+one_stated name rows (Solve a) (Check e f g) x y = apart name (codes "solve") (codes "check") x.0 y.0 refl refl
+one_stated name rows (Solve a) (Show e f g) x y = apart name (codes "solve") (codes "show") x.0 y.0 refl refl
+one_stated name rows (Solve a) (Gen e f g h) x y = apart name (codes "solve") (codes "gen") x.0 y.0 refl refl
+one_stated name rows (Solve a) (Demo e f) x y = apart name (codes "solve") (codes "demo") x.0 y.0 refl refl
+one_stated name rows (Solve a) (Detect e f g) x y = apart name (codes "solve") (codes "detect") x.0 y.0 refl refl
+one_stated name rows (Solve a) (Propose e f) x y = apart name (codes "solve") (codes "propose") x.0 y.0 refl refl
+one_stated name rows (Solve a) (Merge e f g h j) x y = apart name (codes "solve") (codes "merge") x.0 y.0 refl refl
+one_stated name rows (Solve a) (Migrate e f g h) x y = apart name (codes "solve") (codes "migrate") x.0 y.0 refl refl
+one_stated name rows (Check a b c) (Solve e) x y = apart name (codes "check") (codes "solve") x.0 y.0 refl refl
 one_stated name rows (Check a b c) (Check e f g) x y =
     checks a e b f c g (one_value (first_of (codes "lp") rows) a e x.1 y.1) (one_value (first_of (codes "cert") rows) b f x.2 y.2)
     (one_given (first_of (codes "dec") rows) c g x.3 y.3)
@@ -90,7 +110,7 @@ one_stated name rows (Check a b c) (Detect e f g) x y = apart name (codes "check
 one_stated name rows (Check a b c) (Propose e f) x y = apart name (codes "check") (codes "propose") x.0 y.0 refl refl
 one_stated name rows (Check a b c) (Merge e f g h j) x y = apart name (codes "check") (codes "merge") x.0 y.0 refl refl
 one_stated name rows (Check a b c) (Migrate e f g h) x y = apart name (codes "check") (codes "migrate") x.0 y.0 refl refl
-one_stated name rows (Show a b c) (Solve e f g h j l n p) x y = apart name (codes "show") (codes "solve") x.0 y.0 refl refl
+one_stated name rows (Show a b c) (Solve e) x y = apart name (codes "show") (codes "solve") x.0 y.0 refl refl
 one_stated name rows (Show a b c) (Check e f g) x y = apart name (codes "show") (codes "check") x.0 y.0 refl refl
 one_stated name rows (Show a b c) (Show e f g) x y =
     shows a e b f c g (one_value (first_of (codes "lp") rows) a e x.1 y.1) (one_given (first_of (codes "dec") rows) b f x.2 y.2)
@@ -101,7 +121,7 @@ one_stated name rows (Show a b c) (Detect e f g) x y = apart name (codes "show")
 one_stated name rows (Show a b c) (Propose e f) x y = apart name (codes "show") (codes "propose") x.0 y.0 refl refl
 one_stated name rows (Show a b c) (Merge e f g h j) x y = apart name (codes "show") (codes "merge") x.0 y.0 refl refl
 one_stated name rows (Show a b c) (Migrate e f g h) x y = apart name (codes "show") (codes "migrate") x.0 y.0 refl refl
-one_stated name rows (Gen a b c d) (Solve e f g h j l n p) x y = apart name (codes "gen") (codes "solve") x.0 y.0 refl refl
+one_stated name rows (Gen a b c d) (Solve e) x y = apart name (codes "gen") (codes "solve") x.0 y.0 refl refl
 one_stated name rows (Gen a b c d) (Check e f g) x y = apart name (codes "gen") (codes "check") x.0 y.0 refl refl
 one_stated name rows (Gen a b c d) (Show e f g) x y = apart name (codes "gen") (codes "show") x.0 y.0 refl refl
 one_stated name rows (Gen a b c d) (Gen e f g h) x y =
@@ -112,7 +132,7 @@ one_stated name rows (Gen a b c d) (Detect e f g) x y = apart name (codes "gen")
 one_stated name rows (Gen a b c d) (Propose e f) x y = apart name (codes "gen") (codes "propose") x.0 y.0 refl refl
 one_stated name rows (Gen a b c d) (Merge e f g h j) x y = apart name (codes "gen") (codes "merge") x.0 y.0 refl refl
 one_stated name rows (Gen a b c d) (Migrate e f g h) x y = apart name (codes "gen") (codes "migrate") x.0 y.0 refl refl
-one_stated name rows (Demo a b) (Solve e f g h j l n p) x y = apart name (codes "demo") (codes "solve") x.0 y.0 refl refl
+one_stated name rows (Demo a b) (Solve e) x y = apart name (codes "demo") (codes "solve") x.0 y.0 refl refl
 one_stated name rows (Demo a b) (Check e f g) x y = apart name (codes "demo") (codes "check") x.0 y.0 refl refl
 one_stated name rows (Demo a b) (Show e f g) x y = apart name (codes "demo") (codes "show") x.0 y.0 refl refl
 one_stated name rows (Demo a b) (Gen e f g h) x y = apart name (codes "demo") (codes "gen") x.0 y.0 refl refl
@@ -122,7 +142,7 @@ one_stated name rows (Demo a b) (Detect e f g) x y = apart name (codes "demo") (
 one_stated name rows (Demo a b) (Propose e f) x y = apart name (codes "demo") (codes "propose") x.0 y.0 refl refl
 one_stated name rows (Demo a b) (Merge e f g h j) x y = apart name (codes "demo") (codes "merge") x.0 y.0 refl refl
 one_stated name rows (Demo a b) (Migrate e f g h) x y = apart name (codes "demo") (codes "migrate") x.0 y.0 refl refl
-one_stated name rows (Detect a b c) (Solve e f g h j l n p) x y = apart name (codes "detect") (codes "solve") x.0 y.0 refl refl
+one_stated name rows (Detect a b c) (Solve e) x y = apart name (codes "detect") (codes "solve") x.0 y.0 refl refl
 one_stated name rows (Detect a b c) (Check e f g) x y = apart name (codes "detect") (codes "check") x.0 y.0 refl refl
 one_stated name rows (Detect a b c) (Show e f g) x y = apart name (codes "detect") (codes "show") x.0 y.0 refl refl
 one_stated name rows (Detect a b c) (Gen e f g h) x y = apart name (codes "detect") (codes "gen") x.0 y.0 refl refl
@@ -133,7 +153,7 @@ one_stated name rows (Detect a b c) (Detect e f g) x y =
 one_stated name rows (Detect a b c) (Propose e f) x y = apart name (codes "detect") (codes "propose") x.0 y.0 refl refl
 one_stated name rows (Detect a b c) (Merge e f g h j) x y = apart name (codes "detect") (codes "merge") x.0 y.0 refl refl
 one_stated name rows (Detect a b c) (Migrate e f g h) x y = apart name (codes "detect") (codes "migrate") x.0 y.0 refl refl
-one_stated name rows (Propose a b) (Solve e f g h j l n p) x y = apart name (codes "propose") (codes "solve") x.0 y.0 refl refl
+one_stated name rows (Propose a b) (Solve e) x y = apart name (codes "propose") (codes "solve") x.0 y.0 refl refl
 one_stated name rows (Propose a b) (Check e f g) x y = apart name (codes "propose") (codes "check") x.0 y.0 refl refl
 one_stated name rows (Propose a b) (Show e f g) x y = apart name (codes "propose") (codes "show") x.0 y.0 refl refl
 one_stated name rows (Propose a b) (Gen e f g h) x y = apart name (codes "propose") (codes "gen") x.0 y.0 refl refl
@@ -143,7 +163,7 @@ one_stated name rows (Propose a b) (Propose e f) x y =
     proposes a e b f (one_value (first_of (codes "lp") rows) a e x.1 y.1) (one_value (first_of (codes "dec") rows) b f x.2 y.2)
 one_stated name rows (Propose a b) (Merge e f g h j) x y = apart name (codes "propose") (codes "merge") x.0 y.0 refl refl
 one_stated name rows (Propose a b) (Migrate e f g h) x y = apart name (codes "propose") (codes "migrate") x.0 y.0 refl refl
-one_stated name rows (Merge a b c d i) (Solve e f g h j l n o) x y = apart name (codes "merge") (codes "solve") x.0 y.0 refl refl
+one_stated name rows (Merge a b c d i) (Solve e) x y = apart name (codes "merge") (codes "solve") x.0 y.0 refl refl
 one_stated name rows (Merge a b c d i) (Check e f g) x y = apart name (codes "merge") (codes "check") x.0 y.0 refl refl
 one_stated name rows (Merge a b c d i) (Show e f g) x y = apart name (codes "merge") (codes "show") x.0 y.0 refl refl
 one_stated name rows (Merge a b c d i) (Gen e f g h) x y = apart name (codes "merge") (codes "gen") x.0 y.0 refl refl
@@ -154,7 +174,7 @@ one_stated name rows (Merge a b c d i) (Merge e f g h j) x y =
     merges a e b f c g d h i j (one_value (first_of (codes "lp") rows) a e x.1 y.1) (one_value (first_of (codes "first") rows) b f x.2 y.2)
     (one_value (first_of (codes "second") rows) c g x.3 y.3) (one_value (first_of (codes "new") rows) d h x.4 y.4) (sym x.5 ∙ y.5)
 one_stated name rows (Merge a b c d i) (Migrate e f g h) x y = apart name (codes "merge") (codes "migrate") x.0 y.0 refl refl
-one_stated name rows (Migrate a b c d) (Solve e f g h j l n o) x y = apart name (codes "migrate") (codes "solve") x.0 y.0 refl refl
+one_stated name rows (Migrate a b c d) (Solve e) x y = apart name (codes "migrate") (codes "solve") x.0 y.0 refl refl
 one_stated name rows (Migrate a b c d) (Check e f g) x y = apart name (codes "migrate") (codes "check") x.0 y.0 refl refl
 one_stated name rows (Migrate a b c d) (Show e f g) x y = apart name (codes "migrate") (codes "show") x.0 y.0 refl refl
 one_stated name rows (Migrate a b c d) (Gen e f g h) x y = apart name (codes "migrate") (codes "gen") x.0 y.0 refl refl
@@ -179,7 +199,7 @@ one_order words o p x y =
 
 -- an order to solve has its leaf where it may be named
 solve_is_placed : (rows : List Row) (order : Order) → HasValues (codes "solve") rows order → IsLeafPlaced rows
-solve_is_placed rows (Solve a b c d i k m o) has = has.9
+solve_is_placed rows (Solve a) has = has.9
 solve_is_placed rows (Check a b c) has = apart (codes "solve") (codes "solve") (codes "check") refl has.0 refl refl
 solve_is_placed rows (Show a b c) has = apart (codes "solve") (codes "solve") (codes "show") refl has.0 refl refl
 solve_is_placed rows (Gen a b c d) has = apart (codes "solve") (codes "solve") (codes "gen") refl has.0 refl refl
@@ -198,9 +218,9 @@ not_both words order (inr astray) is =
     astray.2 (solve_is_placed astray.0 order (subst (λ (s : Text × List Row). HasValues s.0 s.1 order) same is.stated.values))
 
 -- an order with its parts as other values that are the same
-pub as_solve : (order : Order) (a b : Text) (c d : Option Text) (m : Option ℕ) (e f g h : Option Text) (i k l : Option ℕ) → order ≡ Solve b d m f h i k l
-    → a ≡ b → c ≡ d → e ≡ f → g ≡ h → Solve a c m e g i k l ≡ order
-as_solve order a b c d m e f g h i k l is p q r s = solves a b c d m m e f g h i i k k l l p q refl r s refl refl refl ∙ sym is
+pub as_solve : (order : Order) (given : SolveOrder) (a : Text) (b c d : Option Text) → order ≡ Solve given → a ≡ given.lp → b ≡ given.dec → c ≡ given.cert
+    → d ≡ given.from → Solve (record given { lp = a; dec = b; cert = c; from = d }) ≡ order
+as_solve order given a b c d is p q r s = solves (record given { lp = a; dec = b; cert = c; from = d }) given p q refl r s refl refl refl ∙ sym is
 
 pub as_check : (order : Order) (a b c d : Text) (e f : Option Text) → order ≡ Check b d f → a ≡ b → c ≡ d → e ≡ f → Check a c e ≡ order
 as_check order a b c d e f is p q r = checks a b c d e f p q r ∙ sym is

@@ -5,7 +5,7 @@ use Rattle.branch_tree.specs.declared.outcome.Outcome.{Outcome}
 use Rattle.bp_words.specs.Orders.{IsOrderOf, AreRefused}
 use Rattle.bp_words.specs.declared.order.Order.{Order}
 use Rattle.bp_words.specs.declared.order.Order.TheVariants.{Solve, Check, Show, Gen, Demo, Detect, Propose, Merge, Migrate}
-use Rattle.bp_front.specs.Answers.{AnswersBy, IsOnly, CutsOff}
+use Rattle.bp_front.specs.Answers.{AnswersBy, IsOnly, CutsOff, FilesStand}
 use Rattle.bp_cli.specs.Running.{Answers, refused, ordered, AnswersOrder, OfOrder, HasWritten}
 use Rattle.cmd_gen.specs.Generates.{untouched}
 use Rattle.cmd_detect.specs.Files as detected
@@ -63,8 +63,10 @@ refused_two status (inr (inr want)) no_write no_want = absurd (no_want want)
 
 -- an order that was not begun left nothing
 pub nothing_written : (files : Files) (order : Order) → HasWritten order files files None 9
-nothing_written files (Solve lp dec steps None from leaf workers order) = (tt, refl, λ _. refl)
-nothing_written files (Solve lp dec steps (Some cert) from leaf workers order) = (tt, λ other apart. refl, λ _. refl)
+nothing_written files (Solve given) = (tt, stands given.cert, λ _. refl) where
+  stands : (cert : Option (List ℕ)) → FilesStand cert files files
+  stands None = refl
+  stands (Some name) = λ other apart. refl
 nothing_written files (Check lp cert dec) = refl
 nothing_written files (Show lp dec blocks) = refl
 nothing_written files (Gen seed size lp dec) = untouched refl refl

@@ -69,8 +69,8 @@ pub record TellsTruly (file : Option (List ℕ)) (leaf : Option ℕ) (given : �
 
 -- `solve` tells outcomes that are true
 abbrev pub SolvesTruly : Order → Files → Option Outcome → (status : ℕ) → (before now : List ℕ) → Type 0
-SolvesTruly (Solve lp dec steps cert from leaf workers turns) files kept status before now =
-    IsOutcomeStatus status → TellsTruly (files lp) leaf (given_steps steps) (is_none from) kept status before now
+SolvesTruly (Solve given) files kept status before now =
+    IsOutcomeStatus status → TellsTruly (files given.lp) given.leaf (given_steps given.steps) (is_none given.from) kept status before now
 SolvesTruly (Check lp cert dec) files kept status before now = Unit {0}
 SolvesTruly (Show lp dec blocks) files kept status before now = Unit {0}
 SolvesTruly (Gen seed size lp dec) files kept status before now = Unit {0}
@@ -82,9 +82,8 @@ SolvesTruly (Migrate lp cert new dec) files kept status before now = Unit {0}
 
 -- `solve LP` tells an outcome of each LP text that means a program, unless it was stopped
 abbrev pub SolvesAccepted : Order → Files → (status : ℕ) → Type 0
-SolvesAccepted (Solve lp None steps cert None leaf workers turns) files status = (m : NamedProgram) → HasProgram (files lp) m → IsOutcomeStatus status ⊎ WasStopped status
-SolvesAccepted (Solve lp None steps cert (Some from) leaf workers turns) files status = Unit {0}
-SolvesAccepted (Solve lp (Some dec) steps cert from leaf workers turns) files status = Unit {0}
+SolvesAccepted (Solve given) files status =
+    given.dec ≡ None → given.from ≡ None → (m : NamedProgram) → HasProgram (files given.lp) m → IsOutcomeStatus status ⊎ WasStopped status
 SolvesAccepted (Check lp cert dec) files status = Unit {0}
 SolvesAccepted (Show lp dec blocks) files status = Unit {0}
 SolvesAccepted (Gen seed size lp dec) files status = Unit {0}
@@ -103,7 +102,7 @@ pub record AcceptsTruly (file : Option (List ℕ)) (before now : List ℕ) : Typ
   pub printed : now ≡ before ++ accepted_report claim
 
 abbrev pub ChecksTruly : Order → Files → (status : ℕ) → (before now : List ℕ) → Type 0
-ChecksTruly (Solve lp dec steps cert from leaf workers turns) files status before now = Unit {0}
+ChecksTruly (Solve given) files status before now = Unit {0}
 ChecksTruly (Check lp cert dec) files status before now = status ≡ 0 → AcceptsTruly (files lp) before now
 ChecksTruly (Show lp dec blocks) files status before now = Unit {0}
 ChecksTruly (Gen seed size lp dec) files status before now = Unit {0}

@@ -1,5 +1,5 @@
 -- What else a run promises beside its headline: an outcome for each accepted decomposition, and a certificate that `check` accepts.
-use Rattle.std.specs.Prelude.{◌≢◌, ◌⊎◌, ℕ, Option, Some, None}
+use Rattle.std.specs.Prelude.{◌≡◌, ◌≢◌, ◌⊎◌, ℕ, Option, Some, None, IfSome}
 use Rattle.bp_theory.specs.declared.Claim.{Claim}
 use Rattle.bp_shelf.specs.Shelf.{Files}
 use Rattle.block_form.specs.Blocked.{BlockedProgram}
@@ -13,8 +13,8 @@ use Rattle.bp_cli.specs.Headline.{IsOutcomeStatus, WasStopped}
 
 -- `solve` tells an outcome of the files of a model and of its decomposition that come to a program in blocks, unless it was stopped
 abbrev pub SolvesDecomposed : Order → Files → (status : ℕ) → Type 0
-SolvesDecomposed (Solve lp dec steps cert None leaf workers turns) files status = (b : BlockedProgram) → FilesCome files lp dec (blocked b) → IsOutcomeStatus status ⊎ WasStopped status
-SolvesDecomposed (Solve lp dec steps cert (Some from) leaf workers turns) files status = Unit {0}
+SolvesDecomposed (Solve given) files status =
+    given.from ≡ None → (b : BlockedProgram) → FilesCome files given.lp given.dec (blocked b) → IsOutcomeStatus status ⊎ WasStopped status
 SolvesDecomposed (Check lp cert dec) files status = Unit {0}
 SolvesDecomposed (Show lp dec blocks) files status = Unit {0}
 SolvesDecomposed (Gen seed size lp dec) files status = Unit {0}
@@ -26,10 +26,8 @@ SolvesDecomposed (Migrate lp cert new dec) files status = Unit {0}
 
 -- where an outcome is kept, `check` accepts the certificate that was written, if it isn't written over the model or the decomposition
 abbrev pub WritesCertificate : Order → (now : Files) → Option Outcome → Type 0
-WritesCertificate (Solve lp dec steps (Some cert) from leaf workers turns) now (Some outcome) =
-    cert ≢ lp → dec ≢ Some cert → (claim : Claim) × AnswersCheck now lp cert dec 0 (accepted_report claim)
-WritesCertificate (Solve lp dec steps (Some cert) from leaf workers turns) now None = Unit {0}
-WritesCertificate (Solve lp dec steps None from leaf workers turns) now kept = Unit {0}
+WritesCertificate (Solve given) now kept = IfSome given.cert (λ cert. IfSome kept (λ outcome.
+    cert ≢ given.lp → given.dec ≢ Some cert → (claim : Claim) × AnswersCheck now given.lp cert given.dec 0 (accepted_report claim)))
 WritesCertificate (Check lp cert dec) now kept = Unit {0}
 WritesCertificate (Show lp dec blocks) now kept = Unit {0}
 WritesCertificate (Gen seed size lp dec) now kept = Unit {0}

@@ -191,27 +191,18 @@ fn obey<F: Shelf, O: Sink>(alloc: Global, order: &Order, shelf: &mut F, out: &mu
         (O.taken out.new) }
 {
     match order {
-        Order::Solve {
-            lp,
-            dec,
-            steps,
-            cert,
-            from,
-            leaf,
-            workers,
-            order,
-        } => solve(
+        Order::Solve(given) => solve(
             alloc,
             shelf,
             out,
-            lp.as_str(),
-            named(dec),
-            *steps,
-            named(cert),
-            named(from),
-            *leaf,
-            *workers,
-            *order,
+            given.lp.as_str(),
+            named(&given.dec),
+            given.steps,
+            named(&given.cert),
+            named(&given.from),
+            given.leaf,
+            given.workers,
+            given.order,
         ),
         Order::Check { lp, cert, dec } => {
             check(alloc, shelf, out, lp.as_str(), cert.as_str(), named(dec))

@@ -17,20 +17,20 @@ use Rattle.bp_cli.proofs.top.obey.Goals as goal
 pub returns-in-Solve-clause-answered : goal.returns-in-Solve-clause-answered
 returns-in-Solve-clause-answered g c = λ told.
     subst (λ (o : Order). AnswersBy (AnswersOrder o (g.F.Shelf.file c.args.shelf.now) c.solve.result.kept) c.solve.result.status (g.O.Sink.tells c.args.out.now) (g.O.Sink.taken c.args.out.now)
-    (g.O.Sink.taken c.solve.new.out)) (as_solve c.args.order.now c.as_str.result.now c.in-Solve.lp (option_map (λ name. name.now) c.named.result) c.in-Solve.dec c.in-Solve.steps (option_map (λ name. name.now) c.named-in-Solve.result)
-    c.in-Solve.cert (option_map (λ name. name.now) c.named-in-Solve-2.result) c.in-Solve.from c.in-Solve.leaf c.in-Solve.workers c.in-Solve.order c.in-Solve.is c.as_str.ensures c.named.ensures c.named-in-Solve.ensures c.named-in-Solve-2.ensures)
+    (g.O.Sink.taken c.solve.new.out)) (as_solve c.args.order.now c.in-Solve.given c.as_str.result.now (option_map (λ name. name.now) c.named.result)
+    (option_map (λ name. name.now) c.named-in-Solve.result) (option_map (λ name. name.now) c.named-in-Solve-2.result) c.in-Solve.is c.as_str.ensures c.named.ensures c.named-in-Solve.ensures c.named-in-Solve-2.ensures)
     (c.solve.ensures.answered told)
 
 pub returns-in-Solve-clause-exact : goal.returns-in-Solve-clause-exact
 returns-in-Solve-clause-exact g c = λ told.
-    subst (λ (o : Order). IsOnly (AnswersOrder o (g.F.Shelf.file c.args.shelf.now) c.solve.result.kept) c.solve.result.status) (as_solve c.args.order.now c.as_str.result.now c.in-Solve.lp (option_map (λ name. name.now) c.named.result) c.in-Solve.dec c.in-Solve.steps (option_map (λ name. name.now) c.named-in-Solve.result)
-    c.in-Solve.cert (option_map (λ name. name.now) c.named-in-Solve-2.result) c.in-Solve.from c.in-Solve.leaf c.in-Solve.workers c.in-Solve.order c.in-Solve.is c.as_str.ensures c.named.ensures c.named-in-Solve.ensures c.named-in-Solve-2.ensures)
+    subst (λ (o : Order). IsOnly (AnswersOrder o (g.F.Shelf.file c.args.shelf.now) c.solve.result.kept) c.solve.result.status) (as_solve c.args.order.now c.in-Solve.given c.as_str.result.now (option_map (λ name. name.now) c.named.result)
+    (option_map (λ name. name.now) c.named-in-Solve.result) (option_map (λ name. name.now) c.named-in-Solve-2.result) c.in-Solve.is c.as_str.ensures c.named.ensures c.named-in-Solve.ensures c.named-in-Solve-2.ensures)
     (c.solve.ensures.exact told)
 
 pub returns-in-Solve-clause-cut_off : goal.returns-in-Solve-clause-cut_off
 returns-in-Solve-clause-cut_off g c = λ told heard.
-    subst (λ (o : Order). CutsOff (AnswersOrder o (g.F.Shelf.file c.args.shelf.now)) c.solve.result.status (g.O.Sink.taken c.args.out.now) (g.O.Sink.taken c.solve.new.out)) (as_solve c.args.order.now c.as_str.result.now c.in-Solve.lp (option_map (λ name. name.now) c.named.result) c.in-Solve.dec c.in-Solve.steps (option_map (λ name. name.now) c.named-in-Solve.result)
-    c.in-Solve.cert (option_map (λ name. name.now) c.named-in-Solve-2.result) c.in-Solve.from c.in-Solve.leaf c.in-Solve.workers c.in-Solve.order c.in-Solve.is c.as_str.ensures c.named.ensures c.named-in-Solve.ensures c.named-in-Solve-2.ensures)
+    subst (λ (o : Order). CutsOff (AnswersOrder o (g.F.Shelf.file c.args.shelf.now)) c.solve.result.status (g.O.Sink.taken c.args.out.now) (g.O.Sink.taken c.solve.new.out)) (as_solve c.args.order.now c.in-Solve.given c.as_str.result.now (option_map (λ name. name.now) c.named.result)
+    (option_map (λ name. name.now) c.named-in-Solve.result) (option_map (λ name. name.now) c.named-in-Solve-2.result) c.in-Solve.is c.as_str.ensures c.named.ensures c.named-in-Solve.ensures c.named-in-Solve-2.ensures)
     (c.solve.ensures.cut_off told heard)
 
 pub returns-in-Check-clause-answered : goal.returns-in-Check-clause-answered
@@ -149,7 +149,8 @@ returns-in-Solve-clause-failed g c = λ is_fault.
     (g.O.Sink.faults c.args.out.now) (g.O.Sink.faults c.solve.new.out) (g.O.Sink.puts c.args.out.now) (g.O.Sink.puts c.solve.new.out)
     (g.O.Sink.taken c.args.out.now) (g.O.Sink.taken c.solve.new.out) refl
     (λ stands told. subst (λ (o : Order). HasPutLast o (g.F.Shelf.file c.args.shelf.now) (g.F.Shelf.file c.solve.new.shelf))
-    (as_solve c.args.order.now c.as_str.result.now c.in-Solve.lp (option_map (λ name. name.now) c.named.result) c.in-Solve.dec c.in-Solve.steps (option_map (λ name. name.now) c.named-in-Solve.result) c.in-Solve.cert (option_map (λ name. name.now) c.named-in-Solve-2.result) c.in-Solve.from c.in-Solve.leaf c.in-Solve.workers c.in-Solve.order c.in-Solve.is c.as_str.ensures c.named.ensures c.named-in-Solve.ensures c.named-in-Solve-2.ensures) (stands told))
+    (as_solve c.args.order.now c.in-Solve.given c.as_str.result.now (option_map (λ name. name.now) c.named.result)
+    (option_map (λ name. name.now) c.named-in-Solve.result) (option_map (λ name. name.now) c.named-in-Solve-2.result) c.in-Solve.is c.as_str.ensures c.named.ensures c.named-in-Solve.ensures c.named-in-Solve-2.ensures) (stands told))
     (c.solve.ensures.failed is_fault)
 
 pub returns-in-Gen-clause-failed : goal.returns-in-Gen-clause-failed
