@@ -1,3 +1,5 @@
+pub mod LineVisits
+pub mod Counting
 pub mod Lines
 pub mod Wholes
 pub mod Points

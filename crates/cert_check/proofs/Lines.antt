@@ -1,5 +1,5 @@
 -- The lines of a tree, judged one after another.
-use Rattle.std.proofs.Common.{◌≡◌, refl, sym, ap, subst, ◌∙◌, ℕ, zero, suc, ◌+◌, ◌<◌, ◌^◌, Bool, true, List, [], ◌∷◌, ◌++◌, length, get_or, set, Option, Some, Result, Ok, Err, arith, inl, inr, append_assoc, length-append}
+use Rattle.std.proofs.Common.{◌≡◌, refl, sym, ap, subst, ◌∙◌, ℕ, zero, suc, ◌+◌, ◌<◌, ◌^◌, Bool, true, List, [], ◌∷◌, ◌++◌, length, get_or, set, Option, Some, None, Result, Ok, Err, arith, inl, inr, append_assoc, length-append}
 use Rattle.std.proofs.Math.IntN.{ℤ, pos, ◌+ℤ◌, ◌-ℤ◌, ◌*ℤ◌}
 use Rattle.std.specs.Prelude.{◌<ℤ◌, ◌↔◌, IsTrue, MatchOption}
 use Rattle.std.specs.List.{AllByRecursion}
@@ -17,9 +17,10 @@ use Rattle.bp_theory.specs.declared.CheckKind.{CheckKind}
 use Rattle.bp_theory.specs.declared.CheckKind.TheVariants.{Split, Sign, Weak, Open}
 use Rattle.bp_theory.proofs.ShrinkProof.{one_bound_lem}
 use Rattle.block_form.proofs.BlockLemmas.{part_zones}
-use Rattle.cert_check.specs.Judging.{ProofsFit, IsFirstBad, JudgesLines}
+use Rattle.cert_check.specs.Judging.{ProofsFit, IsLeft, IsAfforded, Exceeds, LeavesOf, EndsWalk, IsEnd, JudgesLines}
+use Rattle.cert_check.proofs.LineVisits.{nothing_spent, split_left, both_left, afforded_by}
 use Rattle.cert_check.specs.declared.place.NodePlace.{NodePlace}
-use Rattle.cert_check.specs.declared.place.Rejection.{Rejection}
+use Rattle.cert_check.specs.declared.place.Stop.{Stop}
 
 -- ---- lists
 
@@ -119,24 +120,29 @@ behind_both zone y z v at low high first second third next low_is high_is' line 
       last,
     )
 
--- ---- the first line at fault of a split's lines
+-- ---- the line that ends a walk over a split's lines
 
-pub bad_split : (p : Program) (b : Blocking) (claim : Claim) (zone : List Span) (v : ℕ) (at : ℤ) (low high : Tree) (first : ℕ) → (IsSoundSplit zone v at → ⊥)
-    → IsFirstBad p b claim (tree_lines (split v at low high) zone) first first Split
-bad_split p b claim zone v at low high first none = record {
+no_leaf : (zone : List Span) (v : ℕ) (at : ℤ) (leaf : Leaf) → split_line zone v at ≡ leaf_line leaf → ⊥
+no_leaf zone v at leaf e = absurd (cc)
+
+end_split : (p : Program) (b : Blocking) (claim : Claim) (zone : List Span) (v : ℕ) (at : ℤ) (low high : Tree) (left : Option ℕ) (first : ℕ) → (IsSoundSplit zone v at → ⊥)
+    → IsEnd p b claim (tree_lines (split v at low high) zone) left first first (Some Split)
+end_split p b claim zone v at low high left first none = record {
   before = [];
   line = split_line zone v at;
   after = tree_lines low (low_part zone v at) ++ tree_lines high (high_part zone v at);
   parts = refl;
   passed = tt;
-  has_fault = unsound zone v at none;
+  now = left;
+  is_left = nothing_spent p.spans b left;
+  ends = (unsound zone v at none, λ leaf e signs. absurd (no_leaf zone v at leaf e));
   numbered = omega arith;
 }
 
-pub bad_low : (p : Program) (b : Blocking) (claim : Claim) (zone z : List Span) (v : ℕ) (at : ℤ) (low high : Tree) (first next number : ℕ) (kind : CheckKind)
-    → IsSoundSplit zone v at → z ≡ low_part zone v at → next ≡ first + 1 → IsFirstBad p b claim (tree_lines low z) next number kind
-    → IsFirstBad p b claim (tree_lines (split v at low high) zone) first number kind
-bad_low p b claim zone z v at low high first next number kind sound is line found =
+end_low : (p : Program) (b : Blocking) (claim : Claim) (zone z : List Span) (v : ℕ) (at : ℤ) (low high : Tree) (left : Option ℕ) (first next number : ℕ) (fault : Option CheckKind)
+    → IsSoundSplit zone v at → z ≡ low_part zone v at → next ≡ first + 1 → IsEnd p b claim (tree_lines low z) left next number fault
+    → IsEnd p b claim (tree_lines (split v at low high) zone) left first number fault
+end_low p b claim zone z v at low high left first next number fault sound is line found =
     let H : List Line = tree_lines high (high_part zone v at) in
     record {
       before = split_line zone v at ∷ found.before;
@@ -146,15 +152,18 @@ bad_low p b claim zone z v at low high first next number kind sound is line foun
           ∙ ap (λ (xs : List Line). split_line zone v at ∷ (xs ++ H)) found.parts
           ∙ ap (λ (xs : List Line). split_line zone v at ∷ xs) (append_assoc found.before (found.line ∷ found.after) H);
       passed = (sound, found.passed);
-      has_fault = found.has_fault;
+      now = found.now;
+      is_left = split_left p.spans b zone v at found.before left found.now found.is_left;
+      ends = found.ends;
       numbered = omega (arith, found.numbered, line);
     }
 
-pub bad_high : (p : Program) (b : Blocking) (claim : Claim) (zone y z : List Span) (v : ℕ) (at : ℤ) (low high : Tree) (first second next number : ℕ) (kind : CheckKind)
+end_high : (p : Program) (b : Blocking) (claim : Claim) (zone y z : List Span) (v : ℕ) (at : ℤ) (low high : Tree) (left middle : Option ℕ) (first second next number : ℕ)
+    (fault : Option CheckKind)
     → IsSoundSplit zone v at → y ≡ low_part zone v at → z ≡ high_part zone v at → second ≡ first + 1 → next ≡ second + length (tree_lines low y)
-    → AllByRecursion (Passes p b claim) (tree_lines low y) → IsFirstBad p b claim (tree_lines high z) next number kind
-    → IsFirstBad p b claim (tree_lines (split v at low high) zone) first number kind
-bad_high p b claim zone y z v at low high first second next number kind sound low_is high_is' line behind passed found =
+    → AllByRecursion (Passes p b claim) (tree_lines low y) → IsLeft p.spans b (tree_lines low y) left middle → IsEnd p b claim (tree_lines high z) middle next number fault
+    → IsEnd p b claim (tree_lines (split v at low high) zone) left first number fault
+end_high p b claim zone y z v at low high left middle first second next number fault sound low_is high_is' line behind passed spent found =
     let L : List Line = tree_lines low y in
     record {
       before = split_line zone v at ∷ (L ++ found.before);
@@ -165,9 +174,22 @@ bad_high p b claim zone y z v at low high first second next number kind sound lo
           ∙ ap (λ (xs : List Line). split_line zone v at ∷ (L ++ xs)) found.parts
           ∙ ap (λ (xs : List Line). split_line zone v at ∷ xs) (sym (append_assoc L found.before (found.line ∷ found.after)));
       passed = (sound, both_all (Passes p b claim) L found.before passed found.passed);
-      has_fault = found.has_fault;
+      now = found.now;
+      is_left = split_left p.spans b zone v at (L ++ found.before) left found.now (both_left p.spans b L found.before left middle found.now spent found.is_left);
+      ends = found.ends;
       numbered = omega (arith, found.numbered, line, behind, length-append L found.before);
     }
+
+both_spent : (root : List Span) (b : Blocking) (zone y z : List Span) (v : ℕ) (at : ℤ) (low high : Tree) (left middle now : Option ℕ)
+    → y ≡ low_part zone v at → z ≡ high_part zone v at → IsLeft root b (tree_lines low y) left middle → IsLeft root b (tree_lines high z) middle now
+    → IsLeft root b (tree_lines (split v at low high) zone) left now
+both_spent root b zone y z v at low high left middle now low_is high_is' l h =
+    let L : List Line = tree_lines low (low_part zone v at) in
+    let H : List Line = tree_lines high (high_part zone v at) in
+    split_left root b zone v at (L ++ H) left now
+    (both_left root b L H left middle now
+    (subst (λ (ss : List Span). IsLeft root b (tree_lines low ss) left middle) low_is l)
+    (subst (λ (ss : List Span). IsLeft root b (tree_lines high ss) middle now) high_is' h))
 
 pub both_pass : (p : Program) (b : Blocking) (claim : Claim) (zone y z : List Span) (v : ℕ) (at : ℤ) (low high : Tree)
     → IsSoundSplit zone v at → y ≡ low_part zone v at → z ≡ high_part zone v at
@@ -293,29 +315,71 @@ pub open_fault : (p : Program) (b : Blocking) (claim : Claim) (zone : List Span)
     → HasFault p b claim (leaf_line (record { zone = zone; proof = proof; is_open = is_open })) Open
 open_fault p b claim zone proof is_open signs shows is none = open_there (record { zone = zone; proof = proof; is_open = is_open }) signs shows is none
 
-pub leaf_bad : (p : Program) (b : Blocking) (claim : Claim) (line : Line) (first : ℕ) (kind : CheckKind) → HasFault p b claim line kind
-    → IsFirstBad p b claim (line ∷ []) first first kind
-leaf_bad p b claim line first kind fault = record { before = []; line = line; after = []; parts = refl; passed = tt; has_fault = fault; numbered = omega arith }
+same_leaf : (x y : Leaf) → leaf_line x ≡ leaf_line y → x ≡ y
+same_leaf x y e = cc
+
+leaf_end : (p : Program) (b : Blocking) (claim : Claim) (leaf : Leaf) (left : Option ℕ) (first : ℕ) (fault : Option CheckKind) → EndsWalk p b claim left (leaf_line leaf) fault
+    → IsEnd p b claim (leaf_line leaf ∷ []) left first first fault
+leaf_end p b claim leaf left first fault ends = record {
+  before = [];
+  line = leaf_line leaf;
+  after = [];
+  parts = refl;
+  passed = tt;
+  now = left;
+  is_left = nothing_spent p.spans b left;
+  ends = ends;
+  numbered = omega arith;
+}
+
+-- a leaf with a sign that doesn't fit
+pub sign_ends : (p : Program) (b : Blocking) (claim : Claim) (leaf : Leaf) (left : Option ℕ) (first : ℕ) → (SignsFit b leaf.proof → ⊥)
+    → IsEnd p b claim (leaf_line leaf ∷ []) left first first (Some Sign)
+sign_ends p b claim leaf left first none =
+    leaf_end p b claim leaf left first (Some Sign)
+    (leaf_sign leaf none, λ other e signs. absurd (none (subst (λ (x : Leaf). SignsFit b x.proof) (sym (same_leaf leaf other e)) signs)))
+
+-- one that asks for more visits than are left
+pub unpriced_ends : (p : Program) (b : Blocking) (claim : Claim) (leaf : Leaf) (left : Option ℕ) (first : ℕ) → SignsFit b leaf.proof
+    → Exceeds p.spans b leaf.zone leaf.proof.picked left → IsEnd p b claim (leaf_line leaf ∷ []) left first first None
+unpriced_ends p b claim leaf left first signs exceeds = leaf_end p b claim leaf left first None (leaf, refl, signs, exceeds)
+
+-- one that is priced and at fault
+pub priced_ends : (p : Program) (b : Blocking) (claim : Claim) (leaf : Leaf) (left now : Option ℕ) (first : ℕ) (kind : CheckKind)
+    → LeavesOf p.spans b leaf.zone leaf.proof.picked left now → HasFault p b claim (leaf_line leaf) kind
+    → IsEnd p b claim (leaf_line leaf ∷ []) left first first (Some kind)
+priced_ends p b claim leaf left now first kind spent fault =
+    leaf_end p b claim leaf left first (Some kind) (
+      fault,
+      λ other e signs. subst (λ (x : Leaf). IsAfforded p.spans b x.zone x.proof.picked left) (same_leaf leaf other e)
+          (afforded_by p.spans b leaf.zone leaf.proof.picked left now spent),
+    )
+
+pub ended_at : (p : Program) (b : Blocking) (claim : Claim) (leaf : Leaf) (left : Option ℕ) (first : ℕ) (kind : CheckKind) (found : Stop)
+    → found ≡ record { line = first; fault = Some kind } → IsEnd p b claim (leaf_line leaf ∷ []) left first first (Some kind)
+    → IsEnd p b claim (leaf_line leaf ∷ []) left first found.line found.fault
+ended_at p b claim leaf left first kind found is end = subst (λ (x : Stop). IsEnd p b claim (leaf_line leaf ∷ []) left first x.line x.fault) (sym is) end
 
 pub fault_there : (p : Program) (b : Blocking) (claim : Claim) (line : Line) (found : Option CheckKind) (kind : CheckKind) → found ≡ Some kind
     → MatchOption found (Passes p b claim line) (HasFault p b claim line) → HasFault p b claim line kind
 fault_there p b claim line found kind is h = subst (λ (o : Option CheckKind). MatchOption o (Passes p b claim line) (HasFault p b claim line)) is h
 
 -- what judging lines answered, by cases
-pub lines_fault : (p : Program) (b : Blocking) (claim : Claim) (lines : List Line) (at : NodePlace) (r : Result NodePlace Rejection) (found : Rejection) → r ≡ Err found
-    → JudgesLines p b claim lines at r → IsFirstBad p b claim lines at.line found.line found.kind
-lines_fault p b claim lines at r found is h = subst (λ (x : Result NodePlace Rejection). JudgesLines p b claim lines at x) is h
+pub lines_end : (p : Program) (b : Blocking) (claim : Claim) (lines : List Line) (at : NodePlace) (r : Result NodePlace Stop) (found : Stop) → r ≡ Err found
+    → JudgesLines p b claim lines at r → IsEnd p b claim lines at.left at.line found.line found.fault
+lines_end p b claim lines at r found is h = subst (λ (x : Result NodePlace Stop). JudgesLines p b claim lines at x) is h
 
-pub lines_pass : (p : Program) (b : Blocking) (claim : Claim) (lines : List Line) (at : NodePlace) (r : Result NodePlace Rejection) (now : NodePlace) → r ≡ Ok now
-    → JudgesLines p b claim lines at r → (now.zone ≡ at.zone) × (now.line ≡ at.line + length lines) × AllByRecursion (Passes p b claim) lines
-lines_pass p b claim lines at r now is h = subst (λ (x : Result NodePlace Rejection). JudgesLines p b claim lines at x) is h
+pub lines_pass : (p : Program) (b : Blocking) (claim : Claim) (lines : List Line) (at : NodePlace) (r : Result NodePlace Stop) (now : NodePlace) → r ≡ Ok now
+    → JudgesLines p b claim lines at r
+    → (now.zone ≡ at.zone) × (now.line ≡ at.line + length lines) × AllByRecursion (Passes p b claim) lines × IsLeft p.spans b lines at.left now.left
+lines_pass p b claim lines at r now is h = subst (λ (x : Result NodePlace Stop). JudgesLines p b claim lines at x) is h
 
 -- ---- the same where a tree is known to be a split
 
-pub split_bad : (p : Program) (b : Blocking) (claim : Claim) (t : Tree) (zone : List Span) (v : ℕ) (at : ℤ) (low high : Tree) (first : ℕ) → t ≡ split v at low high
-    → (IsSoundSplit zone v at → ⊥) → IsFirstBad p b claim (tree_lines t zone) first first Split
-split_bad p b claim t zone v at low high first is none =
-    subst (λ (x : Tree). IsFirstBad p b claim (tree_lines x zone) first first Split) (sym is) (bad_split p b claim zone v at low high first none)
+pub split_end : (p : Program) (b : Blocking) (claim : Claim) (t : Tree) (zone : List Span) (v : ℕ) (at : ℤ) (low high : Tree) (left : Option ℕ) (first : ℕ) → t ≡ split v at low high
+    → (IsSoundSplit zone v at → ⊥) → IsEnd p b claim (tree_lines t zone) left first first (Some Split)
+split_end p b claim t zone v at low high left first is none =
+    subst (λ (x : Tree). IsEnd p b claim (tree_lines x zone) left first first (Some Split)) (sym is) (end_split p b claim zone v at low high left first none)
 
 pub parts_fit : (b : Blocking) (t : Tree) (v : ℕ) (at : ℤ) (low high : Tree) → t ≡ split v at low high → ProofsFit b t → ProofsFit b low × ProofsFit b high
 parts_fit b t v at low high is h = subst (λ (x : Tree). ProofsFit b x) is h
@@ -331,27 +395,42 @@ pub high_few : (t : Tree) (zone y z : List Span) (v : ℕ) (at : ℤ) (low high 
 high_few t zone y z v at low high first second next is low_is high_is' line behind few =
     few_high zone y z v at low high first second next low_is high_is' line behind (subst (λ (x : Tree). first + length (tree_lines x zone) < 2 ^ 64) is few)
 
-pub low_bad : (p : Program) (b : Blocking) (claim : Claim) (t : Tree) (zone z : List Span) (v : ℕ) (at : ℤ) (low high : Tree) (first next number : ℕ) (kind : CheckKind)
-    → t ≡ split v at low high → IsSoundSplit zone v at → z ≡ low_part zone v at → next ≡ first + 1 → IsFirstBad p b claim (tree_lines low z) next number kind
-    → IsFirstBad p b claim (tree_lines t zone) first number kind
-low_bad p b claim t zone z v at low high first next number kind is sound low_is line found =
-    subst (λ (x : Tree). IsFirstBad p b claim (tree_lines x zone) first number kind) (sym is)
-    (bad_low p b claim zone z v at low high first next number kind sound low_is line found)
+pub low_end : (p : Program) (b : Blocking) (claim : Claim) (t : Tree) (zone z : List Span) (v : ℕ) (at : ℤ) (low high : Tree) (left begun : Option ℕ) (first next number : ℕ)
+    (fault : Option CheckKind)
+    → t ≡ split v at low high → IsSoundSplit zone v at → z ≡ low_part zone v at → next ≡ first + 1 → begun ≡ left → IsEnd p b claim (tree_lines low z) begun next number fault
+    → IsEnd p b claim (tree_lines t zone) left first number fault
+low_end p b claim t zone z v at low high left begun first next number fault is sound low_is line same found =
+    subst (λ (x : Tree). IsEnd p b claim (tree_lines x zone) left first number fault) (sym is)
+    (end_low p b claim zone z v at low high left first next number fault sound low_is line
+    (subst (λ (o : Option ℕ). IsEnd p b claim (tree_lines low z) o next number fault) same found))
 
-pub high_bad : (p : Program) (b : Blocking) (claim : Claim) (t : Tree) (zone y z : List Span) (v : ℕ) (at : ℤ) (low high : Tree) (first second next number : ℕ) (kind : CheckKind)
+pub high_end : (p : Program) (b : Blocking) (claim : Claim) (t : Tree) (zone y z : List Span) (v : ℕ) (at : ℤ) (low high : Tree) (left begun middle again : Option ℕ)
+    (first second next number : ℕ) (fault : Option CheckKind)
     → t ≡ split v at low high → IsSoundSplit zone v at → y ≡ low_part zone v at → z ≡ high_part zone v at → second ≡ first + 1 → next ≡ second + length (tree_lines low y)
-    → AllByRecursion (Passes p b claim) (tree_lines low y) → IsFirstBad p b claim (tree_lines high z) next number kind
-    → IsFirstBad p b claim (tree_lines t zone) first number kind
-high_bad p b claim t zone y z v at low high first second next number kind is sound low_is high_is' line behind passed found =
-    subst (λ (x : Tree). IsFirstBad p b claim (tree_lines x zone) first number kind) (sym is)
-    (bad_high p b claim zone y z v at low high first second next number kind sound low_is high_is' line behind passed found)
+    → begun ≡ left → again ≡ middle → AllByRecursion (Passes p b claim) (tree_lines low y) → IsLeft p.spans b (tree_lines low y) begun middle
+    → IsEnd p b claim (tree_lines high z) again next number fault
+    → IsEnd p b claim (tree_lines t zone) left first number fault
+high_end p b claim t zone y z v at low high left begun middle again first second next number fault is sound low_is high_is' line behind same still passed spent found =
+    subst (λ (x : Tree). IsEnd p b claim (tree_lines x zone) left first number fault) (sym is)
+    (end_high p b claim zone y z v at low high left middle first second next number fault sound low_is high_is' line behind passed
+    (subst (λ (o : Option ℕ). IsLeft p.spans b (tree_lines low y) o middle) same spent)
+    (subst (λ (o : Option ℕ). IsEnd p b claim (tree_lines high z) o next number fault) still found))
 
 -- both parts pass, and the zone is that of before
-pub fork_passes : (p : Program) (b : Blocking) (claim : Claim) (t : Tree) (zone y z last : List Span) (v : ℕ) (at : ℤ) (low high : Tree) (first second third fourth next : ℕ)
+pub fork_passes : (p : Program) (b : Blocking) (claim : Claim) (t : Tree) (zone y z last : List Span) (v : ℕ) (at : ℤ) (low high : Tree) (left begun middle again done now : Option ℕ)
+    (first second third fourth next : ℕ)
     → t ≡ split v at low high → IsSoundSplit zone v at → y ≡ low_part zone v at → z ≡ high_part zone v at
     → second ≡ first + 1 → third ≡ second + length (tree_lines low y) → fourth ≡ third + length (tree_lines high z) → next ≡ fourth
-    → AllByRecursion (Passes p b claim) (tree_lines low y) → AllByRecursion (Passes p b claim) (tree_lines high z) → last ≡ zone
-    → (last ≡ zone) × (next ≡ first + length (tree_lines t zone)) × AllByRecursion (Passes p b claim) (tree_lines t zone)
-fork_passes p b claim t zone y z last v at low high first second third fourth next is sound low_is high_is' line behind above end l h back =
-    subst (λ (x : Tree). (last ≡ zone) × (next ≡ first + length (tree_lines x zone)) × AllByRecursion (Passes p b claim) (tree_lines x zone)) (sym is)
-    (back, end ∙ behind_both zone y z v at low high first second third fourth low_is high_is' line behind above, both_pass p b claim zone y z v at low high sound low_is high_is' l h)
+    → begun ≡ left → again ≡ middle → now ≡ done
+    → AllByRecursion (Passes p b claim) (tree_lines low y) → AllByRecursion (Passes p b claim) (tree_lines high z)
+    → IsLeft p.spans b (tree_lines low y) begun middle → IsLeft p.spans b (tree_lines high z) again done → last ≡ zone
+    → (last ≡ zone) × (next ≡ first + length (tree_lines t zone)) × AllByRecursion (Passes p b claim) (tree_lines t zone) × IsLeft p.spans b (tree_lines t zone) left now
+fork_passes p b claim t zone y z last v at low high left begun middle again done now first second third fourth next is sound low_is high_is' line behind above end same still ends l h spent more back =
+    subst (λ (x : Tree). (last ≡ zone) × (next ≡ first + length (tree_lines x zone)) × AllByRecursion (Passes p b claim) (tree_lines x zone) × IsLeft p.spans b (tree_lines x zone) left now) (sym is) (
+      back,
+      end ∙ behind_both zone y z v at low high first second third fourth low_is high_is' line behind above,
+      both_pass p b claim zone y z v at low high sound low_is high_is' l h,
+      both_spent p.spans b zone y z v at low high left middle now low_is high_is'
+          (subst (λ (o : Option ℕ). IsLeft p.spans b (tree_lines low y) o middle) same spent)
+          (subst (λ (o : Option ℕ). IsLeft p.spans b (tree_lines high z) middle o) (sym ends) (subst (λ (o : Option ℕ). IsLeft p.spans b (tree_lines high z) o done) still more)),
+    )

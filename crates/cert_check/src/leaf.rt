@@ -1,7 +1,7 @@
 // The judgement of a leaf's line.
-ghost use Rattle.std.specs.Prelude.{◌≡◌, ◌↔◌, ◌+◌, ◌<◌, ◌≤◌, ◌^◌, ◌*ℤ◌, ◌-ℤ◌, ◌<ℤ◌, pos, Bool, IsTrue, List, [], ◌∷◌, IfOk, IfSome, MatchOption, unsigned_abs};
+ghost use Rattle.std.specs.Prelude.{◌≡◌, ◌↔◌, ◌+◌, ◌<◌, ◌≤◌, ◌^◌, ◌*ℤ◌, ◌-ℤ◌, ◌<ℤ◌, pos, Bool, IsTrue, List, [], ◌∷◌, IfOk, IfSome, MatchOption, Some, unsigned_abs};
 ghost use Rattle.bp_theory.specs.Program.{in_sense};
-ghost use Rattle.bp_theory.specs.Bound.{Fits, IsBound};
+ghost use Rattle.bp_theory.specs.Bound.{Fits, IsBound, SignsFit};
 ghost use Rattle.bp_theory.specs.Trees.{IsZone};
 ghost use Rattle.bp_theory.specs.Claims.{Shows, MayBeOpen};
 ghost use Rattle.bp_theory.specs.Judgement.{Passes, HasFault, leaf_line};
@@ -10,16 +10,17 @@ ghost use Rattle.bp_theory.specs.declared.Proof as proofs;
 ghost use Rattle.cert_text.specs.Programs.{IsSmallClaim};
 ghost use Rattle.lagr_bound.specs.Forms.{forms_in};
 ghost use Rattle.lagr_bound.specs.Works.{forms_of};
-ghost use Rattle.cert_check.specs.Judging.{JudgesLines};
+ghost use Rattle.cert_check.specs.Judging.{JudgesLines, LeavesOf};
 
-use crate::place::{NodePlace, Rejection};
+use crate::place::{NodePlace, Stop};
 use crate::price::bound_in;
+use crate::visits::{Spent, spend};
 use block_form::{Blocked, Zone, signs_fit};
 use bp_theory::{CheckKind, Claim, Proof};
 use lagr_bound::Work;
 use std::alloc::{AllocError, Global};
 
-/// Judges the line of a leaf.
+/// Judges the line of a leaf: its signs, then its visits, then what its bound shows.
 pub fn judge_leaf(
     alloc: Global,
     b: &Blocked,
@@ -28,7 +29,7 @@ pub fn judge_leaf(
     at: NodePlace,
     proof: &Proof,
     is_open: bool,
-) -> Result<Result<NodePlace, Rejection>, AllocError>
+) -> Result<Result<NodePlace, Stop>, AllocError>
     requires made_for { IfSome work.old (λ made. forms_of made ≡ forms_in b.now) }
     requires claim { IsSmallClaim claim.now }
     requires zone { IsZone b.now.named.program.spans at.zone }
@@ -39,21 +40,65 @@ pub fn judge_leaf(
         at found) }
     ensures made_for { IfSome work.new (λ made. forms_of made ≡ forms_in b.now) }
 {
-    let fault = leaf_fault(alloc, b, claim, work, &at.zone, proof, is_open)?;
-    match fault {
-        Some(kind) => Ok(Err(Rejection {
+    if !signs_fit(b, proof) {
+        return Ok(Err(fault_at(at.line, CheckKind::Sign)));
+    }
+    match spend(alloc, b, &at.zone, proof, at.left)? {
+        Spent::Exceeding => Ok(Err(Stop {
             line: at.line,
-            kind,
+            fault: None,
         })),
+        Spent::Within(left) => judge_priced(alloc, b, claim, work, at, left, proof, is_open),
+    }
+}
+
+// Judges the line of a leaf whose signs fit, and whose visits leave so many.
+fn judge_priced(
+    alloc: Global,
+    b: &Blocked,
+    claim: &Claim,
+    work: &mut Option<Work>,
+    at: NodePlace,
+    left: Option<u64>,
+    proof: &Proof,
+    is_open: bool,
+) -> Result<Result<NodePlace, Stop>, AllocError>
+    requires made_for { IfSome work.old (λ made. forms_of made ≡ forms_in b.now) }
+    requires claim { IsSmallClaim claim.now }
+    requires zone { IsZone b.now.named.program.spans at.zone }
+    requires fits { Fits b.now.blocking proof.now }
+    requires few { at.line + 1 < 2 ^ 64 }
+    requires signs { SignsFit b.now.blocking proof.now }
+    requires spent { LeavesOf b.now.named.program.spans b.now.blocking at.zone proof.now.picked
+        at.left left }
+    ensures judged { IfOk result (λ found. JudgesLines b.now.named.program b.now.blocking claim.now
+        (leaf_line (record { zone = at.zone; proof = proof.now; is_open = is_open }) ∷ [])
+        at found) }
+    ensures made_for { IfSome work.new (λ made. forms_of made ≡ forms_in b.now) }
+{
+    let fault = priced_fault(alloc, b, claim, work, &at.zone, proof, is_open)?;
+    match fault {
+        Some(kind) => Ok(Err(fault_at(at.line, kind))),
         None => Ok(Ok(NodePlace {
             zone: at.zone,
             line: at.line + 1,
+            left,
         })),
     }
 }
 
-// The fault of a leaf's line, if any.
-fn leaf_fault(
+// A line at fault.
+fn fault_at(line: u64, kind: CheckKind) -> Stop
+    ensures { result ≡ record { line = line; fault = Some kind } }
+{
+    Stop {
+        line,
+        fault: Some(kind),
+    }
+}
+
+// The fault of a leaf's line whose signs fit, if any.
+fn priced_fault(
     alloc: Global,
     b: &Blocked,
     claim: &Claim,
@@ -66,6 +111,7 @@ fn leaf_fault(
     requires claim { IsSmallClaim claim.now }
     requires zone { IsZone b.now.named.program.spans zone.now }
     requires fits { Fits b.now.blocking proof.now }
+    requires signs { SignsFit b.now.blocking proof.now }
     ensures fault { IfOk result (λ found.
         MatchOption found (Passes b.now.named.program b.now.blocking claim.now
         (leaf_line (record { zone = zone.now; proof = proof.now; is_open = is_open })))
@@ -73,9 +119,6 @@ fn leaf_fault(
         (leaf_line (record { zone = zone.now; proof = proof.now; is_open = is_open })))) }
     ensures made_for { IfSome work.new (λ made. forms_of made ≡ forms_in b.now) }
 {
-    if !signs_fit(b, proof) {
-        return Ok(Some(CheckKind::Sign));
-    }
     let shown = shows(alloc, b, claim, work, zone, proof)?;
     if !shown {
         return Ok(Some(CheckKind::Weak));

@@ -8,6 +8,7 @@ mod place;
 mod point;
 mod price;
 mod tree;
+mod visits;
 
 pub use judge::{Judged, check};
 pub use price::bound_in;

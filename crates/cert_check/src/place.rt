@@ -1,12 +1,14 @@
-// Where a walk over a tree of a certificate stands, and lines at fault.
+// Where a walk over a tree of a certificate stands, and lines that end it.
 use block_form::Zone;
 use bp_theory::CheckKind;
 
-/// Where a walk over a tree stands: the zone of a node, and the number of the line that comes next.
+/// Where a walk over a tree stands: the zone of a node, the number of the line that comes next, and how many visits are left
+/// where they are counted.
 #[derive(Drop)]
 pub struct NodePlace {
     pub zone: Zone,
     pub line: u64,
+    pub left: Option<u64>,
 }
 
 /// The first line at fault, from 1, and what is wrong with it.
@@ -14,4 +16,11 @@ pub struct NodePlace {
 pub struct Rejection {
     pub line: u64,
     pub kind: CheckKind,
+}
+
+/// The line that ends a walk, from 1, and what is wrong with it; none where it asks for more visits than are left.
+#[derive(Clone, Copy)]
+pub struct Stop {
+    pub line: u64,
+    pub fault: Option<CheckKind>,
 }

@@ -44,8 +44,8 @@ pub fn bound_in(
     Ok(whole(&found))
 }
 
-// Whether a proof picks no block.
-fn picks_nothing(proof: &Proof) -> bool
+/// Whether a proof picks no block.
+pub fn picks_nothing(proof: &Proof) -> bool
     ensures { IsTrue result ↔ (proof.now.picked ≡ These []) }
 {
     match &proof.picked {

@@ -10,7 +10,7 @@ ghost use Rattle.lagr_bound.specs.Works.{forms_of};
 ghost use Rattle.cert_check.specs.Judging.{ProofsFit, JudgesLines};
 
 use crate::leaf::judge_leaf;
-use crate::place::{NodePlace, Rejection};
+use crate::place::{NodePlace, Stop};
 use block_form::{Blocked, Zone};
 use bp_theory::{CheckKind, Claim, Span};
 use cert_text::Sketch;
@@ -25,7 +25,7 @@ pub fn judge_tree(
     work: &mut Option<Work>,
     at: NodePlace,
     tree: &Sketch,
-) -> Result<Result<NodePlace, Rejection>, AllocError>
+) -> Result<Result<NodePlace, Stop>, AllocError>
     requires made_for { IfSome work.old (λ made. forms_of made ≡ forms_in b.now) }
     requires claim { IsSmallClaim claim.now }
     requires zone { IsZone b.now.named.program.spans at.zone }
@@ -45,9 +45,9 @@ pub fn judge_tree(
             high,
         } => {
             let Some(span) = sound_span(&at.zone, *var, split) else {
-                return Ok(Err(Rejection {
+                return Ok(Err(Stop {
                     line: at.line,
-                    kind: CheckKind::Split,
+                    fault: Some(CheckKind::Split),
                 }));
             };
             let first = judge_tree(alloc, b, claim, work, to_low(at, *var, split), low)?;
@@ -96,10 +96,12 @@ fn to_low(at: NodePlace, var: u32, split: &i64) -> NodePlace
     requires few { at.line + 1 < 2 ^ 64 }
     ensures zone { result.zone ≡ low_part at.zone var split.now }
     ensures line { result.line ≡ at.line + 1 }
+    ensures left { result.left ≡ at.left }
 {
     NodePlace {
         zone: at.zone.into_low(var, split),
         line: at.line + 1,
+        left: at.left,
     }
 }
 
@@ -110,11 +112,13 @@ fn to_high(at: NodePlace, var: u32, span: &Span, split: &i64) -> NodePlace
     ensures zone { result.zone ≡ slice_set at.zone var
         (record { lo = split.now +ℤ pos 1; hi = span.now.hi }) }
     ensures line { result.line ≡ at.line }
+    ensures left { result.left ≡ at.left }
 {
     let part = high_span(span, split);
     NodePlace {
         zone: at.zone.with_span(var, &part),
         line: at.line,
+        left: at.left,
     }
 }
 
@@ -124,10 +128,12 @@ fn back(at: NodePlace, var: u32, span: &Span) -> NodePlace
     requires proper { span.now.lo ≤ℤ span.now.hi }
     ensures zone { result.zone ≡ slice_set at.zone var span.now }
     ensures line { result.line ≡ at.line }
+    ensures left { result.left ≡ at.left }
 {
     NodePlace {
         zone: at.zone.with_span(var, span),
         line: at.line,
+        left: at.left,
     }
 }
 

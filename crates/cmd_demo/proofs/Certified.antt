@@ -12,7 +12,7 @@ use Rattle.cert_text.specs.declared.cert.Cert.{Cert as Kept}
 use Rattle.cert_text.proofs.LawProofs.{certificates_are_one}
 use Rattle.cert_check.specs.Judging.{IsJudged}
 use Rattle.cert_check.specs.declared.judge.Judged.{Judged}
-use Rattle.cert_check.specs.declared.judge.Judged.TheVariants.{Accepted, Rejected}
+use Rattle.cert_check.specs.declared.judge.Judged.TheVariants.{Accepted, Rejected, Unknown}
 use Rattle.cmd_check.proofs.Certificates.{one_written, fitting_point, kept_point}
 
 -- what is read of a valid certificate's text is the certificate
@@ -28,3 +28,4 @@ pub judged_accepted : (b : BlockedProgram) (c d : Certificate) (judged : Judged)
 judged_accepted b c d (Accepted claim) same valid is = ap (λ (k : Claim). Accepted k) (is.0 ∙ ap (λ (e : Certificate). e.claim) same)
 judged_accepted b c d (Rejected line kind) same valid is =
     absurd (is.1 (subst (λ (e : Certificate). IsCertified b.named.program b.dec e) (sym same) valid))
+judged_accepted b c d (Unknown line) same valid is = absurd is

@@ -79,7 +79,7 @@ fn summary(
     ensures { IfOk result (IsSummary seed size b.now outcome.now) }
 {
     let cert = certificate(alloc, b, outcome)?;
-    let judged = check(alloc, b, &cert)?;
+    let judged = check(alloc, b, &cert, None)?;
     let report = demo_text(alloc, seed, size, b, outcome, &judged)?;
     let status = status_of(outcome);
     Ok(Reply { status, report })

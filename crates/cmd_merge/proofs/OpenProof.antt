@@ -16,7 +16,7 @@ use Rattle.cert_text.specs.declared.cert.Cert.{Cert}
 use Rattle.bp_theory.specs.declared.Claim.{Claim}
 use Rattle.cert_check.specs.Judging.{IsJudged}
 use Rattle.cert_check.specs.declared.judge.Judged.{Judged}
-use Rattle.cert_check.specs.declared.judge.Judged.TheVariants.{Accepted, Rejected}
+use Rattle.cert_check.specs.declared.judge.Judged.TheVariants.{Accepted, Rejected, Unknown}
 use Rattle.bp_report.specs.Report.{check_report}
 use Rattle.bp_report.specs.Refusals.{from_refusal}
 use Rattle.cmd_check.proofs.Certificates.{kept_point}
@@ -115,6 +115,10 @@ cert_rejected b cert judged line kind report text is judges told spelled =
 pub cert_valid : (b : BlockedProgram) (cert : Cert) (judged : Judged) (claim : Claim) → judged ≡ Accepted claim → IsJudged b (certificate_of cert) judged
     → IsCertified b.named.program b.dec (certificate_of cert)
 cert_valid b cert judged claim is judges = let h : IsJudged b (certificate_of cert) (Accepted claim) = subst (IsJudged b (certificate_of cert)) is judges in h.1
+
+-- without a number of visits nothing is unknown
+pub cert_known : (b : BlockedProgram) (cert : Cert) (judged : Judged) (line : ℕ) → judged ≡ Unknown line → IsJudged b (certificate_of cert) judged → ⊥
+cert_known b cert judged line is judges = subst (IsJudged b (certificate_of cert)) is judges
 
 pub still_missing : {T : Type 0} (fault : ShelfFault) → fault ≡ Missing → ◌≡◌ {A = Result T ShelfFault} (Err fault) (Err Missing)
 still_missing {T} fault is = subst (λ (f : ShelfFault). ◌≡◌ {A = Result T ShelfFault} (Err fault) (Err f)) is refl

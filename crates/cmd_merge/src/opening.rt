@@ -101,13 +101,14 @@ fn judged(alloc: Global, b: &Blocked, cert: &Cert) -> Result<Loaded, Stop>
         IsCertText (frame_for b.now) (kept_cert cert.now) text → IsTextStop b.now text stop) }
     ensures refusals { IfErr result IsRefusal }
 {
-    let judged = judge(alloc, b, cert)?;
+    let judged = judge(alloc, b, cert, None)?;
     match judged {
         Judged::Accepted(_) => loaded(alloc, b, cert),
         Judged::Rejected { .. } => Err(Stop::Refused(Reply {
             status: 6,
             report: check_text(alloc, &judged)?,
         })),
+        Judged::Unknown { .. } => unreachable!(),
     }
 }
 

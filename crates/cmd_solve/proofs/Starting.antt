@@ -23,7 +23,7 @@ use Rattle.cert_text.specs.Kept.{certificate_of, kept_cert}
 use Rattle.cert_text.specs.declared.cert.Cert.{Cert as Kept}
 use Rattle.cert_check.specs.Judging.{IsJudged}
 use Rattle.cert_check.specs.declared.judge.Judged.{Judged}
-use Rattle.cert_check.specs.declared.judge.Judged.TheVariants.{Accepted, Rejected}
+use Rattle.cert_check.specs.declared.judge.Judged.TheVariants.{Accepted, Rejected, Unknown}
 use Rattle.bp_theory.specs.declared.Claim.{Claim}
 use Rattle.std.proofs.lemmas.List.{take_all}
 use Rattle.cert_text.proofs.LawProofs.{certificates_are_one}
@@ -238,6 +238,10 @@ start_rejected b leaf cert judged line kind report text is judges told spelled =
 pub start_valid : (b : BlockedProgram) (cert : Kept) (judged : Judged) (claim : Claim) → judged ≡ Accepted claim → IsJudged b (certificate_of cert) judged
     → IsCertified b.named.program b.dec (certificate_of cert)
 start_valid b cert judged claim is judges = let h : IsJudged b (certificate_of cert) (Accepted claim) = subst (IsJudged b (certificate_of cert)) is judges in h.1
+
+-- without a number of visits nothing is unknown
+pub start_known : (b : BlockedProgram) (cert : Kept) (judged : Judged) (line : ℕ) → judged ≡ Unknown line → IsJudged b (certificate_of cert) judged → ⊥
+start_known b cert judged line is judges = subst (IsJudged b (certificate_of cert)) is judges
 
 -- the start that a certificate gives is that of its text
 pub text_starts : {E : Type 0} (b : BlockedProgram) (leaf : Option ℕ) (text : List ℕ) (cert : Kept) (start : Result Start E) → IsCertText (frame_for b) (kept_cert cert) text

@@ -110,13 +110,14 @@ fn judged_start(
     ensures start { IfOk result (StartsOf b.now leaf cert.now) }
     ensures usable { IfOk result (CanBegin b.now leaf) }
 {
-    let judged = judge(alloc, b, cert)?;
+    let judged = judge(alloc, b, cert, None)?;
     match judged {
         Judged::Accepted(_) => loaded_start(alloc, b, cert, leaf),
         Judged::Rejected { .. } => Ok(Start::Refused(Reply {
             status: 6,
             report: check_text(alloc, &judged)?,
         })),
+        Judged::Unknown { .. } => unreachable!(),
     }
 }
 

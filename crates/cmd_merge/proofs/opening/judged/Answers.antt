@@ -1,4 +1,4 @@
-use Rattle.cmd_merge.proofs.OpenProof.{cert_rejected, cert_valid}
+use Rattle.cmd_merge.proofs.OpenProof.{cert_rejected, cert_valid, cert_known}
 use Rattle.cmd_merge.proofs.opening.judged.Goals as goal
 
 pub loaded-requires-clause-valid : goal.loaded-requires-clause-valid
@@ -9,3 +9,6 @@ pub returns-in_ok-check_text-in-Rejected-clause-stopped : goal.returns-in_ok-che
 returns-in_ok-check_text-in-Rejected-clause-stopped c = λ text spelled.
     cert_rejected c.args.b.now c.args.cert.now c.in_ok-judged.judged c.in-Rejected.line c.in-Rejected.kind _ text c.in-Rejected.is
     c.in_ok-judged.ensures.judged c.in_ok-check_text-in-Rejected.ensures spelled
+
+pub unreachable-requires : goal.unreachable-requires
+unreachable-requires c = cert_known c.args.b.now c.args.cert.now c.in_ok-judged.judged c.in-Unknown.line c.in-Unknown.is c.in_ok-judged.ensures.judged
