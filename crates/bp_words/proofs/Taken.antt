@@ -15,7 +15,7 @@ use Rattle.clap.specs.declared.builder.value_parser.ValueParser.TheVariants.{Uns
 use Rattle.clap.proofs.ValueTestLemmas.{accepts-Accepts}
 use Rattle.bp_words.specs.declared.order.Order.{Order}
 use Rattle.bp_words.specs.declared.order.Order.TheVariants.{Solve, Check, Show, Gen, Demo, Detect, Propose, Merge, Migrate}
-use Rattle.bp_words.specs.CommandLine.{command_line, solve_words, check_words, show_words, gen_words, demo_words, detect_words, propose_words, merge_words, migrate_words, most_steps, most_leaf, most_seed, most_size, most_workers}
+use Rattle.bp_words.specs.CommandLine.{command_line, solve_words, check_words, show_words, gen_words, demo_words, detect_words, propose_words, merge_words, migrate_words, most_steps, most_leaf, most_visits, most_seed, most_size, most_workers}
 use Rattle.bp_words.specs.Orders.{IsNumber, MayHaveNumber, is_set, GoTogether, IsLeafPlaced, IsStated, MisplacesLeaf, AreRefused}
 use Rattle.bp_words.proofs.Presence.{Checks, both_parts, full_level, given_has, first_good}
 
@@ -60,7 +60,8 @@ good id text = if bytes_eq id (codes "seed") then is_unsigned_in 0 most_seed tex
     else (if bytes_eq id (codes "steps") then is_unsigned_in 0 most_steps text
     else (if bytes_eq id (codes "leaf") then is_unsigned_in 1 most_leaf text
     else (if bytes_eq id (codes "workers") then is_unsigned_in 1 most_workers text
-    else (if bytes_eq id (codes "order") then is_unsigned_in 0 most_seed text else true)))))
+    else (if bytes_eq id (codes "order") then is_unsigned_in 0 most_seed text
+    else (if bytes_eq id (codes "visits") then is_unsigned_in 0 most_visits text else true))))))
 
 solve_checks : AllByRecursion (Checks good) solve_level.rules
 solve_checks = (
@@ -91,7 +92,10 @@ check_checks = (
   record { wants = inl refl; plain = tt; passes = λ v e. refl },
   (
     record { wants = inl refl; plain = tt; passes = λ v e. refl },
-    (record { wants = inl refl; plain = tt; passes = λ v e. refl }, tt),
+    (
+      record { wants = inl refl; plain = tt; passes = λ v e. refl },
+      (record { wants = inl refl; plain = tt; passes = λ v e. e }, tt),
+    ),
   ),
 )
 
@@ -258,13 +262,14 @@ check_states words e =
     let level = full_level good check_level words check_checks e in
     let both = two_there (is_given (codes "lp") rows) (is_given (codes "cert") rows) level.1 in
     let lp = given_has good (codes "lp") rows both.0 level.0 in
-    let cert = given_has good (codes "cert") rows both.1 level.0 in (
-      Check lp.0 cert.0 (first_of (codes "dec") rows),
+    let cert = given_has good (codes "cert") rows both.1 level.0 in
+    let visits = number_stated 0 most_visits (first_of (codes "visits") rows) (λ text is. first_good good (codes "visits") rows text level.0 is) in (
+      Check lp.0 cert.0 (first_of (codes "dec") rows) visits.0,
       record {
         name = codes "check";
         rows = rows;
         subcommand = refl;
-        values = (refl, lp.1, cert.1, refl);
+        values = (refl, lp.1, cert.1, refl, visits.1);
       },
     )
 

@@ -27,12 +27,15 @@ from_option = record (new_rule (codes "from")) { long = Some (codes "from") }
 abbrev pub blocks_flag : Rule
 blocks_flag = record (new_rule (codes "blocks")) { long = Some (codes "blocks"); action = Some SetTrue }
 
--- the greatest number of steps, of a leaf, of a seed, of a size and of workers
+-- the greatest number of steps, of a leaf, of visits, of a seed, of a size and of workers
 abbrev pub most_steps : ℕ
 most_steps = 2 ^ 60
 
 abbrev pub most_leaf : ℕ
 most_leaf = 2 ^ 64 - 1
+
+abbrev pub most_visits : ℕ
+most_visits = 2 ^ 64 - 1
 
 abbrev pub most_seed : ℕ
 most_seed = 2 ^ 64 - 1
@@ -50,6 +53,10 @@ steps_option = record (new_rule (codes "steps")) { long = Some (codes "steps"); 
 -- the number of an open leaf of the certificate to go on from, behind `--leaf`
 abbrev pub leaf_option : Rule
 leaf_option = record (new_rule (codes "leaf")) { long = Some (codes "leaf"); parser = Some (Unsigned 1 most_leaf) }
+
+-- how many visits pricing may take, behind `--visits`
+abbrev pub visits_option : Rule
+visits_option = record (new_rule (codes "visits")) { long = Some (codes "visits"); parser = Some (Unsigned 0 most_visits) }
 
 -- how many workers there are and the seed of their order, behind `--workers` and `--order`
 abbrev pub workers_option : Rule
@@ -101,9 +108,9 @@ solve_words = record (new_shape (codes "solve")) {
   rules = lp_word ∷ dec_option ∷ steps_option ∷ cert_option ∷ from_option ∷ leaf_option ∷ workers_option ∷ order_option ∷ [];
 }
 
--- `check LP CERT [--dec FILE]`
+-- `check LP CERT [--dec FILE] [--visits M]`
 abbrev pub check_words : Shape
-check_words = record (new_shape (codes "check")) { rules = lp_word ∷ cert_word ∷ dec_option ∷ [] }
+check_words = record (new_shape (codes "check")) { rules = lp_word ∷ cert_word ∷ dec_option ∷ visits_option ∷ [] }
 
 -- `show LP [--dec FILE] [--blocks]`
 abbrev pub show_words : Shape

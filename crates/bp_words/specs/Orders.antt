@@ -4,7 +4,7 @@ use Rattle.std.specs.Option.{option_map_or}
 use Rattle.std.specs.Str.{bytes_eq}
 use Rattle.std.specs.Str.Parse.{IsNumeral, digits_value, without_leading_plus}
 use Rattle.clap.specs.Words.{Row, Text, first_of, subcommand_of, fault_of}
-use Rattle.bp_words.specs.CommandLine.{command_line, most_steps, most_leaf, most_seed, most_size, most_workers}
+use Rattle.bp_words.specs.CommandLine.{command_line, most_steps, most_leaf, most_visits, most_seed, most_size, most_workers}
 use Rattle.bp_words.specs.declared.order.Order.{Order}
 use Rattle.bp_words.specs.declared.order.Order.TheVariants.{Solve, Check, Show, Gen, Demo, Detect, Propose, Merge, Migrate}
 
@@ -46,9 +46,9 @@ HasValues name rows (Solve given) =
     × (first_of (codes "from") rows ≡ given.from) × MayHaveNumber (first_of (codes "leaf") rows) 1 most_leaf given.leaf
     × MayHaveNumber (first_of (codes "workers") rows) 1 most_workers given.workers
     × MayHaveNumber (first_of (codes "order") rows) 0 most_seed given.order × IsLeafPlaced rows
-HasValues name rows (Check lp cert dec) =
+HasValues name rows (Check lp cert dec visits) =
     (name ≡ codes "check") × (first_of (codes "lp") rows ≡ Some lp) × (first_of (codes "cert") rows ≡ Some cert)
-    × (first_of (codes "dec") rows ≡ dec)
+    × (first_of (codes "dec") rows ≡ dec) × MayHaveNumber (first_of (codes "visits") rows) 0 most_visits visits
 HasValues name rows (Show lp dec blocks) =
     (name ≡ codes "show") × (first_of (codes "lp") rows ≡ Some lp) × (first_of (codes "dec") rows ≡ dec)
     × (is_set (first_of (codes "blocks") rows) ≡ blocks)
@@ -76,7 +76,7 @@ abbrev pub IsInRange : Order → Type 0
 IsInRange (Solve given) =
     IfSome given.steps (λ n. n ≤ most_steps) × IfSome given.workers (λ n. (1 ≤ n) × (n ≤ most_workers))
     × IfSome given.leaf (λ n. (1 ≤ n) × IsSome given.from × (given.workers ≡ None) × (given.order ≡ None))
-IsInRange (Check lp cert dec) = Unit {0}
+IsInRange (Check lp cert dec visits) = Unit {0}
 IsInRange (Show lp dec blocks) = Unit {0}
 IsInRange (Gen seed size lp dec) = (1 ≤ size) × (size ≤ most_size)
 IsInRange (Demo seed size) = (1 ≤ size) × (size ≤ most_size)

@@ -16,6 +16,9 @@ pub const MOST_SIZE: u64 = 1024;
 /// The greatest number of a leaf.
 pub const MOST_LEAF: u64 = u64::MAX;
 
+/// The greatest number of visits.
+pub const MOST_VISITS: u64 = u64::MAX;
+
 /// The greatest number of workers.
 pub const MOST_WORKERS: u64 = 64;
 
@@ -103,14 +106,19 @@ fn search_command<'a>(alloc: Global) -> Result<Command<'a>, AllocError>
     Command::new(alloc, "solve").arg(lp)?.arg(dec)?.arg(steps)
 }
 
-// `check LP CERT [--dec FILE]`
+// `check LP CERT [--dec FILE] [--visits M]`
 fn check_command<'a>(alloc: Global) -> Result<Command<'a>, AllocError>
     ensures { IfOk result (λ command. IsShaped command check_words) }
 {
     let lp = file_word(alloc, "lp");
     let cert = file_word(alloc, "cert");
     let dec = file_option(alloc, "dec");
-    Command::new(alloc, "check").arg(lp)?.arg(cert)?.arg(dec)
+    let visits = number_option(alloc, "visits", 0, MOST_VISITS);
+    Command::new(alloc, "check")
+        .arg(lp)?
+        .arg(cert)?
+        .arg(dec)?
+        .arg(visits)
 }
 
 // `show LP [--dec FILE] [--blocks]`

@@ -42,6 +42,8 @@ pub enum Order {
         cert: Text,
         /// The decomposition's file, where there is one.
         dec: Option<Text>,
+        /// How many visits pricing may take in all, where a number is given.
+        visits: Option<u64>,
     },
     /// Show the sizes and the classes of the LP file and its decomposition.
     Show {

@@ -5,7 +5,7 @@ ghost use Rattle.bp_words.specs.CommandLine.{command_line};
 ghost use Rattle.bp_words.specs.Orders.{IsNumber, HasNumber, MayHaveNumber, is_set, IsLeafPlaced, HasValues, IsInRange, IsStated, IsOrderOf, AreRefused};
 ghost use Rattle.bp_words.specs.declared.order.Order.{Order};
 
-use crate::command::{MOST_LEAF, MOST_SIZE, MOST_STEPS, MOST_WORKERS, make_command};
+use crate::command::{MOST_LEAF, MOST_SIZE, MOST_STEPS, MOST_VISITS, MOST_WORKERS, make_command};
 use crate::order::{Order, SolveOrder, WordFault};
 use crate::text::Text;
 use clap::ArgMatches;
@@ -127,7 +127,13 @@ fn check_order(alloc: Global, check: &ArgMatches) -> Result<Order, WordFault>
     let lp = given(alloc, check, "lp")?;
     let cert = given(alloc, check, "cert")?;
     let dec = optional(alloc, check, "dec")?;
-    Ok(Order::Check { lp, cert, dec })
+    let visits = optional_number(check, "visits", 0, MOST_VISITS)?;
+    Ok(Order::Check {
+        lp,
+        cert,
+        dec,
+        visits,
+    })
 }
 
 // The order to show.

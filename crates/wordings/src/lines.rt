@@ -12,8 +12,8 @@ solve a.lp - - c - - - - @ solve --cert=c a.lp
 solve a.lp d - c - - - - @ solve a.lp --cert c --dec d
 solve a.lp - - c c - - - @ solve a.lp --from=c --cert c
 solve --cert - - - - - - - @ solve -- --cert
-check a.lp c - @ check a.lp c
-check a.lp c d @ check --dec=d a.lp c
+check a.lp c - - @ check a.lp c
+check a.lp c d - @ check --dec=d a.lp c
 show a.lp - - @ show a.lp
 show a.lp d - @ show a.lp --dec d
 show a.lp - blocks @ show --blocks a.lp
@@ -36,6 +36,9 @@ solve a.lp - - - - - - 18446744073709551615 @ solve --order 18446744073709551615
 solve a.lp d 0 c f - 3 19 @ solve a.lp --order 19 --workers +3 --from f --cert c --steps 0 --dec d
 solve a.lp - - - f 1 - - @ solve a.lp --from f --leaf 1
 solve a.lp d 5 c f 18446744073709551615 - - @ solve --leaf=18446744073709551615 --from=f a.lp --steps 5 --dec d --cert c
+check a.lp c - 0 @ check a.lp c --visits 0
+check a.lp c - 9 @ check --visits=+9 a.lp c
+check a.lp c d 18446744073709551615 @ check a.lp --visits 18446744073709551615 c --dec d
 gen 0 1024 a.lp a.dec @ gen +0 1024 a.lp a.dec
 demo 18446744073709551615 1 @ demo 18446744073709551615 1
 refused @ solve a.lp --steps
@@ -57,6 +60,11 @@ refused @ solve a.lp --from f --leaf 0
 refused @ solve a.lp --from f --leaf=-1
 refused @ solve a.lp --from f --leaf 18446744073709551616
 refused @ solve a.lp --from f --leaf 1 --leaf 2
+refused @ check a.lp c --visits
+refused @ check a.lp c --visits=-1
+refused @ check a.lp c --visits 1.5
+refused @ check a.lp c --visits 18446744073709551616
+refused @ check a.lp c --visits 1 --visits 1
 refused @ gen 1 0 a.lp a.dec
 refused @ gen 1 1025 a.lp a.dec
 refused @ gen 18446744073709551616 1 a.lp a.dec
@@ -94,6 +102,8 @@ refused @ show a.lp --blocks d
 refused @ show --blocks
 refused @ solve a.lp --blocks
 refused @ check a.lp c --workers 2
+refused @ solve a.lp --visits 2
+refused @ migrate a.lp c n --visits 2
 refused @ detect a.lp r
 refused @ detect a.lp --dec d r
 refused @ propose
@@ -235,7 +245,7 @@ fn wrong(alloc: Global) -> Result<(String, usize), AllocError> {
 fn each_line_gives_its_order_or_is_refused(rt: HostRuntime) -> Result<(), Fail> {
     let (wrong, count) = wrong(rt.alloc())?;
     assert_eq!(rt; wrong.as_str(), "");
-    assert_eq!(rt; count, 98);
+    assert_eq!(rt; count, 108);
     Ok(())
 }
 
