@@ -4,7 +4,7 @@ use Rattle.std.specs.Prelude.{codes}
 use Rattle.std.specs.Str.{bytes_eq}
 use Rattle.std.specs.Str.Parse.{digits_value, without_leading_plus}
 use Rattle.clap.specs.Words.{Row, Text, first_of}
-use Rattle.bp_words.specs.CommandLine.{most_steps, most_leaf, most_seed, most_size, most_workers}
+use Rattle.bp_words.specs.CommandLine.{most_steps, most_leaf, most_visits, most_seed, most_size, most_workers}
 use Rattle.bp_words.specs.Orders.{HasNumber, MayHaveNumber, IsLeafPlaced, HasValues, IsOrderOf, AreRefused}
 use Rattle.bp_words.specs.declared.order.Order.{Order}
 use Rattle.bp_words.specs.declared.order.SolveOrder.{SolveOrder}
@@ -59,8 +59,8 @@ solves : (a b : SolveOrder) → a.lp ≡ b.lp → a.dec ≡ b.dec → a.steps �
 solves a b p q r s t u v w =
     solves_of a.lp b.lp a.dec b.dec a.steps b.steps a.cert b.cert a.from b.from a.leaf b.leaf a.workers b.workers a.order b.order p q r s t u v w
 
-checks : (a b c d : Text) (e f : Option Text) → a ≡ b → c ≡ d → e ≡ f → Check a c e ≡ Check b d f
-checks a b c d e f p q r = rw (p, q, r) refl
+checks : (a b c d : Text) (e f : Option Text) (i k : Option ℕ) → a ≡ b → c ≡ d → e ≡ f → i ≡ k → Check a c e i ≡ Check b d f k
+checks a b c d e f i k p q r s = rw (p, q, r, s) refl
 
 shows : (a b : Text) (c d : Option Text) (i j : Bool) → a ≡ b → c ≡ d → i ≡ j → Show a c i ≡ Show b d j
 shows a b c d i j p q r = rw (p, q, r) refl
@@ -91,7 +91,7 @@ one_stated name rows (Solve a) (Solve b) x y =
     (one_given (first_of (codes "from") rows) a.from b.from x.5 y.5) (may_be_one (first_of (codes "leaf") rows) 1 most_leaf a.leaf b.leaf x.6 y.6)
     (may_be_one (first_of (codes "workers") rows) 1 most_workers a.workers b.workers x.7 y.7)
     (may_be_one (first_of (codes "order") rows) 0 most_seed a.order b.order x.8 y.8)
-one_stated name rows (Solve a) (Check e f g) x y = apart name (codes "solve") (codes "check") x.0 y.0 refl refl
+one_stated name rows (Solve a) (Check e f g w) x y = apart name (codes "solve") (codes "check") x.0 y.0 refl refl
 one_stated name rows (Solve a) (Show e f g) x y = apart name (codes "solve") (codes "show") x.0 y.0 refl refl
 one_stated name rows (Solve a) (Gen e f g h) x y = apart name (codes "solve") (codes "gen") x.0 y.0 refl refl
 one_stated name rows (Solve a) (Demo e f) x y = apart name (codes "solve") (codes "demo") x.0 y.0 refl refl
@@ -99,19 +99,19 @@ one_stated name rows (Solve a) (Detect e f g) x y = apart name (codes "solve") (
 one_stated name rows (Solve a) (Propose e f) x y = apart name (codes "solve") (codes "propose") x.0 y.0 refl refl
 one_stated name rows (Solve a) (Merge e f g h j) x y = apart name (codes "solve") (codes "merge") x.0 y.0 refl refl
 one_stated name rows (Solve a) (Migrate e f g h) x y = apart name (codes "solve") (codes "migrate") x.0 y.0 refl refl
-one_stated name rows (Check a b c) (Solve e) x y = apart name (codes "check") (codes "solve") x.0 y.0 refl refl
-one_stated name rows (Check a b c) (Check e f g) x y =
+one_stated name rows (Check a b c v) (Solve e) x y = apart name (codes "check") (codes "solve") x.0 y.0 refl refl
+one_stated name rows (Check a b c v) (Check e f g w) x y =
     checks a e b f c g (one_value (first_of (codes "lp") rows) a e x.1 y.1) (one_value (first_of (codes "cert") rows) b f x.2 y.2)
     (one_given (first_of (codes "dec") rows) c g x.3 y.3)
-one_stated name rows (Check a b c) (Show e f g) x y = apart name (codes "check") (codes "show") x.0 y.0 refl refl
-one_stated name rows (Check a b c) (Gen e f g h) x y = apart name (codes "check") (codes "gen") x.0 y.0 refl refl
-one_stated name rows (Check a b c) (Demo e f) x y = apart name (codes "check") (codes "demo") x.0 y.0 refl refl
-one_stated name rows (Check a b c) (Detect e f g) x y = apart name (codes "check") (codes "detect") x.0 y.0 refl refl
-one_stated name rows (Check a b c) (Propose e f) x y = apart name (codes "check") (codes "propose") x.0 y.0 refl refl
-one_stated name rows (Check a b c) (Merge e f g h j) x y = apart name (codes "check") (codes "merge") x.0 y.0 refl refl
-one_stated name rows (Check a b c) (Migrate e f g h) x y = apart name (codes "check") (codes "migrate") x.0 y.0 refl refl
+one_stated name rows (Check a b c v) (Show e f g) x y = apart name (codes "check") (codes "show") x.0 y.0 refl refl
+one_stated name rows (Check a b c v) (Gen e f g h) x y = apart name (codes "check") (codes "gen") x.0 y.0 refl refl
+one_stated name rows (Check a b c v) (Demo e f) x y = apart name (codes "check") (codes "demo") x.0 y.0 refl refl
+one_stated name rows (Check a b c v) (Detect e f g) x y = apart name (codes "check") (codes "detect") x.0 y.0 refl refl
+one_stated name rows (Check a b c v) (Propose e f) x y = apart name (codes "check") (codes "propose") x.0 y.0 refl refl
+one_stated name rows (Check a b c v) (Merge e f g h j) x y = apart name (codes "check") (codes "merge") x.0 y.0 refl refl
+one_stated name rows (Check a b c v) (Migrate e f g h) x y = apart name (codes "check") (codes "migrate") x.0 y.0 refl refl
 one_stated name rows (Show a b c) (Solve e) x y = apart name (codes "show") (codes "solve") x.0 y.0 refl refl
-one_stated name rows (Show a b c) (Check e f g) x y = apart name (codes "show") (codes "check") x.0 y.0 refl refl
+one_stated name rows (Show a b c) (Check e f g w) x y = apart name (codes "show") (codes "check") x.0 y.0 refl refl
 one_stated name rows (Show a b c) (Show e f g) x y =
     shows a e b f c g (one_value (first_of (codes "lp") rows) a e x.1 y.1) (one_given (first_of (codes "dec") rows) b f x.2 y.2)
     (sym x.3 ∙ y.3)
@@ -122,7 +122,7 @@ one_stated name rows (Show a b c) (Propose e f) x y = apart name (codes "show") 
 one_stated name rows (Show a b c) (Merge e f g h j) x y = apart name (codes "show") (codes "merge") x.0 y.0 refl refl
 one_stated name rows (Show a b c) (Migrate e f g h) x y = apart name (codes "show") (codes "migrate") x.0 y.0 refl refl
 one_stated name rows (Gen a b c d) (Solve e) x y = apart name (codes "gen") (codes "solve") x.0 y.0 refl refl
-one_stated name rows (Gen a b c d) (Check e f g) x y = apart name (codes "gen") (codes "check") x.0 y.0 refl refl
+one_stated name rows (Gen a b c d) (Check e f g w) x y = apart name (codes "gen") (codes "check") x.0 y.0 refl refl
 one_stated name rows (Gen a b c d) (Show e f g) x y = apart name (codes "gen") (codes "show") x.0 y.0 refl refl
 one_stated name rows (Gen a b c d) (Gen e f g h) x y =
     makes a e b f c g d h (one_number (first_of (codes "seed") rows) 0 most_seed a e x.1 y.1) (one_number (first_of (codes "size") rows) 1 most_size b f x.2 y.2)
@@ -133,7 +133,7 @@ one_stated name rows (Gen a b c d) (Propose e f) x y = apart name (codes "gen") 
 one_stated name rows (Gen a b c d) (Merge e f g h j) x y = apart name (codes "gen") (codes "merge") x.0 y.0 refl refl
 one_stated name rows (Gen a b c d) (Migrate e f g h) x y = apart name (codes "gen") (codes "migrate") x.0 y.0 refl refl
 one_stated name rows (Demo a b) (Solve e) x y = apart name (codes "demo") (codes "solve") x.0 y.0 refl refl
-one_stated name rows (Demo a b) (Check e f g) x y = apart name (codes "demo") (codes "check") x.0 y.0 refl refl
+one_stated name rows (Demo a b) (Check e f g w) x y = apart name (codes "demo") (codes "check") x.0 y.0 refl refl
 one_stated name rows (Demo a b) (Show e f g) x y = apart name (codes "demo") (codes "show") x.0 y.0 refl refl
 one_stated name rows (Demo a b) (Gen e f g h) x y = apart name (codes "demo") (codes "gen") x.0 y.0 refl refl
 one_stated name rows (Demo a b) (Demo e f) x y =
@@ -143,7 +143,7 @@ one_stated name rows (Demo a b) (Propose e f) x y = apart name (codes "demo") (c
 one_stated name rows (Demo a b) (Merge e f g h j) x y = apart name (codes "demo") (codes "merge") x.0 y.0 refl refl
 one_stated name rows (Demo a b) (Migrate e f g h) x y = apart name (codes "demo") (codes "migrate") x.0 y.0 refl refl
 one_stated name rows (Detect a b c) (Solve e) x y = apart name (codes "detect") (codes "solve") x.0 y.0 refl refl
-one_stated name rows (Detect a b c) (Check e f g) x y = apart name (codes "detect") (codes "check") x.0 y.0 refl refl
+one_stated name rows (Detect a b c) (Check e f g w) x y = apart name (codes "detect") (codes "check") x.0 y.0 refl refl
 one_stated name rows (Detect a b c) (Show e f g) x y = apart name (codes "detect") (codes "show") x.0 y.0 refl refl
 one_stated name rows (Detect a b c) (Gen e f g h) x y = apart name (codes "detect") (codes "gen") x.0 y.0 refl refl
 one_stated name rows (Detect a b c) (Demo e f) x y = apart name (codes "detect") (codes "demo") x.0 y.0 refl refl
@@ -154,7 +154,7 @@ one_stated name rows (Detect a b c) (Propose e f) x y = apart name (codes "detec
 one_stated name rows (Detect a b c) (Merge e f g h j) x y = apart name (codes "detect") (codes "merge") x.0 y.0 refl refl
 one_stated name rows (Detect a b c) (Migrate e f g h) x y = apart name (codes "detect") (codes "migrate") x.0 y.0 refl refl
 one_stated name rows (Propose a b) (Solve e) x y = apart name (codes "propose") (codes "solve") x.0 y.0 refl refl
-one_stated name rows (Propose a b) (Check e f g) x y = apart name (codes "propose") (codes "check") x.0 y.0 refl refl
+one_stated name rows (Propose a b) (Check e f g w) x y = apart name (codes "propose") (codes "check") x.0 y.0 refl refl
 one_stated name rows (Propose a b) (Show e f g) x y = apart name (codes "propose") (codes "show") x.0 y.0 refl refl
 one_stated name rows (Propose a b) (Gen e f g h) x y = apart name (codes "propose") (codes "gen") x.0 y.0 refl refl
 one_stated name rows (Propose a b) (Demo e f) x y = apart name (codes "propose") (codes "demo") x.0 y.0 refl refl
@@ -164,7 +164,7 @@ one_stated name rows (Propose a b) (Propose e f) x y =
 one_stated name rows (Propose a b) (Merge e f g h j) x y = apart name (codes "propose") (codes "merge") x.0 y.0 refl refl
 one_stated name rows (Propose a b) (Migrate e f g h) x y = apart name (codes "propose") (codes "migrate") x.0 y.0 refl refl
 one_stated name rows (Merge a b c d i) (Solve e) x y = apart name (codes "merge") (codes "solve") x.0 y.0 refl refl
-one_stated name rows (Merge a b c d i) (Check e f g) x y = apart name (codes "merge") (codes "check") x.0 y.0 refl refl
+one_stated name rows (Merge a b c d i) (Check e f g w) x y = apart name (codes "merge") (codes "check") x.0 y.0 refl refl
 one_stated name rows (Merge a b c d i) (Show e f g) x y = apart name (codes "merge") (codes "show") x.0 y.0 refl refl
 one_stated name rows (Merge a b c d i) (Gen e f g h) x y = apart name (codes "merge") (codes "gen") x.0 y.0 refl refl
 one_stated name rows (Merge a b c d i) (Demo e f) x y = apart name (codes "merge") (codes "demo") x.0 y.0 refl refl
@@ -175,7 +175,7 @@ one_stated name rows (Merge a b c d i) (Merge e f g h j) x y =
     (one_value (first_of (codes "second") rows) c g x.3 y.3) (one_value (first_of (codes "new") rows) d h x.4 y.4) (sym x.5 ∙ y.5)
 one_stated name rows (Merge a b c d i) (Migrate e f g h) x y = apart name (codes "merge") (codes "migrate") x.0 y.0 refl refl
 one_stated name rows (Migrate a b c d) (Solve e) x y = apart name (codes "migrate") (codes "solve") x.0 y.0 refl refl
-one_stated name rows (Migrate a b c d) (Check e f g) x y = apart name (codes "migrate") (codes "check") x.0 y.0 refl refl
+one_stated name rows (Migrate a b c d) (Check e f g w) x y = apart name (codes "migrate") (codes "check") x.0 y.0 refl refl
 one_stated name rows (Migrate a b c d) (Show e f g) x y = apart name (codes "migrate") (codes "show") x.0 y.0 refl refl
 one_stated name rows (Migrate a b c d) (Gen e f g h) x y = apart name (codes "migrate") (codes "gen") x.0 y.0 refl refl
 one_stated name rows (Migrate a b c d) (Demo e f) x y = apart name (codes "migrate") (codes "demo") x.0 y.0 refl refl
@@ -200,7 +200,7 @@ one_order words o p x y =
 -- an order to solve has its leaf where it may be named
 solve_is_placed : (rows : List Row) (order : Order) → HasValues (codes "solve") rows order → IsLeafPlaced rows
 solve_is_placed rows (Solve a) has = has.9
-solve_is_placed rows (Check a b c) has = apart (codes "solve") (codes "solve") (codes "check") refl has.0 refl refl
+solve_is_placed rows (Check a b c v) has = apart (codes "solve") (codes "solve") (codes "check") refl has.0 refl refl
 solve_is_placed rows (Show a b c) has = apart (codes "solve") (codes "solve") (codes "show") refl has.0 refl refl
 solve_is_placed rows (Gen a b c d) has = apart (codes "solve") (codes "solve") (codes "gen") refl has.0 refl refl
 solve_is_placed rows (Demo a b) has = apart (codes "solve") (codes "solve") (codes "demo") refl has.0 refl refl
@@ -222,8 +222,8 @@ pub as_solve : (order : Order) (given : SolveOrder) (a : Text) (b c d : Option T
     → d ≡ given.from → Solve (record given { lp = a; dec = b; cert = c; from = d }) ≡ order
 as_solve order given a b c d is p q r s = solves (record given { lp = a; dec = b; cert = c; from = d }) given p q refl r s refl refl refl ∙ sym is
 
-pub as_check : (order : Order) (a b c d : Text) (e f : Option Text) → order ≡ Check b d f → a ≡ b → c ≡ d → e ≡ f → Check a c e ≡ order
-as_check order a b c d e f is p q r = checks a b c d e f p q r ∙ sym is
+pub as_check : (order : Order) (a b c d : Text) (e f : Option Text) (i : Option ℕ) → order ≡ Check b d f i → a ≡ b → c ≡ d → e ≡ f → Check a c e i ≡ order
+as_check order a b c d e f i is p q r = checks a b c d e f i i p q r refl ∙ sym is
 
 pub as_show : (order : Order) (a b : Text) (c d : Option Text) (i : Bool) → order ≡ Show b d i → a ≡ b → c ≡ d → Show a c i ≡ order
 as_show order a b c d i is p q = shows a b c d i i p q refl ∙ sym is

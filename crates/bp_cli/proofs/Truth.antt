@@ -31,7 +31,7 @@ use Rattle.bp_front.specs.Front.{Front, blocked, ends, BlocksCome, formed, refus
 use Rattle.bp_front.specs.Answers.{AnswersBy, stopped, went_on, IsStatus}
 use Rattle.bp_front.proofs.OneFront.{one_front}
 use Rattle.cmd_check.specs.Checks as checks
-use Rattle.cmd_check.specs.Checks.{ChecksBlocked, AnswersCheck}
+use Rattle.cmd_check.specs.Checks.{ChecksBlocked, ChecksWithin, ChecksVisiting, AnswersCheck}
 use Rattle.cmd_solve.specs.Starts as starts
 use Rattle.cmd_solve.specs.Starts.{RefusesStart, IsStartAt}
 use Rattle.cmd_solve.specs.Leaves.{IsWorkedOn}
@@ -276,7 +276,8 @@ solves_unless files lp dec steps leaf kept status tells before now known answers
     by (inr (inr (inr (inr (inr (inr (inl is))))))) = inr (inl is)
     by (inr (inr (inr (inr (inr (inr (inr (inl is)))))))) = inr (inr (inl is))
     by (inr (inr (inr (inr (inr (inr (inr (inr (inl is))))))))) = inr (inr (inr is))
-    by (inr (inr (inr (inr (inr (inr (inr (inr (inr is))))))))) = going (λ e. absurd (cc)) (λ e. absurd (cc)) (λ e. absurd (cc))
+    by (inr (inr (inr (inr (inr (inr (inr (inr (inr (inl is)))))))))) = going (λ e. absurd (cc)) (λ e. absurd (cc)) (λ e. absurd (cc))
+    by (inr (inr (inr (inr (inr (inr (inr (inr (inr (inr is)))))))))) = going (λ e. absurd (cc)) (λ e. absurd (cc)) (λ e. absurd (cc))
 
 pub solves_accepted : (files : Files) (lp : List ℕ) (steps leaf : Option ℕ) (kept : Option Outcome) (status : ℕ) (tells : Bool) (before now : List ℕ)
     → IsStatus status → AnswersBy (AnswersSolve files lp None steps None leaf kept) status tells before now → (m : NamedProgram) → HasProgram (files lp) m
@@ -305,7 +306,7 @@ outcome_true b most (Budget g (Some k) bound) is = (
 
 pub writes_certificate : (before now : Files) (lp cert : List ℕ) (dec : Option (List ℕ)) (o : Outcome) → HasCertificate before lp dec (Some cert) now (Some o)
     → OthersAsBefore cert before now → ((b : BlockedProgram) → FilesCome before lp dec (blocked b) → (most : ℕ) × EndsWithin b most o) → cert ≢ lp → dec ≢ Some cert
-    → (claim : Claim) × AnswersCheck now lp cert dec 0 (accepted_report claim)
+    → (claim : Claim) × AnswersCheck now lp cert dec None 0 (accepted_report claim)
 writes_certificate before now lp cert dec o has others ended apart away =
     let b = has.0 in
     let c = outcome_certificate b.named.program o in
@@ -317,9 +318,9 @@ writes_certificate before now lp cert dec o has others ended apart away =
 
 -- ---- what `check` accepts
 
-pub checks_truly : (files : Files) (lp cert : List ℕ) (dec : Option (List ℕ)) (status : ℕ) (tells : Bool) (before now : List ℕ)
-    → AnswersBy (AnswersCheck files lp cert dec) status tells before now → IsTrue tells → status ≡ 0 → AcceptsTruly (files lp) before now
-checks_truly files lp cert dec status tells before now answers told zero =
+pub checks_truly : (files : Files) (lp cert : List ℕ) (dec : Option (List ℕ)) (visits : Option ℕ) (status : ℕ) (tells : Bool) (before now : List ℕ)
+    → AnswersBy (AnswersCheck files lp cert dec visits) status tells before now → IsTrue tells → status ≡ 0 → AcceptsTruly (files lp) before now
+checks_truly files lp cert dec visits status tells before now answers told zero =
     let through = went_through status (inl zero) in
     let answer = answers through.0 through.1 through.2 in
     by answer.0 answer.1 (answer.2 told)
@@ -331,10 +332,18 @@ checks_truly files lp cert dec status tells before now answers told zero =
         record { program = b.named; claim = c.claim; read = has; is_true = is_true; printed = printed ∙ ap (λ (r : List ℕ). before ++ r) heard }
     by_blocks b report has (checks.rejected text c line kind there spells point fault six heard) printed = absurd (not_outcome status (inl zero) (inr (inl six)))
 
-    by : (report : List ℕ) → AnswersCheck files lp cert dec status report → now ≡ before ++ report → AcceptsTruly (files lp) before now
+    within : (b : BlockedProgram) (most : ℕ) (report : List ℕ) → HasProgram (files lp) b.named → ChecksWithin most files cert b status report → now ≡ before ++ report → AcceptsTruly (files lp) before now
+    within b most report has (checks.unknown line at ten heard) printed = let none : 0 ≡ 10 = sym zero ∙ ten in absurd (omega (arith, none))
+    within b most report has (checks.known none right) printed = by_blocks b report has right printed
+
+    visiting : (b : BlockedProgram) (given : Option ℕ) (report : List ℕ) → HasProgram (files lp) b.named → ChecksVisiting given files cert b status report → now ≡ before ++ report → AcceptsTruly (files lp) before now
+    visiting b None report has right printed = by_blocks b report has right printed
+    visiting b (Some most) report has right printed = within b most report has right printed
+
+    by : (report : List ℕ) → AnswersCheck files lp cert dec visits status report → now ≡ before ++ report → AcceptsTruly (files lp) before now
     by report (stopped come stops) printed =
         absurd (not_outcome status (inl zero) (as_refusal status (files_come files lp dec (ends status report) come)))
-    by report (went_on b come right) printed = by_blocks b report (files_come files lp dec (blocked b) come) right printed
+    by report (went_on b come right) printed = visiting b visits report (files_come files lp dec (blocked b) come) right printed
 
 -- the outcome that is kept is one of a search of the program in blocks that the files come to
 pub kept_outcome : (files : Files) (lp : List ℕ) (dec : Option (List ℕ)) (steps : Option ℕ) (from : Option (List ℕ)) (leaf : Option ℕ) (o : Outcome) (status : ℕ) (tells : Bool) (before now : List ℕ)

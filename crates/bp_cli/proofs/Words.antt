@@ -67,7 +67,7 @@ nothing_written files (Solve given) = (tt, stands given.cert, λ _. refl) where
   stands : (cert : Option (List ℕ)) → FilesStand cert files files
   stands None = refl
   stands (Some name) = λ other apart. refl
-nothing_written files (Check lp cert dec) = refl
+nothing_written files (Check lp cert dec visits) = refl
 nothing_written files (Show lp dec blocks) = refl
 nothing_written files (Gen seed size lp dec) = untouched refl refl
 nothing_written files (Demo seed size) = refl

@@ -15,7 +15,7 @@ use Rattle.bp_cli.specs.Headline.{IsOutcomeStatus, WasStopped}
 abbrev pub SolvesDecomposed : Order → Files → (status : ℕ) → Type 0
 SolvesDecomposed (Solve given) files status =
     given.from ≡ None → (b : BlockedProgram) → FilesCome files given.lp given.dec (blocked b) → IsOutcomeStatus status ⊎ WasStopped status
-SolvesDecomposed (Check lp cert dec) files status = Unit {0}
+SolvesDecomposed (Check lp cert dec visits) files status = Unit {0}
 SolvesDecomposed (Show lp dec blocks) files status = Unit {0}
 SolvesDecomposed (Gen seed size lp dec) files status = Unit {0}
 SolvesDecomposed (Demo seed size) files status = Unit {0}
@@ -27,8 +27,8 @@ SolvesDecomposed (Migrate lp cert new dec) files status = Unit {0}
 -- where an outcome is kept, `check` accepts the certificate that was written, if it isn't written over the model or the decomposition
 abbrev pub WritesCertificate : Order → (now : Files) → Option Outcome → Type 0
 WritesCertificate (Solve given) now kept = IfSome given.cert (λ cert. IfSome kept (λ outcome.
-    cert ≢ given.lp → given.dec ≢ Some cert → (claim : Claim) × AnswersCheck now given.lp cert given.dec 0 (accepted_report claim)))
-WritesCertificate (Check lp cert dec) now kept = Unit {0}
+    cert ≢ given.lp → given.dec ≢ Some cert → (claim : Claim) × AnswersCheck now given.lp cert given.dec None 0 (accepted_report claim)))
+WritesCertificate (Check lp cert dec visits) now kept = Unit {0}
 WritesCertificate (Show lp dec blocks) now kept = Unit {0}
 WritesCertificate (Gen seed size lp dec) now kept = Unit {0}
 WritesCertificate (Demo seed size) now kept = Unit {0}

@@ -27,7 +27,7 @@ use Rattle.cmd_migrate.specs.Files.{MigrateLeaves, MigrateWrites}
 -- what an order is answered by the files, with what is kept
 abbrev pub AnswersOrder : Order → Files → Option Outcome → (status : ℕ) → (report : List ℕ) → Type 0
 AnswersOrder (Solve given) files kept status report = AnswersSolve files given.lp given.dec given.steps given.from given.leaf kept status report
-AnswersOrder (Check lp cert dec) files kept status report = (kept ≡ None) × AnswersCheck files lp cert dec status report
+AnswersOrder (Check lp cert dec visits) files kept status report = (kept ≡ None) × AnswersCheck files lp cert dec visits status report
 AnswersOrder (Show lp dec blocks) files kept status report = (kept ≡ None) × AnswersShow files lp dec blocks status report
 AnswersOrder (Gen seed size lp dec) files kept status report = (kept ≡ None) × AnswersGen size status report
 AnswersOrder (Demo seed size) files kept status report = AnswersDemo seed size kept status report
@@ -48,7 +48,7 @@ pub data Answers (words : List (List ℕ)) (files : Files) (kept : Option Outcom
 abbrev pub HasWritten : Order → (before now : Files) → Option Outcome → (status : ℕ) → Type 0
 HasWritten (Solve given) before now kept status =
     HasCertificate before given.lp given.dec given.cert now kept × FilesStand given.cert before now × (IsUntouched status → now ≡ before)
-HasWritten (Check lp cert dec) before now kept status = now ≡ before
+HasWritten (Check lp cert dec visits) before now kept status = now ≡ before
 HasWritten (Show lp dec blocks) before now kept status = now ≡ before
 HasWritten (Gen seed size lp dec) before now kept status = GenLeaves seed size lp dec before now status
 HasWritten (Demo seed size) before now kept status = now ≡ before
@@ -61,7 +61,7 @@ HasWritten (Migrate lp cert new dec) before now kept status = MigrateLeaves lp c
 -- made texts, the text of the decomposition that was found or chosen or the certificate that was merged or written anew, and nothing is written where the file to go on from is no start.
 abbrev pub HasPutLast : Order → (before now : Files) → Type 0
 HasPutLast (Solve given) before now = LeavesCertificate before given.lp given.dec given.steps given.cert given.from given.leaf now
-HasPutLast (Check lp cert dec) before now = now ≡ before
+HasPutLast (Check lp cert dec visits) before now = now ≡ before
 HasPutLast (Show lp dec blocks) before now = now ≡ before
 HasPutLast (Gen seed size lp dec) before now = GenWrites seed size lp dec before now
 HasPutLast (Demo seed size) before now = now ≡ before
@@ -74,7 +74,7 @@ HasPutLast (Migrate lp cert new dec) before now = MigrateWrites lp cert dec new 
 -- else none.
 abbrev pub ListsEvents : Order → (before : Files) → Option Outcome → List Event → Type 0
 ListsEvents (Solve given) before kept events = HasEvents before given.lp given.dec given.steps given.from given.workers given.order kept events
-ListsEvents (Check lp cert dec) before kept events = events ≡ []
+ListsEvents (Check lp cert dec visits) before kept events = events ≡ []
 ListsEvents (Show lp dec blocks) before kept events = events ≡ []
 ListsEvents (Gen seed size lp dec) before kept events = events ≡ []
 ListsEvents (Demo seed size) before kept events = events ≡ []

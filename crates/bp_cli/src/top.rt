@@ -204,9 +204,20 @@ fn obey<F: Shelf, O: Sink>(alloc: Global, order: &Order, shelf: &mut F, out: &mu
             given.workers,
             given.order,
         ),
-        Order::Check { lp, cert, dec } => {
-            check(alloc, shelf, out, lp.as_str(), cert.as_str(), named(dec))
-        }
+        Order::Check {
+            lp,
+            cert,
+            dec,
+            visits,
+        } => check(
+            alloc,
+            shelf,
+            out,
+            lp.as_str(),
+            cert.as_str(),
+            named(dec),
+            *visits,
+        ),
         Order::Show { lp, dec, blocks } => {
             show(alloc, shelf, out, lp.as_str(), named(dec), *blocks)
         }

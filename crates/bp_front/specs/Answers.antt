@@ -60,10 +60,10 @@ abbrev pub IsUntouched : ℕ → Type 0
 IsUntouched status = (status ≡ 2) ⊎ (status ≡ 3) ⊎ (status ≡ 6) ⊎ (status ≡ 7) ⊎ (status ≡ 9) ⊎ (status ≡ 11)
 
 -- the statuses of a run: done, refused words, refused text, infeasible, budget, rejected, read fault, write fault, want
--- of memory, missing file
+-- of memory, unknown, missing file
 abbrev pub IsStatus : ℕ → Type 0
 IsStatus status = (status ≡ 0) ⊎ (status ≡ 2) ⊎ (status ≡ 3) ⊎ (status ≡ 4) ⊎ (status ≡ 5) ⊎ (status ≡ 6)
-    ⊎ (status ≡ 7) ⊎ (status ≡ 8) ⊎ (status ≡ 9) ⊎ (status ≡ 11)
+    ⊎ (status ≡ 7) ⊎ (status ≡ 8) ⊎ (status ≡ 9) ⊎ (status ≡ 10) ⊎ (status ≡ 11)
 
 -- The causes of a status: a read fault and a write fault come only where a count of that kind rose in the call, or stood at
 -- its last value; and where a count is greater than before, the status is that of its kind.

@@ -21,7 +21,7 @@ use Rattle.branch_tree.specs.declared.outcome.Outcome.{Outcome}
 use Rattle.branch_tree.specs.declared.outcome.Outcome.TheVariants as outcome
 use Rattle.cert_text.specs.Outcomes.{grove_of, claim_of}
 use Rattle.cert_check.specs.declared.judge.Judged.{Judged}
-use Rattle.cert_check.specs.declared.judge.Judged.TheVariants.{Accepted, Rejected}
+use Rattle.cert_check.specs.declared.judge.Judged.TheVariants.{Accepted, Rejected, Unknown}
 
 -- ---- ended searches
 
@@ -129,10 +129,15 @@ fault_line words line kind = words ++ decimal line ++ codes " " ++ kind ++ codes
 abbrev pub rejected_report : (line : ℕ) → CheckKind → List ℕ
 rejected_report line kind = fault_line (codes "rejected ") line (check_kind_name kind)
 
+-- the report on a certificate of which a line asks for more visits than are left
+abbrev pub unknown_report : (line : ℕ) → List ℕ
+unknown_report line = count_line (codes "unknown ") line
+
 -- the report on a judged certificate
 abbrev pub check_report : Judged → List ℕ
 check_report (Accepted claim) = accepted_report claim
 check_report (Rejected line kind) = rejected_report line kind
+check_report (Unknown line) = unknown_report line
 
 -- ---- merged certificates
 

@@ -3,7 +3,7 @@ ghost use Rattle.std.specs.Prelude.{◌≡◌, ◌++◌, IfOk, OnOk};
 ghost use Rattle.std.specs.Fmt.{signed_decimal};
 ghost use Rattle.bp_report.specs.Report.{claim_words, accepted_report, check_kind_name, check_report};
 
-use crate::lines::{push_fault, push_value};
+use crate::lines::{push_count_line, push_fault, push_value};
 use bp_theory::{CheckKind, Claim};
 use cert_check::Judged;
 use std::alloc::{AllocError, Global};
@@ -24,6 +24,7 @@ pub fn push_judged(text: &mut Vec<u8>, judged: &Judged) -> Result<(), AllocError
     match judged {
         Judged::Accepted(claim) => push_accepted(text, claim),
         Judged::Rejected { line, kind } => push_fault(text, b"rejected ", *line, kind_name(*kind)),
+        Judged::Unknown { line } => push_count_line(text, b"unknown ", *line),
     }
 }
 

@@ -1,10 +1,15 @@
 -- A program in blocks is answered by one status.
-use Rattle.std.proofs.Common.{◌≡◌, ◌∙◌, sym, subst, ℕ, List, Option, Some, None}
+use Rattle.std.proofs.Common.{◌≡◌, refl, ◌∙◌, sym, subst, ℕ, Bool, List, [], Option, Some, None}
+use Rattle.std.proofs.lemmas.List.{append-nil}
 use Rattle.bp_theory.specs.Claims.{Certificate, IsCertified}
 use Rattle.bp_theory.specs.Judgement.{IsFirstFault, HasItsPoint, named_value}
 use Rattle.bp_theory.specs.declared.CheckKind.{CheckKind}
 use Rattle.bp_theory.proofs.JudgeProof.{judged_lem}
 use Rattle.bp_shelf.specs.Shelf.{Files}
+use Rattle.bp_shelf.specs.declared.shelf.ShelfFault.{ShelfFault}
+use Rattle.bp_shelf.specs.declared.shelf.ShelfFault.TheVariants.{Missing, Failed, NoMemory}
+use Rattle.bp_front.specs.Answers.{AnswersBy, IsOnly}
+use Rattle.bp_front.specs.Endings.{status_of}
 use Rattle.block_form.specs.Blocked.{BlockedProgram}
 use Rattle.cert_text.specs.Fault.{IsCertText}
 use Rattle.cert_text.specs.Fault as texts
@@ -12,17 +17,17 @@ use Rattle.cert_text.specs.Written.{cert_of}
 use Rattle.cert_text.specs.Programs.{frame_for}
 use Rattle.cert_text.specs.declared.fault.CertKind.{CertKind}
 use Rattle.cert_text.proofs.LawProofs.{certificates_are_one, certificates_are_faultless}
-use Rattle.cmd_check.specs.Checks.{ChecksBlocked, missing, faulty, accepted, rejected}
+use Rattle.cmd_check.specs.Checks.{ChecksBlocked, ChecksWithin, ChecksVisiting, missing, faulty, accepted, rejected, unknown, known}
 use Rattle.cmd_check.proofs.Certificates.{one_written, fitting_point}
 
-one_text : (file : Option (List ℕ)) (t u : List ℕ) → file ≡ Some t → file ≡ Some u → t ≡ u
+pub one_text : (file : Option (List ℕ)) (t u : List ℕ) → file ≡ Some t → file ≡ Some u → t ≡ u
 one_text file t u a b = cc
 
 no_text : (file : Option (List ℕ)) (t : List ℕ) → file ≡ None → file ≡ Some t → ⊥
 no_text file t a b = absurd (cc)
 
 -- no text has a certificate and a fault
-read_or_faulty : (b : BlockedProgram) (text other : List ℕ) (c : Certificate) (line : ℕ) (kind : CertKind) → text ≡ other
+pub read_or_faulty : (b : BlockedProgram) (text other : List ℕ) (c : Certificate) (line : ℕ) (kind : CertKind) → text ≡ other
     → IsCertText (frame_for b) (cert_of c) text → texts.IsFirstCertFault (frame_for b) other line kind → ⊥
 read_or_faulty b text other c line kind same spells fault =
     certificates_are_faultless (frame_for b) (cert_of c) other line kind (subst (λ (t : List ℕ). IsCertText (frame_for b) (cert_of c) t) same spells) fault
@@ -61,3 +66,42 @@ one_check files cert b s t r q (rejected text c line kind a spells has fault is 
 one_check files cert b s t r q (rejected text c line kind a spells has fault is _) (accepted text' d a' spells' valid holds is' _) =
     absurd (valid_or_faulty b text' text d c line kind (one_text (files cert) text' text a' a) spells' valid spells has fault)
 one_check files cert b s t r q (rejected text c line kind a spells has fault is _) (rejected text' d line' kind' a' spells' has' fault' is' _) = is ∙ sym is'
+
+one_within : (most : ℕ) (files : Files) (cert : List ℕ) (b : BlockedProgram) (s t : ℕ) (r q : List ℕ) → ChecksWithin most files cert b s r → ChecksWithin most files cert b t q → s ≡ t
+one_within most files cert b s t r q (unknown line at is _) (unknown line' at' is' _) = is ∙ sym is'
+one_within most files cert b s t r q (unknown line at is _) (known none right) = absurd (none line at)
+one_within most files cert b s t r q (known none right) (unknown line at is _) = absurd (none line at)
+one_within most files cert b s t r q (known none right) (known none' right') = one_check files cert b s t r q right right'
+
+-- whether a number of visits is given or not
+pub one_visiting : (visits : Option ℕ) (files : Files) (cert : List ℕ) (b : BlockedProgram) (s t : ℕ) (r q : List ℕ)
+    → ChecksVisiting visits files cert b s r → ChecksVisiting visits files cert b t q → s ≡ t
+one_visiting None files cert b s t r q right right' = one_check files cert b s t r q right right'
+one_visiting (Some most) files cert b s t r q right right' = one_within most files cert b s t r q right right'
+
+-- a file that isn't there
+pub missing_visiting : (visits : Option ℕ) (files : Files) (cert : List ℕ) (b : BlockedProgram) → files cert ≡ None → ChecksVisiting visits files cert b 11 []
+missing_visiting None files cert b gone = missing gone refl refl
+missing_visiting (Some most) files cert b gone = known (λ line at. no_text (files cert) at.text gone at.there) (missing gone refl refl)
+
+pub missing_only : (visits : Option ℕ) (files : Files) (cert : List ℕ) (b : BlockedProgram) (t : ℕ) (q : List ℕ) → files cert ≡ None
+    → ChecksVisiting visits files cert b t q → 11 ≡ t
+missing_only visits files cert b t q gone right = one_visiting visits files cert b 11 t [] q (missing_visiting visits files cert b gone) right
+
+-- a file that could not be had: it isn't there, or it could not be read, or memory was wanting
+pub stop_answers : (visits : Option ℕ) (files : Files) (cert : List ℕ) (b : BlockedProgram) (fault : ShelfFault) (status : ℕ) (tells : Bool) (bytes : List ℕ)
+    → (fault ≡ Missing → files cert ≡ None) → status ≡ status_of fault → AnswersBy (ChecksVisiting visits files cert b) status tells bytes bytes
+stop_answers visits files cert b Missing status tells bytes gone is = λ no_read no_write no_want. (
+  [],
+  subst (λ (s : ℕ). ChecksVisiting visits files cert b s []) (sym is) (missing_visiting visits files cert b (gone refl)),
+  λ told. sym (append-nil bytes),
+)
+stop_answers visits files cert b Failed status tells bytes gone is = λ no_read no_write no_want. absurd (no_read is)
+stop_answers visits files cert b NoMemory status tells bytes gone is = λ no_read no_write no_want. absurd (no_want is)
+
+pub stop_only : (visits : Option ℕ) (files : Files) (cert : List ℕ) (b : BlockedProgram) (fault : ShelfFault) (status : ℕ) → (fault ≡ Missing → files cert ≡ None)
+    → status ≡ status_of fault → IsOnly (ChecksVisiting visits files cert b) status
+stop_only visits files cert b Missing status gone is = λ no_read no_write no_want meant report right.
+    is ∙ missing_only visits files cert b meant report (gone refl) right
+stop_only visits files cert b Failed status gone is = λ no_read no_write no_want. absurd (no_read is)
+stop_only visits files cert b NoMemory status gone is = λ no_read no_write no_want. absurd (no_want is)

@@ -1,25 +1,30 @@
 -- The replies of `check`.
-use Rattle.std.specs.Prelude.{◌≡◌, ℕ, List, Some}
+use Rattle.std.specs.Prelude.{◌≡◌, ◌⊎◌, ℕ, List, Option, Some}
 use Rattle.bp_shelf.specs.Shelf.{Files}
 use Rattle.block_form.specs.Blocked.{BlockedProgram}
 use Rattle.cert_check.specs.declared.judge.Judged.{Judged}
-use Rattle.cert_check.specs.declared.judge.Judged.TheVariants.{Accepted, Rejected}
+use Rattle.cert_check.specs.declared.judge.Judged.TheVariants.{Accepted, Rejected, Unknown}
 use Rattle.bp_report.specs.Report.{check_report}
 use Rattle.bp_front.specs.declared.ending.Reply.{Reply}
-use Rattle.cmd_check.specs.Checks.{ChecksBlocked}
+use Rattle.cmd_check.specs.Checks.{ChecksVisiting}
 
 -- the reply to a certificate's file
-abbrev pub RepliesFrom : Files → List ℕ → BlockedProgram → Reply → Type 0
-RepliesFrom files cert b reply = ChecksBlocked files cert b reply.status reply.report.items
+abbrev pub RepliesFrom : (visits : Option ℕ) → Files → List ℕ → BlockedProgram → Reply → Type 0
+RepliesFrom visits files cert b reply = ChecksVisiting visits files cert b reply.status reply.report.items
 
 -- the reply to a certificate's text, in whatever file it stands
-abbrev pub IsReplyTo : BlockedProgram → List ℕ → Reply → Type 0
-IsReplyTo b text reply = (files : Files) (cert : List ℕ) → files cert ≡ Some text → RepliesFrom files cert b reply
+abbrev pub IsReplyTo : (visits : Option ℕ) → BlockedProgram → List ℕ → Reply → Type 0
+IsReplyTo visits b text reply = (files : Files) (cert : List ℕ) → files cert ≡ Some text → RepliesFrom visits files cert b reply
 
--- the status of a judged certificate: accepted or rejected
+-- the statuses of replies: accepted, refused, rejected or unknown
+abbrev pub IsCheckStatus : ℕ → Type 0
+IsCheckStatus status = (status ≡ 0) ⊎ (status ≡ 3) ⊎ (status ≡ 6) ⊎ (status ≡ 10)
+
+-- the status of a judged certificate: accepted, rejected or unknown
 abbrev pub judged_status : Judged → ℕ
 judged_status (Accepted claim) = 0
 judged_status (Rejected line kind) = 6
+judged_status (Unknown line) = 10
 
 -- the reply to a judged certificate
 pub record TellsJudged (judged : Judged) (reply : Reply) : Type 0 where

@@ -1,4 +1,5 @@
-//! The command `check`: whether the certificate of a file is valid for a program in blocks. What it accepts is true.
+//! The command `check`: whether the certificate of a file is valid for a program in blocks, where a number of visits is given
+//! as far as pricing takes no more. What it accepts is true.
 #![tactic(auto)]
 
 ghost use Rattle.std.specs.Prelude.{◌≡◌, ◌≢◌, ◌⊎◌, [], IfOk, IsErrOf, IsTrue, None};
@@ -6,8 +7,8 @@ ghost use Rattle.std.specs.Option.{option_map};
 ghost use Rattle.bp_shelf.specs.Shelf.{CountsFailed};
 ghost use Rattle.bp_shelf.specs.declared.shelf.ShelfFault.TheVariants.{Missing};
 ghost use Rattle.bp_front.specs.Answers.{AnswersBy, IsOnly, CutsOff, HasCauses, PutsReport, IsUnput};
-ghost use Rattle.cmd_check.specs.Checks.{AnswersCheck, ChecksBlocked};
-ghost use Rattle.cmd_check.specs.Replies.{IsReplyTo, RepliesFrom, TellsJudged};
+ghost use Rattle.cmd_check.specs.Checks.{AnswersCheck, ChecksVisiting};
+ghost use Rattle.cmd_check.specs.Replies.{IsCheckStatus, IsReplyTo, RepliesFrom, TellsJudged};
 
 use block_form::Blocked;
 use bp_front::{Ended, Halt, Reply, load, print, read_front, stopped_by};
@@ -20,7 +21,8 @@ use std::alloc::{AllocError, Global};
 // A file is shorter than 2^62 bytes.
 const MAX_FILE: usize = (1 << 62) - 1;
 
-/// Checks the certificate of a file against the model of another, and prints what is accepted or rejected.
+/// Checks the certificate of a file against the model of another, and prints what is accepted or rejected, or the line of the
+/// first leaf that asks for more visits than are left, where a number of visits is given.
 pub fn check<F: Shelf, O: Sink>(
     alloc: Global,
     shelf: &mut F,
@@ -28,14 +30,15 @@ pub fn check<F: Shelf, O: Sink>(
     lp: &str,
     cert: &str,
     dec: Option<&str>,
+    visits: Option<u64>,
 ) -> Ended
     ensures answered { IsTrue (F.tells shelf.old) →
         AnswersBy (AnswersCheck (F.file shelf.old) lp.now cert.now (option_map
-        (λ name. name.now) dec.entry)) result.status (O.tells out.old) (O.taken out.old)
+        (λ name. name.now) dec.entry) visits) result.status (O.tells out.old) (O.taken out.old)
         (O.taken out.new) }
     ensures exact { IsTrue (F.tells shelf.old) →
         IsOnly (AnswersCheck (F.file shelf.old) lp.now cert.now (option_map
-        (λ name. name.now) dec.entry)) result.status }
+        (λ name. name.now) dec.entry) visits) result.status }
     ensures causes { HasCauses result.status (F.read_faults shelf.old) (F.read_faults shelf.new)
         (F.write_faults shelf.old) (F.write_faults shelf.new) (O.faults out.old)
         (O.faults out.new) }
@@ -53,28 +56,29 @@ pub fn check<F: Shelf, O: Sink>(
         (O.puts out.new) }
     ensures cut_off { IsTrue (F.tells shelf.old) → IsTrue (O.tells out.old) →
         CutsOff (λ kept. AnswersCheck (F.file shelf.old) lp.now cert.now (option_map
-        (λ name. name.now) dec.entry)) result.status (O.taken out.old) (O.taken out.new) }
+        (λ name. name.now) dec.entry) visits) result.status (O.taken out.old) (O.taken out.new) }
 {
     match load(alloc, shelf, lp, dec) {
-        Ok(b) => check_blocks(alloc, shelf, out, &b, cert),
+        Ok(b) => check_blocks(alloc, shelf, out, &b, cert, visits),
         Err(Halt::Refused(report)) => print(alloc, out, &Reply { status: 3, report }, None),
         Err(Halt::Stopped(fault)) => stopped_by(alloc, fault),
     }
 }
 
-// Checks the certificate of a file against a program in blocks, and prints what is accepted or rejected.
+// Checks the certificate of a file against a program in blocks, and prints what it is judged to be.
 fn check_blocks<F: Shelf, O: Sink>(
     alloc: Global,
     shelf: &mut F,
     out: &mut O,
     b: &Blocked,
     cert: &str,
+    visits: Option<u64>,
 ) -> Ended
     ensures answered { IsTrue (F.tells shelf.old) →
-        AnswersBy (ChecksBlocked (F.file shelf.old) cert.now b.now) result.status (O.tells out.old)
-        (O.taken out.old) (O.taken out.new) }
+        AnswersBy (ChecksVisiting visits (F.file shelf.old) cert.now b.now) result.status
+        (O.tells out.old) (O.taken out.old) (O.taken out.new) }
     ensures exact { IsTrue (F.tells shelf.old) →
-        IsOnly (ChecksBlocked (F.file shelf.old) cert.now b.now) result.status }
+        IsOnly (ChecksVisiting visits (F.file shelf.old) cert.now b.now) result.status }
     ensures causes { HasCauses result.status (F.read_faults shelf.old) (F.read_faults shelf.new)
         (F.write_faults shelf.old) (F.write_faults shelf.new) (O.faults out.old)
         (O.faults out.new) }
@@ -91,10 +95,10 @@ fn check_blocks<F: Shelf, O: Sink>(
         (F.write_faults shelf.new) (O.faults out.old) (O.faults out.new) (O.puts out.old)
         (O.puts out.new) }
     ensures cut_off { IsTrue (F.tells shelf.old) → IsTrue (O.tells out.old) →
-        CutsOff (λ kept. ChecksBlocked (F.file shelf.old) cert.now b.now) result.status
+        CutsOff (λ kept. ChecksVisiting visits (F.file shelf.old) cert.now b.now) result.status
         (O.taken out.old) (O.taken out.new) }
 {
-    match judged_file(alloc, shelf, b, cert) {
+    match judged_file(alloc, shelf, b, cert, visits) {
         Ok(reply) => print(alloc, out, &reply, None),
         Err(fault) => stopped_by(alloc, fault),
     }
@@ -106,11 +110,11 @@ fn judged_file<F: Shelf>(
     shelf: &mut F,
     b: &Blocked,
     cert: &str,
+    visits: Option<u64>,
 ) -> Result<Reply, ShelfFault>
     ensures right { IsTrue (F.tells shelf.old) →
-        IfOk result (RepliesFrom (F.file shelf.old) cert.now b.now) }
-    ensures statuses { IfOk result (λ reply. (reply.status ≡ 0) ⊎ (reply.status ≡ 3) ⊎
-        (reply.status ≡ 6)) }
+        IfOk result (RepliesFrom visits (F.file shelf.old) cert.now b.now) }
+    ensures statuses { IfOk result (λ reply. IsCheckStatus reply.status) }
     ensures missing { IsTrue (F.tells shelf.old) → IsErrOf result ShelfFault.Missing →
         F.file shelf.old cert.now ≡ None }
     ensures files { F.file shelf.new ≡ F.file shelf.old }
@@ -118,18 +122,17 @@ fn judged_file<F: Shelf>(
     ensures writes { F.write_faults shelf.new ≡ F.write_faults shelf.old }
 {
     let text = read_front(alloc, shelf, cert, MAX_FILE)?;
-    Ok(judged(alloc, b, &text)?)
+    Ok(judged(alloc, b, &text, visits)?)
 }
 
 // Judges the text of a certificate.
-fn judged(alloc: Global, b: &Blocked, text: &[u8]) -> Result<Reply, AllocError>
-    ensures right { IfOk result (IsReplyTo b.now text.now) }
-    ensures statuses { IfOk result (λ reply. (reply.status ≡ 0) ⊎ (reply.status ≡ 3) ⊎
-        (reply.status ≡ 6)) }
+fn judged(alloc: Global, b: &Blocked, text: &[u8], visits: Option<u64>) -> Result<Reply, AllocError>
+    ensures right { IfOk result (IsReplyTo visits b.now text.now) }
+    ensures statuses { IfOk result (λ reply. IsCheckStatus reply.status) }
 {
     match read_cert(alloc, text, b) {
         Ok(cert) => {
-            let judged = judge(alloc, b, &cert)?;
+            let judged = judge(alloc, b, &cert, visits)?;
             verdict(alloc, &judged)
         }
         Err(CertFault::At { line, kind }) => Ok(Reply {
@@ -147,6 +150,7 @@ fn verdict(alloc: Global, judged: &Judged) -> Result<Reply, AllocError>
     let status = match judged {
         Judged::Accepted(_) => 0,
         Judged::Rejected { .. } => 6,
+        Judged::Unknown { .. } => 10,
     };
     Ok(Reply {
         status,

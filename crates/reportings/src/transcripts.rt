@@ -80,6 +80,8 @@ accepted bound 15
 accepted bound 15 value 0
 rejected 4 weak
 rejected 18446744073709551615 point-row
+unknown 4
+unknown 18446744073709551615
 ";
 
 // Certificates that are judged.
@@ -97,6 +99,8 @@ fn judged(alloc: Global) -> Result<Vec<u8>, AllocError> {
             line: u64::MAX,
             kind: CheckKind::PointRow,
         },
+        Judged::Unknown { line: 4 },
+        Judged::Unknown { line: u64::MAX },
     ];
     let mut all = Vec::new(alloc);
     for verdict in &verdicts {

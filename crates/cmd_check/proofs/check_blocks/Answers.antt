@@ -1,26 +1,26 @@
 use Rattle.std.proofs.Common.{None}
-use Rattle.cmd_check.specs.Checks.{ChecksBlocked}
-use Rattle.cmd_check.proofs.OneAnswer.{one_check}
+use Rattle.cmd_check.specs.Checks.{ChecksVisiting}
+use Rattle.cmd_check.proofs.OneAnswer.{one_visiting}
 use Rattle.cmd_check.proofs.Printed.{printed_answers, printed_only, printed_cut}
 use Rattle.cmd_check.proofs.check_blocks.Goals as goal
 
 pub returns-in-Ok-clause-answered : goal.returns-in-Ok-clause-answered
 returns-in-Ok-clause-answered g c = λ told.
     let reply = c.in-Ok.reply in
-    printed_answers (ChecksBlocked (g.F.Shelf.file c.args.shelf.now) c.args.cert.now c.args.b.now) reply.status c.print.result.status (g.O.Sink.tells c.args.out.now) reply.report.items
+    printed_answers (ChecksVisiting c.args.visits (g.F.Shelf.file c.args.shelf.now) c.args.cert.now c.args.b.now) reply.status c.print.result.status (g.O.Sink.tells c.args.out.now) reply.report.items
     (g.O.Sink.taken c.args.out.now) (g.O.Sink.taken c.print.new.out) (c.in-Ok.ensures.right told) c.print.ensures.status c.print.ensures.printed
 
 pub returns-in-Ok-clause-exact : goal.returns-in-Ok-clause-exact
 returns-in-Ok-clause-exact g c = λ told.
     let reply = c.in-Ok.reply in
     let files = g.F.Shelf.file c.args.shelf.now in
-    printed_only (ChecksBlocked files c.args.cert.now c.args.b.now) reply.status c.print.result.status
+    printed_only (ChecksVisiting c.args.visits files c.args.cert.now c.args.b.now) reply.status c.print.result.status
     (λ no_read no_write no_want meant report right.
-    one_check files c.args.cert.now c.args.b.now reply.status meant reply.report.items report (c.in-Ok.ensures.right told) right)
+    one_visiting c.args.visits files c.args.cert.now c.args.b.now reply.status meant reply.report.items report (c.in-Ok.ensures.right told) right)
     c.print.ensures.status
 
 pub returns-in-Ok-clause-cut_off : goal.returns-in-Ok-clause-cut_off
 returns-in-Ok-clause-cut_off g c = λ told told_bytes.
     let reply = c.in-Ok.reply in
-    printed_cut (λ kept. ChecksBlocked (g.F.Shelf.file c.args.shelf.now) c.args.cert.now c.args.b.now) None reply.status c.print.result.status reply.report.items
+    printed_cut (λ kept. ChecksVisiting c.args.visits (g.F.Shelf.file c.args.shelf.now) c.args.cert.now c.args.b.now) None reply.status c.print.result.status reply.report.items
     (g.O.Sink.taken c.args.out.now) (g.O.Sink.taken c.print.new.out) (c.in-Ok.ensures.right told) (c.print.ensures.partly told_bytes)

@@ -37,21 +37,22 @@ pub returns-in-Check-clause-answered : goal.returns-in-Check-clause-answered
 returns-in-Check-clause-answered g c = λ told.
     subst (λ (o : Order). AnswersBy (AnswersOrder o (g.F.Shelf.file c.args.shelf.now) c.check.result.kept) c.check.result.status (g.O.Sink.tells c.args.out.now) (g.O.Sink.taken c.args.out.now)
     (g.O.Sink.taken c.check.new.out)) (as_check c.args.order.now c.as_str-in-Check.result.now c.in-Check.lp c.as_str-in-Check-2.result.now c.in-Check.cert (option_map (λ name. name.now) c.named-in-Check.result)
-    c.in-Check.dec c.in-Check.is c.as_str-in-Check.ensures c.as_str-in-Check-2.ensures c.named-in-Check.ensures)
+    c.in-Check.dec c.in-Check.visits c.in-Check.is c.as_str-in-Check.ensures c.as_str-in-Check-2.ensures c.named-in-Check.ensures)
     (kept_answers c.check.result.kept
-    (AnswersCheck (g.F.Shelf.file c.args.shelf.now) c.as_str-in-Check.result.now c.as_str-in-Check-2.result.now (option_map (λ name. name.now) c.named-in-Check.result))
+    (AnswersCheck (g.F.Shelf.file c.args.shelf.now) c.as_str-in-Check.result.now c.as_str-in-Check-2.result.now (option_map (λ name. name.now) c.named-in-Check.result)
+    c.in-Check.visits)
     c.check.result.status _ _ _ c.check.ensures.kept (c.check.ensures.answered told))
 
 pub returns-in-Check-clause-exact : goal.returns-in-Check-clause-exact
 returns-in-Check-clause-exact g c = λ told.
     subst (λ (o : Order). IsOnly (AnswersOrder o (g.F.Shelf.file c.args.shelf.now) c.check.result.kept) c.check.result.status) (as_check c.args.order.now c.as_str-in-Check.result.now c.in-Check.lp c.as_str-in-Check-2.result.now c.in-Check.cert (option_map (λ name. name.now) c.named-in-Check.result)
-    c.in-Check.dec c.in-Check.is c.as_str-in-Check.ensures c.as_str-in-Check-2.ensures c.named-in-Check.ensures)
+    c.in-Check.dec c.in-Check.visits c.in-Check.is c.as_str-in-Check.ensures c.as_str-in-Check-2.ensures c.named-in-Check.ensures)
     (kept_only c.check.result.kept _ c.check.result.status (c.check.ensures.exact told))
 
 pub returns-in-Check-clause-cut_off : goal.returns-in-Check-clause-cut_off
 returns-in-Check-clause-cut_off g c = λ told heard.
     subst (λ (o : Order). CutsOff (AnswersOrder o (g.F.Shelf.file c.args.shelf.now)) c.check.result.status (g.O.Sink.taken c.args.out.now) (g.O.Sink.taken c.check.new.out)) (as_check c.args.order.now c.as_str-in-Check.result.now c.in-Check.lp c.as_str-in-Check-2.result.now c.in-Check.cert (option_map (λ name. name.now) c.named-in-Check.result)
-    c.in-Check.dec c.in-Check.is c.as_str-in-Check.ensures c.as_str-in-Check-2.ensures c.named-in-Check.ensures)
+    c.in-Check.dec c.in-Check.visits c.in-Check.is c.as_str-in-Check.ensures c.as_str-in-Check-2.ensures c.named-in-Check.ensures)
     (kept_cut _ c.check.result.status _ _ (c.check.ensures.cut_off told heard))
 
 pub returns-in-Show-clause-answered : goal.returns-in-Show-clause-answered
@@ -183,7 +184,7 @@ returns-in-Propose-clause-failed g c = λ is_fault.
 pub returns-in-Check-clause-failed : goal.returns-in-Check-clause-failed
 returns-in-Check-clause-failed g c = λ is_fault. inr (unput_as
     (λ stands told. subst (λ (o : Order). HasPutLast o (g.F.Shelf.file c.args.shelf.now) (g.F.Shelf.file c.check.new.shelf))
-    (as_check c.args.order.now c.as_str-in-Check.result.now c.in-Check.lp c.as_str-in-Check-2.result.now c.in-Check.cert (option_map (λ name. name.now) c.named-in-Check.result) c.in-Check.dec c.in-Check.is c.as_str-in-Check.ensures c.as_str-in-Check-2.ensures c.named-in-Check.ensures) stands)
+    (as_check c.args.order.now c.as_str-in-Check.result.now c.in-Check.lp c.as_str-in-Check-2.result.now c.in-Check.cert (option_map (λ name. name.now) c.named-in-Check.result) c.in-Check.dec c.in-Check.visits c.in-Check.is c.as_str-in-Check.ensures c.as_str-in-Check-2.ensures c.named-in-Check.ensures) stands)
     (c.check.ensures.failed is_fault))
 
 pub returns-in-Show-clause-failed : goal.returns-in-Show-clause-failed
