@@ -19,7 +19,7 @@ pub fn explain(
 ) -> Result<Vec<u8>, AllocError> {
     match status {
         2 => words_note(alloc, words),
-        3 | 6 => refusal_note(alloc, report, files),
+        3 | 6 | 10 => refusal_note(alloc, report, files),
         7 | 8 | 11 => file_note(alloc, status, files),
         9 => {
             let mut note = Vec::new(alloc);
@@ -85,6 +85,7 @@ fn refusal_note(alloc: Global, report: &[u8], files: &Files) -> Result<Vec<u8>, 
     };
     match word_at(line, 0) {
         "rejected" => put_rejected(&mut note, seen, line)?,
+        "unknown" => put_unpriced(&mut note, seen, line)?,
         "refused" => put_refused(alloc, &mut note, files, seen, line)?,
         _ => {}
     }
@@ -98,6 +99,15 @@ fn put_rejected(note: &mut Vec<u8>, seen: &Seen, line: &str) -> Result<(), Alloc
     put(note, sentence_of(REJECTED, kind).unwrap_or(""))?;
     put(note, AFTER_REJECTED)?;
     put(note, "\n")
+}
+
+// The note on a certificate of which a leaf asks for more visits than are left.
+fn put_unpriced(note: &mut Vec<u8>, seen: &Seen, line: &str) -> Result<(), AllocError> {
+    put_head(note, seen, word_at(line, 1), None, word_at(line, 0))?;
+    put(
+        note,
+        "pricing the blocks of this leaf may take more visits than are left; give more behind --visits, or leave it out\n",
+    )
 }
 
 // The note on a text that is refused.

@@ -8,7 +8,7 @@ const KIT: &str = "rattle-kit-13f";
 // Each command with its words and options, and what it does.
 const COMMANDS: &str = "\
 solve LP [--dec DEC] [--steps N] [--cert CERT] [--from FILE] [--leaf K] [--workers W] [--order SEED] @ a best point, and a certificate of it
-check LP CERT [--dec DEC] @ whether a certificate is valid
+check LP CERT [--dec DEC] [--visits M] @ whether a certificate is valid
 show LP [--dec DEC] [--blocks] @ the blocks, and which are identical
 propose LP DEC @ writes a decomposition that it finds
 detect LP ROWS DEC @ writes the blocks beside the rows of a list
@@ -25,6 +25,7 @@ const OPTIONS: &str = "\
 --cert @ CERT    write the certificate of the answer
 --from @ FILE    go on from the tree of this certificate
 --leaf @ K       work below the K-th open leaf of that certificate alone
+--visits @ M     price no leaf that asks for more than is left of M visits
 --workers @ W    search in the order of W workers, 1 to 64
 --order @ SEED   the seed of that order
 --blocks @       tell the rows and variables of each block
@@ -34,7 +35,7 @@ const STATUSES: &str = "\
 LP is a model as CPLEX LP text; `--` ends the options; `help COMMAND` tells of one.
 status: 0 done, 2 no command line, 3 a text is refused, 4 infeasible, 5 out of steps,
   6 certificate rejected, 7 unreadable file, 8 unwritable file or output,
-  9 want of memory, 11 no such file
+  9 want of memory, 10 a leaf asks for more visits, 11 no such file
 ";
 
 // How far the commands' words reach in the list of them.
@@ -413,6 +414,7 @@ fn range_of(name: &str) -> Option<(u64, u64)> {
     match name {
         "N" => Some((0, 1 << 60)),
         "K" => Some((1, u64::MAX)),
+        "M" => Some((0, u64::MAX)),
         "W" => Some((1, 64)),
         "SEED" => Some((0, u64::MAX)),
         "SIZE" => Some((1, 1024)),

@@ -11,16 +11,17 @@ const CASES: &str = "\
 --help @ 2 refused words @ - @ - @ usage: bprice COMMAND ..|*
 help demo @ 2 refused words @ - @ - @ usage: bprice demo SEED SIZE|  makes one in memory, solves it, checks that|
 help show @ 2 refused words @ - @ - @ usage: bprice show LP [--dec DEC] [--blocks]|  the blocks, and which are identical|  --dec DEC      the decomposition of the model, as GCG DEC text|  --blocks       tell the rows and variables of each block|
-check -h @ 2 refused words @ - @ - @ usage: bprice check LP CERT [--dec DEC]|  whether a certificate is valid|*
+check -h @ 2 refused words @ - @ - @ usage: bprice check LP CERT [--dec DEC] [--visits M]|  whether a certificate is valid|*
 --version @ 2 refused words @ - @ - @ bprice, proved with rattle-kit-13f|
 prove m.lp @ 2 refused words @ - @ - @ bprice: 'prove' is no command; the first word is one of solve check show propose detect merge migrate gen demo|usage: bprice COMMAND .., and bprice --help tells more|
-check m.lp @ 2 refused words @ - @ - @ bprice: check wants a further word: CERT|usage: bprice check LP CERT [--dec DEC]|
+check m.lp @ 2 refused words @ - @ - @ bprice: check wants a further word: CERT|usage: bprice check LP CERT [--dec DEC] [--visits M]|
 demo 1 2 3 @ 2 refused words @ - @ - @ bprice: '3' is one word too many for demo|usage: bprice demo SEED SIZE|
 demo 1 2000 @ 2 refused words @ - @ - @ bprice: SIZE is a whole number from 1 to 1024, and not '2000'|usage: bprice demo SEED SIZE|
-check m.lp c --dec @ 2 refused words @ - @ - @ bprice: --dec wants a value behind it: DEC|usage: bprice check LP CERT [--dec DEC]|
-check m.lp c --dec --dec d @ 2 refused words @ - @ - @ bprice: --dec wants a value behind it: DEC|usage: bprice check LP CERT [--dec DEC]|
-check m.lp c --dec=d --dec e @ 2 refused words @ - @ - @ bprice: --dec is given twice; keep one of the two|usage: bprice check LP CERT [--dec DEC]|
-check m.lp c --decs d @ 2 refused words @ - @ - @ bprice: '--decs' is no option of check; a file of that name goes behind --|usage: bprice check LP CERT [--dec DEC]|
+check m.lp c --dec @ 2 refused words @ - @ - @ bprice: --dec wants a value behind it: DEC|usage: bprice check LP CERT [--dec DEC] [--visits M]|
+check m.lp c --dec --dec d @ 2 refused words @ - @ - @ bprice: --dec wants a value behind it: DEC|usage: bprice check LP CERT [--dec DEC] [--visits M]|
+check m.lp c --dec=d --dec e @ 2 refused words @ - @ - @ bprice: --dec is given twice; keep one of the two|usage: bprice check LP CERT [--dec DEC] [--visits M]|
+check m.lp c --decs d @ 2 refused words @ - @ - @ bprice: '--decs' is no option of check; a file of that name goes behind --|usage: bprice check LP CERT [--dec DEC] [--visits M]|
+check m.lp c --visits x @ 2 refused words @ - @ - @ bprice: M is a whole number from 0 to 18446744073709551615, and not 'x'|usage: bprice check LP CERT [--dec DEC] [--visits M]|
 show m.lp --blocks=1 @ 2 refused words @ - @ - @ bprice: --blocks takes no value|usage: bprice show LP [--dec DEC] [--blocks]|
 solve --steps=1.5 m.lp @ 2 refused words @ - @ - @ bprice: N is a whole number from 0 to 1152921504606846976, and not '1.5'|*
 solve m.lp --workers 65 @ 2 refused words @ - @ - @ bprice: W is a whole number from 1 to 64, and not '65'|*
@@ -58,6 +59,7 @@ show m.lp --dec o @ 3 refused blocks var-place x @ Max| x|st| cap1: x <= 3| job1
 detect m.lp o d @ 3 refused rows 2 unknown-row @ Max| x|st| x <= 3|End @ c1|c2 @ o:2:1: unknown-row: no row of the model has the name 'c2' here; an unnamed row is called c and its place, as c3|
 check m.lp o @ 3 refused cert 3 syntax @ Max @ bpcert 1|claim infeasible|leaf 05 rows 0 priced 0|end| @ o:3: syntax: this is not the form*
 check m.lp o @ 6 rejected 4 weak @ Max @ bpcert 1| @ o:4: weak: the bound that this leaf's multipliers prove does not reach what the claim needs; the claim is not proved*
+check m.lp o --visits 9 @ 10 unknown 4 @ Max @ bpcert 1| @ o:4: unknown: pricing the blocks of this leaf may take more visits than are left; *
 solve m.lp --from o @ 3 refused from 9 depth @ Max @ bpcert 1| @ o:9: depth: the certificate is valid, but*
 ";
 
@@ -151,6 +153,6 @@ fn notes_are_as_written(rt: HostRuntime) -> Result<(), Fail> {
         }
     }
     assert_eq!(rt; String::from_utf8_lossy(rt.alloc(), &wrong)?.as_str(), "");
-    assert_eq!(rt; count, 52);
+    assert_eq!(rt; count, 54);
     Ok(())
 }
