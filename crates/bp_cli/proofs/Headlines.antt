@@ -92,7 +92,7 @@ certifies words files left kept status tells before now known answers written = 
         → AnswersBy (AnswersSolve files given.lp given.dec given.steps given.from given.leaf k) status tells before now
         → HasCertificate files given.lp given.dec cert left k → FilesStand cert files left
         → IfSome cert (λ name. IfSome k (λ outcome.
-        name ≢ given.lp → given.dec ≢ Some name → (claim : Claim) × AnswersCheck left given.lp name given.dec 0 (accepted_report claim)))
+        name ≢ given.lp → given.dec ≢ Some name → (claim : Claim) × AnswersCheck left given.lp name given.dec None 0 (accepted_report claim)))
     saved given (Some cert) (Some o) shown right has stands =
         writes_certificate files left given.lp cert given.dec o has stands
         (kept_outcome files given.lp given.dec given.steps given.from given.leaf o status tells before now right (its_status o status shown))

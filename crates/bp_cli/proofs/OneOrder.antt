@@ -101,8 +101,8 @@ one_stated name rows (Solve a) (Merge e f g h j) x y = apart name (codes "solve"
 one_stated name rows (Solve a) (Migrate e f g h) x y = apart name (codes "solve") (codes "migrate") x.0 y.0 refl refl
 one_stated name rows (Check a b c v) (Solve e) x y = apart name (codes "check") (codes "solve") x.0 y.0 refl refl
 one_stated name rows (Check a b c v) (Check e f g w) x y =
-    checks a e b f c g (one_value (first_of (codes "lp") rows) a e x.1 y.1) (one_value (first_of (codes "cert") rows) b f x.2 y.2)
-    (one_given (first_of (codes "dec") rows) c g x.3 y.3)
+    checks a e b f c g v w (one_value (first_of (codes "lp") rows) a e x.1 y.1) (one_value (first_of (codes "cert") rows) b f x.2 y.2)
+    (one_given (first_of (codes "dec") rows) c g x.3 y.3) (may_be_one (first_of (codes "visits") rows) 0 most_visits v w x.4 y.4)
 one_stated name rows (Check a b c v) (Show e f g) x y = apart name (codes "check") (codes "show") x.0 y.0 refl refl
 one_stated name rows (Check a b c v) (Gen e f g h) x y = apart name (codes "check") (codes "gen") x.0 y.0 refl refl
 one_stated name rows (Check a b c v) (Demo e f) x y = apart name (codes "check") (codes "demo") x.0 y.0 refl refl

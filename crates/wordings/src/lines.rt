@@ -163,8 +163,15 @@ fn solve_line(alloc: Global, given: &SolveOrder) -> Result<String, AllocError> {
 fn order_line(alloc: Global, order: &Order) -> Result<String, AllocError> {
     match order {
         Order::Solve(given) => solve_line(alloc, given),
-        Order::Check { lp, cert, dec } => {
-            format!(in alloc; "check {} {} {}", lp.as_str(), cert.as_str(), name_of(dec))
+        Order::Check {
+            lp,
+            cert,
+            dec,
+            visits,
+        } => {
+            let visits = number_of(alloc, *visits)?;
+            let files = format!(in alloc; "{} {}", cert.as_str(), name_of(dec))?;
+            format!(in alloc; "check {} {files} {visits}", lp.as_str())
         }
         Order::Show { lp, dec, blocks } => {
             let blocks = if *blocks { "blocks" } else { "-" };

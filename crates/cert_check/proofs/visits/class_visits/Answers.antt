@@ -15,7 +15,7 @@ pub loop-number-preserved : goal.loop-number-preserved
 loop-number-preserved c = (
   c.block_visits.ensures.seen,
   one_block_more c.args.b.now.named.program.spans c.args.b.now.blocking c.args.zone.now c.args.proof.now.picked c.loop-number.number c.loop-number.sum
-      c.in_ok-more.more c.cut_sum.result c.loop-number.invariant.1 c.in_ok-more.ensures.visits c.cut_sum.ensures,
+      c.in_ok-more.more c.cut_sum-sum.result c.loop-number.invariant.1 c.in_ok-more.ensures.visits c.cut_sum-sum.ensures,
   omega (arith, c.loop-number-test.true, c.blocks-blocks.ensures.blocks),
 )
 
