@@ -1,5 +1,5 @@
 -- A program in blocks is answered by one status.
-use Rattle.std.proofs.Common.{◌≡◌, refl, ◌∙◌, sym, subst, ℕ, Bool, List, [], Option, Some, None}
+use Rattle.std.proofs.Common.{◌≡◌, refl, ◌∙◌, sym, subst, ℕ, Bool, List, [], Option, Some, None, Result, Err}
 use Rattle.std.proofs.lemmas.List.{append-nil}
 use Rattle.bp_theory.specs.Claims.{Certificate, IsCertified}
 use Rattle.bp_theory.specs.Judgement.{IsFirstFault, HasItsPoint, named_value}
@@ -87,6 +87,10 @@ missing_visiting (Some most) files cert b gone = known (λ line at. no_text (fil
 pub missing_only : (visits : Option ℕ) (files : Files) (cert : List ℕ) (b : BlockedProgram) (t : ℕ) (q : List ℕ) → files cert ≡ None
     → ChecksVisiting visits files cert b t q → 11 ≡ t
 missing_only visits files cert b t q gone right = one_visiting visits files cert b 11 t [] q (missing_visiting visits files cert b gone) right
+
+-- a fault as an error
+pub as_missing : {T : Type 0} (fault : ShelfFault) → fault ≡ Missing → ◌≡◌ {A = Result T ShelfFault} (Err fault) (Err Missing)
+as_missing {T} fault is = subst (λ (f : ShelfFault). ◌≡◌ {A = Result T ShelfFault} (Err fault) (Err f)) is refl
 
 -- a file that could not be had: it isn't there, or it could not be read, or memory was wanting
 pub stop_answers : (visits : Option ℕ) (files : Files) (cert : List ℕ) (b : BlockedProgram) (fault : ShelfFault) (status : ℕ) (tells : Bool) (bytes : List ℕ)

@@ -1,6 +1,6 @@
 use Rattle.std.proofs.Common.{None}
 use Rattle.cmd_check.specs.Checks.{ChecksVisiting}
-use Rattle.cmd_check.proofs.OneAnswer.{one_visiting}
+use Rattle.cmd_check.proofs.OneAnswer.{one_visiting, as_missing, stop_answers, stop_only}
 use Rattle.cmd_check.proofs.Printed.{printed_answers, printed_only, printed_cut}
 use Rattle.cmd_check.proofs.check_blocks.Goals as goal
 
@@ -24,3 +24,13 @@ returns-in-Ok-clause-cut_off g c = λ told told_bytes.
     let reply = c.in-Ok.reply in
     printed_cut (λ kept. ChecksVisiting c.args.visits (g.F.Shelf.file c.args.shelf.now) c.args.cert.now c.args.b.now) None reply.status c.print.result.status reply.report.items
     (g.O.Sink.taken c.args.out.now) (g.O.Sink.taken c.print.new.out) (c.in-Ok.ensures.right told) (c.print.ensures.partly told_bytes)
+
+pub returns-in-Err-clause-answered : goal.returns-in-Err-clause-answered
+returns-in-Err-clause-answered g c = λ told.
+    stop_answers c.args.visits (g.F.Shelf.file c.args.shelf.now) c.args.cert.now c.args.b.now c.in-Err.fault c.stopped_by.result.status (g.O.Sink.tells c.args.out.now)
+    (g.O.Sink.taken c.args.out.now) (λ is. c.in-Err.ensures.missing told (as_missing c.in-Err.fault is)) c.stopped_by.ensures.status
+
+pub returns-in-Err-clause-exact : goal.returns-in-Err-clause-exact
+returns-in-Err-clause-exact g c = λ told.
+    stop_only c.args.visits (g.F.Shelf.file c.args.shelf.now) c.args.cert.now c.args.b.now c.in-Err.fault c.stopped_by.result.status
+    (λ is. c.in-Err.ensures.missing told (as_missing c.in-Err.fault is)) c.stopped_by.ensures.status
