@@ -12,7 +12,7 @@ begun again over what it left, with nothing refused, and must then end as it end
 requests, and how many of them, refused, led to status 9 and how many to the answer. The last line tells the sums, and the
 script ends with status 1 where a run did anything else.
 
-CALLS tries a call of a pool or of a tree a second time where memory was short. So where the refused request is one of these calls', it
+CALLS tries a call of a pool, of a tree, of a crew or of a search a second time where memory was short. So where the refused request is one of these calls', it
 must print what it prints with ample memory, which is crates/calls/stdout; where it is another, it may end with an error and nothing
 printed, or say of one text that it is not tried, in place of what it tells of it, and print all else. It fills a pool by many thousand calls: its first and last requests are refused, and of those between one in so many.
 """
@@ -137,8 +137,9 @@ RUNS = [
 # The number of a request that no run comes to.
 NEVER = 10**15
 
-# Of the calls of the libraries: how many requests are refused at the front and at the end, and about how many between.
-ENDS, BETWEEN = 300, 400
+# Of the calls of the libraries: how many requests are refused at the front, which has all of those before the pool is filled, and at
+# the end, and about how many between.
+FRONT, END, BETWEEN = 1500, 300, 400
 
 
 def files_of(folder):
@@ -234,7 +235,7 @@ def try_calls(calls, refuser, crate):
     if (status, out) != (0, wanted):
         print(f"calls: status {status}, and not what stands in {crate}/stdout")
         return False
-    ends = set(range(1, ENDS + 1)) | set(range(requests - ENDS + 1, requests + 1))
+    ends = set(range(1, FRONT + 1)) | set(range(requests - END + 1, requests + 1))
     chosen = sorted(n for n in ends | set(range(1, requests + 1, max(1, requests // BETWEEN))) if 1 <= n <= requests)
     same, errors, left_out, odd = 0, 0, 0, []
     for call in chosen:

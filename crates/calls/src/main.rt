@@ -1,6 +1,6 @@
 //! Calls of the libraries over worked texts, and what they answer: classes of blocks, bounds of proofs, a pool that fills
-//! up, a spread of weights, and the leaves of a tree that come next. The texts lie in `data/`, and the crate's `stdout`
-//! has what each call must answer, found by hand.
+//! up, a spread of weights, the leaves of a tree that come next, a search and a crew. The texts lie in `data/`, and the
+//! crate's `stdout` has what each call must answer, found by hand.
 #![tactic(auto)]
 
 mod bound_calls;
@@ -8,6 +8,7 @@ mod class_calls;
 mod leaf_calls;
 mod pool_calls;
 mod reading;
+mod search_calls;
 mod spread_calls;
 mod told;
 mod zones;
@@ -39,11 +40,12 @@ fn tell_two(rt: &(impl Files + AllocGlobal), told: &mut Told) -> io::Result<()> 
     Ok(())
 }
 
-// The classes, the bounds and a spread of two blocks with a row over both.
+// The classes, the bounds, a spread and searches of two blocks with a row over both.
 fn tell_blocks(alloc: Global, b: &Blocked, told: &mut Told) -> Result<(), AllocError> {
     class_calls::tell_all(alloc, b, told)?;
     bound_calls::tell_all(alloc, b, told)?;
-    spread_calls::tell_all(alloc, b, told)
+    spread_calls::tell_all(alloc, b, told)?;
+    search_calls::tell_all(alloc, b, told)
 }
 
 // A block of one variable with one number more than a pool has room for.
