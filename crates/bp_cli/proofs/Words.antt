@@ -6,6 +6,7 @@ use Rattle.bp_words.specs.Orders.{IsOrderOf, AreRefused}
 use Rattle.bp_words.specs.declared.order.Order.{Order}
 use Rattle.bp_words.specs.declared.order.Order.TheVariants.{Solve, Check, Show, Gen, Demo, Detect, Propose, Merge, Migrate}
 use Rattle.bp_front.specs.Answers.{AnswersBy, IsOnly, CutsOff, FilesStand}
+use Rattle.bp_cli.specs.Promises.{Demonstrates}
 use Rattle.bp_cli.specs.Running.{Answers, refused, ordered, AnswersOrder, OfOrder, HasWritten}
 use Rattle.cmd_gen.specs.Generates.{untouched}
 use Rattle.cmd_detect.specs.Files as detected
@@ -75,6 +76,18 @@ nothing_written files (Detect lp list dec) = detected.untouched refl (inr refl)
 nothing_written files (Propose lp dec) = proposed.untouched refl (inr refl)
 nothing_written files (Merge lp one other new dec) = merged.untouched refl (inr refl)
 nothing_written files (Migrate lp cert new dec) = migrated.untouched refl (inr refl)
+
+-- want of memory is right for `demo` too
+pub not_demonstrated : (order : Order) (tells : Bool) (before now : List ℕ) → Demonstrates order None 9 tells before now
+not_demonstrated (Demo seed size) tells before now = ((λ no_read no_write no_want. absurd (no_want refl)), (λ no_read no_write no_want meant report right. absurd (no_want refl)))
+not_demonstrated (Solve given) tells before now = tt
+not_demonstrated (Check lp cert dec) tells before now = tt
+not_demonstrated (Show lp dec blocks) tells before now = tt
+not_demonstrated (Gen seed size lp dec) tells before now = tt
+not_demonstrated (Detect lp list dec) tells before now = tt
+not_demonstrated (Propose lp dec) tells before now = tt
+not_demonstrated (Merge lp one other new dec) tells before now = tt
+not_demonstrated (Migrate lp cert new dec) tells before now = tt
 
 -- answers of an order that keeps nothing
 pub kept_answers : (kept : Option Outcome) (Right : ℕ → List ℕ → Type 0) (status : ℕ) (tells : Bool) (before now : List ℕ) → kept ≡ None → AnswersBy Right status tells before now

@@ -1,5 +1,6 @@
--- What else a run promises beside its headline: an outcome for each accepted decomposition, and a certificate that `check` accepts.
-use Rattle.std.specs.Prelude.{◌≡◌, ◌≢◌, ◌⊎◌, ℕ, Option, Some, None, IfSome}
+-- What else a run promises beside its headline: an outcome for each accepted decomposition, a certificate that `check` accepts, and
+-- an answer to `demo` that hangs on no file.
+use Rattle.std.specs.Prelude.{◌≡◌, ◌≢◌, ◌⊎◌, ℕ, Bool, List, Option, Some, None, IfSome}
 use Rattle.bp_theory.specs.declared.Claim.{Claim}
 use Rattle.bp_shelf.specs.Shelf.{Files}
 use Rattle.block_form.specs.Blocked.{BlockedProgram}
@@ -8,7 +9,9 @@ use Rattle.bp_words.specs.declared.order.Order.{Order}
 use Rattle.bp_words.specs.declared.order.Order.TheVariants.{Solve, Check, Show, Gen, Demo, Detect, Propose, Merge, Migrate}
 use Rattle.bp_report.specs.Report.{accepted_report}
 use Rattle.bp_front.specs.Front.{FilesCome, blocked}
+use Rattle.bp_front.specs.Answers.{AnswersBy, IsOnly}
 use Rattle.cmd_check.specs.Checks.{AnswersCheck}
+use Rattle.cmd_demo.specs.Demos.{AnswersDemo}
 use Rattle.bp_cli.specs.Headline.{IsOutcomeStatus, WasStopped}
 
 -- `solve` tells an outcome of the files of a model and of its decomposition that come to a program in blocks, unless it was stopped
@@ -36,3 +39,15 @@ WritesCertificate (Detect lp list dec) now kept = Unit {0}
 WritesCertificate (Propose lp dec) now kept = Unit {0}
 WritesCertificate (Merge lp one other new dec) now kept = Unit {0}
 WritesCertificate (Migrate lp cert new dec) now kept = Unit {0}
+
+-- `demo` uses no file: its answer and its status are right whatever the shelf tells
+abbrev pub Demonstrates : Order → Option Outcome → (status : ℕ) → (tells : Bool) → (before now : List ℕ) → Type 0
+Demonstrates (Demo seed size) kept status tells before now = AnswersBy (AnswersDemo seed size kept) status tells before now × IsOnly (AnswersDemo seed size kept) status
+Demonstrates (Solve given) kept status tells before now = Unit {0}
+Demonstrates (Check lp cert dec) kept status tells before now = Unit {0}
+Demonstrates (Show lp dec blocks) kept status tells before now = Unit {0}
+Demonstrates (Gen seed size lp dec) kept status tells before now = Unit {0}
+Demonstrates (Detect lp list dec) kept status tells before now = Unit {0}
+Demonstrates (Propose lp dec) kept status tells before now = Unit {0}
+Demonstrates (Merge lp one other new dec) kept status tells before now = Unit {0}
+Demonstrates (Migrate lp cert new dec) kept status tells before now = Unit {0}

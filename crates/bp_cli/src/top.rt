@@ -6,7 +6,7 @@ ghost use Rattle.bp_words.specs.Orders.{IsInRange, AreRefused};
 ghost use Rattle.bp_report.specs.Refusals.{words_refusal};
 ghost use Rattle.bp_front.specs.Answers.{AnswersBy, IsOnly, CutsOff, HasCauses, PutsReport, FailsToWrite};
 ghost use Rattle.bp_cli.specs.Headline.{SolvesTruly, SolvesAccepted, ChecksTruly};
-ghost use Rattle.bp_cli.specs.Promises.{SolvesDecomposed, WritesCertificate};
+ghost use Rattle.bp_cli.specs.Promises.{Demonstrates, SolvesDecomposed, WritesCertificate};
 ghost use Rattle.bp_cli.specs.Running.{Answers, AnswersOrder, HasWritten, HasPutLast, ListsEvents, OfOrder};
 
 use bp_front::{Ended, Reply, print, stopped};
@@ -60,6 +60,10 @@ pub fn run<F: Shelf, O: Sink>(alloc: Global, words: &[String], shelf: &mut F, ou
     // No other status is right.
     ensures exact { IsTrue (F.tells shelf.old) →
         IsOnly (Answers (map string_bytes words.now) (F.file shelf.old) result.kept) result.status }
+    // `demo` uses no file, so its answer hangs on none.
+    ensures demonstrated { OfOrder (map string_bytes words.now)
+        (λ order. Demonstrates order result.kept result.status (O.tells out.old) (O.taken out.old)
+        (O.taken out.new)) }
     // What is written: the valid certificate of the outcome that is kept, or the texts that are made; and that nothing
     // else is.
     ensures written { IsTrue (F.tells shelf.old) → OfOrder (map string_bytes words.now)
@@ -115,6 +119,10 @@ fn answer_words<F: Shelf, O: Sink>(
     // No other status is right.
     ensures exact { IsTrue (F.tells shelf.old) →
         IsOnly (Answers (map string_bytes words.now) (F.file shelf.old) result.kept) result.status }
+    // `demo` uses no file, so its answer hangs on none.
+    ensures demonstrated { OfOrder (map string_bytes words.now)
+        (λ order. Demonstrates order result.kept result.status (O.tells out.old) (O.taken out.old)
+        (O.taken out.new)) }
     // What is written: the valid certificate of the outcome that is kept, or the texts that are made; and that nothing
     // else is.
     ensures written { IsTrue (F.tells shelf.old) → OfOrder (map string_bytes words.now)
@@ -167,6 +175,8 @@ fn obey<F: Shelf, O: Sink>(alloc: Global, order: &Order, shelf: &mut F, out: &mu
         (O.tells out.old) (O.taken out.old) (O.taken out.new) }
     ensures exact { IsTrue (F.tells shelf.old) →
         IsOnly (AnswersOrder order.now (F.file shelf.old) result.kept) result.status }
+    ensures demonstrated { Demonstrates order.now result.kept result.status (O.tells out.old)
+        (O.taken out.old) (O.taken out.new) }
     ensures written { IsTrue (F.tells shelf.old) →
         HasWritten order.now (F.file shelf.old) (F.file shelf.new) result.kept result.status }
     ensures puts { PutsReport result.status (O.puts out.old) (O.puts out.new) }

@@ -2,6 +2,7 @@ use Rattle.std.proofs.Common.{◌≡◌, inr, refl, None}
 use Rattle.std.specs.Prelude.{map, string_bytes}
 use Rattle.bp_report.specs.Refusals.{words_refusal}
 use Rattle.bp_front.proofs.Faults.{fails_as}
+use Rattle.bp_cli.specs.Promises.{Demonstrates}
 use Rattle.bp_cli.specs.Running.{refused, HasWritten, HasPutLast, ListsEvents}
 use Rattle.bp_cli.proofs.Words.{order_answers, order_only, order_cut, of_order, no_order, refused_two}
 use Rattle.bp_cli.proofs.top.answer_words.Goals as goal
@@ -65,3 +66,9 @@ returns-in-Ok-clause-written g c = λ told.
 
 pub returns-in-Err-Refused-clause-words : goal.returns-in-Err-Refused-clause-words
 returns-in-Err-Refused-clause-words g c = λ two. c.read_words.ensures.refused (rw c.in-Err-Refused.field-0-is at c.in-Err-Refused.is)
+
+pub returns-in-Ok-clause-demonstrated : goal.returns-in-Ok-clause-demonstrated
+returns-in-Ok-clause-demonstrated g c =
+    of_order (map string_bytes c.args.words.now) c.in-Ok.order
+    (λ order. Demonstrates order c.obey.result.kept c.obey.result.status (g.O.Sink.tells c.args.out.now) (g.O.Sink.taken c.args.out.now) (g.O.Sink.taken c.obey.new.out))
+    c.in-Ok.ensures.order c.obey.ensures.demonstrated

@@ -9,6 +9,7 @@ use Rattle.cmd_propose.specs.Proposes.{AnswersPropose}
 use Rattle.cmd_merge.specs.Merges.{AnswersMerge}
 use Rattle.cmd_migrate.specs.Migrates.{AnswersMigrate}
 use Rattle.bp_front.proofs.Faults.{fails_as, unput_as}
+use Rattle.bp_cli.specs.Promises.{Demonstrates}
 use Rattle.bp_cli.specs.Running.{AnswersOrder, HasWritten, HasPutLast}
 use Rattle.bp_cli.proofs.OneOrder.{as_solve, as_check, as_show, as_gen, as_detect, as_propose, as_merge, as_migrate}
 use Rattle.bp_cli.proofs.Words.{kept_answers, kept_only, kept_cut}
@@ -90,6 +91,11 @@ returns-in-Demo-clause-answered g c = λ told.
 pub returns-in-Demo-clause-exact : goal.returns-in-Demo-clause-exact
 returns-in-Demo-clause-exact g c = λ told.
     subst (λ (o : Order). IsOnly (AnswersOrder o (g.F.Shelf.file c.args.shelf.now) c.demonstrate.result.kept) c.demonstrate.result.status) (sym c.in-Demo.is) c.demonstrate.ensures.exact
+
+pub returns-in-Demo-clause-demonstrated : goal.returns-in-Demo-clause-demonstrated
+returns-in-Demo-clause-demonstrated g c =
+    subst (λ (o : Order). Demonstrates o c.demonstrate.result.kept c.demonstrate.result.status (g.O.Sink.tells c.args.out.now) (g.O.Sink.taken c.args.out.now)
+    (g.O.Sink.taken c.demonstrate.new.out)) (sym c.in-Demo.is) (c.demonstrate.ensures.answered, c.demonstrate.ensures.exact)
 
 pub returns-in-Demo-clause-causes : goal.returns-in-Demo-clause-causes
 returns-in-Demo-clause-causes g c = c.demonstrate.ensures.causes (g.F.Shelf.read_faults c.args.shelf.now) (g.F.Shelf.write_faults c.args.shelf.now)
