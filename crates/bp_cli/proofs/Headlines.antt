@@ -35,13 +35,13 @@ solved words files kept status tells before now answers heard = λ order is. by 
   where
     by : (order : Order) → AnswersBy (AnswersOrder order files kept) status tells before now → SolvesTruly order files kept status before now
     by (Solve given) right = solves_truly files given.lp given.dec given.steps given.from given.leaf kept status tells before now right heard
-    by (Check lp cert dec visits) right = tt
+    by (Check given) right = tt
     by (Show lp dec blocks) right = tt
     by (Gen seed size lp dec) right = tt
     by (Demo seed size) right = tt
     by (Detect lp list dec) right = tt
     by (Propose lp dec) right = tt
-    by (Merge lp one other new dec) right = tt
+    by (Merge given) right = tt
     by (Migrate lp cert new dec) right = tt
 
 pub accepts : (words : List (List ℕ)) (files : Files) (kept : Option Outcome) (status : ℕ) (tells : Bool) (before now : List ℕ) → IsStatus status
@@ -52,13 +52,13 @@ accepts words files kept status tells before now known answers = λ order is. by
     by (Solve given) right = λ plain anew. solves_accepted files given.lp given.steps given.leaf kept status tells before now known
         (subst (λ (from : Option (List ℕ)). AnswersBy (AnswersSolve files given.lp None given.steps from given.leaf kept) status tells before now) anew
         (subst (λ (dec : Option (List ℕ)). AnswersBy (AnswersSolve files given.lp dec given.steps given.from given.leaf kept) status tells before now) plain right))
-    by (Check lp cert dec visits) right = tt
+    by (Check given) right = tt
     by (Show lp dec blocks) right = tt
     by (Gen seed size lp dec) right = tt
     by (Demo seed size) right = tt
     by (Detect lp list dec) right = tt
     by (Propose lp dec) right = tt
-    by (Merge lp one other new dec) right = tt
+    by (Merge given) right = tt
     by (Migrate lp cert new dec) right = tt
 
 pub decomposes : (words : List (List ℕ)) (files : Files) (kept : Option Outcome) (status : ℕ) (tells : Bool) (before now : List ℕ) → IsStatus status
@@ -68,13 +68,13 @@ decomposes words files kept status tells before now known answers = λ order is.
     by : (order : Order) → AnswersBy (AnswersOrder order files kept) status tells before now → SolvesDecomposed order files status
     by (Solve given) right = λ anew. solves_decomposed files given.lp given.dec given.steps given.leaf kept status tells before now known
         (subst (λ (from : Option (List ℕ)). AnswersBy (AnswersSolve files given.lp given.dec given.steps from given.leaf kept) status tells before now) anew right)
-    by (Check lp cert dec visits) right = tt
+    by (Check given) right = tt
     by (Show lp dec blocks) right = tt
     by (Gen seed size lp dec) right = tt
     by (Demo seed size) right = tt
     by (Detect lp list dec) right = tt
     by (Propose lp dec) right = tt
-    by (Merge lp one other new dec) right = tt
+    by (Merge given) right = tt
     by (Migrate lp cert new dec) right = tt
 
 -- a kept outcome has one of its statuses
@@ -102,13 +102,13 @@ certifies words files left kept status tells before now known answers written = 
     by : (order : Order) (k : Option Outcome) → (k ≡ None) ⊎ IsOutcomeStatus status → AnswersBy (AnswersOrder order files k) status tells before now → HasWritten order files left k status
         → WritesCertificate order left k
     by (Solve given) k shown right has = saved given given.cert k shown right has.0 has.1
-    by (Check lp cert dec visits) k shown right has = tt
+    by (Check given) k shown right has = tt
     by (Show lp dec blocks) k shown right has = tt
     by (Gen seed size lp dec) k shown right has = tt
     by (Demo seed size) k shown right has = tt
     by (Detect lp list dec) k shown right has = tt
     by (Propose lp dec) k shown right has = tt
-    by (Merge lp one other new dec) k shown right has = tt
+    by (Merge given) k shown right has = tt
     by (Migrate lp cert new dec) k shown right has = tt
 
 pub checked : (words : List (List ℕ)) (files : Files) (kept : Option Outcome) (status : ℕ) (tells : Bool) (before now : List ℕ)
@@ -117,11 +117,11 @@ checked words files kept status tells before now answers heard = λ order is. by
   where
     by : (order : Order) → AnswersBy (AnswersOrder order files kept) status tells before now → ChecksTruly order files status before now
     by (Solve given) right = tt
-    by (Check lp cert dec visits) right = λ zero. checks_truly files lp cert dec visits status tells before now (λ a b c. let answer = right a b c in (answer.0, answer.1.1, answer.2)) heard zero
+    by (Check given) right = λ zero. checks_truly files given.lp given.cert given.dec given.visits status tells before now (λ a b c. let answer = right a b c in (answer.0, answer.1.1, answer.2)) heard zero
     by (Show lp dec blocks) right = tt
     by (Gen seed size lp dec) right = tt
     by (Demo seed size) right = tt
     by (Detect lp list dec) right = tt
     by (Propose lp dec) right = tt
-    by (Merge lp one other new dec) right = tt
+    by (Merge given) right = tt
     by (Migrate lp cert new dec) right = tt

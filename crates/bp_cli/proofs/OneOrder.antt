@@ -8,6 +8,8 @@ use Rattle.bp_words.specs.CommandLine.{most_steps, most_leaf, most_visits, most_
 use Rattle.bp_words.specs.Orders.{HasNumber, MayHaveNumber, IsLeafPlaced, HasValues, IsOrderOf, AreRefused}
 use Rattle.bp_words.specs.declared.order.Order.{Order}
 use Rattle.bp_words.specs.declared.order.SolveOrder.{SolveOrder}
+use Rattle.bp_words.specs.declared.order.CheckOrder.{CheckOrder}
+use Rattle.bp_words.specs.declared.order.MergeOrder.{MergeOrder}
 use Rattle.bp_words.specs.declared.order.Order.TheVariants.{Solve, Check, Show, Gen, Demo, Detect, Propose, Merge, Migrate}
 
 -- a value that is there is one
@@ -59,8 +61,15 @@ solves : (a b : SolveOrder) → a.lp ≡ b.lp → a.dec ≡ b.dec → a.steps �
 solves a b p q r s t u v w =
     solves_of a.lp b.lp a.dec b.dec a.steps b.steps a.cert b.cert a.from b.from a.leaf b.leaf a.workers b.workers a.order b.order p q r s t u v w
 
-checks : (a b c d : Text) (e f : Option Text) (i k : Option ℕ) → a ≡ b → c ≡ d → e ≡ f → i ≡ k → Check a c e i ≡ Check b d f k
-checks a b c d e f i k p q r s = rw (p, q, r, s) refl
+-- those of an order to check
+abbrev check_of : (lp cert : Text) (dec : Option Text) (visits : Option ℕ) → Order
+check_of lp cert dec visits = Check (record { lp = lp; cert = cert; dec = dec; visits = visits })
+
+checks_of : (a b c d : Text) (e f : Option Text) (i k : Option ℕ) → a ≡ b → c ≡ d → e ≡ f → i ≡ k → check_of a c e i ≡ check_of b d f k
+checks_of a b c d e f i k p q r s = rw (p, q, r, s) refl
+
+checks : (a b : CheckOrder) → a.lp ≡ b.lp → a.cert ≡ b.cert → a.dec ≡ b.dec → a.visits ≡ b.visits → Check a ≡ Check b
+checks a b p q r s = checks_of a.lp b.lp a.cert b.cert a.dec b.dec a.visits b.visits p q r s
 
 shows : (a b : Text) (c d : Option Text) (i j : Bool) → a ≡ b → c ≡ d → i ≡ j → Show a c i ≡ Show b d j
 shows a b c d i j p q r = rw (p, q, r) refl
@@ -77,8 +86,15 @@ detects a b c d e f p q r = rw (p, q, r) refl
 proposes : (a b c d : Text) → a ≡ b → c ≡ d → Propose a c ≡ Propose b d
 proposes a b c d p q = rw (p, q) refl
 
-merges : (a b c d e f g h : Text) (i k : Option Text) → a ≡ b → c ≡ d → e ≡ f → g ≡ h → i ≡ k → Merge a c e g i ≡ Merge b d f h k
-merges a b c d e f g h i k p q r s t = rw (p, q, r, s, t) refl
+-- those of an order to merge
+abbrev merge_of : (lp first second new : Text) (dec : Option Text) → Order
+merge_of lp first second new dec = Merge (record { lp = lp; first = first; second = second; new = new; dec = dec })
+
+merges_of : (a b c d e f g h : Text) (i k : Option Text) → a ≡ b → c ≡ d → e ≡ f → g ≡ h → i ≡ k → merge_of a c e g i ≡ merge_of b d f h k
+merges_of a b c d e f g h i k p q r s t = rw (p, q, r, s, t) refl
+
+merges : (a b : MergeOrder) → a.lp ≡ b.lp → a.first ≡ b.first → a.second ≡ b.second → a.new ≡ b.new → a.dec ≡ b.dec → Merge a ≡ Merge b
+merges a b p q r s t = merges_of a.lp b.lp a.first b.first a.second b.second a.new b.new a.dec b.dec p q r s t
 
 migrates : (a b c d e f : Text) (i k : Option Text) → a ≡ b → c ≡ d → e ≡ f → i ≡ k → Migrate a c e i ≡ Migrate b d f k
 migrates a b c d e f i k p q r s = rw (p, q, r, s) refl
@@ -91,27 +107,27 @@ one_stated name rows (Solve a) (Solve b) x y =
     (one_given (first_of (codes "from") rows) a.from b.from x.5 y.5) (may_be_one (first_of (codes "leaf") rows) 1 most_leaf a.leaf b.leaf x.6 y.6)
     (may_be_one (first_of (codes "workers") rows) 1 most_workers a.workers b.workers x.7 y.7)
     (may_be_one (first_of (codes "order") rows) 0 most_seed a.order b.order x.8 y.8)
-one_stated name rows (Solve a) (Check e f g w) x y = apart name (codes "solve") (codes "check") x.0 y.0 refl refl
+one_stated name rows (Solve a) (Check e) x y = apart name (codes "solve") (codes "check") x.0 y.0 refl refl
 one_stated name rows (Solve a) (Show e f g) x y = apart name (codes "solve") (codes "show") x.0 y.0 refl refl
 one_stated name rows (Solve a) (Gen e f g h) x y = apart name (codes "solve") (codes "gen") x.0 y.0 refl refl
 one_stated name rows (Solve a) (Demo e f) x y = apart name (codes "solve") (codes "demo") x.0 y.0 refl refl
 one_stated name rows (Solve a) (Detect e f g) x y = apart name (codes "solve") (codes "detect") x.0 y.0 refl refl
 one_stated name rows (Solve a) (Propose e f) x y = apart name (codes "solve") (codes "propose") x.0 y.0 refl refl
-one_stated name rows (Solve a) (Merge e f g h j) x y = apart name (codes "solve") (codes "merge") x.0 y.0 refl refl
+one_stated name rows (Solve a) (Merge e) x y = apart name (codes "solve") (codes "merge") x.0 y.0 refl refl
 one_stated name rows (Solve a) (Migrate e f g h) x y = apart name (codes "solve") (codes "migrate") x.0 y.0 refl refl
-one_stated name rows (Check a b c v) (Solve e) x y = apart name (codes "check") (codes "solve") x.0 y.0 refl refl
-one_stated name rows (Check a b c v) (Check e f g w) x y =
-    checks a e b f c g v w (one_value (first_of (codes "lp") rows) a e x.1 y.1) (one_value (first_of (codes "cert") rows) b f x.2 y.2)
-    (one_given (first_of (codes "dec") rows) c g x.3 y.3) (may_be_one (first_of (codes "visits") rows) 0 most_visits v w x.4 y.4)
-one_stated name rows (Check a b c v) (Show e f g) x y = apart name (codes "check") (codes "show") x.0 y.0 refl refl
-one_stated name rows (Check a b c v) (Gen e f g h) x y = apart name (codes "check") (codes "gen") x.0 y.0 refl refl
-one_stated name rows (Check a b c v) (Demo e f) x y = apart name (codes "check") (codes "demo") x.0 y.0 refl refl
-one_stated name rows (Check a b c v) (Detect e f g) x y = apart name (codes "check") (codes "detect") x.0 y.0 refl refl
-one_stated name rows (Check a b c v) (Propose e f) x y = apart name (codes "check") (codes "propose") x.0 y.0 refl refl
-one_stated name rows (Check a b c v) (Merge e f g h j) x y = apart name (codes "check") (codes "merge") x.0 y.0 refl refl
-one_stated name rows (Check a b c v) (Migrate e f g h) x y = apart name (codes "check") (codes "migrate") x.0 y.0 refl refl
+one_stated name rows (Check a) (Solve e) x y = apart name (codes "check") (codes "solve") x.0 y.0 refl refl
+one_stated name rows (Check a) (Check b) x y =
+    checks a b (one_value (first_of (codes "lp") rows) a.lp b.lp x.1 y.1) (one_value (first_of (codes "cert") rows) a.cert b.cert x.2 y.2)
+    (one_given (first_of (codes "dec") rows) a.dec b.dec x.3 y.3) (may_be_one (first_of (codes "visits") rows) 0 most_visits a.visits b.visits x.4 y.4)
+one_stated name rows (Check a) (Show e f g) x y = apart name (codes "check") (codes "show") x.0 y.0 refl refl
+one_stated name rows (Check a) (Gen e f g h) x y = apart name (codes "check") (codes "gen") x.0 y.0 refl refl
+one_stated name rows (Check a) (Demo e f) x y = apart name (codes "check") (codes "demo") x.0 y.0 refl refl
+one_stated name rows (Check a) (Detect e f g) x y = apart name (codes "check") (codes "detect") x.0 y.0 refl refl
+one_stated name rows (Check a) (Propose e f) x y = apart name (codes "check") (codes "propose") x.0 y.0 refl refl
+one_stated name rows (Check a) (Merge e) x y = apart name (codes "check") (codes "merge") x.0 y.0 refl refl
+one_stated name rows (Check a) (Migrate e f g h) x y = apart name (codes "check") (codes "migrate") x.0 y.0 refl refl
 one_stated name rows (Show a b c) (Solve e) x y = apart name (codes "show") (codes "solve") x.0 y.0 refl refl
-one_stated name rows (Show a b c) (Check e f g w) x y = apart name (codes "show") (codes "check") x.0 y.0 refl refl
+one_stated name rows (Show a b c) (Check e) x y = apart name (codes "show") (codes "check") x.0 y.0 refl refl
 one_stated name rows (Show a b c) (Show e f g) x y =
     shows a e b f c g (one_value (first_of (codes "lp") rows) a e x.1 y.1) (one_given (first_of (codes "dec") rows) b f x.2 y.2)
     (sym x.3 ∙ y.3)
@@ -119,10 +135,10 @@ one_stated name rows (Show a b c) (Gen e f g h) x y = apart name (codes "show") 
 one_stated name rows (Show a b c) (Demo e f) x y = apart name (codes "show") (codes "demo") x.0 y.0 refl refl
 one_stated name rows (Show a b c) (Detect e f g) x y = apart name (codes "show") (codes "detect") x.0 y.0 refl refl
 one_stated name rows (Show a b c) (Propose e f) x y = apart name (codes "show") (codes "propose") x.0 y.0 refl refl
-one_stated name rows (Show a b c) (Merge e f g h j) x y = apart name (codes "show") (codes "merge") x.0 y.0 refl refl
+one_stated name rows (Show a b c) (Merge e) x y = apart name (codes "show") (codes "merge") x.0 y.0 refl refl
 one_stated name rows (Show a b c) (Migrate e f g h) x y = apart name (codes "show") (codes "migrate") x.0 y.0 refl refl
 one_stated name rows (Gen a b c d) (Solve e) x y = apart name (codes "gen") (codes "solve") x.0 y.0 refl refl
-one_stated name rows (Gen a b c d) (Check e f g w) x y = apart name (codes "gen") (codes "check") x.0 y.0 refl refl
+one_stated name rows (Gen a b c d) (Check e) x y = apart name (codes "gen") (codes "check") x.0 y.0 refl refl
 one_stated name rows (Gen a b c d) (Show e f g) x y = apart name (codes "gen") (codes "show") x.0 y.0 refl refl
 one_stated name rows (Gen a b c d) (Gen e f g h) x y =
     makes a e b f c g d h (one_number (first_of (codes "seed") rows) 0 most_seed a e x.1 y.1) (one_number (first_of (codes "size") rows) 1 most_size b f x.2 y.2)
@@ -130,20 +146,20 @@ one_stated name rows (Gen a b c d) (Gen e f g h) x y =
 one_stated name rows (Gen a b c d) (Demo e f) x y = apart name (codes "gen") (codes "demo") x.0 y.0 refl refl
 one_stated name rows (Gen a b c d) (Detect e f g) x y = apart name (codes "gen") (codes "detect") x.0 y.0 refl refl
 one_stated name rows (Gen a b c d) (Propose e f) x y = apart name (codes "gen") (codes "propose") x.0 y.0 refl refl
-one_stated name rows (Gen a b c d) (Merge e f g h j) x y = apart name (codes "gen") (codes "merge") x.0 y.0 refl refl
+one_stated name rows (Gen a b c d) (Merge e) x y = apart name (codes "gen") (codes "merge") x.0 y.0 refl refl
 one_stated name rows (Gen a b c d) (Migrate e f g h) x y = apart name (codes "gen") (codes "migrate") x.0 y.0 refl refl
 one_stated name rows (Demo a b) (Solve e) x y = apart name (codes "demo") (codes "solve") x.0 y.0 refl refl
-one_stated name rows (Demo a b) (Check e f g w) x y = apart name (codes "demo") (codes "check") x.0 y.0 refl refl
+one_stated name rows (Demo a b) (Check e) x y = apart name (codes "demo") (codes "check") x.0 y.0 refl refl
 one_stated name rows (Demo a b) (Show e f g) x y = apart name (codes "demo") (codes "show") x.0 y.0 refl refl
 one_stated name rows (Demo a b) (Gen e f g h) x y = apart name (codes "demo") (codes "gen") x.0 y.0 refl refl
 one_stated name rows (Demo a b) (Demo e f) x y =
     demonstrates a e b f (one_number (first_of (codes "seed") rows) 0 most_seed a e x.1 y.1) (one_number (first_of (codes "size") rows) 1 most_size b f x.2 y.2)
 one_stated name rows (Demo a b) (Detect e f g) x y = apart name (codes "demo") (codes "detect") x.0 y.0 refl refl
 one_stated name rows (Demo a b) (Propose e f) x y = apart name (codes "demo") (codes "propose") x.0 y.0 refl refl
-one_stated name rows (Demo a b) (Merge e f g h j) x y = apart name (codes "demo") (codes "merge") x.0 y.0 refl refl
+one_stated name rows (Demo a b) (Merge e) x y = apart name (codes "demo") (codes "merge") x.0 y.0 refl refl
 one_stated name rows (Demo a b) (Migrate e f g h) x y = apart name (codes "demo") (codes "migrate") x.0 y.0 refl refl
 one_stated name rows (Detect a b c) (Solve e) x y = apart name (codes "detect") (codes "solve") x.0 y.0 refl refl
-one_stated name rows (Detect a b c) (Check e f g w) x y = apart name (codes "detect") (codes "check") x.0 y.0 refl refl
+one_stated name rows (Detect a b c) (Check e) x y = apart name (codes "detect") (codes "check") x.0 y.0 refl refl
 one_stated name rows (Detect a b c) (Show e f g) x y = apart name (codes "detect") (codes "show") x.0 y.0 refl refl
 one_stated name rows (Detect a b c) (Gen e f g h) x y = apart name (codes "detect") (codes "gen") x.0 y.0 refl refl
 one_stated name rows (Detect a b c) (Demo e f) x y = apart name (codes "detect") (codes "demo") x.0 y.0 refl refl
@@ -151,37 +167,37 @@ one_stated name rows (Detect a b c) (Detect e f g) x y =
     detects a e b f c g (one_value (first_of (codes "lp") rows) a e x.1 y.1) (one_value (first_of (codes "rows") rows) b f x.2 y.2)
     (one_value (first_of (codes "dec") rows) c g x.3 y.3)
 one_stated name rows (Detect a b c) (Propose e f) x y = apart name (codes "detect") (codes "propose") x.0 y.0 refl refl
-one_stated name rows (Detect a b c) (Merge e f g h j) x y = apart name (codes "detect") (codes "merge") x.0 y.0 refl refl
+one_stated name rows (Detect a b c) (Merge e) x y = apart name (codes "detect") (codes "merge") x.0 y.0 refl refl
 one_stated name rows (Detect a b c) (Migrate e f g h) x y = apart name (codes "detect") (codes "migrate") x.0 y.0 refl refl
 one_stated name rows (Propose a b) (Solve e) x y = apart name (codes "propose") (codes "solve") x.0 y.0 refl refl
-one_stated name rows (Propose a b) (Check e f g w) x y = apart name (codes "propose") (codes "check") x.0 y.0 refl refl
+one_stated name rows (Propose a b) (Check e) x y = apart name (codes "propose") (codes "check") x.0 y.0 refl refl
 one_stated name rows (Propose a b) (Show e f g) x y = apart name (codes "propose") (codes "show") x.0 y.0 refl refl
 one_stated name rows (Propose a b) (Gen e f g h) x y = apart name (codes "propose") (codes "gen") x.0 y.0 refl refl
 one_stated name rows (Propose a b) (Demo e f) x y = apart name (codes "propose") (codes "demo") x.0 y.0 refl refl
 one_stated name rows (Propose a b) (Detect e f g) x y = apart name (codes "propose") (codes "detect") x.0 y.0 refl refl
 one_stated name rows (Propose a b) (Propose e f) x y =
     proposes a e b f (one_value (first_of (codes "lp") rows) a e x.1 y.1) (one_value (first_of (codes "dec") rows) b f x.2 y.2)
-one_stated name rows (Propose a b) (Merge e f g h j) x y = apart name (codes "propose") (codes "merge") x.0 y.0 refl refl
+one_stated name rows (Propose a b) (Merge e) x y = apart name (codes "propose") (codes "merge") x.0 y.0 refl refl
 one_stated name rows (Propose a b) (Migrate e f g h) x y = apart name (codes "propose") (codes "migrate") x.0 y.0 refl refl
-one_stated name rows (Merge a b c d i) (Solve e) x y = apart name (codes "merge") (codes "solve") x.0 y.0 refl refl
-one_stated name rows (Merge a b c d i) (Check e f g w) x y = apart name (codes "merge") (codes "check") x.0 y.0 refl refl
-one_stated name rows (Merge a b c d i) (Show e f g) x y = apart name (codes "merge") (codes "show") x.0 y.0 refl refl
-one_stated name rows (Merge a b c d i) (Gen e f g h) x y = apart name (codes "merge") (codes "gen") x.0 y.0 refl refl
-one_stated name rows (Merge a b c d i) (Demo e f) x y = apart name (codes "merge") (codes "demo") x.0 y.0 refl refl
-one_stated name rows (Merge a b c d i) (Detect e f g) x y = apart name (codes "merge") (codes "detect") x.0 y.0 refl refl
-one_stated name rows (Merge a b c d i) (Propose e f) x y = apart name (codes "merge") (codes "propose") x.0 y.0 refl refl
-one_stated name rows (Merge a b c d i) (Merge e f g h j) x y =
-    merges a e b f c g d h i j (one_value (first_of (codes "lp") rows) a e x.1 y.1) (one_value (first_of (codes "first") rows) b f x.2 y.2)
-    (one_value (first_of (codes "second") rows) c g x.3 y.3) (one_value (first_of (codes "new") rows) d h x.4 y.4) (sym x.5 ∙ y.5)
-one_stated name rows (Merge a b c d i) (Migrate e f g h) x y = apart name (codes "merge") (codes "migrate") x.0 y.0 refl refl
+one_stated name rows (Merge a) (Solve e) x y = apart name (codes "merge") (codes "solve") x.0 y.0 refl refl
+one_stated name rows (Merge a) (Check e) x y = apart name (codes "merge") (codes "check") x.0 y.0 refl refl
+one_stated name rows (Merge a) (Show e f g) x y = apart name (codes "merge") (codes "show") x.0 y.0 refl refl
+one_stated name rows (Merge a) (Gen e f g h) x y = apart name (codes "merge") (codes "gen") x.0 y.0 refl refl
+one_stated name rows (Merge a) (Demo e f) x y = apart name (codes "merge") (codes "demo") x.0 y.0 refl refl
+one_stated name rows (Merge a) (Detect e f g) x y = apart name (codes "merge") (codes "detect") x.0 y.0 refl refl
+one_stated name rows (Merge a) (Propose e f) x y = apart name (codes "merge") (codes "propose") x.0 y.0 refl refl
+one_stated name rows (Merge a) (Merge b) x y =
+    merges a b (one_value (first_of (codes "lp") rows) a.lp b.lp x.1 y.1) (one_value (first_of (codes "first") rows) a.first b.first x.2 y.2)
+    (one_value (first_of (codes "second") rows) a.second b.second x.3 y.3) (one_value (first_of (codes "new") rows) a.new b.new x.4 y.4) (sym x.5 ∙ y.5)
+one_stated name rows (Merge a) (Migrate e f g h) x y = apart name (codes "merge") (codes "migrate") x.0 y.0 refl refl
 one_stated name rows (Migrate a b c d) (Solve e) x y = apart name (codes "migrate") (codes "solve") x.0 y.0 refl refl
-one_stated name rows (Migrate a b c d) (Check e f g w) x y = apart name (codes "migrate") (codes "check") x.0 y.0 refl refl
+one_stated name rows (Migrate a b c d) (Check e) x y = apart name (codes "migrate") (codes "check") x.0 y.0 refl refl
 one_stated name rows (Migrate a b c d) (Show e f g) x y = apart name (codes "migrate") (codes "show") x.0 y.0 refl refl
 one_stated name rows (Migrate a b c d) (Gen e f g h) x y = apart name (codes "migrate") (codes "gen") x.0 y.0 refl refl
 one_stated name rows (Migrate a b c d) (Demo e f) x y = apart name (codes "migrate") (codes "demo") x.0 y.0 refl refl
 one_stated name rows (Migrate a b c d) (Detect e f g) x y = apart name (codes "migrate") (codes "detect") x.0 y.0 refl refl
 one_stated name rows (Migrate a b c d) (Propose e f) x y = apart name (codes "migrate") (codes "propose") x.0 y.0 refl refl
-one_stated name rows (Migrate a b c d) (Merge e f g h j) x y = apart name (codes "migrate") (codes "merge") x.0 y.0 refl refl
+one_stated name rows (Migrate a b c d) (Merge e) x y = apart name (codes "migrate") (codes "merge") x.0 y.0 refl refl
 one_stated name rows (Migrate a b c d) (Migrate e f g h) x y =
     migrates a e b f c g d h (one_value (first_of (codes "lp") rows) a e x.1 y.1) (one_value (first_of (codes "cert") rows) b f x.2 y.2)
     (one_value (first_of (codes "new") rows) c g x.3 y.3) (sym x.4 ∙ y.4)
@@ -200,13 +216,13 @@ one_order words o p x y =
 -- an order to solve has its leaf where it may be named
 solve_is_placed : (rows : List Row) (order : Order) → HasValues (codes "solve") rows order → IsLeafPlaced rows
 solve_is_placed rows (Solve a) has = has.9
-solve_is_placed rows (Check a b c v) has = apart (codes "solve") (codes "solve") (codes "check") refl has.0 refl refl
+solve_is_placed rows (Check a) has = apart (codes "solve") (codes "solve") (codes "check") refl has.0 refl refl
 solve_is_placed rows (Show a b c) has = apart (codes "solve") (codes "solve") (codes "show") refl has.0 refl refl
 solve_is_placed rows (Gen a b c d) has = apart (codes "solve") (codes "solve") (codes "gen") refl has.0 refl refl
 solve_is_placed rows (Demo a b) has = apart (codes "solve") (codes "solve") (codes "demo") refl has.0 refl refl
 solve_is_placed rows (Detect a b c) has = apart (codes "solve") (codes "solve") (codes "detect") refl has.0 refl refl
 solve_is_placed rows (Propose a b) has = apart (codes "solve") (codes "solve") (codes "propose") refl has.0 refl refl
-solve_is_placed rows (Merge a b c d e) has = apart (codes "solve") (codes "solve") (codes "merge") refl has.0 refl refl
+solve_is_placed rows (Merge a) has = apart (codes "solve") (codes "solve") (codes "merge") refl has.0 refl refl
 solve_is_placed rows (Migrate a b c d) has = apart (codes "solve") (codes "solve") (codes "migrate") refl has.0 refl refl
 
 -- words that are refused give no order
@@ -222,8 +238,9 @@ pub as_solve : (order : Order) (given : SolveOrder) (a : Text) (b c d : Option T
     → d ≡ given.from → Solve (record given { lp = a; dec = b; cert = c; from = d }) ≡ order
 as_solve order given a b c d is p q r s = solves (record given { lp = a; dec = b; cert = c; from = d }) given p q refl r s refl refl refl ∙ sym is
 
-pub as_check : (order : Order) (a b c d : Text) (e f : Option Text) (i : Option ℕ) → order ≡ Check b d f i → a ≡ b → c ≡ d → e ≡ f → Check a c e i ≡ order
-as_check order a b c d e f i is p q r = checks a b c d e f i i p q r refl ∙ sym is
+pub as_check : (order : Order) (given : CheckOrder) (a b : Text) (c : Option Text) → order ≡ Check given → a ≡ given.lp → b ≡ given.cert → c ≡ given.dec
+    → Check (record given { lp = a; cert = b; dec = c }) ≡ order
+as_check order given a b c is p q r = checks (record given { lp = a; cert = b; dec = c }) given p q r refl ∙ sym is
 
 pub as_show : (order : Order) (a b : Text) (c d : Option Text) (i : Bool) → order ≡ Show b d i → a ≡ b → c ≡ d → Show a c i ≡ order
 as_show order a b c d i is p q = shows a b c d i i p q refl ∙ sym is
@@ -237,8 +254,9 @@ as_detect order a b c d e f is p q r = detects a b c d e f p q r ∙ sym is
 pub as_propose : (order : Order) (a b c d : Text) → order ≡ Propose b d → a ≡ b → c ≡ d → Propose a c ≡ order
 as_propose order a b c d is p q = proposes a b c d p q ∙ sym is
 
-pub as_merge : (order : Order) (a b c d e f g h : Text) (i k : Option Text) → order ≡ Merge b d f h k → a ≡ b → c ≡ d → e ≡ f → g ≡ h → i ≡ k → Merge a c e g i ≡ order
-as_merge order a b c d e f g h i k is p q r s t = merges a b c d e f g h i k p q r s t ∙ sym is
+pub as_merge : (order : Order) (given : MergeOrder) (a b c d : Text) (e : Option Text) → order ≡ Merge given → a ≡ given.lp → b ≡ given.first → c ≡ given.second
+    → d ≡ given.new → e ≡ given.dec → Merge (record { lp = a; first = b; second = c; new = d; dec = e }) ≡ order
+as_merge order given a b c d e is p q r s t = merges (record { lp = a; first = b; second = c; new = d; dec = e }) given p q r s t ∙ sym is
 
 pub as_migrate : (order : Order) (a b c d e f : Text) (i k : Option Text) → order ≡ Migrate b d f k → a ≡ b → c ≡ d → e ≡ f → i ≡ k → Migrate a c e i ≡ order
 as_migrate order a b c d e f i k is p q r s = migrates a b c d e f i k p q r s ∙ sym is

@@ -68,25 +68,25 @@ nothing_written files (Solve given) = (tt, stands given.cert, λ _. refl) where
   stands : (cert : Option (List ℕ)) → FilesStand cert files files
   stands None = refl
   stands (Some name) = λ other apart. refl
-nothing_written files (Check lp cert dec visits) = refl
+nothing_written files (Check given) = refl
 nothing_written files (Show lp dec blocks) = refl
 nothing_written files (Gen seed size lp dec) = untouched refl refl
 nothing_written files (Demo seed size) = refl
 nothing_written files (Detect lp list dec) = detected.untouched refl (inr refl)
 nothing_written files (Propose lp dec) = proposed.untouched refl (inr refl)
-nothing_written files (Merge lp one other new dec) = merged.untouched refl (inr refl)
+nothing_written files (Merge given) = merged.untouched refl (inr refl)
 nothing_written files (Migrate lp cert new dec) = migrated.untouched refl (inr refl)
 
 -- want of memory is right for `demo` too
 pub not_demonstrated : (order : Order) (tells : Bool) (before now : List ℕ) → Demonstrates order None 9 tells before now
 not_demonstrated (Demo seed size) tells before now = ((λ no_read no_write no_want. absurd (no_want refl)), (λ no_read no_write no_want meant report right. absurd (no_want refl)))
 not_demonstrated (Solve given) tells before now = tt
-not_demonstrated (Check lp cert dec) tells before now = tt
+not_demonstrated (Check given) tells before now = tt
 not_demonstrated (Show lp dec blocks) tells before now = tt
 not_demonstrated (Gen seed size lp dec) tells before now = tt
 not_demonstrated (Detect lp list dec) tells before now = tt
 not_demonstrated (Propose lp dec) tells before now = tt
-not_demonstrated (Merge lp one other new dec) tells before now = tt
+not_demonstrated (Merge given) tells before now = tt
 not_demonstrated (Migrate lp cert new dec) tells before now = tt
 
 -- answers of an order that keeps nothing

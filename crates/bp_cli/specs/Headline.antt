@@ -71,26 +71,26 @@ pub record TellsTruly (file : Option (List ℕ)) (leaf : Option ℕ) (given : �
 abbrev pub SolvesTruly : Order → Files → Option Outcome → (status : ℕ) → (before now : List ℕ) → Type 0
 SolvesTruly (Solve given) files kept status before now =
     IsOutcomeStatus status → TellsTruly (files given.lp) given.leaf (given_steps given.steps) (is_none given.from) kept status before now
-SolvesTruly (Check lp cert dec visits) files kept status before now = Unit {0}
+SolvesTruly (Check given) files kept status before now = Unit {0}
 SolvesTruly (Show lp dec blocks) files kept status before now = Unit {0}
 SolvesTruly (Gen seed size lp dec) files kept status before now = Unit {0}
 SolvesTruly (Demo seed size) files kept status before now = Unit {0}
 SolvesTruly (Detect lp list dec) files kept status before now = Unit {0}
 SolvesTruly (Propose lp dec) files kept status before now = Unit {0}
-SolvesTruly (Merge lp one other new dec) files kept status before now = Unit {0}
+SolvesTruly (Merge given) files kept status before now = Unit {0}
 SolvesTruly (Migrate lp cert new dec) files kept status before now = Unit {0}
 
 -- `solve LP` tells an outcome of each LP text that means a program, unless it was stopped
 abbrev pub SolvesAccepted : Order → Files → (status : ℕ) → Type 0
 SolvesAccepted (Solve given) files status =
     given.dec ≡ None → given.from ≡ None → (m : NamedProgram) → HasProgram (files given.lp) m → IsOutcomeStatus status ⊎ WasStopped status
-SolvesAccepted (Check lp cert dec visits) files status = Unit {0}
+SolvesAccepted (Check given) files status = Unit {0}
 SolvesAccepted (Show lp dec blocks) files status = Unit {0}
 SolvesAccepted (Gen seed size lp dec) files status = Unit {0}
 SolvesAccepted (Demo seed size) files status = Unit {0}
 SolvesAccepted (Detect lp list dec) files status = Unit {0}
 SolvesAccepted (Propose lp dec) files status = Unit {0}
-SolvesAccepted (Merge lp one other new dec) files status = Unit {0}
+SolvesAccepted (Merge given) files status = Unit {0}
 SolvesAccepted (Migrate lp cert new dec) files status = Unit {0}
 
 -- what `check` accepts is true of the program that the LP text means, whoever wrote it
@@ -103,11 +103,11 @@ pub record AcceptsTruly (file : Option (List ℕ)) (before now : List ℕ) : Typ
 
 abbrev pub ChecksTruly : Order → Files → (status : ℕ) → (before now : List ℕ) → Type 0
 ChecksTruly (Solve given) files status before now = Unit {0}
-ChecksTruly (Check lp cert dec visits) files status before now = status ≡ 0 → AcceptsTruly (files lp) before now
+ChecksTruly (Check given) files status before now = status ≡ 0 → AcceptsTruly (files given.lp) before now
 ChecksTruly (Show lp dec blocks) files status before now = Unit {0}
 ChecksTruly (Gen seed size lp dec) files status before now = Unit {0}
 ChecksTruly (Demo seed size) files status before now = Unit {0}
 ChecksTruly (Detect lp list dec) files status before now = Unit {0}
 ChecksTruly (Propose lp dec) files status before now = Unit {0}
-ChecksTruly (Merge lp one other new dec) files status before now = Unit {0}
+ChecksTruly (Merge given) files status before now = Unit {0}
 ChecksTruly (Migrate lp cert new dec) files status before now = Unit {0}

@@ -214,19 +214,14 @@ fn obey<F: Shelf, O: Sink>(alloc: Global, order: &Order, shelf: &mut F, out: &mu
             given.workers,
             given.order,
         ),
-        Order::Check {
-            lp,
-            cert,
-            dec,
-            visits,
-        } => check(
+        Order::Check(given) => check(
             alloc,
             shelf,
             out,
-            lp.as_str(),
-            cert.as_str(),
-            named(dec),
-            *visits,
+            given.lp.as_str(),
+            given.cert.as_str(),
+            named(&given.dec),
+            given.visits,
         ),
         Order::Show { lp, dec, blocks } => {
             show(alloc, shelf, out, lp.as_str(), named(dec), *blocks)
@@ -242,21 +237,15 @@ fn obey<F: Shelf, O: Sink>(alloc: Global, order: &Order, shelf: &mut F, out: &mu
             detect(alloc, shelf, out, lp.as_str(), rows.as_str(), dec.as_str())
         }
         Order::Propose { lp, dec } => propose(alloc, shelf, out, lp.as_str(), dec.as_str()),
-        Order::Merge {
-            lp,
-            first,
-            second,
-            new,
-            dec,
-        } => merge(
+        Order::Merge(given) => merge(
             alloc,
             shelf,
             out,
-            lp.as_str(),
-            first.as_str(),
-            second.as_str(),
-            new.as_str(),
-            named(dec),
+            given.lp.as_str(),
+            given.first.as_str(),
+            given.second.as_str(),
+            given.new.as_str(),
+            named(&given.dec),
         ),
         Order::Migrate { lp, cert, new, dec } => migrate(
             alloc,

@@ -26,24 +26,24 @@ pub record HasSeedAndSize (rows : List Row) : Type 0 where
 -- what `gen` and `demo` state has a seed and a size
 pub gen_has : (rows : List Row) (order : Order) → HasValues (codes "gen") rows order → HasSeedAndSize rows
 gen_has rows (Solve given) has = absurd (apart 103 115 (codes "en") (codes "olve") (λ e. omega arith) has.0)
-gen_has rows (Check lp cert dec visits) has = absurd (apart 103 99 (codes "en") (codes "heck") (λ e. omega arith) has.0)
+gen_has rows (Check given) has = absurd (apart 103 99 (codes "en") (codes "heck") (λ e. omega arith) has.0)
 gen_has rows (Show lp dec blocks) has = absurd (apart 103 115 (codes "en") (codes "how") (λ e. omega arith) has.0)
 gen_has rows (Gen seed size lp dec) has = record { seed = seed; size = size; seeds = has.1; sizes = has.2 }
 gen_has rows (Demo seed size) has = absurd (apart 103 100 (codes "en") (codes "emo") (λ e. omega arith) has.0)
 gen_has rows (Detect lp list dec) has = absurd (apart 103 100 (codes "en") (codes "etect") (λ e. omega arith) has.0)
 gen_has rows (Propose lp dec) has = absurd (apart 103 112 (codes "en") (codes "ropose") (λ e. omega arith) has.0)
-gen_has rows (Merge lp one other new dec) has = absurd (apart 103 109 (codes "en") (codes "erge") (λ e. omega arith) has.0)
+gen_has rows (Merge given) has = absurd (apart 103 109 (codes "en") (codes "erge") (λ e. omega arith) has.0)
 gen_has rows (Migrate lp cert new dec) has = absurd (apart 103 109 (codes "en") (codes "igrate") (λ e. omega arith) has.0)
 
 pub demo_has : (rows : List Row) (order : Order) → HasValues (codes "demo") rows order → HasSeedAndSize rows
 demo_has rows (Solve given) has = absurd (apart 100 115 (codes "emo") (codes "olve") (λ e. omega arith) has.0)
-demo_has rows (Check lp cert dec visits) has = absurd (apart 100 99 (codes "emo") (codes "heck") (λ e. omega arith) has.0)
+demo_has rows (Check given) has = absurd (apart 100 99 (codes "emo") (codes "heck") (λ e. omega arith) has.0)
 demo_has rows (Show lp dec blocks) has = absurd (apart 100 115 (codes "emo") (codes "how") (λ e. omega arith) has.0)
 demo_has rows (Gen seed size lp dec) has = absurd (apart 100 103 (codes "emo") (codes "en") (λ e. omega arith) has.0)
 demo_has rows (Demo seed size) has = record { seed = seed; size = size; seeds = has.1; sizes = has.2 }
 demo_has rows (Detect lp list dec) has = absurd (apart_third 109 116 (codes "o") (codes "ect") (λ e. omega arith) has.0)
 demo_has rows (Propose lp dec) has = absurd (apart 100 112 (codes "emo") (codes "ropose") (λ e. omega arith) has.0)
-demo_has rows (Merge lp one other new dec) has = absurd (apart 100 109 (codes "emo") (codes "erge") (λ e. omega arith) has.0)
+demo_has rows (Merge given) has = absurd (apart 100 109 (codes "emo") (codes "erge") (λ e. omega arith) has.0)
 demo_has rows (Migrate lp cert new dec) has = absurd (apart 100 109 (codes "emo") (codes "igrate") (λ e. omega arith) has.0)
 
 -- a number that may be given is in its range
@@ -80,13 +80,13 @@ in_range met (Solve given) stated = (
   at_most : (n : Option ℕ) → IfSome n (λ k. (0 ≤ k) × (k ≤ most_steps)) → IfSome n (λ k. k ≤ most_steps)
   at_most None is = tt
   at_most (Some n) is = is.1
-in_range met (Check lp cert dec visits) stated = tt
+in_range met (Check given) stated = tt
 in_range met (Show lp dec blocks) stated = tt
 in_range met (Gen seed size lp dec) stated = (stated.values.2.2.least, stated.values.2.2.most)
 in_range met (Demo seed size) stated = (stated.values.2.2.least, stated.values.2.2.most)
 in_range met (Detect lp list dec) stated = tt
 in_range met (Propose lp dec) stated = tt
-in_range met (Merge lp one other new dec) stated = tt
+in_range met (Merge given) stated = tt
 in_range met (Migrate lp cert new dec) stated = tt
 
 pub in_range_if_ok : (met : Option (Text × List Row)) (r : Result Order WordFault) → IfOk r (IsStated met) → IfOk r IsInRange

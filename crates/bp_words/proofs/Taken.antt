@@ -264,7 +264,12 @@ check_states words e =
     let lp = given_has good (codes "lp") rows both.0 level.0 in
     let cert = given_has good (codes "cert") rows both.1 level.0 in
     let visits = number_stated 0 most_visits (first_of (codes "visits") rows) (λ text is. first_good good (codes "visits") rows text level.0 is) in (
-      Check lp.0 cert.0 (first_of (codes "dec") rows) visits.0,
+      Check (record {
+        lp = lp.0;
+        cert = cert.0;
+        dec = first_of (codes "dec") rows;
+        visits = visits.0;
+      }),
       record {
         name = codes "check";
         rows = rows;
@@ -379,7 +384,13 @@ merge_states words e =
     let one = given_has good (codes "first") rows all.1 level.0 in
     let other = given_has good (codes "second") rows all.2 level.0 in
     let new = given_has good (codes "new") rows all.3 level.0 in (
-      Merge lp.0 one.0 other.0 new.0 (first_of (codes "dec") rows),
+      Merge (record {
+        lp = lp.0;
+        first = one.0;
+        second = other.0;
+        new = new.0;
+        dec = first_of (codes "dec") rows;
+      }),
       record {
         name = codes "merge";
         rows = rows;

@@ -46,9 +46,9 @@ HasValues name rows (Solve given) =
     × (first_of (codes "from") rows ≡ given.from) × MayHaveNumber (first_of (codes "leaf") rows) 1 most_leaf given.leaf
     × MayHaveNumber (first_of (codes "workers") rows) 1 most_workers given.workers
     × MayHaveNumber (first_of (codes "order") rows) 0 most_seed given.order × IsLeafPlaced rows
-HasValues name rows (Check lp cert dec visits) =
-    (name ≡ codes "check") × (first_of (codes "lp") rows ≡ Some lp) × (first_of (codes "cert") rows ≡ Some cert)
-    × (first_of (codes "dec") rows ≡ dec) × MayHaveNumber (first_of (codes "visits") rows) 0 most_visits visits
+HasValues name rows (Check given) =
+    (name ≡ codes "check") × (first_of (codes "lp") rows ≡ Some given.lp) × (first_of (codes "cert") rows ≡ Some given.cert)
+    × (first_of (codes "dec") rows ≡ given.dec) × MayHaveNumber (first_of (codes "visits") rows) 0 most_visits given.visits
 HasValues name rows (Show lp dec blocks) =
     (name ≡ codes "show") × (first_of (codes "lp") rows ≡ Some lp) × (first_of (codes "dec") rows ≡ dec)
     × (is_set (first_of (codes "blocks") rows) ≡ blocks)
@@ -64,9 +64,10 @@ HasValues name rows (Detect lp list dec) =
     × (first_of (codes "dec") rows ≡ Some dec)
 HasValues name rows (Propose lp dec) =
     (name ≡ codes "propose") × (first_of (codes "lp") rows ≡ Some lp) × (first_of (codes "dec") rows ≡ Some dec)
-HasValues name rows (Merge lp one other new dec) =
-    (name ≡ codes "merge") × (first_of (codes "lp") rows ≡ Some lp) × (first_of (codes "first") rows ≡ Some one)
-    × (first_of (codes "second") rows ≡ Some other) × (first_of (codes "new") rows ≡ Some new) × (first_of (codes "dec") rows ≡ dec)
+HasValues name rows (Merge given) =
+    (name ≡ codes "merge") × (first_of (codes "lp") rows ≡ Some given.lp) × (first_of (codes "first") rows ≡ Some given.first)
+    × (first_of (codes "second") rows ≡ Some given.second) × (first_of (codes "new") rows ≡ Some given.new)
+    × (first_of (codes "dec") rows ≡ given.dec)
 HasValues name rows (Migrate lp cert new dec) =
     (name ≡ codes "migrate") × (first_of (codes "lp") rows ≡ Some lp) × (first_of (codes "cert") rows ≡ Some cert)
     × (first_of (codes "new") rows ≡ Some new) × (first_of (codes "dec") rows ≡ dec)
@@ -76,13 +77,13 @@ abbrev pub IsInRange : Order → Type 0
 IsInRange (Solve given) =
     IfSome given.steps (λ n. n ≤ most_steps) × IfSome given.workers (λ n. (1 ≤ n) × (n ≤ most_workers))
     × IfSome given.leaf (λ n. (1 ≤ n) × IsSome given.from × (given.workers ≡ None) × (given.order ≡ None))
-IsInRange (Check lp cert dec visits) = Unit {0}
+IsInRange (Check given) = Unit {0}
 IsInRange (Show lp dec blocks) = Unit {0}
 IsInRange (Gen seed size lp dec) = (1 ≤ size) × (size ≤ most_size)
 IsInRange (Demo seed size) = (1 ≤ size) × (size ≤ most_size)
 IsInRange (Detect lp list dec) = Unit {0}
 IsInRange (Propose lp dec) = Unit {0}
-IsInRange (Merge lp one other new dec) = Unit {0}
+IsInRange (Merge given) = Unit {0}
 IsInRange (Migrate lp cert new dec) = Unit {0}
 
 -- the subcommand that was met, with its rows, states an order

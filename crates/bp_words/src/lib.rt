@@ -6,6 +6,6 @@ mod order;
 mod read;
 mod text;
 
-pub use order::{Order, SolveOrder, WordFault};
+pub use order::{CheckOrder, MergeOrder, Order, SolveOrder, WordFault};
 pub use read::read_words;
 pub use text::Text;

@@ -27,6 +27,34 @@ pub struct SolveOrder {
     pub order: Option<u64>,
 }
 
+/// The files and the number of an order to check.
+#[derive(Drop)]
+pub struct CheckOrder {
+    /// The LP file.
+    pub lp: Text,
+    /// The certificate's file.
+    pub cert: Text,
+    /// The decomposition's file, where there is one.
+    pub dec: Option<Text>,
+    /// How many visits pricing may take in all, where a number is given.
+    pub visits: Option<u64>,
+}
+
+/// The files of an order to merge.
+#[derive(Drop)]
+pub struct MergeOrder {
+    /// The LP file.
+    pub lp: Text,
+    /// The first certificate's file.
+    pub first: Text,
+    /// The second certificate's file.
+    pub second: Text,
+    /// The file for the merged certificate.
+    pub new: Text,
+    /// The decomposition's file, where there is one.
+    pub dec: Option<Text>,
+}
+
 /// What a command line orders.
 #[derive(Drop)]
 pub enum Order {
@@ -35,16 +63,7 @@ pub enum Order {
     /// from, and without a crew.
     Solve(SolveOrder),
     /// Check a certificate of the LP file.
-    Check {
-        /// The LP file.
-        lp: Text,
-        /// The certificate's file.
-        cert: Text,
-        /// The decomposition's file, where there is one.
-        dec: Option<Text>,
-        /// How many visits pricing may take in all, where a number is given.
-        visits: Option<u64>,
-    },
+    Check(CheckOrder),
     /// Show the sizes and the classes of the LP file and its decomposition.
     Show {
         /// The LP file.
@@ -89,18 +108,7 @@ pub enum Order {
         dec: Text,
     },
     /// Merge two certificates of the LP file.
-    Merge {
-        /// The LP file.
-        lp: Text,
-        /// The first certificate's file.
-        first: Text,
-        /// The second certificate's file.
-        second: Text,
-        /// The file for the merged certificate.
-        new: Text,
-        /// The decomposition's file, where there is one.
-        dec: Option<Text>,
-    },
+    Merge(MergeOrder),
     /// Write a certificate of the LP file anew, in version 2.
     Migrate {
         /// The LP file.

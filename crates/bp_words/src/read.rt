@@ -6,7 +6,7 @@ ghost use Rattle.bp_words.specs.Orders.{IsNumber, HasNumber, MayHaveNumber, is_s
 ghost use Rattle.bp_words.specs.declared.order.Order.{Order};
 
 use crate::command::{MOST_LEAF, MOST_SIZE, MOST_STEPS, MOST_VISITS, MOST_WORKERS, make_command};
-use crate::order::{Order, SolveOrder, WordFault};
+use crate::order::{CheckOrder, MergeOrder, Order, SolveOrder, WordFault};
 use crate::text::Text;
 use clap::ArgMatches;
 use clap::error::ErrorKind;
@@ -128,12 +128,12 @@ fn check_order(alloc: Global, check: &ArgMatches) -> Result<Order, WordFault>
     let cert = given(alloc, check, "cert")?;
     let dec = optional(alloc, check, "dec")?;
     let visits = optional_number(check, "visits", 0, MOST_VISITS)?;
-    Ok(Order::Check {
+    Ok(Order::Check(CheckOrder {
         lp,
         cert,
         dec,
         visits,
-    })
+    }))
 }
 
 // The order to show.
@@ -214,13 +214,13 @@ fn merge_order(alloc: Global, merge: &ArgMatches) -> Result<Order, WordFault>
     let second = given(alloc, merge, "second")?;
     let new = given(alloc, merge, "new")?;
     let dec = optional(alloc, merge, "dec")?;
-    Ok(Order::Merge {
+    Ok(Order::Merge(MergeOrder {
         lp,
         first,
         second,
         new,
         dec,
-    })
+    }))
 }
 
 // The order to write a certificate anew.

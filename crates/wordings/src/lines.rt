@@ -163,15 +163,10 @@ fn solve_line(alloc: Global, given: &SolveOrder) -> Result<String, AllocError> {
 fn order_line(alloc: Global, order: &Order) -> Result<String, AllocError> {
     match order {
         Order::Solve(given) => solve_line(alloc, given),
-        Order::Check {
-            lp,
-            cert,
-            dec,
-            visits,
-        } => {
-            let visits = number_of(alloc, *visits)?;
-            let files = format!(in alloc; "{} {}", cert.as_str(), name_of(dec))?;
-            format!(in alloc; "check {} {files} {visits}", lp.as_str())
+        Order::Check(given) => {
+            let visits = number_of(alloc, given.visits)?;
+            let files = format!(in alloc; "{} {}", given.cert.as_str(), name_of(&given.dec))?;
+            format!(in alloc; "check {} {files} {visits}", given.lp.as_str())
         }
         Order::Show { lp, dec, blocks } => {
             let blocks = if *blocks { "blocks" } else { "-" };
@@ -197,28 +192,24 @@ fn made_line(alloc: Global, order: &Order) -> Result<String, AllocError> {
         Order::Propose { lp, dec } => {
             format!(in alloc; "propose {} {}", lp.as_str(), dec.as_str())
         }
-        Order::Merge {
-            lp,
-            first,
-            second,
-            new,
-            dec,
-        } => {
+        Order::Merge(given) => {
             let files = format!(in alloc;
                 "{} {} {}",
-                first.as_str(),
-                second.as_str(),
-                new.as_str()
+                given.first.as_str(),
+                given.second.as_str(),
+                given.new.as_str()
             )?;
-            format!(in alloc; "merge {} {files} {}", lp.as_str(), name_of(dec))
+            format!(in alloc;
+                "merge {} {files} {}",
+                given.lp.as_str(),
+                name_of(&given.dec)
+            )
         }
         Order::Migrate { lp, cert, new, dec } => {
             let files = format!(in alloc; "{} {}", cert.as_str(), new.as_str())?;
             format!(in alloc; "migrate {} {files} {}", lp.as_str(), name_of(dec))
         }
-        Order::Solve(_) | Order::Check { .. } | Order::Show { .. } => {
-            String::from_str(alloc, "-")
-        }
+        Order::Solve(_) | Order::Check(_) | Order::Show { .. } => { String::from_str(alloc, "-") }
     }
 }
 

@@ -37,23 +37,20 @@ returns-in-Solve-clause-cut_off g c = λ told heard.
 pub returns-in-Check-clause-answered : goal.returns-in-Check-clause-answered
 returns-in-Check-clause-answered g c = λ told.
     subst (λ (o : Order). AnswersBy (AnswersOrder o (g.F.Shelf.file c.args.shelf.now) c.check.result.kept) c.check.result.status (g.O.Sink.tells c.args.out.now) (g.O.Sink.taken c.args.out.now)
-    (g.O.Sink.taken c.check.new.out)) (as_check c.args.order.now c.as_str-in-Check.result.now c.in-Check.lp c.as_str-in-Check-2.result.now c.in-Check.cert (option_map (λ name. name.now) c.named-in-Check.result)
-    c.in-Check.dec c.in-Check.visits c.in-Check.is c.as_str-in-Check.ensures c.as_str-in-Check-2.ensures c.named-in-Check.ensures)
+    (g.O.Sink.taken c.check.new.out)) (as_check c.args.order.now c.in-Check.given c.as_str-in-Check.result.now c.as_str-in-Check-2.result.now (option_map (λ name. name.now) c.named-in-Check.result) c.in-Check.is c.as_str-in-Check.ensures c.as_str-in-Check-2.ensures c.named-in-Check.ensures)
     (kept_answers c.check.result.kept
     (AnswersCheck (g.F.Shelf.file c.args.shelf.now) c.as_str-in-Check.result.now c.as_str-in-Check-2.result.now (option_map (λ name. name.now) c.named-in-Check.result)
-    c.in-Check.visits)
+    c.in-Check.given.visits)
     c.check.result.status _ _ _ c.check.ensures.kept (c.check.ensures.answered told))
 
 pub returns-in-Check-clause-exact : goal.returns-in-Check-clause-exact
 returns-in-Check-clause-exact g c = λ told.
-    subst (λ (o : Order). IsOnly (AnswersOrder o (g.F.Shelf.file c.args.shelf.now) c.check.result.kept) c.check.result.status) (as_check c.args.order.now c.as_str-in-Check.result.now c.in-Check.lp c.as_str-in-Check-2.result.now c.in-Check.cert (option_map (λ name. name.now) c.named-in-Check.result)
-    c.in-Check.dec c.in-Check.visits c.in-Check.is c.as_str-in-Check.ensures c.as_str-in-Check-2.ensures c.named-in-Check.ensures)
+    subst (λ (o : Order). IsOnly (AnswersOrder o (g.F.Shelf.file c.args.shelf.now) c.check.result.kept) c.check.result.status) (as_check c.args.order.now c.in-Check.given c.as_str-in-Check.result.now c.as_str-in-Check-2.result.now (option_map (λ name. name.now) c.named-in-Check.result) c.in-Check.is c.as_str-in-Check.ensures c.as_str-in-Check-2.ensures c.named-in-Check.ensures)
     (kept_only c.check.result.kept _ c.check.result.status (c.check.ensures.exact told))
 
 pub returns-in-Check-clause-cut_off : goal.returns-in-Check-clause-cut_off
 returns-in-Check-clause-cut_off g c = λ told heard.
-    subst (λ (o : Order). CutsOff (AnswersOrder o (g.F.Shelf.file c.args.shelf.now)) c.check.result.status (g.O.Sink.taken c.args.out.now) (g.O.Sink.taken c.check.new.out)) (as_check c.args.order.now c.as_str-in-Check.result.now c.in-Check.lp c.as_str-in-Check-2.result.now c.in-Check.cert (option_map (λ name. name.now) c.named-in-Check.result)
-    c.in-Check.dec c.in-Check.visits c.in-Check.is c.as_str-in-Check.ensures c.as_str-in-Check-2.ensures c.named-in-Check.ensures)
+    subst (λ (o : Order). CutsOff (AnswersOrder o (g.F.Shelf.file c.args.shelf.now)) c.check.result.status (g.O.Sink.taken c.args.out.now) (g.O.Sink.taken c.check.new.out)) (as_check c.args.order.now c.in-Check.given c.as_str-in-Check.result.now c.as_str-in-Check-2.result.now (option_map (λ name. name.now) c.named-in-Check.result) c.in-Check.is c.as_str-in-Check.ensures c.as_str-in-Check-2.ensures c.named-in-Check.ensures)
     (kept_cut _ c.check.result.status _ _ (c.check.ensures.cut_off told heard))
 
 pub returns-in-Show-clause-answered : goal.returns-in-Show-clause-answered
@@ -190,7 +187,7 @@ returns-in-Propose-clause-failed g c = λ is_fault.
 pub returns-in-Check-clause-failed : goal.returns-in-Check-clause-failed
 returns-in-Check-clause-failed g c = λ is_fault. inr (unput_as
     (λ stands told. subst (λ (o : Order). HasPutLast o (g.F.Shelf.file c.args.shelf.now) (g.F.Shelf.file c.check.new.shelf))
-    (as_check c.args.order.now c.as_str-in-Check.result.now c.in-Check.lp c.as_str-in-Check-2.result.now c.in-Check.cert (option_map (λ name. name.now) c.named-in-Check.result) c.in-Check.dec c.in-Check.visits c.in-Check.is c.as_str-in-Check.ensures c.as_str-in-Check-2.ensures c.named-in-Check.ensures) stands)
+    (as_check c.args.order.now c.in-Check.given c.as_str-in-Check.result.now c.as_str-in-Check-2.result.now (option_map (λ name. name.now) c.named-in-Check.result) c.in-Check.is c.as_str-in-Check.ensures c.as_str-in-Check-2.ensures c.named-in-Check.ensures) stands)
     (c.check.ensures.failed is_fault))
 
 pub returns-in-Show-clause-failed : goal.returns-in-Show-clause-failed
@@ -207,8 +204,8 @@ returns-in-Demo-clause-failed g c = λ is_fault. inr (unput_as
 pub returns-in-Merge-clause-answered : goal.returns-in-Merge-clause-answered
 returns-in-Merge-clause-answered g c = λ told.
     subst (λ (o : Order). AnswersBy (AnswersOrder o (g.F.Shelf.file c.args.shelf.now) c.merge.result.kept) c.merge.result.status (g.O.Sink.tells c.args.out.now) (g.O.Sink.taken c.args.out.now)
-    (g.O.Sink.taken c.merge.new.out)) (as_merge c.args.order.now c.as_str-in-Merge.result.now c.in-Merge.lp c.as_str-in-Merge-2.result.now c.in-Merge.first c.as_str-in-Merge-3.result.now c.in-Merge.second
-    c.as_str-in-Merge-4.result.now c.in-Merge.new (option_map (λ name. name.now) c.named-in-Merge.result) c.in-Merge.dec c.in-Merge.is c.as_str-in-Merge.ensures c.as_str-in-Merge-2.ensures
+    (g.O.Sink.taken c.merge.new.out)) (as_merge c.args.order.now c.in-Merge.given c.as_str-in-Merge.result.now c.as_str-in-Merge-2.result.now c.as_str-in-Merge-3.result.now
+    c.as_str-in-Merge-4.result.now (option_map (λ name. name.now) c.named-in-Merge.result) c.in-Merge.is c.as_str-in-Merge.ensures c.as_str-in-Merge-2.ensures
     c.as_str-in-Merge-3.ensures c.as_str-in-Merge-4.ensures c.named-in-Merge.ensures)
     (kept_answers c.merge.result.kept
     (AnswersMerge (g.F.Shelf.file c.args.shelf.now) c.as_str-in-Merge.result.now c.as_str-in-Merge-2.result.now c.as_str-in-Merge-3.result.now (option_map (λ name. name.now) c.named-in-Merge.result))
@@ -216,15 +213,15 @@ returns-in-Merge-clause-answered g c = λ told.
 
 pub returns-in-Merge-clause-exact : goal.returns-in-Merge-clause-exact
 returns-in-Merge-clause-exact g c = λ told.
-    subst (λ (o : Order). IsOnly (AnswersOrder o (g.F.Shelf.file c.args.shelf.now) c.merge.result.kept) c.merge.result.status) (as_merge c.args.order.now c.as_str-in-Merge.result.now c.in-Merge.lp c.as_str-in-Merge-2.result.now c.in-Merge.first c.as_str-in-Merge-3.result.now c.in-Merge.second
-    c.as_str-in-Merge-4.result.now c.in-Merge.new (option_map (λ name. name.now) c.named-in-Merge.result) c.in-Merge.dec c.in-Merge.is c.as_str-in-Merge.ensures c.as_str-in-Merge-2.ensures
+    subst (λ (o : Order). IsOnly (AnswersOrder o (g.F.Shelf.file c.args.shelf.now) c.merge.result.kept) c.merge.result.status) (as_merge c.args.order.now c.in-Merge.given c.as_str-in-Merge.result.now c.as_str-in-Merge-2.result.now c.as_str-in-Merge-3.result.now
+    c.as_str-in-Merge-4.result.now (option_map (λ name. name.now) c.named-in-Merge.result) c.in-Merge.is c.as_str-in-Merge.ensures c.as_str-in-Merge-2.ensures
     c.as_str-in-Merge-3.ensures c.as_str-in-Merge-4.ensures c.named-in-Merge.ensures)
     (kept_only c.merge.result.kept _ c.merge.result.status (c.merge.ensures.exact told))
 
 pub returns-in-Merge-clause-cut_off : goal.returns-in-Merge-clause-cut_off
 returns-in-Merge-clause-cut_off g c = λ told heard.
-    subst (λ (o : Order). CutsOff (AnswersOrder o (g.F.Shelf.file c.args.shelf.now)) c.merge.result.status (g.O.Sink.taken c.args.out.now) (g.O.Sink.taken c.merge.new.out)) (as_merge c.args.order.now c.as_str-in-Merge.result.now c.in-Merge.lp c.as_str-in-Merge-2.result.now c.in-Merge.first c.as_str-in-Merge-3.result.now c.in-Merge.second
-    c.as_str-in-Merge-4.result.now c.in-Merge.new (option_map (λ name. name.now) c.named-in-Merge.result) c.in-Merge.dec c.in-Merge.is c.as_str-in-Merge.ensures c.as_str-in-Merge-2.ensures
+    subst (λ (o : Order). CutsOff (AnswersOrder o (g.F.Shelf.file c.args.shelf.now)) c.merge.result.status (g.O.Sink.taken c.args.out.now) (g.O.Sink.taken c.merge.new.out)) (as_merge c.args.order.now c.in-Merge.given c.as_str-in-Merge.result.now c.as_str-in-Merge-2.result.now c.as_str-in-Merge-3.result.now
+    c.as_str-in-Merge-4.result.now (option_map (λ name. name.now) c.named-in-Merge.result) c.in-Merge.is c.as_str-in-Merge.ensures c.as_str-in-Merge-2.ensures
     c.as_str-in-Merge-3.ensures c.as_str-in-Merge-4.ensures c.named-in-Merge.ensures)
     (kept_cut _ c.merge.result.status _ _ (c.merge.ensures.cut_off told heard))
 
@@ -234,8 +231,8 @@ returns-in-Merge-clause-failed g c = λ is_fault.
     (g.O.Sink.faults c.args.out.now) (g.O.Sink.faults c.merge.new.out) (g.O.Sink.puts c.args.out.now) (g.O.Sink.puts c.merge.new.out)
     (g.O.Sink.taken c.args.out.now) (g.O.Sink.taken c.merge.new.out) refl
     (λ stands told. subst (λ (o : Order). HasPutLast o (g.F.Shelf.file c.args.shelf.now) (g.F.Shelf.file c.merge.new.shelf))
-    (as_merge c.args.order.now c.as_str-in-Merge.result.now c.in-Merge.lp c.as_str-in-Merge-2.result.now c.in-Merge.first c.as_str-in-Merge-3.result.now c.in-Merge.second
-    c.as_str-in-Merge-4.result.now c.in-Merge.new (option_map (λ name. name.now) c.named-in-Merge.result) c.in-Merge.dec c.in-Merge.is c.as_str-in-Merge.ensures c.as_str-in-Merge-2.ensures
+    (as_merge c.args.order.now c.in-Merge.given c.as_str-in-Merge.result.now c.as_str-in-Merge-2.result.now c.as_str-in-Merge-3.result.now
+    c.as_str-in-Merge-4.result.now (option_map (λ name. name.now) c.named-in-Merge.result) c.in-Merge.is c.as_str-in-Merge.ensures c.as_str-in-Merge-2.ensures
     c.as_str-in-Merge-3.ensures c.as_str-in-Merge-4.ensures c.named-in-Merge.ensures) (stands told))
     (c.merge.ensures.failed is_fault)
 
