@@ -1,7 +1,8 @@
-use Rattle.std.proofs.Common.{sym, subst, Bool, IsTrue}
+use Rattle.std.proofs.Common.{sym, ap, ◌∙◌, subst, Bool, IsTrue}
 use Rattle.std.specs.Option.{option_map}
 use Rattle.bp_shelf.specs.Shelf.{Files}
 use Rattle.bp_front.specs.Answers.{AnswersBy, IsOnly, CutsOff}
+use Rattle.bp_front.specs.Endings.{status_of}
 use Rattle.bp_front.proofs.Lifts.{lift_answers, lift_only, lift_cut, stop_only, fault_only, printed_status}
 use Rattle.cmd_check.specs.Checks.{ChecksVisiting}
 use Rattle.cmd_check.proofs.check.Goals as goal
@@ -44,4 +45,4 @@ returns-in-Err-Stopped-clause-exact g c = λ told.
     let files = g.F.Shelf.file c.args.shelf.now in
     let halts = c.in-Err-Stopped.ensures.halted told in
     fault_only files c.args.lp.now (option_map (λ name. name.now) c.args.dec) (Unit {0}) (ChecksVisiting c.args.visits files c.args.cert.now) c.stopped_by.result.status c.in-Err-Stopped.fault
-    (rw c.in-Err-Stopped.field-0-is at halts) c.stopped_by.ensures.status
+    (rw c.in-Err-Stopped.field-0-is at halts) (c.stopped_by.ensures.status ∙ ap status_of c.in-Err-Stopped.fault-is)
