@@ -11,7 +11,7 @@ use Rattle.pricing.specs.Priced.{HasNoPoint}
 abbrev pub most_arcs : ℕ
 most_arcs = 2 ^ 18
 
--- the most windows that these arcs lead to: for each arc one of each row
+-- the most windows that the arcs of a layer lead to: for each arc one of each row
 abbrev pub most_windows : ℕ
 most_windows = 2 ^ 22
 
@@ -31,7 +31,7 @@ most_numbers = 4096
 abbrev pub beginnings : List Span → ℕ
 beginnings spans = prefixes spans - 1
 
--- so many arcs are more than a graph of so many rows may have
+-- so many arcs are more than a graph of so many rows may have, or than one of its layers
 abbrev pub AreManyArcs : (rows arcs : ℕ) → Type 0
 AreManyArcs rows arcs = (most_arcs < arcs) ⊎ (most_windows < arcs * rows)
 

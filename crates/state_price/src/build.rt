@@ -20,8 +20,11 @@ use std::alloc::{AllocError, Global};
 /// The most arcs of a graph.
 const MOST_ARCS: usize = 1 << 18;
 
-/// The most windows that the arcs of a graph lead to: for each arc one of each row.
-const MOST_WINDOWS: usize = 1 << 22;
+/// The most windows that the arcs of a graph lead to: for each arc one of each row. It bounds the time that a graph takes.
+const MOST_WINDOWS: usize = 1 << 25;
+
+/// The most windows that the arcs of a layer lead to. It bounds the memory that a graph takes while it is made.
+const LAYER_WINDOWS: usize = 1 << 22;
 
 /// The most nodes of a graph, as if each layer had as many as the widest: a pass clears a cell for each and keeps a pick.
 const MOST_CELLS: usize = 1 << 21;
@@ -64,6 +67,13 @@ fn room_for(rows: usize) -> usize
     MOST_ARCS.min(MOST_WINDOWS / rows.max(1))
 }
 
+/// How many arcs a layer may have in a graph of so many rows.
+fn layer_room_for(rows: usize) -> usize
+    ensures { (arcs : ℕ) → result < arcs → AreManyArcs rows arcs }
+{
+    LAYER_WINDOWS / rows.max(1)
+}
+
 /// The graph of layers from a first state on; none only where more numbers are tried than it may have arcs, or where there are
 /// no layers and the state doesn't allow that.
 fn graph_of(alloc: Global, layers: &[Layer], root: Items<Span>) -> Result<Option<Graph>, AllocError>
@@ -80,14 +90,16 @@ fn graph_of(alloc: Global, layers: &[Layer], root: Items<Span>) -> Result<Option
     ensures right { IfOk result (λ made. IfSome made
         (λ g. IsRight layers.now root g.steps.items 0)) }
 {
-    let whole = room_for(root.len());
+    let rows = root.len();
+    let whole = room_for(rows);
+    let most = layer_room_for(rows);
     let mut room = whole;
     let mut states = Vec::new(alloc);
     states.push(root)?;
     let mut steps = Vec::new(alloc);
     let mut wide = 1;
     for layer in layers {
-        match expand(alloc, layer, &states, room)? {
+        match expand(alloc, layer, &states, room.min(most))? {
             Some(Frontier { arcs, states: next }) => {
                 room -= arcs.len().min(room);
                 steps.push(arcs)?;

@@ -37,10 +37,10 @@ impl StatePricer {
     ghost use Rattle.state_price.specs.Kept.{rows_of, spans_of};
     ghost use Rattle.state_price.specs.Limits.{beginnings, IsBeyond};
 
-    /// The pricer of a block, if its graph keeps the limits: at most 2^18 arcs and 2^22 windows that they lead to
-    /// (arcs times rows), at most 2^22 windows in the states of a layer, at most 2^21 nodes if each layer had as many as the
-    /// widest once nodes with the same arcs are one, at most 2^20 coefficients with zeros counted, and at most 4,096 numbers
-    /// of a variable. So it holds at most 36 MiB, and while it is made at most 200 MiB. There is none only where a graph with
+    /// The pricer of a block, if its graph keeps the limits: at most 2^18 arcs and 2^25 windows that they lead to
+    /// (arcs times rows), at most 2^22 windows that the arcs of a layer lead to, at most 2^21 nodes if each layer had as many
+    /// as the widest once nodes with the same arcs are one, at most 2^20 coefficients with zeros counted, and at most 4,096
+    /// numbers of a variable. So it holds at most 36 MiB, and while it is made at most 200 MiB. There is none only where a graph with
     /// an arc for each beginning of an assignment would pass one of these, or where there are no variables and no point
     /// (`IsBeyond`): a block of few beginnings has a graph. One of many beginnings may have a graph too, since its beginnings
     /// share states; whether it has, no clause tells.

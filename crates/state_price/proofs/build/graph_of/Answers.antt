@@ -50,8 +50,9 @@ loop-layer-preserved c =
     (layer_at (length c.args.root) c.args.layers.now c.loop-layer.layer-index c.layer-item.result c.requires.layers c.loop-layer-test.true) in
     let expanded : IsExpanded c.layer-item.result c.loop-layer.states.items c.in-Some.field-0.states.list.items c.in-Some.field-0.arcs =
     subst (λ (o : Option Frontier). IfSome o (λ (f : Frontier). IsExpanded c.layer-item.result c.loop-layer.states.items f.states.list.items f.arcs)) c.in-Some.is c.in_ok-arcs.ensures.expanded in
-    let few : length c.in-Some.field-0.arcs ≤ c.loop-layer.room =
-    subst (λ (o : Option Frontier). IfSome o (λ (f : Frontier). length f.arcs ≤ c.loop-layer.room)) c.in-Some.is c.in_ok-arcs.ensures.arcs in
+    let kept : length c.in-Some.field-0.arcs ≤ c.min.result =
+    subst (λ (o : Option Frontier). IfSome o (λ (f : Frontier). length f.arcs ≤ c.min.result)) c.in-Some.is c.in_ok-arcs.ensures.arcs in
+    let few : length c.in-Some.field-0.arcs ≤ c.loop-layer.room = omega (arith, kept, c.min.ensures) in
     let many : vec_len c.in-Some.field-0.states.list ≤ 2 ^ 20 =
     subst (λ (o : Option Frontier). IfSome o (λ (f : Frontier). vec_len f.states.list ≤ 2 ^ 20)) c.in-Some.is c.in_ok-arcs.ensures.states in
     let list : c.into_list-states.result.items ≡ c.in-Some.field-0.states.list.items = c.into_list-states.ensures in
@@ -64,7 +65,7 @@ loop-layer-preserved c =
     let next : vec_len c.into_list-states.result ≤ length c.in-Some.field-0.arcs =
     omega (arith, same, c.into_list-states.result.ok.0, c.in-Some.field-0.states.list.ok.0, fewer) in
     let cut : c.min-room.result ≡ length c.in-Some.field-0.arcs =
-    omega (arith, c.min-room.ensures, c.len-in-Some.ensures, few, ap (λ (x : List Arc). length x) c.in-Some.arcs-is) in
+    omega (arith, c.min-room.ensures, c.len.ensures, few, ap (λ (x : List Arc). length x) c.in-Some.arcs-is) in
     let begun : (c.room_for-whole.result - c.loop-layer.room + length c.in-Some.field-0.arcs)
     + vec_len c.into_list-states.result * beginnings (spans_in (drop (c.loop-layer.layer-index + 1) c.args.layers.now)) ≤ beginnings (spans_in c.args.layers.now) =
     begun_more (c.room_for-whole.result - c.loop-layer.room) (vec_len c.loop-layer.states) (length c.in-Some.field-0.arcs) (vec_len c.into_list-states.result) (width c.layer-item.result.span)
@@ -76,19 +77,19 @@ loop-layer-preserved c =
       many = omega (arith, c.in_ok-push-in-Some.ensures.len, c.loop-layer.invariant.many);
       rows = subst (HaveRows (length c.args.root)) (sym list) (λ k d l. expanded.rows k d l ∙ shaped.column);
       few = omega (arith, same, c.into_list-states.result.ok.0, c.in-Some.field-0.states.list.ok.0, many);
-      fits = omega (arith, c.larger-wide.ensures.second, c.len-in-Some.ensures);
+      fits = omega (arith, c.larger-wide.ensures.second, c.len.ensures);
       rooted = omega (arith, c.larger-wide.ensures.first, c.loop-layer.invariant.rooted);
       narrow = c.larger-wide.ensures.least (2 ^ 20) c.loop-layer.invariant.narrow
-          (omega (arith, c.len-in-Some.ensures, same, c.into_list-states.result.ok.0, c.in-Some.field-0.states.list.ok.0, many));
+          (omega (arith, c.len.ensures, same, c.into_list-states.result.ok.0, c.in-Some.field-0.states.list.ok.0, many));
       room = omega (arith, c.loop-layer.invariant.room);
       safe = subst (IsSafe c.larger-wide.result) (sym pushed)
           (graph_safe c.layer-item.result c.loop-layer.states.items c.in-Some.field-0.states.list.items c.in-Some.field-0.arcs c.loop-layer.steps.items c.loop-layer.wide c.larger-wide.result
           expanded (omega (arith, c.loop-layer.invariant.fits, c.loop-layer.states.ok.0)) (omega (arith, few, c.loop-layer.invariant.room)) c.loop-layer.invariant.safe c.larger-wide.ensures.first
-          (omega (arith, same, c.into_list-states.result.ok.0, c.larger-wide.ensures.second, c.len-in-Some.ensures)));
+          (omega (arith, same, c.into_list-states.result.ok.0, c.larger-wide.ensures.second, c.len.ensures)));
       most = omega (arith, c.loop-layer.invariant.most);
       begun = omega (arith, begun, cut, few, c.loop-layer.invariant.most);
       thin = c.larger-wide.ensures.least (prefixes (spans_in c.args.layers.now)) c.loop-layer.invariant.thin
-          (omega (arith, c.len-in-Some-2.ensures, next, begun, with_empty (spans_in c.args.layers.now)));
+          (omega (arith, c.len-in-Some.ensures, next, begun, with_empty (spans_in c.args.layers.now)));
       ordered = subst (λ (ss : List (List Arc)). All AreOrdered ss) (sym pushed) (ordered_more c.loop-layer.steps.items c.in-Some.field-0.arcs c.loop-layer.invariant.ordered expanded.ordered);
       first = λ e. absurd (omega (arith, e));
       ends = λ some last. subst (λ (ss : List (List Span)). All IsEndState ss) (sym list)
@@ -132,16 +133,20 @@ loop-layer-init c =
 
 pub returns-in-None-clause-none : goal.returns-in-None-clause-none
 returns-in-None-clause-none c =
-    let full : min c.loop-layer.room (2 ^ 20) < vec_len c.loop-layer.states * width c.layer-item.result.span =
-    subst (λ (o : Option Frontier). IfNone o (min c.loop-layer.room (2 ^ 20) < vec_len c.loop-layer.states * width c.layer-item.result.span)) c.in-None.is c.in_ok-arcs.ensures.none in
-    let over : c.room_for-whole.result - c.loop-layer.room + c.loop-layer.room < beginnings (spans_in c.args.layers.now) =
-    begun_full (c.room_for-whole.result - c.loop-layer.room) (vec_len c.loop-layer.states) c.loop-layer.room (width c.layer-item.result.span)
+    let full : min c.min.result (2 ^ 20) < vec_len c.loop-layer.states * width c.layer-item.result.span =
+    subst (λ (o : Option Frontier). IfNone o (min c.min.result (2 ^ 20) < vec_len c.loop-layer.states * width c.layer-item.result.span)) c.in-None.is c.in_ok-arcs.ensures.none in
+    let over : c.room_for-whole.result - c.loop-layer.room + c.min.result < beginnings (spans_in c.args.layers.now) =
+    begun_full (c.room_for-whole.result - c.loop-layer.room) (vec_len c.loop-layer.states) c.min.result (width c.layer-item.result.span)
     (beginnings (spans_in (drop (c.loop-layer.layer-index + 1) c.args.layers.now))) (beginnings (spans_in c.args.layers.now))
     (subst (λ n. c.room_for-whole.result - c.loop-layer.room + vec_len c.loop-layer.states * n ≤ beginnings (spans_in c.args.layers.now))
     (layers_behind c.args.layers.now c.loop-layer.layer-index c.layer-item.result c.loop-layer-test.true c.layer-item.is) c.loop-layer.invariant.begun)
-    (omega (arith, full, c.loop-layer.invariant.room)) in
-    inl (subst (λ n. AreManyArcs n (beginnings (spans_in c.args.layers.now))) c.len.ensures
-    (c.room_for-whole.ensures.many (beginnings (spans_in c.args.layers.now)) (omega (arith, over, c.loop-layer.invariant.most))))
+    (omega (arith, full, c.loop-layer.invariant.room, c.min.ensures)) in
+    inl (subst (λ n. AreManyArcs n (beginnings (spans_in c.args.layers.now))) c.len-rows.ensures
+    (⊎_elim
+    (λ (layer : c.layer_room_for-most.result < c.loop-layer.room). c.layer_room_for-most.ensures (beginnings (spans_in c.args.layers.now)) (omega (arith, over, c.min.ensures, layer)))
+    (λ (graph : c.loop-layer.room ≤ c.layer_room_for-most.result).
+    c.room_for-whole.ensures.many (beginnings (spans_in c.args.layers.now)) (omega (arith, over, c.min.ensures, graph, c.loop-layer.invariant.most)))
+    (cases_lt c.layer_room_for-most.result c.loop-layer.room)))
 
 pub returns-then-not-are_ends-clause-none : goal.returns-then-not-are_ends-clause-none
 returns-then-not-are_ends-clause-none c =
