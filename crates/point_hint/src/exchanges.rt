@@ -203,11 +203,13 @@ fn go_on_elsewhere(b: &Blocked, exchange: &mut Exchange) -> Result<bool, AllocEr
     Ok(false)
 }
 
-// The next change that helps a broken row, where there is one, and how many of its terms were tried then.
+// The next change that helps a broken row, where there is one, and how many of its terms were tried then. The last one of
+// a chain has to make it cheaper.
 fn next_change(b: &Blocked, exchange: &Exchange, broken: &Break) -> (Option<Change>, usize) {
     if broken.row >= b.model().rows() {
         return (None, broken.tried);
     }
+    let is_last = exchange.chain.len().saturating_add(1) >= LONGEST;
     let terms = b.model().row(broken.row).terms.as_slice();
     for place in broken.tried..terms.len() {
         let term = &terms[place];
@@ -217,11 +219,20 @@ fn next_change(b: &Blocked, exchange: &Exchange, broken: &Break) -> (Option<Chan
             -1
         };
         let change = Change { var: term.var, by };
-        if may_change(b, exchange, change) && !is_in_chain(exchange, term.var) {
+        if (!is_last || pays(exchange, change))
+            && may_change(b, exchange, change)
+            && !is_in_chain(exchange, term.var)
+        {
             return (Some(change), place.saturating_add(1));
         }
     }
     (None, terms.len())
+}
+
+// Whether a chain with a further change is cheaper.
+fn pays(exchange: &Exchange, change: Change) -> bool {
+    let cost = at(exchange.costs.as_slice(), change.var as usize);
+    exchange.more.saturating_add(product(&cost, &change.by)) < 0
 }
 
 // Whether a change leaves a variable in its span.
