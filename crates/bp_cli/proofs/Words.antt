@@ -79,7 +79,7 @@ nothing_written files (Migrate lp cert new dec) = migrated.untouched refl (inr r
 
 -- want of memory is right for `demo` too
 pub not_demonstrated : (order : Order) (tells : Bool) (before now : List ℕ) → Demonstrates order None 9 tells before now
-not_demonstrated (Demo seed size) tells before now = ((λ no_read no_write no_want. absurd (no_want refl)), (λ no_read no_write no_want meant report right. absurd (no_want refl)))
+not_demonstrated (Demo seed size) tells before now = ((λ no_read no_write no_want. absurd (no_want refl)), (λ no_read no_write no_want meant report right. absurd (no_want refl)), (λ heard is_fault. absurd (cc)))
 not_demonstrated (Solve given) tells before now = tt
 not_demonstrated (Check given) tells before now = tt
 not_demonstrated (Show lp dec blocks) tells before now = tt

@@ -1,6 +1,6 @@
 -- What else a run promises beside its headline: an outcome for each accepted decomposition, a certificate that `check` accepts, and
 -- an answer to `demo` that hangs on no file.
-use Rattle.std.specs.Prelude.{◌≡◌, ◌≢◌, ◌⊎◌, ℕ, Bool, List, Option, Some, None, IfSome}
+use Rattle.std.specs.Prelude.{◌≡◌, ◌≢◌, ◌⊎◌, ℕ, Bool, IsTrue, List, Option, Some, None, IfSome}
 use Rattle.bp_theory.specs.declared.Claim.{Claim}
 use Rattle.bp_shelf.specs.Shelf.{Files}
 use Rattle.block_form.specs.Blocked.{BlockedProgram}
@@ -9,7 +9,7 @@ use Rattle.bp_words.specs.declared.order.Order.{Order}
 use Rattle.bp_words.specs.declared.order.Order.TheVariants.{Solve, Check, Show, Gen, Demo, Detect, Propose, Merge, Migrate}
 use Rattle.bp_report.specs.Report.{accepted_report}
 use Rattle.bp_front.specs.Front.{FilesCome, blocked}
-use Rattle.bp_front.specs.Answers.{AnswersBy, IsOnly}
+use Rattle.bp_front.specs.Answers.{AnswersBy, IsOnly, CutsOff}
 use Rattle.cmd_check.specs.Checks.{AnswersCheck}
 use Rattle.cmd_demo.specs.Demos.{AnswersDemo}
 use Rattle.bp_cli.specs.Headline.{IsOutcomeStatus, WasStopped}
@@ -40,9 +40,10 @@ WritesCertificate (Propose lp dec) now kept = Unit {0}
 WritesCertificate (Merge given) now kept = Unit {0}
 WritesCertificate (Migrate lp cert new dec) now kept = Unit {0}
 
--- `demo` uses no file: its answer and its status are right whatever the shelf tells
+-- `demo` uses no file: its answer, its status and what is put of a report that is cut off are right whatever the shelf tells
 abbrev pub Demonstrates : Order → Option Outcome → (status : ℕ) → (tells : Bool) → (before now : List ℕ) → Type 0
-Demonstrates (Demo seed size) kept status tells before now = AnswersBy (AnswersDemo seed size kept) status tells before now × IsOnly (AnswersDemo seed size kept) status
+Demonstrates (Demo seed size) kept status tells before now =
+    AnswersBy (AnswersDemo seed size kept) status tells before now × IsOnly (AnswersDemo seed size kept) status × (IsTrue tells → CutsOff (AnswersDemo seed size) status before now)
 Demonstrates (Solve given) kept status tells before now = Unit {0}
 Demonstrates (Check given) kept status tells before now = Unit {0}
 Demonstrates (Show lp dec blocks) kept status tells before now = Unit {0}

@@ -92,7 +92,7 @@ returns-in-Demo-clause-exact g c = λ told.
 pub returns-in-Demo-clause-demonstrated : goal.returns-in-Demo-clause-demonstrated
 returns-in-Demo-clause-demonstrated g c =
     subst (λ (o : Order). Demonstrates o c.demonstrate.result.kept c.demonstrate.result.status (g.O.Sink.tells c.args.out.now) (g.O.Sink.taken c.args.out.now)
-    (g.O.Sink.taken c.demonstrate.new.out)) (sym c.in-Demo.is) (c.demonstrate.ensures.answered, c.demonstrate.ensures.exact)
+    (g.O.Sink.taken c.demonstrate.new.out)) (sym c.in-Demo.is) (c.demonstrate.ensures.answered, c.demonstrate.ensures.exact, c.demonstrate.ensures.cut_off)
 
 pub returns-in-Demo-clause-causes : goal.returns-in-Demo-clause-causes
 returns-in-Demo-clause-causes g c = c.demonstrate.ensures.causes (g.F.Shelf.read_faults c.args.shelf.now) (g.F.Shelf.write_faults c.args.shelf.now)
