@@ -47,24 +47,32 @@ pub fn migrate<F: Shelf, O: Sink>(
     dec: Option<&str>,
 ) -> Ended
     ensures answered { IsTrue (F.tells shelf.old) →
-        AnswersBy (AnswersMigrate (F.file shelf.old) lp.now cert.now (option_map (λ name. name.now) dec.entry)) result.status (O.tells out.old) (O.taken out.old) (O.taken out.new) }
+        AnswersBy (AnswersMigrate (F.file shelf.old) lp.now cert.now (option_map (λ name. name.now)
+        dec.entry)) result.status (O.tells out.old) (O.taken out.old) (O.taken out.new) }
     ensures exact { IsTrue (F.tells shelf.old) →
-        IsOnly (AnswersMigrate (F.file shelf.old) lp.now cert.now (option_map (λ name. name.now) dec.entry)) result.status }
+        IsOnly (AnswersMigrate (F.file shelf.old) lp.now cert.now (option_map (λ name. name.now)
+        dec.entry)) result.status }
     ensures causes { HasCauses result.status (F.read_faults shelf.old) (F.read_faults shelf.new)
         (F.write_faults shelf.old) (F.write_faults shelf.new) (O.faults out.old) (O.faults out.new) }
     ensures kept { result.kept ≡ None }
     ensures events { result.events.items ≡ [] }
     ensures words { result.status ≢ 2 }
     ensures leaves { IsTrue (F.tells shelf.old) →
-        MigrateLeaves lp.now cert.now (option_map (λ name. name.now) dec.entry) new.now (F.file shelf.old) (F.file shelf.new) result.status }
-    ensures others { IsTrue (F.tells shelf.old) → OthersAsBefore new.now (F.file shelf.old) (F.file shelf.new) }
+        MigrateLeaves lp.now cert.now (option_map (λ name. name.now) dec.entry) new.now (F.file
+        shelf.old) (F.file shelf.new) result.status }
+    ensures others { IsTrue (F.tells shelf.old) → OthersAsBefore new.now (F.file shelf.old) (F.file
+        shelf.new) }
     ensures puts { PutsReport result.status (O.puts out.old) (O.puts out.new) }
     ensures failed { result.status ≡ 8 → FailsToWrite
-        (IsTrue (F.tells shelf.old) → MigrateWrites lp.now cert.now (option_map (λ name. name.now) dec.entry) new.now (F.file shelf.old) (F.file shelf.new))
-        (F.write_faults shelf.old) (F.write_faults shelf.new) (O.faults out.old) (O.faults out.new) (O.puts out.old) (O.puts out.new) (O.taken out.old) (O.taken out.new) }
-    ensures silent { (result.status ≡ 7) ⊎ (result.status ≡ 9) ⊎ (result.status ≡ 11) → O.taken out.new ≡ O.taken out.old }
+        (IsTrue (F.tells shelf.old) → MigrateWrites lp.now cert.now (option_map (λ name. name.now)
+        dec.entry) new.now (F.file shelf.old) (F.file shelf.new))
+        (F.write_faults shelf.old) (F.write_faults shelf.new) (O.faults out.old) (O.faults out.new)
+        (O.puts out.old) (O.puts out.new) (O.taken out.old) (O.taken out.new) }
+    ensures silent { (result.status ≡ 7) ⊎ (result.status ≡ 9) ⊎ (result.status ≡ 11) → O.taken
+        out.new ≡ O.taken out.old }
     ensures cut_off { IsTrue (F.tells shelf.old) → IsTrue (O.tells out.old) →
-        CutsOff (λ kept. AnswersMigrate (F.file shelf.old) lp.now cert.now (option_map (λ name. name.now) dec.entry)) result.status (O.taken out.old) (O.taken out.new) }
+        CutsOff (λ kept. AnswersMigrate (F.file shelf.old) lp.now cert.now (option_map (λ name.
+        name.now) dec.entry)) result.status (O.taken out.old) (O.taken out.new) }
 {
     match load_migrated(alloc, shelf, lp, cert, dec) {
         Ok(migrated) => match shelf.replace(new, &migrated.text) {
@@ -86,10 +94,12 @@ fn load_migrated<F: Shelf>(
     dec: Option<&str>,
 ) -> Result<Migrated, Halt>
     ensures migrated { IsTrue (F.tells shelf.old) →
-        IfOk result (λ m. Migrates (F.file shelf.old) lp.now cert.now (option_map (λ name. name.now) dec.entry) (answer_of m)) }
+        IfOk result (λ m. Migrates (F.file shelf.old) lp.now cert.now (option_map (λ name. name.now)
+        dec.entry) (answer_of m)) }
     ensures done { IfOk result (λ m. m.reply.status ≡ 0) }
     ensures halted { IsTrue (F.tells shelf.old) →
-        IfErr result (IsHalt (Migrates (F.file shelf.old) lp.now cert.now (option_map (λ name. name.now) dec.entry))) }
+        IfErr result (IsHalt (Migrates (F.file shelf.old) lp.now cert.now (option_map (λ name.
+        name.now) dec.entry))) }
     ensures told { F.tells shelf.new ≡ F.tells shelf.old }
     ensures files { F.file shelf.new ≡ F.file shelf.old }
     ensures cause { CountsHalted (F.read_faults shelf.old) (F.read_faults shelf.new) result }
@@ -117,8 +127,10 @@ fn written_anew(alloc: Global, b: &Blocked, text: &[u8]) -> Result<Migrated, Hal
 
 // The text of a certificate in version 2 and the report on it.
 fn written(alloc: Global, cert: &Cert) -> Result<Migrated, AllocError>
-    ensures text { IfOk result (λ m. (frame : Frame) (old : List ℕ) → IsCertText frame (kept_cert cert.now) old → IsText frame Two (kept_cert cert.now) m.text.items) }
-    ensures report { IfOk result (λ m. m.reply.report.items ≡ migrated_report (min (nodes (kept_cert cert.now).tree) (2 ^ 64 - 1))) }
+    ensures text { IfOk result (λ m. (frame : Frame) (old : List ℕ) → IsCertText frame (kept_cert
+        cert.now) old → IsText frame Two (kept_cert cert.now) m.text.items) }
+    ensures report { IfOk result (λ m. m.reply.report.items ≡ migrated_report (min (nodes (kept_cert
+        cert.now).tree) (2 ^ 64 - 1))) }
     ensures done { IfOk result (λ m. m.reply.status ≡ 0) }
 {
     let text = rewrite(alloc, cert)?;
