@@ -121,6 +121,7 @@ FILES = {
 RUNS = [
     ("solve two.lp", []),
     ("check two.lp optimal.cert", []),
+    ("check two.lp optimal.cert --visits 9", []),
     ("solve agents.lp --dec agents.dec --cert kept.cert", []),
     ("gen 0 1 made.lp made.dec", ["made.lp"]),
     ("demo 7 1", []),
