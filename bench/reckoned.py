@@ -57,21 +57,26 @@ class Places:
     AHEAD, SHORTEST, LONGEST = 200, 3.0, 60.0
 
     def __init__(self, farm, clock, folder, workers):
-        self.farm, self.clock, self.folder, self.free, self.running, self.count = farm, clock, folder, [0.0] * workers, [], 0
+        self.farm, self.clock, self.folder, self.free, self.waiting, self.running, self.count = farm, clock, folder, [0.0] * workers, [], [], 0
 
     def give(self, jobs):
-        for job in jobs:
-            begin = used()
-            with open(self.folder / "logs" / "jobs", "ab") as log:
-                subprocess.run(["./work", job.start, job.leaves, str(job.steps), job.new + ".held"], cwd=self.folder, stdout=log, stderr=log, check=False)
-            took = used() - begin
-            self.clock.jobs += took
-            end = max(heapq.heappop(self.free), self.clock.monotonic()) + STARTING + took
-            heapq.heappush(self.free, end)
-            heapq.heappush(self.running, (end, self.count, job, took))
-            self.count += 1
+        self.waiting += [(job, self.clock.monotonic()) for job in jobs]
+
+    def begin(self, job, since):
+        """Runs a job on the place that is free first."""
+        before = used()
+        with open(self.folder / "logs" / "jobs", "ab") as log:
+            subprocess.run(["./work", job.start, job.leaf, str(job.steps), job.new + ".held"], cwd=self.folder, stdout=log, stderr=log, check=False)
+        took = used() - before
+        self.clock.jobs += took
+        end = max(heapq.heappop(self.free), since) + STARTING + took
+        heapq.heappush(self.free, end)
+        heapq.heappush(self.running, (end, self.count, job, took))
+        self.count += 1
 
     def ended(self):
+        while self.waiting and self.free[0] <= self.clock.monotonic():
+            self.begin(*self.waiting.pop(0))
         ends = []
         while self.running and self.running[0][0] <= self.clock.monotonic():
             _, _, job, took = heapq.heappop(self.running)

@@ -1,101 +1,283 @@
-"""What the driver knows of certificates: the tree, the parts of it that workers begin with, and how what they bring back is put into it. It
-reads both versions of the text, writes version 1, where no line rests on another one, and judges nothing."""
+"""What the driver knows of certificates: the tree, the part of it that a process begins with, and how what it brings back is put into the tree.
+It reads both versions of the text, and judges nothing. What is done with is kept as it was written, in version 2, where a leaf's line says what
+it changes of the multipliers of the leaf before; the rest, line by line, as version 1 has it, where each line stands by itself."""
+import heapq
 import re
+from typing import NamedTuple
 
 TRIVIAL = b"open 1 rows 0 priced 0\n"  # an open leaf with no multipliers
 
 
-def whole(line, had):
-    """A leaf's line of version 2 as version 1 has it, behind a leaf with these multipliers by their rows; and its own multipliers."""
+def given(line):
+    """What a leaf's line gives or changes, by row, and where its multipliers end among its words."""
     words = line.split(b" ")
     behind = 4 + 2 * int(words[3])
-    rows = {**had, **{int(row): p for row, p in zip(words[4:behind:2], words[5:behind:2])}}
-    rows = {row: rows[row] for row in sorted(rows) if rows[row] != b"0"}
-    return b" ".join([*words[:2], b"rows", b"%d" % len(rows), *(b"%d %b" % pair for pair in rows.items()), *words[behind:]]), rows
+    return zip(words[4:behind:2], words[5:behind:2]), words, behind
+
+
+def behind(line, had):
+    """The multipliers by row, without zeros, of a leaf whose line of version 2 comes behind these."""
+    rows = {**had, **dict(given(line)[0])}
+    return {row: p for row, p in rows.items() if p != b"0"}
+
+
+def spelled(words, kind, rows, end):
+    """A leaf's line with these multipliers."""
+    return b" ".join([*words[:2], kind, b"%d" % len(rows), *(b"%b %b" % (row, rows[row]) for row in sorted(rows, key=int)), *words[end:]])
+
+
+def standing(line, had):
+    """A leaf's line of version 2 as version 1 has it, behind a leaf with these multipliers, and its own multipliers."""
+    _, words, end = given(line)
+    rows = behind(line, had)
+    return spelled(words, b"rows", rows, end), rows
+
+
+def changing(line, rows, had):
+    """A leaf's line of either version as version 2 has it, where it has these multipliers and comes behind others."""
+    _, words, end = given(line)
+    changes = {row: p for row, p in rows.items() if had.get(row) != p} | {row: b"0" for row in had if row not in rows}
+    return spelled(words, b"change", changes, end)
+
+
+class Done(NamedTuple):
+    """A part of the tree in which nothing is open: its lines of version 2, the place of its first leaf among them, the multipliers of that and
+    of the last leaf, and the steps."""
+
+    lines: list
+    first: int
+    first_rows: dict
+    last_rows: dict
+    steps: int
+
+
+class Head(NamedTuple):
+    """The lines of a certificate in front of its tree, all lines, and where the tree begins."""
+
+    version: bytes
+    claim: str
+    point: bytes
+    lines: list
+    begin: int
+
+
+def read_head(name):
+    with open(name, "rb") as text:
+        lines = text.read().splitlines(keepends=True)
+    claim = lines[1][6:-1].decode("ascii")
+    has_point = value_in(claim) is not None
+    return Head(lines[0], claim, lines[2] if has_point else b"", lines, 3 if has_point else 2)
+
+
+def value_in(claim):
+    found = re.search(r"(?:value|optimal) (-?\d+)$", claim)
+    return int(found[1]) if found else None
+
+
+def shows(claim, bound):
+    """Whether a claim says by itself that no point is past this bound, which lies beyond all values."""
+    word, number = claim.split(" ")[:2] if " " in claim else (claim, "0")
+    value = value_in(claim)
+    return word != "bound" or int(number) == bound or value is not None and (int(number) - bound) * (value - bound) > 0
 
 
 class Tree:
-    """A certificate: its claim, the line of its point, empty where there is none, the lines of its nodes by their ways as version 1 has them, the
-    ways of its open leaves, and how many splits and shut leaves it has. A way is a 1, and then a binary digit for each split, 0 for its low part and 1 for its
-    high part."""
+    """A certificate: its claim, the line of its point, empty where there is none, the lines of its nodes by their ways, the ways of its open
+    leaves, and the parts that are done with, by the ways to them. A way is a 1, and then a binary digit for each split, 0 for its low part and 1
+    for its high part."""
 
     def __init__(self, name):
-        self.lines, self.open, ways, had = {}, set(), [1], {}
-        with open(name, "rb") as lines:
-            version, claim = next(lines), next(lines)
-            self.claim = claim[6:-1].decode("ascii")
-            self.point = b"" if self.value is None else next(lines)
-            for line in lines:
-                if line == b"end\n":
-                    break
-                way = ways.pop()
-                if line.startswith(b"split "):
-                    ways += [2 * way + 1, 2 * way]
-                elif version == b"bpcert 2\n":
-                    line, had = whole(line, had)
-                if line.startswith(b"open "):
-                    self.open.add(way)
-                self.lines[way] = line
+        head = read_head(name)
+        self.claim, self.point, self.lines, self.open, self.done = head.claim, head.point, {}, set(), {}
+        ways, had = [1], {}
+        for line in head.lines[head.begin:-1]:
+            way = ways.pop()
+            if line.startswith(b"split "):
+                ways += [2 * way + 1, 2 * way]
+            elif head.version == b"bpcert 2\n":
+                line, had = standing(line, had)
+            if line.startswith(b"open "):
+                self.open.add(way)
+            self.lines[way] = line
 
     @property
     def value(self):
         """The value of the best point, None where no point is known."""
-        found = re.search(r"(?:value|optimal) (-?\d+)$", self.claim)
-        return int(found[1]) if found else None
+        return value_in(self.claim)
 
     @property
     def steps(self):
-        return len(self.lines) - len(self.open)
+        return len(self.lines) - len(self.open) + sum(part.steps for part in self.done.values())
 
-    def text(self, bound, ways=None):
-        """The certificate under a claim of a bound, and the numbers of these open leaves in it, from 1. Where ways are given, it has the ways to
-        these leaves and nothing else of the tree: what stands beside is open, with no multipliers."""
-        above = {way >> up for way in ways for up in range(way.bit_length())} if ways else self.lines
-        value = "" if self.value is None else f" value {self.value}"
-        lines, numbers, count, stack = [b"bpcert 1\n", f"claim bound {bound}{value}\n".encode(), self.point], [], 0, [1]
+    @property
+    def answer(self):
+        """The claim of a tree in which nothing is open."""
+        return "infeasible" if self.value is None else f"optimal {self.value}"
+
+    def claim_of(self, bound):
+        """The claim of a bound, with the value that is known."""
+        return f"bound {bound}{'' if self.value is None else f' value {self.value}'}"
+
+    def text(self, claim):
+        """The certificate, in version 2, under a claim."""
+        lines, had, stack = [b"bpcert 2\n", f"claim {claim}\n".encode(), self.point], {}, [1]
         while stack:
             way = stack.pop()
-            line = self.lines[way] if way in above else TRIVIAL
+            if part := self.done.get(way):
+                lines += part.lines
+                lines[part.first - len(part.lines)] = changing(part.lines[part.first], part.first_rows, had)
+                had = part.last_rows
+                continue
+            line = self.lines[way]
+            if line.startswith(b"split "):
+                lines.append(line)
+                stack += [2 * way + 1, 2 * way]
+            else:
+                rows = dict(given(line)[0])
+                lines.append(changing(line, rows, had))
+                had = rows
+        return b"".join([*lines, b"end\n"])
+
+    def outline(self, bound, ways, above=None):
+        """A certificate, in version 1, where the ends of these ways are open leaves without multipliers, and so is what is done with. Where `above`
+        is given, so is all that is not there."""
+        lines, stack = [b"bpcert 1\n", f"claim {self.claim_of(bound)}\n".encode(), self.point], [1]
+        while stack:
+            way = stack.pop()
+            line = TRIVIAL if way in ways or way in self.done or above is not None and way not in above else self.lines[way]
             lines.append(line)
             if line.startswith(b"split "):
                 stack += [2 * way + 1, 2 * way]
-            elif line.startswith(b"open "):
-                count += 1
-                if ways and way in ways:
-                    numbers.append(count)
-        return b"".join([*lines, b"end\n"]), numbers
+        return b"".join([*lines, b"end\n"])
 
-    def shows(self, bound):
-        """Whether the claim says by itself that no point is past this bound, which lies beyond all values."""
-        word, number = self.claim.split(" ")[:2] if " " in self.claim else (self.claim, "0")
-        return word != "bound" or int(number) == bound or self.value is not None and (int(number) - bound) * (self.value - bound) > 0
+    def start(self, bound, way):
+        """What a process begins with that works below the end of a way: that way, where all that stands beside it, and what is below it, is one open
+        leaf without multipliers; and the number of its leaf."""
+        above = {way >> up for up in range(1, way.bit_length())}
+        return self.outline(bound, {way}, above), 1 + bin(way)[3:].count("1")
 
-    def has_way(self, other, way):
-        """Whether another tree splits as this one does above the end of a way."""
-        return all(self.lines.get(way >> up) == other.lines.get(way >> up) for up in range(1, way.bit_length()))
+    def below(self, head, top):
+        """What a certificate has at the end of a way, where it splits as this tree does above that and nowhere else: its lines, and the multipliers
+        that come before them; None where it does not."""
+        at, had = head.begin, {}
+        for up in range(top.bit_length() - 1, 0, -1):
+            if head.lines[at] != self.lines.get(top >> up):
+                return None
+            at += 1
+            if top >> (up - 1) & 1:
+                if head.lines[at].startswith(b"split "):
+                    return None
+                had = behind(head.lines[at], had)
+                at += 1
+        return head.lines[at:len(head.lines) - 1 - bin(top)[3:].count("0")], had
 
-    def take(self, other, ways, bound):
-        """Puts what another tree has at the ends of these ways in place of the open leaves there, and takes its point where that is better: nearer
-        to the model's bound. How many of these leaves were worked on, and the steps that come with it."""
-        steps, worked = self.steps, 0
-        for top in self.open & ways:
-            self.open.remove(top)
-            worked += other.lines[top] != self.lines[top]
-            stack = [top]
-            while stack:
-                way = stack.pop()
-                line = self.lines[way] = other.lines[way]
-                if line.startswith(b"split "):
-                    stack += [2 * way, 2 * way + 1]
-                elif line.startswith(b"open "):
-                    self.open.add(way)
-        if other.value is not None and (self.value is None or abs(other.value - bound) < abs(self.value - bound)):
-            self.claim, self.point = f"bound {self.claim.split(' ')[1]} value {other.value}", other.point
-        return worked, self.steps - steps
+    def clear(self, top):
+        """Forgets what stands at the end of a way."""
+        stack = [top]
+        while stack:
+            way = stack.pop()
+            self.open.discard(way)
+            if self.done.pop(way, None) is None and self.lines.pop(way, b"").startswith(b"split "):
+                stack += [2 * way, 2 * way + 1]
+
+    def put(self, head, top, bound):
+        """Puts what a certificate has at the end of a way in place of what stands there, and takes its point where that is better: nearer to the
+        model's bound. The steps that it has there; None where it is no tree that can stand there."""
+        found = self.below(head, top)
+        if found is None or head.version != b"bpcert 2\n":
+            return None
+        part = read_part(*found, top)
+        if part is None:
+            return None
+        self.clear(top)
+        if isinstance(part, Done):
+            self.done[top], steps = part, part.steps
+        else:
+            self.lines.update(part)
+            opened = [way for way, line in part.items() if line.startswith(b"open ")]
+            self.open.update(opened)
+            steps = len(part) - len(opened)
+        self.take_point(head, bound)
+        return steps
+
+    def shut(self, other, ways):
+        """Shuts the open leaves that another tree has shut, but not those at the ends of these ways."""
+        for way in self.open - ways:
+            if other.lines.get(way, b"").startswith(b"leaf "):
+                self.lines[way] = other.lines[way]
+                self.open.remove(way)
+
+    def take_point(self, head, bound):
+        value = value_in(head.claim)
+        if value is not None and (self.value is None or abs(value - bound) < abs(self.value - bound)):
+            self.claim, self.point = f"bound {bound} value {value}", head.point
 
 
-def is_below(way, ways):
-    """Whether a way leads through the end of one of these, or is one of them."""
-    while way and way not in ways:
-        way >>= 1
-    return way > 0
+def read_part(lines, had, top):
+    """The tree of lines of version 2 that come behind these multipliers: done, or, where something is open, the lines of version 1 by their ways.
+    None where the lines are no tree."""
+    wanted, first, first_rows, rows = 1, None, {}, dict(had)
+    for place, line in enumerate(lines):
+        if wanted == 0:
+            return None
+        if line.startswith(b"split "):
+            wanted += 1
+            continue
+        wanted -= 1
+        rows.update(given(line)[0])
+        if first is None:
+            first, first_rows = place, {row: p for row, p in rows.items() if p != b"0"}
+    if wanted != 0:
+        return None
+    if not any(line.startswith(b"open ") for line in lines):
+        return Done(lines, first, first_rows, {row: p for row, p in rows.items() if p != b"0"}, len(lines))
+    found, ways = {}, [top]
+    for line in lines:
+        way = ways.pop()
+        if line.startswith(b"split "):
+            ways += [2 * way + 1, 2 * way]
+        else:
+            line, had = standing(line, had)
+        found[way] = line
+    return found
+
+
+def count_open(tree):
+    """How many open leaves are at the end of each way or below it."""
+    counts = {}
+    for way in tree.open:
+        while way:
+            counts[way] = counts.get(way, 0) + 1
+            way >>= 1
+    return counts
+
+
+def free_pieces(counts, taken):
+    """The greatest pieces with open leaves that have nothing at or below the ends of these ways."""
+    above, pieces, stack = {way >> up for way in taken for up in range(1, way.bit_length())}, [], [1]
+    while stack:
+        way = stack.pop()
+        if way in above:
+            stack += [2 * way, 2 * way + 1]
+        elif way not in taken and counts.get(way):
+            pieces.append((counts[way], way))
+    return pieces
+
+
+def cut(pieces, counts, many):
+    """Cuts the pieces with the most open leaves until there are so many pieces, or none can be cut. A piece is the number of its open leaves and
+    the way to the least node that has them all at it or below; those with the most come first."""
+    heap = [(-leaves, least(way, counts)) for leaves, way in pieces]
+    heapq.heapify(heap)
+    while heap and len(heap) < many and heap[0][0] < -1:
+        way = heapq.heappop(heap)[1]
+        for part in (2 * way, 2 * way + 1):
+            heapq.heappush(heap, (-counts[part], least(part, counts)))
+    return sorted((-leaves, way) for leaves, way in heap)[::-1]
+
+
+def least(way, counts):
+    """The way to the least node that has all the open leaves of a node at it or below."""
+    while counts.get(2 * way) == counts[way] or counts.get(2 * way + 1) == counts[way]:
+        way = 2 * way + (counts.get(2 * way) != counts[way])
+    return way

@@ -10,10 +10,10 @@ from typing import NamedTuple
 
 
 class Job(NamedTuple):
-    """Leaves that are handed out: the certificate to start from, their numbers, as in `9,4,2`, the steps, and the certificate to write."""
+    """A leaf that is handed out: the certificate to start from, its number there, the steps, and the certificate to write."""
 
     start: str
-    leaves: str
+    leaf: str
     steps: int
     new: str
 

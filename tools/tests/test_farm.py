@@ -75,25 +75,25 @@ def test_a_part_is_a_certificate_that_goes_back_into_the_tree(plan, tmp_path):
     bound = int(run("solve", lp, "--steps", 0)[0].split("\n")[1].removeprefix("bound "))
     run("solve", lp, "--steps", 20, "--cert", tmp_path / "tree")
     tree = CERTIFICATES.Tree(tmp_path / "tree")
-    (tmp_path / "again").write_bytes(tree.text(bound)[0])
+    (tmp_path / "again").write_bytes(tree.text(tree.claim_of(bound)))
     assert len(tree.open) > 2 and CERTIFICATES.Tree(tmp_path / "again").lines == tree.lines
     assert run("check", lp, tmp_path / "again")[0].startswith(f"accepted bound {bound}")
-    for every in (100, 2):
-        ways = set(sorted(tree.open)[::every])
-        text, numbers = tree.text(bound, ways)
+    counts = CERTIFICATES.count_open(tree)
+    pieces = CERTIFICATES.cut(CERTIFICATES.free_pieces(counts, set()), counts, 3)
+    assert len(pieces) >= 3 and sum(leaves for leaves, _ in pieces) == len(tree.open) and pieces == sorted(pieces, reverse=True)
+    assert {way for _, way in CERTIFICATES.free_pieces(counts, {pieces[0][1]})}.isdisjoint({1, pieces[0][1]})
+    for steps, (_, way) in zip((3, 10**6, 10**6), pieces):
+        text, number = tree.start(bound, way)
         (tmp_path / "part").write_bytes(text)
-        assert run("check", lp, tmp_path / "part")[0].startswith(f"accepted bound {bound}") and len(numbers) == len(ways)
-        assert run("solve", lp, "--from", tmp_path / "part", "--leaf", numbers[-1], "--steps", 5, "--cert", tmp_path / "new")[1] == 5
-        part = CERTIFICATES.Tree(tmp_path / "new")
-        assert all(tree.has_way(part, way) for way in ways)
-        steps = tree.steps
-        leaves, more = tree.take(part, ways, bound)
-        assert (leaves, tree.steps) == (1, steps + more) and more > 0
-        (tmp_path / "whole").write_bytes(tree.text(bound)[0])
+        assert run("check", lp, tmp_path / "part")[0].startswith(f"accepted bound {bound}")
+        assert run("solve", lp, "--from", tmp_path / "part", "--leaf", number, "--steps", steps, "--cert", tmp_path / "new")[1] == 5
+        had, head = tree.steps, CERTIFICATES.read_head(tmp_path / "new")
+        assert tree.put(head, pieces[0][1] if way != pieces[0][1] else pieces[1][1], bound) is None and tree.steps == had
+        assert 0 < tree.put(head, way, bound) <= steps
+        assert (way in tree.done) == (steps > 3)
+        (tmp_path / "whole").write_bytes(tree.text(tree.claim_of(bound)))
         assert run("check", lp, tmp_path / "whole")[0].startswith(f"accepted bound {bound}")
-    other = CERTIFICATES.Tree(tmp_path / "new")
-    other.lines[1] = b"split 1 99\n"
-    assert not tree.has_way(other, max(tree.open))
+        assert CERTIFICATES.Tree(tmp_path / "whole").steps == tree.steps
 
 
 def test_two_workers_find_what_one_search_finds(plan, tmp_path):
