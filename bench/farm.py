@@ -7,8 +7,8 @@
     BPRICE=program bench/farm.py    another program than ./bprice
 
 A NAME is one of bench/models.py, with `:plain` behind it without its decomposition. The machine should have four idle cores. Each farm's
-certificate is judged by `check` and by tools/check_certificate.py, as farm/run does; what these take is not counted. It ends with status 1
-where an answer is wrong. WORKERS=4 in the environment measures farms of 4 workers alone.
+certificate is judged by `check` and by tools/check_certificate.py, as farm/run does. Seconds are those until the certificate is written, as for one
+search; `Judged` are those until `check` has accepted it. Steps are those of all processes, with what was done twice. It ends with status 1 where an answer is wrong. WORKERS=4 in the environment measures farms of 4 workers alone.
 """
 import os
 import pathlib
@@ -68,30 +68,32 @@ def seconds():
 
 
 def farm(folder, lp, dec, workers, program=BPRICE, steps=None):
-    """The first line that a farm prints, and of its log the seconds to the end of the search, the steps of its tree, and how many workers died."""
+    """The first line that a farm prints, and of its log the seconds until the certificate is written, and until `check` has accepted it, the steps
+    of all processes, and how many workers died."""
     words = [sys.executable, RECKONED if IS_RECKONED else RUN, lp, *([dec] if dec else []), folder, "--workers", workers, "--bprice", program, *(["--steps", steps] if steps else [])]
     ran = subprocess.run(list(map(str, words)), capture_output=True, text=True, check=False)
-    log = (folder / "log").read_text(encoding="ascii").splitlines() if (folder / "log").exists() else []
-    ended = re.fullmatch(r"\S+ \S+ +(\S+) ended: .* died (\d+), .*steps (\d+)", log[-1]) if log else None
-    if ran.returncode not in (0, 4) or ended is None:
-        return f"status {ran.returncode}: {ran.stderr[-300:]}", 0.0, 0, 0
-    return ran.stdout.split("\n", 1)[0], float(ended[1]), int(ended[3]), int(ended[2])
+    log = (folder / "log").read_text(encoding="ascii") if (folder / "log").exists() else ""
+    times = [re.findall(rf"^\S+ \S+ +(\S+) {word}$", log, flags=re.MULTILINE) for word in ("written", "accepted")]
+    ended = re.search(r"ended: .* died (\d+), .*worked (\d+), steps \d+\n$", log)
+    if ran.returncode not in (0, 4) or ended is None or not all(times):
+        return f"status {ran.returncode}: {ran.stderr[-300:]}", 0.0, 0.0, 0, 0
+    return ran.stdout.split("\n", 1)[0], float(times[0][-1]), float(times[1][-1]), int(ended[2]), int(ended[1])
 
 
 def measure(names):
     """A line for each model and each number of workers."""
     is_right = True
-    print("| Model | Workers | Answer | Seconds | Times faster | Steps | Times as many |\n|---|---|---|---|---|---|---|", flush=True)
+    print("| Model | Workers | Answer | Seconds | Times faster | Judged | Steps | Times as many |\n|---|---|---|---|---|---|---|---|", flush=True)
     for name in names:
         with tempfile.TemporaryDirectory() as room:
             room = pathlib.Path(room)
             model = Model(room, name)
             first, alone, steps = model.alone(room)
-            print(f"| {model.name} | one search | {first} | {alone:.1f} | | {steps} | |", flush=True)
+            print(f"| {model.name} | one search | {first} | {alone:.1f} | | | {steps} | |", flush=True)
             for workers in WORKERS:
-                answer, took, taken, _ = farm(room / f"farm-{workers}", model.lp, model.dec, workers)
+                answer, took, judged, taken, _ = farm(room / f"farm-{workers}", model.lp, model.dec, workers)
                 is_right = is_right and answer == first
-                print(f"| {model.name} | {workers} | {answer} | {took:.1f} | {alone / max(took, 1e-3):.2f} | {taken} | {taken / steps:.2f} |", flush=True)
+                print(f"| {model.name} | {workers} | {answer} | {took:.1f} | {alone / max(took, 1e-3):.2f} | {judged:.1f} | {taken} | {taken / steps:.2f} |", flush=True)
                 if os.environ.get("LOGS"):
                     print((room / f"farm-{workers}" / "log").read_text(encoding="ascii"), flush=True)
     return is_right
@@ -111,7 +113,7 @@ def kill(runs):
             lp, dec = room / "m.lp", room / "m.dec"
             for file, text in zip((lp, dec), model.texts()):
                 file.write_text(text, encoding="ascii")
-            answer, _, _, dead = farm(room / "farm", lp, dec if seed % 2 else None, 2, program, 5)
+            answer, _, _, _, dead = farm(room / "farm", lp, dec if seed % 2 else None, 2, program, 5)
             back = (room / "farm" / "log").read_text(encoding="ascii").count(" merged ")
             if dead + back == 0 and answer == model.answer():
                 continue

@@ -347,6 +347,18 @@ def crews(draw, many, duties):
     return text
 
 
+def knapsack(draw, items, rows):
+    """Items of a knapsack with several capacities, each half of what all items take; what an item takes tells most of its worth."""
+    text, every = Text(), range(items)
+    weight = [[draw.randint(5, 60) for _ in every] for _ in range(rows)]
+    for j in every:
+        text.cost(-(sum(own[j] for own in weight) // rows + draw.randint(1, 25)), f"x{j}")
+        text.integer(f"x{j}", 1)
+    for k, own in enumerate(weight):
+        text.row(f"k{k}", [(own[j], f"x{j}") for j in every], "<=", sum(own) // 2)
+    return text
+
+
 MAKERS = {
     "assignment-gen": lambda draw, seed, jobs: generated(seed, 4, jobs),
     **{f"assignment-{kind}": lambda draw, seed, agents, jobs, kind=kind: assignment(draw, kind, agents, jobs) for kind in "ABCDE"},
@@ -366,6 +378,7 @@ MAKERS = {
     "roster": lambda draw, seed, nurses, days: roster(draw, nurses, days, False),
     "roster-alike": lambda draw, seed, nurses, days: roster(draw, nurses, days, True),
     "crews": lambda draw, seed, many, duties: crews(draw, many, duties),
+    "knapsack": lambda draw, seed, items, rows: knapsack(draw, items, rows),
 }
 
 SIZES = [
