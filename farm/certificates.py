@@ -180,14 +180,14 @@ class Tree:
             if self.done.pop(way, None) is None and self.lines.pop(way, b"").startswith(b"split "):
                 stack += [2 * way, 2 * way + 1]
 
-    def put(self, head, top, bound):
-        """Puts what a certificate has at the end of a way in place of what stands there, and takes its point where that is better: nearer to the
-        model's bound. The steps that it has there; None where it is no tree that can stand there."""
+    def put(self, head, top, bound, is_whole=False):
+        """Puts what a certificate has at the end of a way in place of what stands there, perhaps only if nothing is open in it, and takes its point
+        where that is better: nearer to the model's bound. The steps that it has there; None where it is no tree that can stand there."""
         found = self.below(head, top)
         if found is None or head.version != b"bpcert 2\n":
             return None
         part = read_part(*found, top)
-        if part is None:
+        if part is None or is_whole and not isinstance(part, Done):
             return None
         self.clear(top)
         if isinstance(part, Done):
