@@ -8,7 +8,8 @@
 
 A NAME is one of bench/models.py, with `:plain` behind it without its decomposition. The machine should have four idle cores. Each farm's
 certificate is judged by `check` and by tools/check_certificate.py, as farm/run does. Seconds are those until the certificate is written, as for one
-search; `Judged` are those until `check` has accepted it. Steps are those of all processes, with what was done twice. It ends with status 1 where an answer is wrong. WORKERS=4 in the environment measures farms of 4 workers alone.
+search; `Accepted` are those until `check` has accepted it. Steps are those of all processes, with what was done twice. It ends with status 1 where an
+answer is wrong. WORKERS=4 in the environment measures farms of 4 workers alone.
 """
 import os
 import pathlib
@@ -27,7 +28,7 @@ from models import make  # noqa: E402
 
 BPRICE = os.path.abspath(os.environ.get("BPRICE", HERE.parent / "bprice"))
 RUN, RECKONED = HERE.parent / "farm" / "run", HERE / "reckoned.py"
-MODELS = ("assignment-gen-300:plain", "assignment-E-5-100:plain", "crews-20-50")
+MODELS = ("assignment-C-5-100:plain", "knapsack-45-100:plain", "knapsack-50-100:plain", "general-8-16", "colouring-20-50:plain")
 WORKERS = [int(word) for word in os.environ.get("WORKERS", "1 2 4").split()]
 IS_RECKONED = "--reckon" in sys.argv[1:]
 
@@ -83,7 +84,7 @@ def farm(folder, lp, dec, workers, program=BPRICE, steps=None):
 def measure(names):
     """A line for each model and each number of workers."""
     is_right = True
-    print("| Model | Workers | Answer | Seconds | Times faster | Judged | Steps | Times as many |\n|---|---|---|---|---|---|---|---|", flush=True)
+    print("| Model | Workers | Answer | Seconds | Times faster | Accepted | Steps | Times as many |\n|---|---|---|---|---|---|---|---|", flush=True)
     for name in names:
         with tempfile.TemporaryDirectory() as room:
             room = pathlib.Path(room)
@@ -91,9 +92,9 @@ def measure(names):
             first, alone, steps = model.alone(room)
             print(f"| {model.name} | one search | {first} | {alone:.1f} | | | {steps} | |", flush=True)
             for workers in WORKERS:
-                answer, took, judged, taken, _ = farm(room / f"farm-{workers}", model.lp, model.dec, workers)
+                answer, took, accepted, taken, _ = farm(room / f"farm-{workers}", model.lp, model.dec, workers)
                 is_right = is_right and answer == first
-                print(f"| {model.name} | {workers} | {answer} | {took:.1f} | {alone / max(took, 1e-3):.2f} | {judged:.1f} | {taken} | {taken / steps:.2f} |", flush=True)
+                print(f"| {model.name} | {workers} | {answer} | {took:.1f} | {alone / max(took, 1e-3):.2f} | {accepted:.1f} | {taken} | {taken / steps:.2f} |", flush=True)
                 if os.environ.get("LOGS"):
                     print((room / f"farm-{workers}" / "log").read_text(encoding="ascii"), flush=True)
     return is_right
