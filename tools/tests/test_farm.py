@@ -89,6 +89,7 @@ def test_a_part_is_a_certificate_that_goes_back_into_the_tree(plan, tmp_path):
         assert run("solve", lp, "--from", tmp_path / "part", "--leaf", number, "--steps", steps, "--cert", tmp_path / "new")[1] == 5
         had, head = tree.steps, CERTIFICATES.read_head(tmp_path / "new")
         assert tree.put(head, pieces[0][1] if way != pieces[0][1] else pieces[1][1], bound) is None and tree.steps == had
+        assert steps > 3 or tree.put(head, way, bound, is_whole=True) is None
         assert 0 < tree.put(head, way, bound) <= steps
         assert (way in tree.done) == (steps > 3)
         (tmp_path / "whole").write_bytes(tree.text(tree.claim_of(bound)))
