@@ -7,15 +7,9 @@ ghost use Rattle.cert_text.specs.Signed.{signed};
 
 use crate::fault::CertKind;
 use crate::frame::Frame;
-
-/// The greatest magnitude of a value.
-const VALUE: u64 = 4611686018427387903;
-/// The greatest magnitude of a multiplier.
-const MULTIPLIER: u64 = 1099511627776;
-/// The greatest scale.
-const SCALE: u64 = 1048576;
-/// The greatest depth of a node.
-const DEPTH: usize = 8256;
+use block_form::{MAX_MULTIPLIER, MAX_SCALE};
+use bp_model::MAX_NUMBER;
+use branch_tree::MAX_DEPTH;
 
 // A number with its sign.
 pub fn signed_of(negative: bool, value: u64) -> i64
@@ -31,7 +25,7 @@ pub fn judge_value(negative: bool, value: u64) -> Result<i64, CertKind>
     ensures { MatchResult result (λ z. (value_fault (signed negative value) ≡ None) ×
         (z ≡ signed negative value)) (λ kind. value_fault (signed negative value) ≡ Some kind) }
 {
-    if value > VALUE {
+    if value > MAX_NUMBER as u64 {
         return Err(CertKind::TooLarge);
     }
     Ok(signed_of(negative, value))
@@ -50,7 +44,7 @@ pub fn judge_coordinate(
         (λ kind. coordinate_fault (frame_of frame.now) (done + 1) (signed negative value) ≡
         Some kind) }
 {
-    if value > VALUE {
+    if value > MAX_NUMBER as u64 {
         return Err(CertKind::TooLarge);
     }
     if done >= frame.variables as usize {
@@ -65,7 +59,7 @@ pub fn judge_multiplier(had: &i64, negative: bool, value: u64) -> Result<i64, Ce
         (z ≡ signed negative value))
         (λ kind. changed_fault had.now (signed negative value) ≡ Some kind) }
 {
-    if value > MULTIPLIER {
+    if value > MAX_MULTIPLIER {
         return Err(CertKind::TooLarge);
     }
     let z = signed_of(negative, value);
@@ -79,7 +73,7 @@ pub fn judge_multiplier(had: &i64, negative: bool, value: u64) -> Result<i64, Ce
 pub fn is_too_deep(depth: usize) -> bool
     ensures { result ≡ is_deep depth }
 {
-    depth > DEPTH
+    depth > MAX_DEPTH as usize
 }
 
 // The scale of a leaf at a depth.
@@ -90,7 +84,7 @@ pub fn judge_scale(depth: usize, value: u64) -> Result<u32, CertKind>
     if is_too_deep(depth) {
         return Err(CertKind::Depth);
     }
-    if value > SCALE {
+    if value > u64::from(MAX_SCALE) {
         return Err(CertKind::TooLarge);
     }
     Ok(value as u32)

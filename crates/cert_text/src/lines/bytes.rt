@@ -28,7 +28,8 @@ fn digit(byte: u8) -> bool
 impl Lines {
     // Whether a line's end would leave a point with too few values.
     fn is_short_point(&self, frame: &Frame) -> bool
-        ensures { (above : List Wait) (root : Tree) (n : ℕ) → (result ≡ true → line_fault (frame_of frame.now) (stage_of above root self.now n) ≡
+        ensures { (above : List Wait) (root : Tree) (n : ℕ) → (result ≡ true → line_fault (frame_of
+            frame.now) (stage_of above root self.now n) ≡
             Some CertKind.Length) × (result ≡ false →
             line_fault (frame_of frame.now) (stage_of above root self.now n) ≡ None) }
     {
@@ -60,11 +61,13 @@ impl Lines {
         value: u64,
     ) -> Result<(), CertFault>
         requires { self.old.part ≡ Digits negative value }
-        ensures behind { (above : List Wait) (root : Tree) (text : List ℕ) (byte : ℕ) → length text + 1 < 2 ^ 64 →
+        ensures behind { (above : List Wait) (root : Tree) (text : List ℕ) (byte : ℕ) → length text
+            + 1 < 2 ^ 64 →
             StandsFor above root frame.now self.old text → is_digit byte ≡ false →
             EndsNumberAt above root frame.now self.new text byte result }
         ensures at_end { (above : List Wait) (root : Tree) (text : List ℕ) → length text < 2 ^ 64 →
-            StandsFor above root frame.now self.old text → EndsTextAt above root frame.now self.new text result }
+            StandsFor above root frame.now self.old text → EndsTextAt above root frame.now self.new
+            text result }
     {
         match sort_of(self.spot) {
             Sort::Natural => self.take_natural(alloc, frame, value),
@@ -80,9 +83,12 @@ impl Lines {
         frame: &Frame,
         word: Word,
     ) -> Result<Option<Event>, CertFault>
-        ensures { (above : List Wait) (root : Tree) (text : List ℕ) (byte count : ℕ) → length text + 1 < 2 ^ 64 →
-            InWordAt above root frame.now self.old word count text → slice_index_or (word_text word) count 0 ≡
-            byte → count + 1 ≡ length (word_text word) → Steps above root frame.now self.new text byte result }
+        ensures { (above : List Wait) (root : Tree) (text : List ℕ) (byte count : ℕ) → length text +
+            1 < 2 ^ 64 →
+            InWordAt above root frame.now self.old word count text → slice_index_or (word_text word)
+            count 0 ≡
+            byte → count + 1 ≡ length (word_text word) → Steps above root frame.now self.new text
+            byte result }
     {
         if self.is_faulty_end(frame, word) {
             return Err(self.fault(CertKind::Length));
@@ -110,7 +116,8 @@ impl Lines {
         byte: u8,
     ) -> Result<Option<Event>, CertFault>
         ensures { (above : List Wait) (root : Tree) (text : List ℕ) → length text + 1 < 2 ^ 64 →
-            (done ≡ 0 → word_begins word byte ≡ true) → InWordAt above root frame.now self.old word done text →
+            (done ≡ 0 → word_begins word byte ≡ true) → InWordAt above root frame.now self.old word
+            done text →
             Steps above root frame.now self.new text byte result }
     {
         let bytes = bytes_of(word);
@@ -132,7 +139,8 @@ impl Lines {
 
     // Whether the number comes of a node that is too deep.
     fn awaits_deep(&self) -> bool
-        ensures { (above : List Wait) (root : Tree) (n : ℕ) → HasHighs above self.now → result ≡ is_deep_stage (stage_of above root self.now n) }
+        ensures { (above : List Wait) (root : Tree) (n : ℕ) → HasHighs above self.now → result ≡
+            is_deep_stage (stage_of above root self.now n) }
     {
         match self.spot {
             Spot::Scale | Spot::Variable => self.is_deep(),
@@ -142,9 +150,11 @@ impl Lines {
 
     // The number of a node that is too deep begins with a byte, or the text leaves the grammar.
     fn begin_deep(&mut self, byte: u8) -> Result<Option<Event>, CertFault>
-        ensures { (above : List Wait) (root : Tree) (frame : Frame) (text : List ℕ) (number : Bool) → length text + 1 < 2 ^ 64 →
+        ensures { (above : List Wait) (root : Tree) (frame : Frame) (text : List ℕ) (number : Bool)
+            → length text + 1 < 2 ^ 64 →
             (between : Between above root frame self.old number text) →
-            is_deep_stage (stage_of above root self.old between.count) ≡ true → MayStand number (byte ∷ []) →
+            is_deep_stage (stage_of above root self.old between.count) ≡ true → MayStand number
+            (byte ∷ []) →
             Steps above root frame self.new text byte result }
     {
         if digit(byte) {
@@ -160,8 +170,10 @@ impl Lines {
     // The byte behind a minus, where the number comes of a node that is too deep.
     fn behind_deep_minus(&self, byte: u8) -> Result<Option<Event>, CertFault>
         requires { self.now.part ≡ DeepMinus }
-        ensures { (above : List Wait) (root : Tree) (frame : Frame) (text : List ℕ) → length text + 1 < 2 ^ 64 →
-            StandsFor above root frame self.now text → Steps above root frame self.now text byte result }
+        ensures { (above : List Wait) (root : Tree) (frame : Frame) (text : List ℕ) → length text +
+            1 < 2 ^ 64 →
+            StandsFor above root frame self.now text → Steps above root frame self.now text byte
+            result }
     {
         if digit(byte) {
             return Err(self.fault(CertKind::Depth));
@@ -171,8 +183,10 @@ impl Lines {
 
     // A number begins with a byte, or the text leaves the grammar.
     fn begin_number(&mut self, byte: u8) -> Result<Option<Event>, CertFault>
-        ensures { (above : List Wait) (root : Tree) (frame : Frame) (text : List ℕ) (number : Bool) → length text + 1 < 2 ^ 64 →
-            (between : Between above root frame self.old number text) → MayStand number (byte ∷ []) →
+        ensures { (above : List Wait) (root : Tree) (frame : Frame) (text : List ℕ) (number : Bool)
+            → length text + 1 < 2 ^ 64 →
+            (between : Between above root frame self.old number text) → MayStand number (byte ∷ [])
+            →
             ((v : Word) → Comes v (words (stage_of above root self.old between.count)) →
             word_begins v byte ≡ false) → Steps above root frame self.new text byte result }
     {
@@ -223,8 +237,10 @@ impl Lines {
     ) -> Result<Option<Event>, CertFault>
         requires part { self.old.part ≡ Digits negative value }
         requires digit { is_digit byte ≡ true }
-        ensures { (above : List Wait) (root : Tree) (frame : Frame) (text : List ℕ) → length text + 1 < 2 ^ 64 →
-            StandsFor above root frame self.old text → Steps above root frame self.new text byte result }
+        ensures { (above : List Wait) (root : Tree) (frame : Frame) (text : List ℕ) → length text +
+            1 < 2 ^ 64 →
+            StandsFor above root frame self.old text → Steps above root frame self.new text byte
+            result }
     {
         if value == 0 {
             return Err(self.fault(CertKind::Syntax));
@@ -240,8 +256,10 @@ impl Lines {
     // The byte behind a minus.
     fn behind_minus(&mut self, byte: u8) -> Result<Option<Event>, CertFault>
         requires { self.old.part ≡ Minus }
-        ensures { (above : List Wait) (root : Tree) (frame : Frame) (text : List ℕ) → length text + 1 < 2 ^ 64 →
-            StandsFor above root frame self.old text → Steps above root frame self.new text byte result }
+        ensures { (above : List Wait) (root : Tree) (frame : Frame) (text : List ℕ) → length text +
+            1 < 2 ^ 64 →
+            StandsFor above root frame self.old text → Steps above root frame self.new text byte
+            result }
     {
         if digit(byte) {
             if byte == b'0' {
@@ -254,8 +272,10 @@ impl Lines {
 
     // A token begins with a byte.
     fn begin(&mut self, alloc: Global, frame: &Frame, byte: u8) -> Result<Option<Event>, CertFault>
-        ensures { (above : List Wait) (root : Tree) (text : List ℕ) (number : Bool) → length text + 1 < 2 ^ 64 →
-            Between above root frame.now self.old number text → (number ≡ true → is_digit byte ≡ false) →
+        ensures { (above : List Wait) (root : Tree) (text : List ℕ) (number : Bool) → length text +
+            1 < 2 ^ 64 →
+            Between above root frame.now self.old number text → (number ≡ true → is_digit byte ≡
+            false) →
             Steps above root frame.now self.new text byte result }
     {
         match pick(words_at(self.version, self.spot, self.left > 0), byte) {
@@ -272,7 +292,8 @@ impl Lines {
         frame: &Frame,
         byte: u8,
     ) -> Result<Option<Event>, CertFault>
-        ensures { (above : List Wait) (root : Tree) (text : List ℕ) → length text + 1 < 2 ^ 64 → StandsFor above root frame.now self.old text →
+        ensures { (above : List Wait) (root : Tree) (text : List ℕ) → length text + 1 < 2 ^ 64 →
+            StandsFor above root frame.now self.old text →
             Steps above root frame.now self.new text byte result }
     {
         match self.part {
@@ -294,7 +315,8 @@ impl Lines {
 
     /// The text ends here: it is a certificate's, or has a fault.
     pub fn end(&mut self, alloc: Global, frame: &Frame) -> Result<(), CertFault>
-        ensures { (above : List Wait) (root : Tree) (text : List ℕ) → length text < 2 ^ 64 → StandsFor above root frame.now self.old text →
+        ensures { (above : List Wait) (root : Tree) (text : List ℕ) → length text < 2 ^ 64 →
+            StandsFor above root frame.now self.old text →
             EndsWell above root frame.now self.new text result }
     {
         match self.part {
