@@ -9,7 +9,7 @@ use crate::told::Told;
 use block_class::Classes;
 use block_form::{Blocked, Zone};
 use bp_theory::Items;
-use col_pool::Pool;
+use col_pool::{Pool, PoolFault};
 use disagg::{Used, spread};
 use std::alloc::{AllocError, Global};
 
@@ -105,7 +105,9 @@ fn point_in(
         return Ok(None);
     }
     let mut pool = Pool::make(alloc, b, number)?;
-    let _ = pool.add(alloc, block, point);
+    if let Err(PoolFault::NoMemory) = pool.add(alloc, block, point) {
+        return Err(AllocError);
+    }
     if pool.len() == 0 {
         return Ok(None);
     }
