@@ -40,8 +40,13 @@ fn searched_once(alloc: Global, b: &Blocked) -> Result<Outcome, AllocError> {
 // How a crew's search ends, and how many events it lists.
 fn tell_run(alloc: Global, b: &Blocked, told: &mut Told) -> Result<(), AllocError> {
     let (ended, events) = crew_run(alloc, b)?;
+    tell_ended(&ended, events.as_slice(), told)
+}
+
+// The end of a crew's search, and how many events there are.
+fn tell_ended(ended: &Outcome, events: &[Event], told: &mut Told) -> Result<(), AllocError> {
     told.text("search of two.lp by a crew: ")?;
-    tell_cost(&ended, told)?;
+    tell_cost(ended, told)?;
     told.text(", ")?;
     told.number(i128::from(events.len() as u64))?;
     told.line(" events")
