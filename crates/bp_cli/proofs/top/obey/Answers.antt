@@ -225,6 +225,14 @@ returns-in-Merge-clause-cut_off g c = λ told heard.
     c.as_str-in-Merge-3.ensures c.as_str-in-Merge-4.ensures c.named-in-Merge.ensures)
     (kept_cut _ c.merge.result.status _ _ (c.merge.ensures.cut_off told heard))
 
+pub returns-in-Merge-clause-written : goal.returns-in-Merge-clause-written
+returns-in-Merge-clause-written g c = λ told.
+    subst (λ (o : Order). HasWritten o (g.F.Shelf.file c.args.shelf.now) (g.F.Shelf.file c.merge.new.shelf) c.merge.result.kept c.merge.result.status)
+    (as_merge c.args.order.now c.in-Merge.given c.as_str-in-Merge.result.now c.as_str-in-Merge-2.result.now c.as_str-in-Merge-3.result.now
+    c.as_str-in-Merge-4.result.now (option_map (λ name. name.now) c.named-in-Merge.result) c.in-Merge.is c.as_str-in-Merge.ensures c.as_str-in-Merge-2.ensures
+    c.as_str-in-Merge-3.ensures c.as_str-in-Merge-4.ensures c.named-in-Merge.ensures)
+    (c.merge.ensures.leaves told)
+
 pub returns-in-Merge-clause-failed : goal.returns-in-Merge-clause-failed
 returns-in-Merge-clause-failed g c = λ is_fault.
     fails_as (g.F.Shelf.write_faults c.args.shelf.now) (g.F.Shelf.write_faults c.args.shelf.now) (g.F.Shelf.write_faults c.merge.new.shelf)
