@@ -38,12 +38,17 @@ def agree(room, lp, cert, dec=None):
     return new
 
 
-def in_version_1(room, cert, bound=0):
+def in_version_1(room, cert):
     """A certificate's tree in version 1, under its own claim."""
     (room.path / "cert").write_bytes(cert)
     tree = certificates.Tree(room.path / "cert")
-    lines = tree.text(bound)[0].split(b"\n")
-    return b"\n".join([lines[0], b"claim " + tree.claim.encode(), *lines[2:]])
+    nodes, ways = [], [1]
+    while ways:
+        way = ways.pop()
+        nodes.append(tree.lines[way])
+        if nodes[-1].startswith(b"split "):
+            ways += [2 * way + 1, 2 * way]
+    return b"".join([b"bpcert 1\nclaim ", tree.claim.encode(), b"\n", tree.point, *nodes, b"end\n"])
 
 
 @pytest.mark.parametrize("lp, cert, dec", EXAMPLES)
