@@ -4,7 +4,8 @@
 # for those that it stands on. Below the table: the sums, and the longest chain of all.
 #
 #     bench/proof_times.sh            every crate; it takes as long as the whole gate from nothing
-#     bench/proof_times.sh lp_read..  these crates alone, over what `rt ci` has proved on this machine of those below
+#     bench/proof_times.sh lp_read..  these crates alone, over what `rt ci` has proved on this machine of those below; with
+#                                     a kit whose `rt ci` keeps nothing, those below are proved and timed too
 #
 # `rt ci` runs on a copy, and once a second the time of each of its checks is read from /proc. So each check is measured
 # up to a second short. Linux, bash, awk and Rattle's command rt are needed.
@@ -14,12 +15,32 @@ top=$(cd "$(dirname "$(readlink -f "${BASH_SOURCE[0]}")")/.." && pwd)
 room=$(mktemp -d)
 trap 'rm -rf "$room"' EXIT
 
+# Leaves in crates.txt the lines of these crates and of those that they stand on, and no other crate's folder.
+keep_crates() { # NAME..
+    local kept=" $* " before= it below
+    while [ "$kept" != "$before" ]; do
+        before=$kept
+        for it in $before; do
+            for below in $(sed -n "s/^$it[^:]*://p" crates.txt); do
+                [[ $kept == *" $below "* ]] || ! grep -q "^$below\b" crates.txt || kept+="$below "
+            done
+        done
+    done
+    for it in crates/*/; do
+        it=$(basename "$it")
+        [[ $kept == *" $it "* ]] || { rm -r "crates/$it" && sed -i "/^$it\b/d" crates.txt; }
+    done
+}
+
 # Copies the repository without what rt made.
 mkdir "$room/repo" "$room/repo/.git"
 (cd "$top" && tar -c --exclude=out crates crates.txt HANDLES) | tar -x -C "$room/repo"
 cd "$room/repo"
 
-if [ $# -eq 0 ]; then
+if ! grep -q -- --anew "$(readlink -f "$(command -v rt)")"; then
+    words=()
+    [ $# -eq 0 ] || keep_crates "$@"
+elif [ $# -eq 0 ]; then
     words=(--anew $(sed -n 's/^\([a-z0-9_]*\).*:.*/\1/p' crates.txt))
 else
     words=("$@")

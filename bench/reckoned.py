@@ -54,15 +54,18 @@ class Clock:
 class Places:
     """Stands for GNU parallel."""
 
-    AHEAD, SHORTEST, LONGEST = 200, 3.0, 60.0
+    LOOKS, AHEAD, SHORTEST, LONGEST = True, 200, 3.0, 60.0
 
     def __init__(self, farm, clock, folder, workers):
         self.farm, self.clock, self.folder, self.free, self.waiting, self.running, self.count = farm, clock, folder, [0.0] * workers, [], [], 0
 
+    def begin(self):
+        pass
+
     def give(self, jobs):
         self.waiting += [(job, self.clock.monotonic()) for job in jobs]
 
-    def begin(self, job, since):
+    def work(self, job, since):
         """Runs a job on the place that is free first."""
         before = used()
         with open(self.folder / "logs" / "jobs", "ab") as log:
@@ -76,7 +79,7 @@ class Places:
 
     def ended(self):
         while self.waiting and self.free[0] <= self.clock.monotonic():
-            self.begin(*self.waiting.pop(0))
+            self.work(*self.waiting.pop(0))
         ends = []
         while self.running and self.running[0][0] <= self.clock.monotonic():
             _, _, job, took = heapq.heappop(self.running)

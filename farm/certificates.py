@@ -17,19 +17,29 @@ def given(line):
 
 def behind(line, had):
     """The multipliers by row, without zeros, of a leaf whose line of version 2 comes behind these."""
-    rows = {**had, **dict(given(line)[0])}
-    return {row: p for row, p in rows.items() if p != b"0"}
+    return changed(had, given(line)[0])
+
+
+def changed(had, changes):
+    """Multipliers by row, without zeros, once some of these are changed."""
+    rows = dict(had)
+    for row, p in changes:
+        if p == b"0":
+            rows.pop(row, None)
+        else:
+            rows[row] = p
+    return rows
 
 
 def spelled(words, kind, rows, end):
     """A leaf's line with these multipliers."""
-    return b" ".join([*words[:2], kind, b"%d" % len(rows), *(b"%b %b" % (row, rows[row]) for row in sorted(rows, key=int)), *words[end:]])
+    return b" ".join([*words[:2], kind, b"%d" % len(rows), *(word for row in sorted(rows, key=int) for word in (row, rows[row])), *words[end:]])
 
 
 def standing(line, had):
     """A leaf's line of version 2 as version 1 has it, behind a leaf with these multipliers, and its own multipliers."""
-    _, words, end = given(line)
-    rows = behind(line, had)
+    changes, words, end = given(line)
+    rows = changed(had, changes)
     return spelled(words, b"rows", rows, end), rows
 
 
@@ -67,6 +77,11 @@ def read_head(name):
     claim = lines[1][6:-1].decode("ascii")
     has_point = value_in(claim) is not None
     return Head(lines[0], claim, lines[2] if has_point else b"", lines, 3 if has_point else 2)
+
+
+def head_steps(head):
+    """The steps that a certificate tells, with those of the way to it."""
+    return sum(not line.startswith(b"open ") for line in head.lines[head.begin:-1])
 
 
 def value_in(claim):
@@ -182,11 +197,12 @@ class Tree:
 
     def put(self, head, top, bound, is_whole=False):
         """Puts what a certificate has at the end of a way in place of what stands there, perhaps only if nothing is open in it, and takes its point
-        where that is better: nearer to the model's bound. The steps that it has there; None where it is no tree that can stand there."""
-        found = self.below(head, top)
-        if found is None or head.version != b"bpcert 2\n":
+        where that is better. The steps that it has there; None where it is no tree that can stand there."""
+        try:
+            found = self.below(head, top)
+            part = read_part(*found, top) if found is not None and head.version == b"bpcert 2\n" else None
+        except (IndexError, ValueError):
             return None
-        part = read_part(*found, top)
         if part is None or is_whole and not isinstance(part, Done):
             return None
         self.clear(top)
@@ -208,9 +224,13 @@ class Tree:
                 self.open.remove(way)
 
     def take_point(self, head, bound):
+        if self.is_better(head, bound):
+            self.claim, self.point = f"bound {bound} value {value_in(head.claim)}", head.point
+
+    def is_better(self, head, bound):
+        """Whether a certificate has a point that is nearer to the model's bound."""
         value = value_in(head.claim)
-        if value is not None and (self.value is None or abs(value - bound) < abs(self.value - bound)):
-            self.claim, self.point = f"bound {bound} value {value}", head.point
+        return value is not None and (self.value is None or abs(value - bound) < abs(self.value - bound))
 
 
 def read_part(lines, had, top):

@@ -34,9 +34,10 @@ IDLE = Job("model.lp", "0", 0, "none")  # a job that does nothing
 
 class Parallel:
     """One process of GNU parallel, which reads a line for each job and runs as many at a time as there are workers. It looks at its processes
-    only when a line comes in or while all its slots are taken, and runs none before it has a line for each slot; so lines of idle jobs are
-    sent where those of real ones do not suffice."""
+    only when a line comes in or while it has a line more than slots, and runs none before it has a line for each slot; so lines of idle jobs
+    are sent where those of real ones do not suffice."""
 
+    LOOKS = True  # a job begins soon enough to look for points while the tree is planted
     AHEAD = 200  # at most so many jobs wait, and no more than are worked on: parallel reads lines as it needs them, from a pipe
     SHORTEST, LONGEST = 3.0, 60.0  # seconds of a job
     PULSE = 0.5  # seconds from one idle line to the next
@@ -56,6 +57,9 @@ class Parallel:
         return [*words, "./work {1} {2} {3} {4}"]
 
     def begin(self):
+        """Begins parallel, where it does not run: it takes some tenths of a second to be ready."""
+        if self.child is not None or self.is_dry:
+            return
         self.log.unlink(missing_ok=True)
         with open(self.errors, "ab") as errors:
             try:
@@ -69,8 +73,7 @@ class Parallel:
             print("cd", self.folder, "&&", *(f"'{word}'" if re.search(r"[^\w/.,:@=-]", word) else word for word in self.command()), "<<END")
             print(*("\t".join(map(str, job)) for job in jobs), "END", sep="\n")
             return
-        if self.child is None:
-            self.begin()
+        self.begin()
         self.send([*jobs, *[IDLE] * (self.workers - self.count - len(jobs))])
 
     def send(self, jobs):
@@ -94,7 +97,7 @@ class Parallel:
                 raise EngineFault(f"GNU parallel ended with status {self.child.returncode} and has run no job: see {self.errors}")
             ends += [Ended(job, None) for job in self.sent.values()]
             self.stop()
-        elif len(self.sent) < self.workers and time.monotonic() - self.pulse > self.PULSE and any(job is not IDLE for job in self.sent.values()):
+        elif len(self.sent) <= self.workers and time.monotonic() - self.pulse > self.PULSE and any(job is not IDLE for job in self.sent.values()):
             self.send([IDLE])
         return [end for end in ends if end.job is not IDLE]
 
@@ -130,6 +133,7 @@ class Parallel:
 class Slurm:
     """Job arrays of Slurm, one for each time that leaves are handed out. The folder is one that all nodes share."""
 
+    LOOKS = False  # a job may wait in the queue for long
     AHEAD = 0  # none: what waits in Slurm's queue counts as worked on
     SHORTEST, LONGEST = 30.0, 600.0
     PULSE = 2.0  # seconds from one look at the queue to the next
@@ -146,6 +150,9 @@ class Slurm:
         if arrays:
             subprocess.run(["scancel", *arrays], stdout=subprocess.DEVNULL, stderr=subprocess.DEVNULL, check=False)
         self.record.unlink(missing_ok=True)
+
+    def begin(self):
+        """Nothing: Slurm runs already."""
 
     def give(self, jobs):
         for first in range(0, len(jobs), self.LONGEST_ARRAY):

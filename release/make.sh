@@ -1,7 +1,7 @@
 #!/usr/bin/env bash
 # Renews release/bprice and release/SOURCES from a whole proof of the sources that stand here. `rt ci` proves and builds
-# them on a copy of the program's crates, without the edits that must fail; what it has passed on this machine before is
-# not proved again. Where a program is named, as in `release/make.sh crates/bprice/out/bprice`, that one is taken, which
+# them on a copy of the program's crates, without the edits that must fail; with a kit that keeps what it has passed on this
+# machine before, that is not proved again. Where a program is named, as in `release/make.sh crates/bprice/out/bprice`, that one is taken, which
 # `rt ci` must have built from these sources; the gate compares it with its own.
 set -eu
 

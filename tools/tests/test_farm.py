@@ -14,7 +14,9 @@ from conftest import PROGRAM, TOP, load_tool, run
 RUN = TOP / "farm" / "run"
 CHECKER = load_tool(TOP / "tools" / "check_certificate.py")
 CREWS = load_tool(TOP / "bench" / "crews.py")
+MODELS = load_tool(TOP / "bench" / "models.py")
 CERTIFICATES = load_tool(TOP / "farm" / "certificates.py")
+ENGINES = load_tool(TOP / "farm" / "engines.py")
 pytestmark = pytest.mark.skipif(shutil.which("parallel") is None, reason="GNU parallel is not installed, which runs the farm's processes (Debian: parallel)")
 
 
@@ -33,7 +35,7 @@ def generated(tmp_path):
 
 
 def words(*given, program=PROGRAM, steps=30):
-    return [sys.executable, RUN, *map(str, given), "--workers", "2", "--steps", str(steps), "--bprice", str(program)]
+    return [sys.executable, RUN, *map(str, given), "--workers", "2", *(["--steps", str(steps)] if steps else []), "--bprice", str(program)]
 
 
 def farm(*given, **options):
@@ -105,6 +107,18 @@ def test_two_workers_find_what_one_search_finds(plan, tmp_path):
     assert worked(tmp_path / "dir") >= 2
 
 
+@pytest.mark.parametrize("pause", ["0.2", "0"])
+def test_workers_look_for_points_while_the_tree_is_planted(tmp_path, pause):
+    """Steps that take long, so that some hundred are planted, and others, so that the planting search ends the whole tree."""
+    lp = tmp_path / "lots.lp"
+    lp.write_text(MODELS.make("lots-4-6")[0], encoding="ascii")
+    slow = stand_in(tmp_path, f'if [ $leaf = 0 ]; then sleep {pause}; fi\nexec PROGRAM "$@"\n')
+    told, status, noise = farm(lp, tmp_path / "dir", program=slow, steps=None)
+    first = run("solve", lp)[0].split("\n", 1)[0]
+    assert (told.split("\n", 1)[0], status) == (first, 0), noise
+    assert run("check", lp, tmp_path / "dir" / "tree.cert") == (f"accepted {first}\n", 0)
+
+
 @pytest.mark.parametrize("seed, first, status", [(3, "optimal 12", 0), (112, "infeasible", 4)])
 def test_with_a_decomposition(tmp_path, seed, first, status):
     lp, dec = drawn(tmp_path, seed)
@@ -130,9 +144,11 @@ def test_workers_that_die_cost_their_steps_alone(plan, tmp_path):
     assert (tmp_path / "dir" / "bprice.leaves").read_text().count("\n") >= 3
 
 
-def test_what_is_no_certificate_is_put_aside(plan, tmp_path):
+@pytest.mark.parametrize("lie", ["s/^claim.*/claim optimal 30/", "$ d", "4,$ d", "s/^bpcert.*/bp/", "s/^leaf .*/leaf 1 change 0 priced 0/", "s/^leaf [0-9]*/leaf x/"])
+def test_what_is_no_certificate_is_put_aside(plan, tmp_path, lie):
+    """What is wrong is seen at once, as a better point or a text that is none, or once the tree is judged."""
     lp, first = plan
-    lies = stand_in(tmp_path, 'if [ $leaf = 1 ] && [ $turn = 0 ]; then PROGRAM "$@"; for last; do :; done; sed -i "s/^claim.*/claim optimal 1/" "$last"; exit 0; fi\nexec PROGRAM "$@"\n')
+    lies = stand_in(tmp_path, f'if [ $leaf = 1 ] && [ $turn = 0 ]; then PROGRAM "$@"; for last; do :; done; sed -i "{lie}" "$last"; exit 0; fi\nexec PROGRAM "$@"\n')
     told, status, noise = farm(lp, tmp_path / "dir", program=lies)
     assert (told.split("\n", 1)[0], status) == (first, 0), noise
     assert accepted(tmp_path / "dir", lp) == first
@@ -147,8 +163,9 @@ sys.path.insert(0, {str(TOP / "farm")!r})
 from certificates import Tree
 tree = Tree(sys.argv[1])
 tree.lines.update((way, b"open 1 rows 1 1 -9999 priced 0\\n") for way in tree.open)
+text = tree.text("bound 999999999")
 with open(sys.argv[1], "wb") as cert:
-    cert.write(tree.text(999999999)[0])
+    cert.write(text)
 """)
     worse = stand_in(tmp_path, 'if [ $leaf = 1 ] && [ "$(wc -l <"$0.leaves")" -lt 4 ]; then PROGRAM "$@"; for last; do :; done; '
                      f'{sys.executable} {tmp_path / "weaken.py"} "$last"; exit 5; fi\nexec PROGRAM "$@"\n')
@@ -164,6 +181,22 @@ def test_it_ends_where_all_workers_die(plan, tmp_path):
     assert (told, status) == ("", 1)
     assert "come to nothing" in noise
     assert accepted(tmp_path / "dir", plan[0]).startswith("bound")
+
+
+@pytest.mark.parametrize("workers, jobs", [(2, 1), (2, 2), (2, 3), (3, 2), (3, 3)])
+def test_the_end_of_each_job_is_told(tmp_path, workers, jobs):
+    """However many there are beside the workers, and whether or not another one comes behind them."""
+    (tmp_path / "logs").mkdir()
+    work = tmp_path / "work"
+    work.write_text("#!/usr/bin/env bash\n[ $2 = 0 ] && exit 0\nsleep 0.0$2\nexit 1\n")
+    work.chmod(0o755)
+    parallel, ended, until = ENGINES.Parallel(tmp_path, workers, [], False), [], time.monotonic() + 60
+    parallel.give([ENGINES.Job("start", str(number), 5, f"new{number}") for number in range(1, jobs + 1)])
+    while len(ended) < jobs and time.monotonic() < until:
+        ended += [end.job.new for end in parallel.ended()]
+        time.sleep(0.02)
+    parallel.stop()
+    assert sorted(ended) == [f"new{number}" for number in range(1, jobs + 1)]
 
 
 def test_the_time_is_over_and_it_goes_on(plan, tmp_path):

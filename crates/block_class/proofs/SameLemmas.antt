@@ -12,6 +12,7 @@ use Rattle.bp_theory.specs.declared.Span.{Span}
 use Rattle.bp_theory.specs.Trees.{IsSubzone}
 use Rattle.bp_theory.proofs.DecompositionProof.{all_blocks, decomposition_lem, numbered_at}
 use Rattle.block_form.specs.Blocked.{BlockedProgram, IsFormed}
+use Rattle.block_form.proofs.PlainLemmas.{plain_blocking}
 use Rattle.search_laws.specs.Spread.{block_at}
 use Rattle.block_class.specs.Signatures.{signature}
 use Rattle.block_class.proofs.SignatureLemmas.{AreAlike, signature_read, signature_written}
@@ -102,14 +103,14 @@ signature_from_same n zone k l h g same =
 -- the blocks' copies have coefficients in as many rows
 pub formed_have : (b : BlockedProgram) → IsFormed b → All (λ (k : Block). AllByRecursion (HasCoefs (length (proof_rows b.named.program b.dec []))) k.copies) b.blocking.blocks
 formed_have b formed =
-    subst (λ (bl : Blocking). All (λ (k : Block). AllByRecursion (HasCoefs (length (proof_rows b.named.program b.dec []))) k.copies) bl.blocks) (sym formed.blocking)
+    subst (λ (bl : Blocking). All (λ (k : Block). AllByRecursion (HasCoefs (length (proof_rows b.named.program b.dec []))) k.copies) bl.blocks) (sym (plain_blocking formed))
     (blocks_have b.named.program b.dec)
 
 -- a block's variables are in each zone
 pub vars_in_zone : (b : BlockedProgram) (zone : List Span) (block : Block) (k : ℕ) → IsFormed b → IsSubzone zone b.named.program.spans
     → block ≡ block_at b.blocking k → k < length b.blocking.blocks → All (λ (c : Copy). c.var < length zone) block.copies
 vars_in_zone b zone block k formed inside is l =
-    let known = subst (λ (bl : Blocking). All (λ (e : Block). All (λ (c : Copy). c.var < length b.named.program.spans) e.copies) bl.blocks) (sym formed.blocking)
+    let known = subst (λ (bl : Blocking). All (λ (e : Block). All (λ (c : Copy). c.var < length b.named.program.spans) e.copies) bl.blocks) (sym (plain_blocking formed))
     (decomposition_lem.adds_up b.named.program b.dec [] formed.kept.closed (λ i d m. absurd (omega (arith, m)))).known in
     subst (λ (e : Block). All (λ (c : Copy). c.var < length zone) e.copies) (sym is)
     (subst (λ (n : ℕ). All (λ (c : Copy). c.var < n) (block_at b.blocking k).copies) (sym (as_long zone b.named.program.spans inside)) (known k _ l))

@@ -8,11 +8,20 @@ use std::alloc::{AllocError, Global};
 /// Classes of a program's blocks in a zone: two blocks share a class exactly where they are the same there, with as many
 /// variables, in order of equal costs, spans and master coefficients, and with equal rows. Classes are numbered from 0
 /// by their first blocks.
-#[derive(Drop)]
 pub struct Classes {
     classes: Items<u32>,
     firsts: Items<u32>,
     members: Items<Items<u32>>,
+}
+
+impl Drop for Classes {
+    fn drop(self) {
+        let Classes {
+            classes: _,
+            firsts: _,
+            members: _,
+        } = self;
+    }
 }
 
 impl std::marker::Model for Classes {

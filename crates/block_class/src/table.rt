@@ -6,9 +6,15 @@ use std::alloc::{AllocError, Global};
 use std::marker::Model;
 
 /// Signatures, each once, numbered from 0 in the order in which they came. Contracts see the list of their numbers.
-#[derive(Drop)]
 pub struct Signatures {
     table: IndexSet<Vec<i64>>,
+}
+
+// One `drop` for all callers, which need not prove again how a table goes.
+impl Drop for Signatures {
+    fn drop(self) {
+        let Signatures { table: _ } = self;
+    }
 }
 
 impl Model for Signatures {

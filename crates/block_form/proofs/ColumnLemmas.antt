@@ -14,8 +14,8 @@ use Rattle.bp_theory.specs.declared.Term.{Term}
 use Rattle.bp_theory.specs.declared.Row.{Row}
 use Rattle.bp_theory.proofs.KeyLaws.{if_same, if_other}
 use Rattle.block_form.specs.Stand.{StandsInRow}
-use Rattle.block_form.specs.Gather.{coefs_from, SeenHome, IsApart, IsLinkOf, IsFirstApart}
-use Rattle.block_form.specs.Columns.{row_entries, column_from, AreColumns, master_entries, row_at, PlacedAt, ShowsHome, IsOfOne, IsCrossing, IsFirstCrossing}
+use Rattle.block_form.specs.Gather.{coefs_from, IsApart, IsLinkOf, IsFirstApart}
+use Rattle.block_form.specs.Columns.{row_entries, column_from, AreColumns, master_entries, row_at, PlacedAt, IsOfOne, IsCrossing, IsFirstCrossing}
 use Rattle.block_form.proofs.StandLemmas.{before_none}
 
 pub row_entries-append : (row j : ℕ) (ts us : List Term) → row_entries row j (ts ++ us) ≡ row_entries row j ts ++ row_entries row j us
@@ -85,15 +85,15 @@ columns_more row n before columns now terms i d l there had is j m =
             ∙ ap (λ es. get_or columns j [] ++ es) (sym (row_entries-other_var row j t other))
 
 -- a loop's step: one more row
-pub column_from_more : (rows : List Row) (i j : ℕ) (row : Row) → i < length rows → row ≡ get_or rows i row
-    → column_from 0 (take (i + 1) rows) j ≡ column_from 0 (take i rows) j ++ row_entries i j row.terms
-column_from_more rows i j row l is =
-    ap (λ rs. column_from 0 rs j) (take_more rows i row l ∙ ap (λ u. take i rows ++ u ∷ []) (sym is))
-    ∙ column_from-append 0 j (take i rows) (row ∷ [])
-    ∙ ap (λ n. column_from 0 (take i rows) j ++ column_from n (row ∷ []) j) (count (length-take-le i rows (omega arith)))
-    ∙ ap (λ es. column_from 0 (take i rows) j ++ es) (append-nil (row_entries i j row.terms))
+pub column_from_more : (first : ℕ) (rows : List Row) (i j : ℕ) (row : Row) → i < length rows → row ≡ get_or rows i row
+    → column_from first (take (i + 1) rows) j ≡ column_from first (take i rows) j ++ row_entries (first + i) j row.terms
+column_from_more first rows i j row l is =
+    ap (λ rs. column_from first rs j) (take_more rows i row l ∙ ap (λ u. take i rows ++ u ∷ []) (sym is))
+    ∙ column_from-append first j (take i rows) (row ∷ [])
+    ∙ ap (λ n. column_from first (take i rows) j ++ column_from n (row ∷ []) j) (count (length-take-le i rows (omega arith)))
+    ∙ ap (λ es. column_from first (take i rows) j ++ es) (append-nil (row_entries (first + i) j row.terms))
   where
-    count : length (take i rows) ≡ i → length (take i rows) + 0 ≡ i
+    count : length (take i rows) ≡ i → length (take i rows) + first ≡ first + i
     count e = omega (arith, e)
 
 -- ---- what stands in a column
@@ -199,20 +199,15 @@ never_falls first (row ∷ rows) v i j m l =
 
 -- ---- columns and rows tell the same of blocks
 
-placed_stands : (rows : List Row) (places : List (Option ℕ)) (v i k : ℕ) → PlacedAt places (column_from 0 rows v) i k → StandsInRow rows places v (row_at (column_from 0 rows v) i) k
+pub placed_stands : (rows : List Row) (places : List (Option ℕ)) (v i k : ℕ) → PlacedAt places (column_from 0 rows v) i k → StandsInRow rows places v (row_at (column_from 0 rows v) i) k
 placed_stands rows places v i k h = let s = entry_stands rows v i h.there in record { there = s.0; place = h.place; stands = s.1 }
 
-stands_placed : (rows : List Row) (places : List (Option ℕ)) (v r k : ℕ) → StandsInRow rows places v r k
+pub stands_placed : (rows : List Row) (places : List (Option ℕ)) (v r k : ℕ) → StandsInRow rows places v r k
     → (i : ℕ) × PlacedAt places (column_from 0 rows v) i k × (row_at (column_from 0 rows v) i ≡ r)
 stands_placed rows places v r k h =
     let e = has_entry 0 rows v r h.there h.stands in
     let same : row_at (column_from 0 rows v) e.0 ≡ r = omega (arith, e.2) in
     (e.0, record { there = e.1; place = ap (λ n. get_or places n None) same ∙ h.place }, same)
-
-pub home_shown : (rows : List Row) (places : List (Option ℕ)) (v : ℕ) (home : Option ℕ) → ShowsHome places (column_from 0 rows v) home → SeenHome rows places v home
-home_shown rows places v None h = λ r k s. let e = stands_placed rows places v r k s in h e.0 k e.1
-home_shown rows places v (Some k) h =
-    let f = h.1 in (row_at (column_from 0 rows v) f.at, placed_stands rows places v f.at k f.placed)
 
 pub apart_shown : (rows : List Row) (places : List (Option ℕ)) (v : ℕ) → IsOfOne places (column_from 0 rows v) → IsApart rows places v
 apart_shown rows places v h r k s j one two =
@@ -281,7 +276,7 @@ no_entries row v n (t ∷ ts) h l = ⊎_elim
     (λ other. ap (λ b. if b then (row, t.coef) ∷ row_entries row v ts else row_entries row v ts) other.0 ∙ no_entries row v (suc t.var) ts h.2 (omega (arith, h.0, l)))
     (eqb_tells t.var v)
 
-one_entry : (row v n : ℕ) (ts : List Term) → IsTidyFrom n ts
+pub one_entry : (row v n : ℕ) (ts : List Term) → IsTidyFrom n ts
     → row_entries row v ts ≡ (if int_eq (coefficient ts v) (pos 0) then [] else (row, coefficient ts v) ∷ [])
 one_entry row v n [] h = refl
 one_entry row v n (t ∷ ts) h = ⊎_elim
@@ -344,34 +339,20 @@ pub master_is : (rows : List Row) (places : List (Option ℕ)) (v : ℕ) → len
 master_is rows places v each tidy =
     master_from places 0 rows places v (λ r. ap (λ n. get_or places n None) (zero-add r)) each (recursion_from_All (λ (row : Row). IsTidyFrom 0 row.terms) rows tidy)
 
-pub masters_are : (rows : List Row) (places : List (Option ℕ)) (columns : List (List (ℕ × ℤ))) (vars : List ℕ) → AreColumns rows columns → length places ≡ length rows
-    → All (λ (row : Row). IsTidyFrom 0 row.terms) rows → All (λ v. v < length columns) vars
-    → map (λ v. master_entries places (get_or columns v [])) vars ≡ map (λ v. coefs_from v 0 rows places) vars
-masters_are rows places columns vars are each tidy below = go vars (recursion_from_All (λ v. v < length columns) vars below)
-  where
-    go : (vs : List ℕ) → AllByRecursion (λ v. v < length columns) vs → map (λ v. master_entries places (get_or columns v [])) vs ≡ map (λ v. coefs_from v 0 rows places) vs
-    go [] h = refl
-    go (v ∷ vs) h =
-        ap (λ (es : List (ℕ × ℤ)). es ∷ map (λ w. master_entries places (get_or columns w [])) vs) (ap (master_entries places) (are v h.0) ∙ master_is rows places v each tidy)
-        ∙ ap (λ (ess : List (List (ℕ × ℤ))). coefs_from v 0 rows places ∷ ess) (go vs h.1)
-
 -- ---- one home more
 
-pub one_longer : (homes : List (Option ℕ)) (home : Option ℕ) (new : List (Option ℕ)) (v : ℕ) → new ≡ homes ++ home ∷ [] → length homes ≡ v → length new ≡ v + 1
-one_longer homes home new v new_is each = omega (arith, ap (λ (hs : List (Option ℕ)). length hs) new_is, length-append homes (home ∷ []), each)
+pub one_longer : {X : Type 0} (homes : List X) (home : X) (new : List X) (v : ℕ) → new ≡ homes ++ home ∷ [] → length homes ≡ v → length new ≡ v + 1
+one_longer {X} homes home new v new_is each = omega (arith, ap (λ (hs : List X). length hs) new_is, length-append homes (home ∷ []), each)
 
-pub homes_more : (places : List (Option ℕ)) (columns : List (List (ℕ × ℤ))) (v : ℕ) (homes new : List (Option ℕ)) (home : Option ℕ) → length homes ≡ v → new ≡ homes ++ home ∷ []
-    → ShowsHome places (get_or columns v []) home → ((w : ℕ) → w < v → ShowsHome places (get_or columns w []) (get_or homes w None))
-    → (w : ℕ) → w < v + 1 → ShowsHome places (get_or columns w []) (get_or new w None)
-homes_more places columns v homes new home each new_is here earlier w l = ⊎_elim
+-- what each column gives, one more
+pub homes_more : (f : List (ℕ × ℤ) → List ℕ) (columns : List (List (ℕ × ℤ))) (v : ℕ) (homes new : List (List ℕ)) (home : List ℕ) → length homes ≡ v → new ≡ homes ++ home ∷ []
+    → home ≡ f (get_or columns v []) → ((w : ℕ) → w < v → get_or homes w [] ≡ f (get_or columns w []))
+    → (w : ℕ) → w < v + 1 → get_or new w [] ≡ f (get_or columns w [])
+homes_more f columns v homes new home each new_is here earlier w l = ⊎_elim
     (λ less.
-    let at : get_or new w None ≡ get_or homes w None =
-    ap (λ (hs : List (Option ℕ)). get_or hs w None) new_is ∙ get_or_append_left homes (home ∷ []) None w (omega (arith, less, each)) in
-    subst (ShowsHome places (get_or columns w [])) (sym at) (earlier w less))
+    ap (λ (hs : List (List ℕ)). get_or hs w []) new_is ∙ get_or_append_left homes (home ∷ []) [] w (omega (arith, less, each)) ∙ earlier w less)
     (λ more.
     let same : w ≡ v = omega (arith, l, more) in
-    let at : get_or new w None ≡ home =
-    ap (λ (hs : List (Option ℕ)). get_or hs w None) new_is ∙ ap (λ n. get_or (homes ++ home ∷ []) n None) (let e : w ≡ length homes + 0 = omega (arith, same, each) in e)
-    ∙ get_or-append-add homes (home ∷ []) 0 None in
-    subst (ShowsHome places (get_or columns w [])) (sym at) (subst (λ n. ShowsHome places (get_or columns n []) home) (sym same) here))
+    ap (λ (hs : List (List ℕ)). get_or hs w []) new_is ∙ ap (λ n. get_or (homes ++ home ∷ []) n []) (let e : w ≡ length homes + 0 = omega (arith, same, each) in e)
+    ∙ get_or-append-add homes (home ∷ []) 0 [] ∙ here ∙ ap (λ n. f (get_or columns n [])) (sym same))
     (cases_lt w v)

@@ -1,20 +1,22 @@
 -- What is gathered row by row is the blocking of the decomposition.
 use Rattle.std.proofs.Common.{◌≡◌, ◌≢◌, ℕ, zero, suc, ◌<◌, ◌==◌, Bool, true, false, ◌||◌, if◌then◌else◌, List, [], ◌∷◌, map, filter, length, get_or, Option, Some, None, All, refl, sym, ap, subst, ◌∙◌, ⊎_elim, arith, true≢false}
 use Rattle.std.specs.Prelude.{pos}
-use Rattle.std.specs.List.{AllByRecursion, list_any, zip}
+use Rattle.std.specs.List.{AllByRecursion, list_any, zip, range_with_len}
 use Rattle.std.proofs.lemmas.Bool.{cases_lt}
 use Rattle.std.proofs.lemmas.Bool.Decides.{eqb_tells}
-use Rattle.std.proofs.lemmas.List.Elements.{recursion_from_All}
+use Rattle.std.proofs.lemmas.List.Elements.{recursion_from_All, All-from_recursion}
 use Rattle.bp_theory.specs.Program.{Program}
-use Rattle.bp_theory.specs.Decomposition.{Decomposition, is_block, stands_in, is_in, IsClosed, IsPlace, HasPlaces, IsLinking, IsMisplaced, IsFirstMisplaced}
+use Rattle.bp_theory.specs.Decomposition.{Decomposition, is_block, stands_in, is_in, IsClosed, IsPlace, HasPlaces, IsLinking, IsMisplaced, IsFirstMisplaced, place_of}
 use Rattle.bp_theory.specs.declared.Term.{Term}
 use Rattle.bp_theory.specs.declared.Row.{Row}
 use Rattle.bp_theory.specs.declared.Sense.TheVariants.{Le}
 use Rattle.bp_theory.proofs.DecompositionProof.{eqb_itself}
 use Rattle.block_form.specs.Stand.{StandsInRow}
-use Rattle.block_form.specs.Gather.{SeenHome, IsApart, IsLinkOf, IsFirstApart, IsElsewhere, IsFirstElsewhere}
-use Rattle.block_form.specs.Checks.{IsHome, IsFirstLinked}
+use Rattle.block_form.specs.Gather.{IsApart, IsLinkOf, IsFirstApart, IsElsewhere, IsFirstElsewhere, IsOneElse}
+use Rattle.block_form.specs.Checks.{IsFirstLinked}
+use Rattle.block_form.specs.Homes.{homes_in, AreHomes}
 use Rattle.block_form.proofs.GatherLemmas.{any_default}
+use Rattle.block_form.proofs.RangeLemmas.{at_place, kept_passing}
 
 -- a row where there is none
 none_row : Row
@@ -47,10 +49,10 @@ or_left true b e = refl
 or_left false b e = absurd (true≢false (sym e))
 
 -- the test of a block at its own place
-own_block : (k : ℕ) → is_block k (Some k) ≡ true
+pub own_block : (k : ℕ) → is_block k (Some k) ≡ true
 own_block k = eqb_itself k
 
-block_is : (k : ℕ) (place : Option ℕ) → is_block k place ≡ true → place ≡ Some k
+pub block_is : (k : ℕ) (place : Option ℕ) → is_block k place ≡ true → place ≡ Some k
 block_is k None e = absurd (true≢false (sym e))
 block_is k (Some j) e = ⊎_elim (λ same. ap Some same.1) (λ other. absurd (true≢false (sym e ∙ other.0))) (eqb_tells j k)
 
@@ -116,7 +118,7 @@ apart_not_linking p d v apart link =
     omega (arith, same, link.apart)
 
 -- a row's block is there
-block_there : (p : Program) (d : Decomposition) (r k : ℕ) → HasPlaces p d → r < length p.rows → get_or d.places r None ≡ Some k → k < d.blocks
+pub block_there : (p : Program) (d : Decomposition) (r k : ℕ) → HasPlaces p d → r < length p.rows → get_or d.places r None ≡ Some k → k < d.blocks
 block_there p d r k h l at = subst (IsPlace d.blocks) at (h.known r None (omega (arith, l, h.each)))
 
 two_blocks_link : (p : Program) (d : Decomposition) (v k j : ℕ) → k < d.blocks → j < d.blocks → is_in p d v k ≡ true → is_in p d v j ≡ true → k ≢ j → IsLinking p d v
@@ -159,35 +161,24 @@ in_below p d v k closed e =
 pub none_linking : (p : Program) (d : Decomposition) → IsClosed p → ((v : ℕ) → v < length p.spans → IsApart p.rows d.places v) → (w : ℕ) → IsLinking p d w → ⊥
 none_linking p d closed apart w link = apart_not_linking p d w (apart w (in_below p d w link.first closed link.in_first)) link
 
-pub home_is : (p : Program) (d : Decomposition) (v : ℕ) (home : Option ℕ) → HasPlaces p d → ((w : ℕ) → IsLinking p d w → ⊥)
-    → SeenHome p.rows d.places v home → IsHome p d v home
-home_is p d v None places none seen = λ k e. let h = stands_from_in p d v k e in seen h.0 k h.1
-home_is p d v (Some k) places none seen =
-    let there = block_there p d seen.0 k places seen.1.there seen.1.place in
-    let here = in_from_stands p d v seen.0 k seen.1 in (
-      there,
-      here,
-      λ j e.
-          let other = stands_from_in p d v j e in
-          let jl = block_there p d other.0 j places other.1.there other.1.place in
-          ⊎_elim (λ same. same.1) (λ apart. absurd (none v (two_blocks_link p d v j k jl there e here apart.1))) (eqb_tells j k),
-    )
-
 -- ---- misplaced variables
 
-misplaced_from_home : (p : Program) (d : Decomposition) (home place : Option ℕ) (v k : ℕ) → IsHome p d v home → home ≡ Some k → place ≢ Some k → IsMisplaced p d (v, place)
-misplaced_from_home p d None place v k h is apart = absurd (cc)
-misplaced_from_home p d (Some j) place v k h is apart =
-    let same : j ≡ k = cc in
-    record { block = j; there = h.0; stands = h.1; elsewhere = λ e. apart (e ∙ ap Some same) }
+-- those of a range that pass, by places
+passed_there : (q : ℕ → Bool) (n i : ℕ) → i < length (filter q (range_with_len 0 n)) → (get_or (filter q (range_with_len 0 n)) i 0 < n) × (q (get_or (filter q (range_with_len 0 n)) i 0) ≡ true)
+passed_there q n i l = All-from_recursion (λ k. (k < n) × (q k ≡ true)) (filter q (range_with_len 0 n)) (kept_passing q n 0 n (omega arith)) i 0 l
 
-home_from_misplaced : (p : Program) (d : Decomposition) (home place : Option ℕ) (v : ℕ) → IsHome p d v home → IsMisplaced p d (v, place)
-    → (k : ℕ) × (home ≡ Some k) × (place ≢ Some k)
-home_from_misplaced p d None place v h m = absurd (h m.block m.stands)
-home_from_misplaced p d (Some j) place v h m = (j, refl, λ e. m.elsewhere (e ∙ ap Some (sym (h.2 m.block m.stands))))
+misplaced_from_homes : (p : Program) (d : Decomposition) (v : ℕ) (place : Option ℕ) → IsOneElse (homes_in p d v) place → IsMisplaced p d (v, place)
+misplaced_from_homes p d v place h =
+    let at = passed_there (is_in p d v) d.blocks h.0 h.1 in
+    record { block = get_or (homes_in p d v) h.0 0; there = at.0; stands = at.1; elsewhere = h.2 0 }
 
-pub first_misplaced : (p : Program) (d : Decomposition) (homes : List (Option ℕ)) (v : ℕ)
-    → ((w : ℕ) → w < length p.spans → IsHome p d w (get_or homes w None)) → All (λ e. e.0 < length p.spans) d.listed
+homes_from_misplaced : (p : Program) (d : Decomposition) (v : ℕ) (place : Option ℕ) → IsMisplaced p d (v, place) → IsOneElse (homes_in p d v) place
+homes_from_misplaced p d v place m =
+    let at = at_place (is_in p d v) m.block d.blocks m.there m.stands in
+    let i : ℕ = place_of (homes_in p d v) m.block in
+    (i, at.0, λ d' e. m.elsewhere (e ∙ ap Some (any_default (homes_in p d v) i d' 0 at.0 ∙ at.1)))
+
+pub first_misplaced : (p : Program) (d : Decomposition) (homes : List (List ℕ)) (v : ℕ) → AreHomes p d homes → All (λ e. e.0 < length p.spans) d.listed
     → IsFirstElsewhere homes d.listed v → IsFirstMisplaced p d v
 first_misplaced p d homes v is below h = record {
   place = h.place;
@@ -195,16 +186,14 @@ first_misplaced p d homes v is below h = record {
   var = h.var;
   misplaced = λ e.
       let entry : ℕ × Option ℕ = get_or d.listed h.place e in
-      let m = h.misplaced e in
-      misplaced_from_home p d (get_or homes entry.0 None) entry.1 entry.0 m.0 (is entry.0 (below h.place e h.there)) m.1 m.2;
+      misplaced_from_homes p d entry.0 entry.1 (subst (λ ks. IsOneElse ks entry.1) (is.1 entry.0 (below h.place e h.there)) (h.misplaced e));
   first = λ k e l m.
       let entry : ℕ × Option ℕ = get_or d.listed k e in
-      h.first k e l (home_from_misplaced p d (get_or homes entry.0 None) entry.1 entry.0 (is entry.0 (below k e (omega (arith, l, h.there)))) m);
+      h.first k e l (subst (λ ks. IsOneElse ks entry.1) (sym (is.1 entry.0 (below k e (omega (arith, l, h.there))))) (homes_from_misplaced p d entry.0 entry.1 m));
 }
 
-pub none_misplaced : (p : Program) (d : Decomposition) (homes : List (Option ℕ))
-    → ((w : ℕ) → w < length p.spans → IsHome p d w (get_or homes w None)) → All (λ e. e.0 < length p.spans) d.listed
+pub none_misplaced : (p : Program) (d : Decomposition) (homes : List (List ℕ)) → AreHomes p d homes → All (λ e. e.0 < length p.spans) d.listed
     → All (λ e. IsElsewhere homes e → ⊥) d.listed → All (λ e. IsMisplaced p d e → ⊥) d.listed
 none_misplaced p d homes is below h = λ k e l m.
     let entry : ℕ × Option ℕ = get_or d.listed k e in
-    h k e l (home_from_misplaced p d (get_or homes entry.0 None) entry.1 entry.0 (is entry.0 (below k e l)) m)
+    h k e l (subst (λ ks. IsOneElse ks entry.1) (sym (is.1 entry.0 (below k e l))) (homes_from_misplaced p d entry.0 entry.1 m))

@@ -6,3 +6,9 @@ pub mod BlockingLemmas
 pub mod PlaceLemmas
 pub mod ColumnLemmas
 pub mod SeenLemmas
+pub mod RangeLemmas
+pub mod LinkLemmas
+pub mod HomeLemmas
+pub mod CopyLemmas
+pub mod SumLemmas
+pub mod PlainLemmas

@@ -1,13 +1,13 @@
--- What columns tell of a decomposition: linking variables and homes.
-use Rattle.std.proofs.Common.{◌≡◌, ℕ, ◌<◌, List, [], length, get_or, Option, None, sym, subst, ◌∙◌, arith}
+-- What columns tell of a decomposition: linking variables.
+use Rattle.std.proofs.Common.{◌≡◌, ℕ, ◌<◌, List, [], length, get_or, Option, sym, subst, ◌∙◌, arith}
 use Rattle.std.specs.Prelude.{ℤ}
 use Rattle.bp_theory.specs.Program.{Program}
 use Rattle.bp_theory.specs.Decomposition.{Decomposition, HasPlaces, IsLinking, IsClosed}
 use Rattle.bp_theory.specs.declared.Row.{Row}
-use Rattle.block_form.specs.Checks.{AreHomes, IsFirstLinked}
-use Rattle.block_form.specs.Columns.{column_from, AreColumns, ShowsHome, IsOfOne, IsFirstCrossing}
-use Rattle.block_form.proofs.BlockingLemmas.{first_linked_at, none_linking_at, homes_at}
-use Rattle.block_form.proofs.ColumnLemmas.{home_shown, apart_shown, first_apart_shown}
+use Rattle.block_form.specs.Checks.{IsFirstLinked}
+use Rattle.block_form.specs.Columns.{column_from, AreColumns, IsOfOne, IsFirstCrossing}
+use Rattle.block_form.proofs.BlockingLemmas.{first_linked_at, none_linking_at}
+use Rattle.block_form.proofs.ColumnLemmas.{apart_shown, first_apart_shown}
 
 -- the columns of so many variables, where a slice shows them
 pub columns_shown : (rows full : List Row) (columns shown : List (List (ℕ × ℤ))) (n : ℕ) → rows ≡ full → length columns ≡ n
@@ -28,12 +28,3 @@ pub none_linking_by : (p : Program) (d : Decomposition) (rows : List Row) (place
 none_linking_by p d rows places columns n rows_are places_are n_is closed are each one =
     none_linking_at p d rows places n rows_are places_are n_is closed
     (λ v l. let there : v < length columns = omega (arith, l, each) in apart_shown rows places v (subst (IsOfOne places) (are v there) (one v there)))
-
-pub homes_by : (p : Program) (d : Decomposition) (rows : List Row) (places homes : List (Option ℕ)) (columns : List (List (ℕ × ℤ))) (n : ℕ)
-    → rows ≡ p.rows → places ≡ d.places → n ≡ length p.spans → HasPlaces p d → ((w : ℕ) → IsLinking p d w → ⊥) → AreColumns rows columns → length columns ≡ n
-    → length homes ≡ length columns → ((v : ℕ) → v < length columns → ShowsHome places (get_or columns v []) (get_or homes v None)) → AreHomes p d homes
-homes_by p d rows places homes columns n rows_are places_are n_is has none are each each_home shown =
-    homes_at p d rows places homes n rows_are places_are n_is has none (each_home ∙ each)
-    (λ v l.
-    let there : v < length columns = omega (arith, l, each) in
-    home_shown rows places v (get_or homes v None) (subst (λ (column : List (ℕ × ℤ)). ShowsHome places column (get_or homes v None)) (are v there) (shown v there)))

@@ -68,7 +68,7 @@ place_none (u ∷ us) v h = ⊎_elim
     (eqb_tells u v)
 
 -- numbers that rise from each to the next rise from each to each later one
-rising : (us : List ℕ) → IsStrictlyIncreasing us → (i j : ℕ) → i < j → j < length us → get_or us i 0 < get_or us j 0
+pub rising : (us : List ℕ) → IsStrictlyIncreasing us → (i j : ℕ) → i < j → j < length us → get_or us i 0 < get_or us j 0
 rising us h i zero l m = absurd (omega arith)
 rising us h i (suc j) l m =
     let next : get_or us j 0 < get_or us (suc j) 0 = omega (arith, h j (omega (arith, m)), ap (λ n. get_or us n 0) (add-one j)) in

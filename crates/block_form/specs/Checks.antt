@@ -1,7 +1,7 @@
 -- Where variables stand in rows of blocks, and what a decomposition is refused for.
-use Rattle.std.specs.Prelude.{◌≡◌, ℕ, ◌<◌, true, List, length, Option, Some, None, slice_index_or}
+use Rattle.std.specs.Prelude.{ℕ, ◌<◌, length}
 use Rattle.bp_theory.specs.Program.{Program}
-use Rattle.bp_theory.specs.Decomposition.{Decomposition, is_in, IsLinking, IsFirstMisplaced}
+use Rattle.bp_theory.specs.Decomposition.{Decomposition, IsLinking, IsFirstMisplaced}
 use Rattle.block_form.specs.Stand.{IsFirstBlockRow, IsFirstOtherRow}
 use Rattle.block_form.specs.declared.fault.BlockFault.{BlockFault}
 use Rattle.block_form.specs.declared.fault.BlockFault.TheVariants.{Linking, VarPlace, NoMemory}
@@ -20,12 +20,3 @@ abbrev pub HasBlockFault : Program → Decomposition → BlockFault → Type 0
 HasBlockFault p d (Linking var row1 row2) = IsFirstLinked p d var row1 row2
 HasBlockFault p d (VarPlace v) = ((w : ℕ) → IsLinking p d w → ⊥) × IsFirstMisplaced p d v
 HasBlockFault p d NoMemory = Unit {0}
-
--- the block in whose rows a variable stands, or none where it stands in no block's row
-abbrev pub IsHome : Program → Decomposition → ℕ → Option ℕ → Type 0
-IsHome p d v None = (k : ℕ) → is_in p d v k ≡ true → ⊥
-IsHome p d v (Some k) = (k < d.blocks) × (is_in p d v k ≡ true) × ((j : ℕ) → is_in p d v j ≡ true → j ≡ k)
-
--- the homes of all variables
-abbrev pub AreHomes : Program → Decomposition → List (Option ℕ) → Type 0
-AreHomes p d homes = (length homes ≡ length p.spans) × ((v : ℕ) → v < length p.spans → IsHome p d v (slice_index_or homes v None))

@@ -13,9 +13,12 @@ abbrev pub column_from : (first : ℕ) → List Row → (v : ℕ) → List (ℕ 
 column_from first [] v = []
 column_from first (row ∷ rows) v = row_entries first v row.terms ++ column_from (suc first) rows v
 
--- each column is that of its variable
+-- each column is that of its variable, in rows that are numbered from a first number on
+abbrev pub AreColumnsFrom : ℕ → List Row → List (List (ℕ × ℤ)) → Type 0
+AreColumnsFrom first rows columns = (v : ℕ) → v < length columns → slice_index_or columns v [] ≡ column_from first rows v
+
 abbrev pub AreColumns : List Row → List (List (ℕ × ℤ)) → Type 0
-AreColumns rows columns = (v : ℕ) → v < length columns → slice_index_or columns v [] ≡ column_from 0 rows v
+AreColumns rows columns = AreColumnsFrom 0 rows columns
 
 -- the entries of a column in master rows
 abbrev pub master_entries : List (Option ℕ) → List (ℕ × ℤ) → List (ℕ × ℤ)
@@ -45,11 +48,6 @@ pub record IsFirstElse (places : List (Option ℕ)) (column : List (ℕ × ℤ))
   pub row_is : row_at column at ≡ row
   pub apart : block ≢ home
   pub first : (i k : ℕ) → i < at → PlacedAt places column i k → k ≡ home
-
--- the home that a column shows: the block of its first row of a block, or none where it has no such row
-abbrev pub ShowsHome : List (Option ℕ) → List (ℕ × ℤ) → Option ℕ → Type 0
-ShowsHome places column None = (i k : ℕ) → PlacedAt places column i k → ⊥
-ShowsHome places column (Some k) = (row : ℕ) × IsFirstPlaced places column row k
 
 -- no two rows of a column are of different blocks
 abbrev pub IsOfOne : List (Option ℕ) → List (ℕ × ℤ) → Type 0

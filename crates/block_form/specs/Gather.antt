@@ -1,14 +1,20 @@
 -- The parts of a block, row by row and variable by variable.
-use Rattle.std.specs.Prelude.{◌≡◌, ◌≢◌, ◌<◌, ℕ, suc, List, [], ◌∷◌, map, filter, length, Option, Some, None, ℤ, pos, if◌then◌else◌, slice_index_or, is_none}
-use Rattle.std.specs.List.{range_with_len}
+use Rattle.std.specs.Prelude.{◌≡◌, ◌≢◌, ◌<◌, ◌==◌, ℕ, suc, Bool, true, false, List, [], ◌∷◌, ◌++◌, map, filter, length, Option, Some, None, ℤ, pos, if◌then◌else◌, slice_index_or, replicate}
+use Rattle.std.specs.List.{range_with_len, list_any, zip}
 use Rattle.std.specs.Ordering.{int_eq}
 use Rattle.bp_theory.specs.Program.{coefficient}
-use Rattle.bp_theory.specs.Blocking.{Block, sides_of}
+use Rattle.bp_theory.specs.Blocking.{sides_of}
 use Rattle.bp_theory.specs.declared.MasterRow.{MasterRow}
 use Rattle.block_form.specs.Stand.{StandsInRow, IsFirstBlockRow, IsFirstOtherRow}
 use Rattle.bp_theory.specs.Decomposition.{is_block, row_with_places}
 use Rattle.bp_theory.specs.declared.Term.{Term}
 use Rattle.bp_theory.specs.declared.Row.{Row}
+use Rattle.bp_theory.specs.declared.Sense.TheVariants.{Eq}
+
+-- whether a list is empty
+abbrev pub is_empty : {X : Type 0} → List X → Bool
+is_empty [] = true
+is_empty (x ∷ xs) = false
 
 -- the coefficient of a variable in a master row, 0 in a block's row
 abbrev pub master_coefficient : ℕ → Row → Option ℕ → ℤ
@@ -31,24 +37,16 @@ rows_from k vars (row ∷ rows) [] = []
 rows_from k vars (row ∷ rows) (place ∷ places) =
     if is_block k place then row_with_places vars row ∷ rows_from k vars rows places else rows_from k vars rows places
 
--- the variables whose home is a block, and those that have none, in order
-abbrev pub at_home : ℕ → List (Option ℕ) → List ℕ
-at_home k homes = filter (λ v. is_block k (slice_index_or homes v None)) (range_with_len 0 (length homes))
+-- the variables that have a block among their homes, and those that have no home, in order
+abbrev pub at_home : ℕ → List (List ℕ) → List ℕ
+at_home k homes = filter (λ v. list_any (λ j. j == k) (slice_index_or homes v [])) (range_with_len 0 (length homes))
 
-abbrev pub homeless : List (Option ℕ) → List ℕ
-homeless homes = filter (λ v. is_none (slice_index_or homes v None)) (range_with_len 0 (length homes))
+abbrev pub homeless : List (List ℕ) → List ℕ
+homeless homes = filter (λ v. is_empty (slice_index_or homes v [])) (range_with_len 0 (length homes))
 
--- the block of these variables, with the rows of a block's number
-abbrev pub gathered : List Term → List Row → List (Option ℕ) → ℕ → List ℕ → Block
-gathered costs rows places k vars = record {
-  copies = map (λ v. record { var = v; cost = coefficient costs v; coefs = coefs_from v 0 rows places }) vars;
-  rows = rows_from k vars rows places;
-}
-
--- what is seen of the home of a variable: the block of some row, or none where there is no block's row
-abbrev pub SeenHome : List Row → List (Option ℕ) → ℕ → Option ℕ → Type 0
-SeenHome rows places v None = (r k : ℕ) → StandsInRow rows places v r k → ⊥
-SeenHome rows places v (Some k) = (r : ℕ) × StandsInRow rows places v r k
+-- one of a variable's homes isn't that of its list
+abbrev pub IsOneElse : List ℕ → Option ℕ → Type 0
+IsOneElse homes list = (i : ℕ) × (i < length homes) × ((d : ℕ) → list ≢ Some (slice_index_or homes i d))
 
 -- no two rows of different blocks have a variable
 abbrev pub IsApart : List Row → List (Option ℕ) → ℕ → Type 0
@@ -66,12 +64,12 @@ pub record IsFirstApart (rows : List Row) (places : List (Option ℕ)) (vars v r
   pub earlier : (w : ℕ) → w < v → IsApart rows places w
   pub link : IsLinkOf rows places v row1 row2
 
--- a listed variable has its home elsewhere
-abbrev pub IsElsewhere : List (Option ℕ) → ℕ × Option ℕ → Type 0
-IsElsewhere homes e = (k : ℕ) × (slice_index_or homes e.0 None ≡ Some k) × (e.1 ≢ Some k)
+-- a listed variable has a home elsewhere
+abbrev pub IsElsewhere : List (List ℕ) → ℕ × Option ℕ → Type 0
+IsElsewhere homes e = IsOneElse (slice_index_or homes e.0 []) e.1
 
--- the first listed variable that has its home elsewhere
-pub record IsFirstElsewhere (homes : List (Option ℕ)) (listed : List (ℕ × Option ℕ)) (v : ℕ) : Type 0 where
+-- the first listed variable that has a home elsewhere
+pub record IsFirstElsewhere (homes : List (List ℕ)) (listed : List (ℕ × Option ℕ)) (v : ℕ) : Type 0 where
   pub place : ℕ
   pub there : place < length listed
   pub var : (e : ℕ × Option ℕ) → (slice_index_or listed place e).0 ≡ v
@@ -82,3 +80,12 @@ pub record IsFirstElsewhere (homes : List (Option ℕ)) (listed : List (ℕ × O
 abbrev pub named_sides : Row → Option ℕ → Option MasterRow
 named_sides row None = Some (sides_of row)
 named_sides row (Some k) = None
+
+-- the sides of a link row: both copies have one number
+abbrev pub link_sides : MasterRow
+link_sides = record { sense = Eq; low = pos 0; rhs = pos 0 }
+
+-- the sides of the rows that proofs may name: of the program's, of so many link rows, and of cuts
+abbrev pub all_sides : List Row → List (Option ℕ) → ℕ → List Row → List (Option MasterRow)
+all_sides rows places links cuts =
+    map (λ e. named_sides e.0 e.1) (zip rows places) ++ replicate links (Some link_sides) ++ map (λ cut. Some (sides_of cut)) cuts

@@ -6,3 +6,6 @@ pub mod Gather
 pub mod Checks
 pub mod Places
 pub mod Columns
+pub mod Homes
+pub mod Cuts
+pub mod Source

@@ -1,5 +1,7 @@
 -- Where variables have copies.
-use Rattle.std.specs.Prelude.{◌≡◌, ◌⊎◌, ℕ, ◌<◌, List, length, slice_index_or}
+use Rattle.std.specs.Prelude.{◌≡◌, ◌⊎◌, ℕ, ◌<◌, ◌≤◌, List, length, slice_index_or}
+use Rattle.bp_theory.specs.Blocking.{Block}
+use Rattle.block_form.specs.Blocked.{HasCopyAt}
 
 -- a variable stands at a place of a block's variables, and that is noted
 pub record IsNotedHere (block : ℕ) (vars : List ℕ) (v : ℕ) (new : ℕ × ℕ) : Type 0 where
@@ -15,3 +17,8 @@ pub record IsNotedElsewhere (vars : List ℕ) (v : ℕ) (old new : ℕ × ℕ) :
 -- what is noted of a variable after a block
 abbrev pub IsNoted : ℕ → List ℕ → ℕ → ℕ × ℕ → ℕ × ℕ → Type 0
 IsNoted block vars v old new = IsNotedHere block vars v new ⊎ IsNotedElsewhere vars v old new
+
+-- the first copy of a variable in blocks from a number on
+pub record IsFirstFrom (first : ℕ) (blocks : List Block) (v : ℕ) (at : ℕ × ℕ) : Type 0 where
+  pub copy : HasCopyAt blocks v at
+  pub least : (other : ℕ × ℕ) → first ≤ other.0 → HasCopyAt blocks v other → at.0 ≤ other.0

@@ -1,13 +1,22 @@
 // A program in blocks.
 use crate::block::Block;
+use crate::places::place_at;
 use bp_model::{Dec, Model};
-use bp_theory::{Items, MasterRow};
+use bp_theory::{Cut, Items, MasterRow};
+use std::rc::Rc;
 
-/// A program in blocks: a model, a decomposition of it, and the blocks that the two make.
+/// What programs in blocks share that differ by their cuts alone.
+#[derive(Drop)]
+pub struct Base {
+    pub model: Model,
+    pub dec: Dec,
+}
+
+/// A program in blocks: a model, a decomposition of it, cuts, and the blocks that these make.
 #[derive(Drop)]
 pub struct Blocked {
-    model: Model,
-    dec: Dec,
+    base: Rc<Base>,
+    cuts: Items<Cut>,
     blocks: Items<Block>,
     rows: Items<Option<MasterRow>>,
     places: Items<(u32, u32)>,
@@ -20,17 +29,19 @@ impl std::marker::Model for Blocked {
     ghost Value = { BlockedProgram };
 
     ghost view = { λ b. record {
-      named = b.model;
-      dec = b.dec;
-      blocking = record { constant = b.model.program.constant; blocks = map (λ (k : RootBlock). k.block) b.blocks; rows = b.rows };
+      named = b.base.value.model;
+      dec = b.base.value.dec;
+      cuts = b.cuts;
+      blocking = record { constant = b.base.value.model.program.constant; blocks = map (λ (k : RootBlock). k.block) b.blocks; rows = b.rows };
     } };
 
     ghost invariant = { λ b. IsFormed (record {
-      named = b.model;
-      dec = b.dec;
-      blocking = record { constant = b.model.program.constant; blocks = map (λ (k : RootBlock). k.block) b.blocks; rows = b.rows };
-    }) × HaveRootSpans b.model.program.spans b.blocks
-        × ArePlaces (map (λ (k : RootBlock). k.block) b.blocks) (length b.model.program.spans) b.places };
+      named = b.base.value.model;
+      dec = b.base.value.dec;
+      cuts = b.cuts;
+      blocking = record { constant = b.base.value.model.program.constant; blocks = map (λ (k : RootBlock). k.block) b.blocks; rows = b.rows };
+    }) × HaveRootSpans b.base.value.model.program.spans b.blocks
+        × ArePlaces (map (λ (k : RootBlock). k.block) b.blocks) (length b.base.value.model.program.spans) b.places };
 }
 
 impl Blocked {
@@ -38,26 +49,27 @@ impl Blocked {
     ghost use Rattle.bp_theory.specs.Blocking.{row_at};
     ghost use Rattle.bp_theory.specs.Blocking as theory;
     ghost use Rattle.bp_theory.specs.Bound.{spans_of};
-    ghost use Rattle.block_form.specs.Blocked.{RootBlock, IsFormed, AreParts, ArePlaces, HasCopyAt};
+    ghost use Rattle.block_form.specs.Blocked.{RootBlock, IsFormed, AreParts, ArePlaces, HasCopyAt, IsFirstCopyAt};
 
-    // The model and the decomposition with the blocks that they make.
+    // The model, the decomposition and cuts with the blocks that they make.
     pub(crate) fn make(
-        model: Model,
-        dec: Dec,
+        base: Rc<Base>,
+        cuts: Items<Cut>,
         blocks: Items<Block>,
         rows: Items<Option<MasterRow>>,
         places: Items<(u32, u32)>,
     ) -> Blocked
-        requires parts { AreParts model dec blocks rows }
+        requires parts { AreParts base.value.model base.value.dec cuts blocks rows }
         requires places { ArePlaces (map (λ (k : RootBlock). k.block) blocks)
-            (length model.program.spans) places }
-        ensures named { result.named ≡ model }
-        ensures dec { result.dec ≡ dec }
+            (length base.value.model.program.spans) places }
+        ensures named { result.named ≡ base.value.model }
+        ensures dec { result.dec ≡ base.value.dec }
+        ensures cuts { result.cuts ≡ cuts }
         ensures formed { IsFormed result }
     {
         Blocked {
-            model,
-            dec,
+            base,
+            cuts,
             blocks,
             rows,
             places,
@@ -69,7 +81,7 @@ impl Blocked {
         ensures model { result.now ≡ self.now.named }
         ensures formed { IsFormed self.now }
     {
-        &self.model
+        &self.base.as_ref().model
     }
 
     /// The decomposition.
@@ -77,7 +89,15 @@ impl Blocked {
         ensures dec { result.now ≡ self.now.dec }
         ensures formed { IsFormed self.now }
     {
-        &self.dec
+        &self.base.as_ref().dec
+    }
+
+    /// The cuts.
+    pub fn cuts(&self) -> &[Cut]
+        ensures cuts { result.now ≡ self.now.cuts }
+        ensures formed { IsFormed self.now }
+    {
+        self.cuts.as_slice()
     }
 
     /// How many blocks there are, those of single variables included.
@@ -103,18 +123,19 @@ impl Blocked {
         requires { row < length self.now.named.program.rows }
         ensures { slice_get self.now.dec.places row ≡ Some result }
     {
-        self.dec.block_of(row)
+        self.dec().block_of(row)
     }
 
-    /// A variable's block, and the place of its copy there.
+    /// The first block that has a copy of a variable, and the place of the copy there.
     pub fn var_place(&self, var: u32) -> (u32, u32)
         requires { var < length self.now.named.program.spans }
-        ensures { HasCopyAt self.now.blocking.blocks var result }
+        ensures copy { HasCopyAt self.now.blocking.blocks var result }
+        ensures first { IsFirstCopyAt self.now.blocking.blocks var result }
     {
-        self.places.as_slice()[var as usize]
+        place_at(self.places.as_slice(), var)
     }
 
-    /// The sense and sides of a row that proofs may name, a master row, and none for each other number.
+    /// The sense and sides of a row that proofs may name: a master row, a link row or a cut; none for each other number.
     pub fn master_row(&self, row: u32) -> Option<MasterRow>
         ensures { result ≡ row_at self.now.blocking row }
     {

@@ -1,22 +1,26 @@
 // The blocks that a decomposition gives a model, or what it is refused for.
-ghost use Rattle.std.specs.Prelude.{◌≡◌, ℕ, length, All, IfOk, IfErr, OnOk};
+ghost use Rattle.std.specs.Prelude.{◌≡◌, ℕ, [], length, All, IfOk, IfErr, OnOk};
 ghost use Rattle.bp_theory.specs.Decomposition.{HasPlaces, IsLinking, IsMisplaced};
 ghost use Rattle.bp_model.specs.Dec.{HasListed};
-ghost use Rattle.block_form.specs.Blocked.{AreParts, IsFormed};
+ghost use Rattle.block_form.specs.Blocked.{AreMade, AreParts, IsFormed};
 ghost use Rattle.block_form.specs.declared.fault.BlockFault.TheVariants.{NoMemory};
 ghost use Rattle.block_form.specs.Columns.{AreColumns};
-ghost use Rattle.block_form.specs.Checks.{AreHomes, HasBlockFault};
+ghost use Rattle.block_form.specs.Checks.{HasBlockFault};
+ghost use Rattle.block_form.specs.Cuts.{AreCutRows};
+ghost use Rattle.block_form.specs.Homes.{AreHomes};
 
 use crate::assemble::{home_blocks, named_rows, push_lone_blocks};
 use crate::block::Block;
-use crate::blocked::Blocked;
+use crate::blocked::{Base, Blocked};
 use crate::columns::columns_of;
 use crate::fault::{BlockFault, Unblocked};
 use crate::homes::{first_elsewhere, first_link, homes_of};
 use crate::places::var_places;
+use crate::source::Source;
 use bp_model::{Dec, Model};
-use bp_theory::{Items, MasterRow};
-use std::alloc::Global;
+use bp_theory::{Items, MasterRow, Row};
+use std::alloc::{AllocError, Global};
+use std::rc::Rc;
 
 /// The program in blocks that a decomposition of a model makes. Refused are a variable that stands in rows of two
 /// blocks, and else a listed variable that stands in a row of a block other than its list's, the first of each.
@@ -37,7 +41,7 @@ pub fn check_blocks(alloc: Global, model: Model, dec: Dec) -> Result<Blocked, Un
     }
 }
 
-// The program in blocks of these parts, with an index of the variables' copies.
+// The program in blocks of these parts, with an index of the variables' first copies.
 fn placed(
     alloc: Global,
     model: Model,
@@ -45,19 +49,28 @@ fn placed(
     blocks: Items<Block>,
     rows: Items<Option<MasterRow>>,
 ) -> Result<Blocked, Unblocked>
-    requires { AreParts model dec blocks rows }
+    requires { AreParts model dec [] blocks rows }
     ensures model { IfOk result (λ b. b.named ≡ model) }
     ensures dec { IfOk result (λ b. b.dec ≡ dec) }
     ensures formed { IfOk result IsFormed }
     ensures fault { IfErr result (λ refused. refused.fault ≡ NoMemory) }
     ensures handed_back { IfErr result (λ refused. refused.model ≡ model) }
 {
-    match var_places(alloc, model.vars(), blocks.as_slice()) {
-        Err(_) => Err(Unblocked {
+    let Ok(places) = var_places(alloc, model.vars(), blocks.as_slice()) else {
+        return Err(Unblocked {
             fault: BlockFault::NoMemory,
             model,
+        });
+    };
+    match Rc::new(alloc, Base { model, dec }) {
+        Err(failed) => Err(Unblocked {
+            fault: BlockFault::NoMemory,
+            model: failed.value.model,
         }),
-        Ok(places) => Ok(Blocked::make(model, dec, blocks, rows, Items::from_vec(places))),
+        Ok(base) => {
+            let cuts = Items::new(alloc);
+            Ok(Blocked::make(base, cuts, blocks, rows, Items::from_vec(places)))
+        }
     }
 }
 
@@ -69,14 +82,13 @@ fn parts_of(
 ) -> Result<(Items<Block>, Items<Option<MasterRow>>), BlockFault>
     requires places { HasPlaces model.now.program dec.now }
     requires listed { HasListed model.now.program dec.now }
-    ensures parts { IfOk result (λ parts. AreParts model.now dec.now parts.0 parts.1) }
+    ensures parts { IfOk result (λ parts. AreParts model.now dec.now [] parts.0 parts.1) }
     ensures placed { OnOk result (All (λ e. IsMisplaced model.now.program dec.now e → ⊥)
         dec.now.listed) }
     ensures fault { IfErr result (HasBlockFault model.now.program dec.now) }
 {
-    let rows = model.all_rows();
     let places = dec.places();
-    let Ok(columns) = columns_of(alloc, model.vars(), rows) else {
+    let Ok(columns) = columns_of(alloc, model.vars(), 0, model.all_rows()) else {
         return Err(BlockFault::NoMemory);
     };
     if let Some(link) = first_link(columns.as_slice(), places) {
@@ -86,62 +98,40 @@ fn parts_of(
             row2: link.row2,
         });
     }
-    let Ok(homes) = homes_of(alloc, columns.as_slice(), places) else {
+    let Ok(homes) = homes_of(alloc, dec.blocks(), columns.as_slice(), places) else {
         return Err(BlockFault::NoMemory);
     };
     if let Some(var) = first_elsewhere(homes.as_slice(), dec.listed()) {
         return Err(BlockFault::VarPlace(var));
     }
-    made_parts(alloc, model, dec, homes.as_slice(), columns.as_slice())
+    let cuts = Vec::new(alloc);
+    let Ok(parts) = made_parts(alloc, model, dec, cuts.as_slice(), columns, homes) else {
+        return Err(BlockFault::NoMemory);
+    };
+    Ok(parts)
 }
 
-// The blocks and the named rows, by the variables' homes.
+// The blocks and the named rows of a model, a decomposition of it and rows of cuts, by columns and homes.
 fn made_parts(
     alloc: Global,
     model: &Model,
     dec: &Dec,
-    homes: &[Option<u32>],
-    columns: &[Items<(u32, i64)>],
-) -> Result<(Items<Block>, Items<Option<MasterRow>>), BlockFault>
+    cuts: &[Row],
+    columns: Vec<Items<(u32, i64)>>,
+    homes: Vec<Items<u32>>,
+) -> Result<(Items<Block>, Items<Option<MasterRow>>), AllocError>
     requires places { HasPlaces model.now.program dec.now }
-    requires apart { (w : ℕ) → IsLinking model.now.program dec.now w → ⊥ }
-    requires homes { AreHomes model.now.program dec.now homes.now }
-    requires columns { AreColumns model.now.program.rows columns.now }
-    requires each_column { length columns.now ≡ length model.now.program.spans }
-    ensures parts { IfOk result (λ parts. AreParts model.now dec.now parts.0 parts.1) }
-    ensures fault { IfErr result (λ fault. fault ≡ NoMemory) }
+    requires cuts { AreCutRows model.now.program cuts.now }
+    requires columns { AreColumns model.now.program.rows columns.items }
+    requires each_column { length columns.items ≡ length model.now.program.spans }
+    requires homes { AreHomes model.now.program dec.now homes.items }
+    ensures { IfOk result (λ parts. AreMade model.now dec.now cuts.now parts.0 parts.1) }
 {
-    let spans = model.spans();
-    let costs = model.costs();
     let rows = model.all_rows();
-    let places = dec.places();
-    let Ok(mut blocks) = home_blocks(
-        alloc,
-        dec.blocks(),
-        homes,
-        spans,
-        costs,
-        rows,
-        places,
-        columns,
-    ) else {
-        return Err(BlockFault::NoMemory);
-    };
-    let Ok(()) = push_lone_blocks(
-        alloc,
-        &mut blocks,
-        dec.blocks(),
-        homes,
-        spans,
-        costs,
-        rows,
-        places,
-        columns,
-    ) else {
-        return Err(BlockFault::NoMemory);
-    };
-    let Ok(named) = named_rows(alloc, rows, places) else {
-        return Err(BlockFault::NoMemory);
-    };
+    let source = Source::make(alloc, model, dec, cuts, columns, homes)?;
+    let mut blocks = home_blocks(alloc, &source)?;
+    push_lone_blocks(alloc, &source, &mut blocks)?;
+    let links = source.end.saturating_sub(model.rows());
+    let named = named_rows(alloc, rows, dec.places(), links, cuts)?;
     Ok((Items::from_vec(blocks), Items::from_vec(named)))
 }

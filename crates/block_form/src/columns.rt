@@ -6,21 +6,23 @@ ghost use Rattle.block_form.specs.Columns.{row_entries, column_from};
 use bp_theory::{Items, Row, Term};
 use std::alloc::{AllocError, Global};
 
-/// For each variable its column: the rows in which it stands, ascending, each with the variable's coefficient.
+/// For each variable its column: the rows in which it stands, numbered from a first number on, each with the variable's
+/// coefficient.
 pub fn columns_of(
     alloc: Global,
     vars: u32,
+    first: u32,
     rows: &[Row],
 ) -> Result<Vec<Items<(u32, i64)>>, AllocError>
-    requires few { length rows.now < 2 ^ 32 }
+    requires few { first + length rows.now < 2 ^ 32 }
     requires known { All (λ row. HasVariablesBelow vars row.terms) rows.now }
     ensures each { IfOk result (λ columns. vec_len columns ≡ vars) }
     ensures columns { IfOk result (λ columns. (v : ℕ) → v < vars →
-        slice_index_or columns.items v [] ≡ column_from 0 rows.now v) }
+        slice_index_or columns.items v [] ≡ column_from first rows.now v) }
 {
     let mut columns = empty_columns(alloc, vars as usize)?;
     for (number, row) in rows.iter().enumerate() {
-        add_terms(&mut columns, number as u32, row.terms.as_slice())?;
+        add_terms(&mut columns, first + number as u32, row.terms.as_slice())?;
     }
     Ok(columns)
 }

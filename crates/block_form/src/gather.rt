@@ -1,5 +1,6 @@
 // The parts of a block, from the model's rows and costs.
-ghost use Rattle.std.specs.Prelude.{◌≡◌, ℕ, ◌<◌, ◌≤◌, ◌^◌, length, map, All, IfOk, IsTrue, OnOk, if◌then◌else◌, ◌++◌, ◌∷◌, []};
+ghost use Rattle.std.specs.Prelude.{◌≡◌, ◌==◌, ℕ, ◌<◌, ◌≤◌, ◌^◌, length, map, All, IfOk, IsTrue, OnOk, if◌then◌else◌, ◌++◌, ◌∷◌, []};
+ghost use Rattle.std.specs.List.{list_any};
 ghost use Rattle.std.specs.List.Sorted.{IsStrictlyIncreasing};
 ghost use Rattle.bp_theory.specs.Decomposition.{is_block, row_with_places, term_with_place};
 ghost use Rattle.block_form.specs.Gather.{at_home, homeless, rows_from};
@@ -9,8 +10,8 @@ use crate::stand::{block_at, place_of};
 use bp_theory::{Items, Row, Term};
 use std::alloc::{AllocError, Global};
 
-/// The variables whose home is a block, in order.
-pub fn at_home(alloc: Global, block: u32, homes: &[Option<u32>]) -> Result<Vec<u32>, AllocError>
+/// The variables that have a block among their homes, in order.
+pub fn at_home(alloc: Global, block: u32, homes: &[Items<u32>]) -> Result<Vec<u32>, AllocError>
     requires { length homes.now < 2 ^ 32 }
     ensures vars { IfOk result (λ vars. vars.items ≡ at_home block homes.now) }
     ensures below { IfOk result (λ vars. All (λ v. v < length homes.now) vars.items) }
@@ -19,20 +20,27 @@ pub fn at_home(alloc: Global, block: u32, homes: &[Option<u32>]) -> Result<Vec<u
 {
     let mut vars = Vec::new(alloc);
     for v in 0..homes.len() {
-        push_if(&mut vars, v as u32, is_block(block, homes[v]))?;
+        push_if(&mut vars, v as u32, is_home(block, homes[v].as_slice()))?;
     }
     Ok(vars)
 }
 
+// Whether a block is among a variable's homes.
+fn is_home(block: u32, homes: &[u32]) -> bool
+    ensures { result ≡ list_any (λ j. j == block) homes.now }
+{
+    homes.iter().any(|home| *home == block)
+}
+
 /// The variables that stand in no block's row, in order.
-pub fn homeless(alloc: Global, homes: &[Option<u32>]) -> Result<Vec<u32>, AllocError>
+pub fn homeless(alloc: Global, homes: &[Items<u32>]) -> Result<Vec<u32>, AllocError>
     requires { length homes.now < 2 ^ 32 }
     ensures vars { IfOk result (λ vars. vars.items ≡ homeless homes.now) }
     ensures below { IfOk result (λ vars. All (λ v. v < length homes.now) vars.items) }
 {
     let mut vars = Vec::new(alloc);
     for v in 0..homes.len() {
-        push_if(&mut vars, v as u32, homes[v].is_none())?;
+        push_if(&mut vars, v as u32, homes[v].is_empty())?;
     }
     Ok(vars)
 }
@@ -144,14 +152,14 @@ pub fn master_coefs(
     alloc: Global,
     column: &[(u32, i64)],
     places: &[Option<u32>],
-) -> Result<Items<(u32, i64)>, AllocError>
-    ensures { IfOk result (λ coefs. coefs ≡ master_entries places.now column.now) }
+) -> Result<Vec<(u32, i64)>, AllocError>
+    ensures { IfOk result (λ coefs. coefs.items ≡ master_entries places.now column.now) }
 {
     let mut coefs = Vec::new(alloc);
     for entry in column {
         push_entry_if(&mut coefs, entry, block_at(places, entry.0).is_none())?;
     }
-    Ok(Items::from_vec(coefs))
+    Ok(coefs)
 }
 
 // One entry more where it is wanted.

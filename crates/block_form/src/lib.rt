@@ -11,7 +11,9 @@ mod fault;
 mod fitting;
 mod gather;
 mod homes;
+mod links;
 mod places;
+mod source;
 mod stand;
 mod zone;
 

@@ -1,24 +1,24 @@
-// Where each variable has its copy.
+// Where each variable has its first copy.
 ghost use Rattle.std.specs.Prelude.{◌≡◌, ℕ, ◌<◌, ◌^◌, length, vec_len, map, All, IfOk, slice_index_or};
 ghost use Rattle.bp_theory.specs.Blocking.{Copy};
-ghost use Rattle.block_form.specs.Blocked.{RootBlock, HasCopyAt};
+ghost use Rattle.block_form.specs.Blocked.{RootBlock, HasCopyAt, IsFirstCopyAt};
 ghost use Rattle.block_form.specs.Places.{IsNoted};
 
 use crate::block::Block;
 use std::alloc::{AllocError, Global};
 
-/// For each variable the number of a block that has a copy of it, and the copy's place in the block.
+/// For each variable the number of the first block that has a copy of it, and the copy's place in the block.
 pub fn var_places(alloc: Global, vars: u32, blocks: &[Block]) -> Result<Vec<(u32, u32)>, AllocError>
     requires few { length blocks.now < 2 ^ 32 }
     requires below { All (λ k. All (λ (c : Copy). c.var < vars) k.block.copies) blocks.now }
     ensures each { IfOk result (λ places. vec_len places ≡ vars) }
     ensures places { IfOk result (λ places. (v : ℕ) (at : ℕ × ℕ) → v < vars →
         HasCopyAt (map (λ (k : RootBlock). k.block) blocks.now) v at →
-        HasCopyAt (map (λ (k : RootBlock). k.block) blocks.now) v
+        IsFirstCopyAt (map (λ (k : RootBlock). k.block) blocks.now) v
         (slice_index_or places.items v (0, 0))) }
 {
     let mut places = Vec::from_elem(alloc, (0, 0), vars as usize)?;
-    for k in 0..blocks.len() {
+    for k in (0..blocks.len()).rev() {
         let block = &blocks[k];
         note(&mut places, k as u32, block.vars(), block.var_count());
     }
@@ -37,4 +37,12 @@ fn note(places: &mut Vec<(u32, u32)>, block: u32, vars: &[u32], count: u32)
     for i in 0..count {
         places[vars[i as usize] as usize] = (block, i);
     }
+}
+
+/// The place of a variable among those of all variables.
+pub fn place_at(places: &[(u32, u32)], var: u32) -> (u32, u32)
+    requires { var < length places.now }
+    ensures { result ≡ slice_index_or places.now var (0, 0) }
+{
+    places[var as usize]
 }

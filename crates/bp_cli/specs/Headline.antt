@@ -15,14 +15,14 @@ use Rattle.branch_tree.specs.declared.outcome.Outcome.TheVariants.{Budget}
 use Rattle.bp_search.specs.Ends.{given_steps}
 use Rattle.bp_words.specs.declared.order.Order.{Order}
 use Rattle.bp_words.specs.declared.order.Order.TheVariants.{Solve, Check, Show, Gen, Demo, Detect, Propose, Merge, Migrate}
-use Rattle.bp_report.specs.Report.{count_line, value_line, point_lines, known_line, known_lines, accepted_report}
+use Rattle.bp_report.specs.Report.{count_line, value_line, variable_lines, known_line, known_lines, accepted_report}
 
 -- A report of `solve` is true of a program: `optimal V`, and behind it a point that meets every row and bound, that has the
 -- value V, and that no such point betters; or `infeasible`, and no point meets every row and bound; or `budget N` with so many steps, a
 -- bound that no point betters that meets every row and bound, and such a point and its value where one is known.
 pub data IsTrueReport (m : NamedProgram) (told : ℕ) (status : ℕ) (report : List ℕ) : Type 0 where
   optimal : (x : List ℤ) → IsBest m.program x → status ≡ 0
-      → report ≡ value_line (codes "optimal ") (value m.program x) ++ point_lines m.names x → IsTrueReport m told status report
+      → report ≡ value_line (codes "optimal ") (value m.program x) ++ variable_lines m.names x → IsTrueReport m told status report
   infeasible : ((x : List ℤ) → IsFeasible m.program x → ⊥) → status ≡ 4 → report ≡ codes "infeasible\n" → IsTrueReport m told status report
   budget : (bound : ℤ) (known : Option (List ℤ)) → NoneBetter m.program bound → IfSome known (IsFeasible m.program) → status ≡ 5
       → report ≡ (count_line (codes "budget ") told ++ value_line (codes "bound ") bound ++ known_line m known) ++ known_lines m known

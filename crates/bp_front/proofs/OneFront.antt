@@ -13,6 +13,8 @@ use Rattle.dec_read.specs.Reading as dec_text
 use Rattle.dec_read.specs.declared.fault.DecKind.{DecKind}
 use Rattle.block_form.specs.Blocked.{BlockedProgram, IsFormed}
 use Rattle.block_form.specs.Checks.{HasBlockFault}
+use Rattle.block_form.proofs.PlainLemmas.{plain_blocking}
+use Rattle.bp_theory.specs.declared.Cut.{Cut}
 use Rattle.block_form.specs.declared.fault.BlockFault.{BlockFault}
 use Rattle.block_form.specs.declared.fault.BlockFault.TheVariants.{Linking, VarPlace, NoMemory}
 use Rattle.bp_front.specs.Front.{Front, blocked, ends, BlocksCome, formed, refused, DecComes, plain, missing, faulty, read, FilesCome, missing_lp, faulty_lp, read_lp}
@@ -25,16 +27,16 @@ SameFront (blocked b) (ends t q) = ⊥
 SameFront (ends s p) (blocked c) = ⊥
 SameFront (ends s p) (ends t q) = s ≡ t
 
-blocked_parts : (a b : NamedProgram) (c d : Decomposition) (e f : Blocking) → a ≡ b → c ≡ d → e ≡ f
-    → (let x : BlockedProgram = record { named = a; dec = c; blocking = e } in x) ≡ (let x : BlockedProgram = record { named = b; dec = d; blocking = f } in x)
-blocked_parts a b c d e f p q r = rw (p, q, r) refl
+blocked_parts : (a b : NamedProgram) (c d : Decomposition) (i j : List Cut) (e f : Blocking) → a ≡ b → c ≡ d → i ≡ j → e ≡ f
+    → (let x : BlockedProgram = record { named = a; dec = c; cuts = i; blocking = e } in x) ≡ (let x : BlockedProgram = record { named = b; dec = d; cuts = j; blocking = f } in x)
+blocked_parts a b c d i j e f p q o r = rw (p, q, o, r) refl
 
 -- a program in blocks is told by its program and its decomposition
 one_blocked : (b c : BlockedProgram) → IsFormed b → IsFormed c → b.named ≡ c.named → b.dec ≡ c.dec → b ≡ c
 one_blocked b c f g named decs =
     let blockings : blocking_of b.named.program b.dec [] ≡ blocking_of c.named.program c.dec [] =
     ap (λ (m : NamedProgram). blocking_of m.program b.dec []) named ∙ ap (λ (d : Decomposition). blocking_of c.named.program d []) decs in
-    blocked_parts b.named c.named b.dec c.dec b.blocking c.blocking named decs (f.blocking ∙ blockings ∙ sym g.blocking)
+    blocked_parts b.named c.named b.dec c.dec b.cuts c.cuts b.blocking c.blocking named decs (f.uncut ∙ sym g.uncut) (plain_blocking f ∙ blockings ∙ sym (plain_blocking g))
 
 -- what has blocks is not refused
 not_refused : (m : NamedProgram) (d : Decomposition) (b : BlockedProgram) (fault : BlockFault) → b.named ≡ m → b.dec ≡ d → IsFormed b

@@ -13,7 +13,7 @@ use Rattle.bp_front.specs.Answers.{AnswersBy, IsOnly, CutsOff}
 use Rattle.bp_front.specs.Endings.{status_of}
 use Rattle.bp_front.specs.Front.{HasModel, HasLpFault}
 use Rattle.bp_front.specs.Halts.{LpHalts}
-use Rattle.bp_front.specs.Written.{Answer, stops, Answered, IsHalt, IsTextHalt, TextStands, Leaves, answered, unput, StandsUnput}
+use Rattle.bp_front.specs.Written.{Answer, stops, Answered, IsHalt, IsTextHalt, TextStands, LeavesText, answered, unput, StandsUnput}
 use Rattle.bp_front.specs.declared.front.Halt.{Halt}
 use Rattle.bp_front.specs.declared.front.Halt.TheVariants.{Refused, Stopped}
 use Rattle.bp_front.proofs.Unique.{one_program}
@@ -45,7 +45,7 @@ right_answers Right a status tells before now right is printed = λ no_read no_w
 -- ---- what stands
 
 pub right_leaves : (Right : Answer → Type 0) (name : List ℕ) (before now : Files) (a : Answer) (status : ℕ) → Right a → (status ≡ a.status) ⊎ (status ≡ 8) → TextStands name before now a.text
-    → Leaves Right name before now status
+    → LeavesText Right name before now status
 right_leaves Right name before now a status right (inl is) stands = answered (record { answer = a; right = right; of = sym is; stands = stands })
 right_leaves Right name before now a status right (inr is) stands = unput a.status (record { answer = a; right = right; of = refl; stands = stands }) is
 

@@ -45,11 +45,11 @@ pub record HasAnswered (Right : Answer → Type 0) (name : List ℕ) (before now
 
 -- The files after a run, by its status: those of its answer, also where the report could not be put; as before after a read
 -- that failed and for want of memory; and where the write failed the named file may hold anything.
-pub data Leaves (Right : Answer → Type 0) (name : List ℕ) (before now : Files) (status : ℕ) : Type 0 where
-  answered : HasAnswered Right name before now status → Leaves Right name before now status
-  untouched : now ≡ before → (status ≡ 7) ⊎ (status ≡ 9) → Leaves Right name before now status
-  begun : OthersAsBefore name before now → status ≡ 8 → Leaves Right name before now status
-  unput : (meant : ℕ) → HasAnswered Right name before now meant → status ≡ 8 → Leaves Right name before now status
+pub data LeavesText (Right : Answer → Type 0) (name : List ℕ) (before now : Files) (status : ℕ) : Type 0 where
+  answered : HasAnswered Right name before now status → LeavesText Right name before now status
+  untouched : now ≡ before → (status ≡ 7) ⊎ (status ≡ 9) → LeavesText Right name before now status
+  begun : OthersAsBefore name before now → status ≡ 8 → LeavesText Right name before now status
+  unput : (meant : ℕ) → HasAnswered Right name before now meant → status ≡ 8 → LeavesText Right name before now status
 
 -- what stands where the report could not be put, which is put last
 abbrev pub StandsUnput : (Answer → Type 0) → (name : List ℕ) → (before now : Files) → Type 0

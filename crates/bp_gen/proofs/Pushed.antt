@@ -33,6 +33,11 @@ pushed f n start text more piece t m p =
     m ∙ ap (λ (xs : List ℕ). xs ++ piece) t ∙ append_assoc start (flat_map f (range_with_len 0 n)) piece
     ∙ ap (λ (xs : List ℕ). start ++ (flat_map f (range_with_len 0 n) ++ xs)) p ∙ ap (λ (xs : List ℕ). start ++ xs) (sym (pieces_more f n))
 
+-- where the loop has come to its end: stated for a variable, since over a numeral all pieces would be unfolded
+pub all_pushed : (f : ℕ → List ℕ) (n m : ℕ) (start text : List ℕ) → n ≡ m → text ≡ start ++ flat_map f (range_with_len 0 n)
+    → text ≡ start ++ flat_map f (range_with_len 0 m)
+all_pushed f n m start text e h = h ∙ ap (λ (k : ℕ). start ++ flat_map f (range_with_len 0 k)) e
+
 -- the same for a piece of two parts, and of three
 pub pushed_two : (f : ℕ → List ℕ) (n : ℕ) (start text next more a b : List ℕ) → text ≡ start ++ flat_map f (range_with_len 0 n) → next ≡ text ++ a
     → more ≡ next ++ b → a ++ b ≡ f n → more ≡ start ++ flat_map f (range_with_len 0 (n + 1))

@@ -3,7 +3,7 @@ use crate::text::{put, put_number, put_quoted, sentence_of};
 use std::alloc::{AllocError, Global};
 
 // The kit that the program is proved with.
-const KIT: &str = "rattle-kit-13f";
+const KIT: &str = "rattle-kit-13, logic dac8208d650f15bf";
 
 // Each command with its words and options, and what it does.
 const COMMANDS: &str = "\

@@ -14,9 +14,10 @@ use Rattle.bp_model.specs.Named.{NamedProgram}
 use Rattle.block_form.specs.Blocked.{BlockedProgram, IsFormed}
 use Rattle.block_form.proofs.GatherLemmas.{passing_below}
 use Rattle.block_form.proofs.StandLemmas.{passing_more}
+use Rattle.block_form.proofs.PlainLemmas.{plain_blocking}
 use Rattle.dec_find.specs.Text.{spaced}
 use Rattle.search_laws.specs.Spread.{block_at}
-use Rattle.bp_report.specs.Report.{rows_of_block, name_of, counted_names, block_line}
+use Rattle.bp_report.specs.Report.{rows_of_block, name_of, counted_names, shown_block}
 
 -- ---- rows
 
@@ -71,7 +72,7 @@ blocks_there b formed =
     let d = b.dec in
     let own : List Block = map (block_of p d (proof_rows p d [])) (range_with_len 0 d.blocks) in
     let lone : List Block = map (lone_block p d (proof_rows p d [])) (lone_variables p d) in
-    let all : length b.blocking.blocks ≡ length own + length lone = ap (λ (bl : Blocking). length bl.blocks) formed.blocking ∙ length-append own lone in
+    let all : length b.blocking.blocks ≡ length own + length lone = ap (λ (bl : Blocking). length bl.blocks) (plain_blocking formed) ∙ length-append own lone in
     let count : length own ≡ d.blocks = length-map-range_with_len (block_of p d (proof_rows p d [])) 0 d.blocks in
     omega (arith, all, count)
 
@@ -89,7 +90,7 @@ all_places b formed = λ k d l. wider b.dec.blocks (length b.blocking.blocks) (g
 pub vars_known : (b : BlockedProgram) (block : Block) (n : ℕ) (vars : List ℕ) → IsFormed b → n < length b.blocking.blocks → block ≡ get_or b.blocking.blocks n block
     → vars ≡ map (λ (c : Copy). c.var) block.copies → All (λ var. var < length b.named.program.spans) vars
 vars_known b block n vars formed there is vars_are =
-    let known = subst (λ (bl : Blocking). All (λ (e : Block). All (λ (c : Copy). c.var < length b.named.program.spans) e.copies) bl.blocks) (sym formed.blocking)
+    let known = subst (λ (bl : Blocking). All (λ (e : Block). All (λ (c : Copy). c.var < length b.named.program.spans) e.copies) bl.blocks) (sym (plain_blocking formed))
     (decomposition_lem.adds_up b.named.program b.dec [] formed.kept.closed (λ i d m. absurd (omega (arith, m)))).known in
     subst (λ (vs : List ℕ). All (λ var. var < length b.named.program.spans) vs) (sym vars_are)
     (All-map (λ var. var < length b.named.program.spans) (λ (c : Copy). c.var) block.copies
@@ -126,7 +127,7 @@ parts old word number rows vars end x y z first second third = rw (third, second
 pub line_of_parts : (b : BlockedProgram) (block : ℕ) (m n : NamedProgram) (rows vars old x y z : List ℕ) → m ≡ b.named → n ≡ b.named
     → rows ≡ rows_of_block b.dec.places block → vars ≡ map (λ (c : Copy). c.var) (block_at b.blocking block).copies
     → x ≡ old ++ codes "block " ++ decimal (block + 1) → y ≡ x ++ counted_names (codes " rows ") m.row_names rows
-    → z ≡ y ++ counted_names (codes " variables ") n.names vars → z ++ codes "\n" ≡ old ++ block_line b block
+    → z ≡ y ++ counted_names (codes " variables ") n.names vars → z ++ codes "\n" ≡ old ++ shown_block b block
 line_of_parts b block m n rows vars old x y z m_is n_is rows_are vars_are first second third =
     parts old (codes "block ") (decimal (block + 1)) (counted_names (codes " rows ") b.named.row_names (rows_of_block b.dec.places block))
     (counted_names (codes " variables ") b.named.names (map (λ (c : Copy). c.var) (block_at b.blocking block).copies)) (codes "\n") x y z first

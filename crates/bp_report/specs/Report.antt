@@ -26,19 +26,19 @@ use Rattle.cert_check.specs.declared.judge.Judged.TheVariants.{Accepted, Rejecte
 -- ---- ended searches
 
 -- the line of a variable: its name and its number
-abbrev pub point_line : List ℕ → ℤ → List ℕ
-point_line name v = name ++ codes " " ++ signed_decimal v ++ codes "\n"
+abbrev pub variable_line : List ℕ → ℤ → List ℕ
+variable_line name v = name ++ codes " " ++ signed_decimal v ++ codes "\n"
 
 -- the lines of a point, one for each variable in order
-abbrev pub point_lines : (names : List (List ℕ)) (x : List ℤ) → List ℕ
-point_lines [] x = []
-point_lines (name ∷ names) [] = []
-point_lines (name ∷ names) (v ∷ x) = point_line name v ++ point_lines names x
+abbrev pub variable_lines : (names : List (List ℕ)) (x : List ℤ) → List ℕ
+variable_lines [] x = []
+variable_lines (name ∷ names) [] = []
+variable_lines (name ∷ names) (v ∷ x) = variable_line name v ++ variable_lines names x
 
 -- the lines of a known point
 abbrev pub known_lines : NamedProgram → Option (List ℤ) → List ℕ
 known_lines m None = []
-known_lines m (Some x) = point_lines m.names x
+known_lines m (Some x) = variable_lines m.names x
 
 -- a line of a word, with the space behind it, and a number
 abbrev pub count_line : List ℕ → ℕ → List ℕ
@@ -194,19 +194,19 @@ abbrev pub counted_names : (word : List ℕ) → (names : List (List ℕ)) → (
 counted_names word names numbers = word ++ decimal (length numbers) ++ spaced (map (name_of names) numbers)
 
 -- the line of a block: its number, from 1, and its rows and variables, both in order
-abbrev pub block_line : BlockedProgram → ℕ → List ℕ
-block_line b block =
+abbrev pub shown_block : BlockedProgram → ℕ → List ℕ
+shown_block b block =
     codes "block " ++ decimal (block + 1)
     ++ counted_names (codes " rows ") b.named.row_names (rows_of_block b.dec.places block)
     ++ counted_names (codes " variables ") b.named.names (map (λ (c : Copy). c.var) (block_at b.blocking block).copies) ++ codes "\n"
 
 -- the lines of all blocks
-abbrev pub block_lines : BlockedProgram → List ℕ
-block_lines b = flat_map (block_line b) (range_with_len 0 (length b.blocking.blocks))
+abbrev pub shown_blocks : BlockedProgram → List ℕ
+shown_blocks b = flat_map (shown_block b) (range_with_len 0 (length b.blocking.blocks))
 
 -- the report on sizes and classes, followed by the lines of the blocks where they are wanted
 abbrev pub show_report_with : BlockedProgram → Grouping → (blocks : Bool) → List ℕ
-show_report_with b g blocks = show_report b g ++ (if blocks then block_lines b else [])
+show_report_with b g blocks = show_report b g ++ (if blocks then shown_blocks b else [])
 
 -- ---- texts that were made
 

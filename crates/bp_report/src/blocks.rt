@@ -5,7 +5,7 @@ ghost use Rattle.bp_theory.specs.Blocking.{Copy};
 ghost use Rattle.bp_theory.specs.Decomposition.{IsPlace, is_block};
 ghost use Rattle.search_laws.specs.Spread.{block_at};
 ghost use Rattle.block_class.specs.Classes.{AreSameClasses};
-ghost use Rattle.bp_report.specs.Report.{rows_of_block, counted_names, block_line, block_lines, show_report_with};
+ghost use Rattle.bp_report.specs.Report.{rows_of_block, counted_names, shown_block, shown_blocks, show_report_with};
 
 use crate::sizes::{push_named, show_text};
 use block_class::Classes;
@@ -34,7 +34,7 @@ pub fn show_blocks_text(
 
 // The lines of all blocks.
 fn push_blocks(alloc: Global, text: &mut Vec<u8>, b: &Blocked) -> Result<(), AllocError>
-    ensures { OnOk result (text.new.items ≡ text.old.items ++ block_lines b.now) }
+    ensures { OnOk result (text.new.items ≡ text.old.items ++ shown_blocks b.now) }
 {
     let rows = all_rows(alloc, b)?;
     for block in 0..b.blocks() {
@@ -47,7 +47,7 @@ fn push_blocks(alloc: Global, text: &mut Vec<u8>, b: &Blocked) -> Result<(), All
 fn push_block(text: &mut Vec<u8>, b: &Blocked, block: u32, rows: &[u32]) -> Result<(), AllocError>
     requires there { block < length b.now.blocking.blocks }
     requires rows { rows.now ≡ rows_of_block b.now.dec.places block }
-    ensures { OnOk result (text.new.items ≡ text.old.items ++ block_line b.now block) }
+    ensures { OnOk result (text.new.items ≡ text.old.items ++ shown_block b.now block) }
 {
     push_named(text, b"block ", block as u64 + 1)?;
     push_row_names(text, b.model(), rows)?;

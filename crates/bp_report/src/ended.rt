@@ -2,7 +2,7 @@
 ghost use Rattle.std.specs.Prelude.{◌≡◌, ◌++◌, IfOk, OnOk, Some, None, length};
 ghost use Rattle.std.specs.Option.{ForSome, option_map};
 ghost use Rattle.bp_theory.specs.Program.{IsInside, value, in_sense};
-ghost use Rattle.bp_report.specs.Report.{point_line, point_lines, known_lines, ended_line, ended_report, known_line, budget_lines, budget_report, outcome_lines, outcome_point, solve_report, CanTell};
+ghost use Rattle.bp_report.specs.Report.{variable_line, variable_lines, known_lines, ended_line, ended_report, known_line, budget_lines, budget_report, outcome_lines, outcome_point, solve_report, CanTell};
 
 use crate::lines::{push_count_line, push_value, push_value_line};
 use block_form::Blocked;
@@ -160,7 +160,7 @@ fn push_point(text: &mut Vec<u8>, m: &Model, vars: u32, point: &[i64]) -> Result
     requires vars { vars ≡ length m.now.program.spans }
     requires named { length m.now.names ≡ length m.now.program.spans }
     requires inside { IsInside m.now.program.spans point.now }
-    ensures { OnOk result (text.new.items ≡ text.old.items ++ point_lines m.now.names point.now) }
+    ensures { OnOk result (text.new.items ≡ text.old.items ++ variable_lines m.now.names point.now) }
 {
     for var in 0..vars {
         push_line(text, m.name(var), &point[var as usize])?;
@@ -187,7 +187,7 @@ pub fn in_sense(maximises: bool, cost: &i64) -> i128
 
 // One line more: a variable's name and its number.
 fn push_line(text: &mut Vec<u8>, name: &str, number: &i64) -> Result<(), AllocError>
-    ensures { OnOk result (text.new.items ≡ text.old.items ++ point_line name.now number.now) }
+    ensures { OnOk result (text.new.items ≡ text.old.items ++ variable_line name.now number.now) }
 {
     text.extend_from_slice(name.as_bytes())?;
     text.extend_from_slice(b" ")?;

@@ -13,6 +13,7 @@ use Rattle.bp_theory.specs.declared.Row.{Row}
 use Rattle.bp_theory.proofs.DecompositionProof.{decomposition_lem}
 use Rattle.bp_theory.proofs.FaithProof.{adding_up_lem}
 use Rattle.block_form.specs.Blocked.{BlockedProgram, IsFormed}
+use Rattle.block_form.proofs.PlainLemmas.{plain_blocking}
 use Rattle.search_laws.specs.Grove.{GrowingTree, live_count, live_bounds, certificate_tree}
 use Rattle.search_laws.specs.GroveFacts.{IsSearch, IsLeastOf, IsRemainingBound, best_cost}
 use Rattle.search_laws.specs.Outcomes.{CutsFit, final_claim, stopped_claim}
@@ -29,7 +30,7 @@ use Rattle.bp_search.proofs.Running.{given_is}
 faithful : (b : BlockedProgram) → IsFormed b → IsFaithful b.named.program b.blocking
 faithful b formed =
     let p : Program = b.named.program in
-    subst (IsFaithful p) (sym formed.blocking)
+    subst (IsFaithful p) (sym (plain_blocking formed))
     (adding_up_lem p (map full_row (proof_rows p b.dec [])) (blocking_of p b.dec [])
     (decomposition_lem.implied p b.dec [] (λ x feasible. All-nil (MeetsRow x)))
     (decomposition_lem.adds_up p b.dec [] formed.kept.closed (All-nil (λ (cut : Row). HasVariablesBelow (length p.spans) cut.terms))))
@@ -39,7 +40,7 @@ no_cuts p d = record { fitting = tt; bounded = All-nil (KeepsActivity p) }
 
 with_cuts : (b : BlockedProgram) (t : GrowingTree) (best : Option (List ℤ)) → IsFormed b → IsSearch b.named.program b.blocking t best
     → IsSearch b.named.program (blocking_of b.named.program b.dec []) t best
-with_cuts b t best formed search = subst (λ k. IsSearch b.named.program k t best) formed.blocking search
+with_cuts b t best formed search = subst (λ k. IsSearch b.named.program k t best) (plain_blocking formed) search
 
 searched_end : (b : BlockedProgram) (most : ℕ) (g : GroveState) (best : Option Kept) → IsFormed b → IsRunning b g best → live_count g.tree ≡ 0
     → steps (certificate_tree g.tree) ≤ most → IsSearched b most g (kept_point best) (final_claim b.named.program (kept_point best))

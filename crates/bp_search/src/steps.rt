@@ -3,7 +3,7 @@ ghost use Rattle.std.specs.Prelude.{◌≡◌, ◌+◌, ◌-◌, ◌<◌, ◌≤
 ghost use Rattle.bp_theory.specs.Trees.{steps};
 ghost use Rattle.search_laws.specs.Grove.{live_count, certificate_tree};
 ghost use Rattle.branch_tree.specs.Groves.{IsLiveTurn};
-ghost use Rattle.column_hint.specs.Pools.{AreMadeFor};
+ghost use Rattle.hint_pools.specs.Pools.{AreMadeFor};
 ghost use Rattle.bp_search.specs.Searches.{IsRunning};
 ghost use Rattle.bp_search.specs.Below.{IsAsBeside};
 

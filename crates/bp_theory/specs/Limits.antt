@@ -37,6 +37,14 @@ most_cells = 1048576
 abbrev pub greatest_depth : ℕ
 greatest_depth = 8256
 
+-- the greatest number of cuts
+abbrev pub most_cuts : ℕ
+most_cuts = 256
+
+-- the greatest divisor of a cut, and the greatest size of its multipliers
+abbrev pub greatest_divisor : ℕ
+greatest_divisor = 2 ^ 20
+
 -- the greatest scale of a proof
 abbrev pub greatest_scale : ℕ
 greatest_scale = 2 ^ 20

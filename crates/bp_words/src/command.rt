@@ -27,10 +27,9 @@ pub fn make_command<'a>(alloc: Global) -> Result<Command<'a>, AllocError>
     ensures { IfOk result (λ command. app_of command ≡ command_line) }
 {
     let merge = merge_command(alloc)?;
+    let command = parting_command(alloc)?.subcommand(merge)?;
     let migrate = migrate_command(alloc)?;
-    parting_command(alloc)?
-        .subcommand(merge)?
-        .subcommand(migrate)
+    command.subcommand(migrate)
 }
 
 // The program with all subcommands but those that write certificates anew.
@@ -38,10 +37,9 @@ fn parting_command<'a>(alloc: Global) -> Result<Command<'a>, AllocError>
     ensures { IfOk result (λ command. app_of command ≡ parting_line) }
 {
     let detect = detect_command(alloc)?;
+    let command = making_command(alloc)?.subcommand(detect)?;
     let propose = propose_command(alloc)?;
-    making_command(alloc)?
-        .subcommand(detect)?
-        .subcommand(propose)
+    command.subcommand(propose)
 }
 
 // The program with the subcommands that read texts and those that make them.
@@ -49,8 +47,9 @@ fn making_command<'a>(alloc: Global) -> Result<Command<'a>, AllocError>
     ensures { IfOk result (λ command. app_of command ≡ making_line) }
 {
     let make = gen_command(alloc)?;
+    let command = reading_command(alloc)?.subcommand(make)?;
     let demo = demo_command(alloc)?;
-    reading_command(alloc)?.subcommand(make)?.subcommand(demo)
+    command.subcommand(demo)
 }
 
 // The program with the subcommands that read texts.
@@ -58,12 +57,11 @@ fn reading_command<'a>(alloc: Global) -> Result<Command<'a>, AllocError>
     ensures { IfOk result (λ command. app_of command ≡ reading_line) }
 {
     let solve = solve_command(alloc)?;
+    let command = program(alloc).subcommand(solve)?;
     let check = check_command(alloc)?;
+    let command = command.subcommand(check)?;
     let show = show_command(alloc)?;
-    program(alloc)
-        .subcommand(solve)?
-        .subcommand(check)?
-        .subcommand(show)
+    command.subcommand(show)
 }
 
 // The program itself.
@@ -81,134 +79,119 @@ fn program<'a>(alloc: Global) -> Command<'a>
 fn solve_command<'a>(alloc: Global) -> Result<Command<'a>, AllocError>
     ensures { IfOk result (λ command. IsShaped command solve_words) }
 {
-    let leaf = number_option(alloc, "leaf", 1, MOST_LEAF);
-    let workers = number_option(alloc, "workers", 1, MOST_WORKERS);
-    let order = number_option(alloc, "order", 0, u64::MAX);
-    kept_command(alloc)?.arg(leaf)?.arg(workers)?.arg(order)
+    kept_command(alloc)?
+        .arg(number_option(alloc, "leaf", 1, MOST_LEAF))?
+        .arg(number_option(alloc, "workers", 1, MOST_WORKERS))?
+        .arg(number_option(alloc, "order", 0, u64::MAX))
 }
 
 // `solve LP [--dec FILE] [--steps N] [--cert FILE] [--from CERT]`
 fn kept_command<'a>(alloc: Global) -> Result<Command<'a>, AllocError>
     ensures { IfOk result (λ command. IsShaped command kept_words) }
 {
-    let cert = file_option(alloc, "cert");
-    let from = file_option(alloc, "from");
-    search_command(alloc)?.arg(cert)?.arg(from)
+    search_command(alloc)?
+        .arg(file_option(alloc, "cert"))?
+        .arg(file_option(alloc, "from"))
 }
 
 // `solve LP [--dec FILE] [--steps N]`
 fn search_command<'a>(alloc: Global) -> Result<Command<'a>, AllocError>
     ensures { IfOk result (λ command. IsShaped command search_words) }
 {
-    let lp = file_word(alloc, "lp");
-    let dec = file_option(alloc, "dec");
-    let steps = number_option(alloc, "steps", 0, MOST_STEPS);
-    Command::new(alloc, "solve").arg(lp)?.arg(dec)?.arg(steps)
+    Command::new(alloc, "solve")
+        .arg(file_word(alloc, "lp"))?
+        .arg(file_option(alloc, "dec"))?
+        .arg(number_option(alloc, "steps", 0, MOST_STEPS))
 }
 
 // `check LP CERT [--dec FILE] [--visits M]`
 fn check_command<'a>(alloc: Global) -> Result<Command<'a>, AllocError>
     ensures { IfOk result (λ command. IsShaped command check_words) }
 {
-    let lp = file_word(alloc, "lp");
-    let cert = file_word(alloc, "cert");
-    let dec = file_option(alloc, "dec");
-    let visits = number_option(alloc, "visits", 0, MOST_VISITS);
     Command::new(alloc, "check")
-        .arg(lp)?
-        .arg(cert)?
-        .arg(dec)?
-        .arg(visits)
+        .arg(file_word(alloc, "lp"))?
+        .arg(file_word(alloc, "cert"))?
+        .arg(file_option(alloc, "dec"))?
+        .arg(number_option(alloc, "visits", 0, MOST_VISITS))
 }
 
 // `show LP [--dec FILE] [--blocks]`
 fn show_command<'a>(alloc: Global) -> Result<Command<'a>, AllocError>
     ensures { IfOk result (λ command. IsShaped command show_words) }
 {
-    let lp = file_word(alloc, "lp");
-    let dec = file_option(alloc, "dec");
-    let blocks = flag(alloc, "blocks");
-    Command::new(alloc, "show").arg(lp)?.arg(dec)?.arg(blocks)
+    Command::new(alloc, "show")
+        .arg(file_word(alloc, "lp"))?
+        .arg(file_option(alloc, "dec"))?
+        .arg(flag(alloc, "blocks"))
 }
 
 // `gen SEED SIZE LP DEC`
 fn gen_command<'a>(alloc: Global) -> Result<Command<'a>, AllocError>
     ensures { IfOk result (λ command. IsShaped command gen_words) }
 {
-    let seed = number_word(alloc, "seed", 0, u64::MAX);
-    let size = number_word(alloc, "size", 1, MOST_SIZE);
-    let lp = file_word(alloc, "lp");
-    let dec = file_word(alloc, "dec");
     Command::new(alloc, "gen")
-        .arg(seed)?
-        .arg(size)?
-        .arg(lp)?
-        .arg(dec)
+        .arg(number_word(alloc, "seed", 0, u64::MAX))?
+        .arg(number_word(alloc, "size", 1, MOST_SIZE))?
+        .arg(file_word(alloc, "lp"))?
+        .arg(file_word(alloc, "dec"))
 }
 
 // `demo SEED SIZE`
 fn demo_command<'a>(alloc: Global) -> Result<Command<'a>, AllocError>
     ensures { IfOk result (λ command. IsShaped command demo_words) }
 {
-    let seed = number_word(alloc, "seed", 0, u64::MAX);
-    let size = number_word(alloc, "size", 1, MOST_SIZE);
-    Command::new(alloc, "demo").arg(seed)?.arg(size)
+    Command::new(alloc, "demo")
+        .arg(number_word(alloc, "seed", 0, u64::MAX))?
+        .arg(number_word(alloc, "size", 1, MOST_SIZE))
 }
 
 // `detect LP ROWS DEC`
 fn detect_command<'a>(alloc: Global) -> Result<Command<'a>, AllocError>
     ensures { IfOk result (λ command. IsShaped command detect_words) }
 {
-    let lp = file_word(alloc, "lp");
-    let rows = file_word(alloc, "rows");
-    let dec = file_word(alloc, "dec");
-    Command::new(alloc, "detect").arg(lp)?.arg(rows)?.arg(dec)
+    Command::new(alloc, "detect")
+        .arg(file_word(alloc, "lp"))?
+        .arg(file_word(alloc, "rows"))?
+        .arg(file_word(alloc, "dec"))
 }
 
 // `propose LP DEC`
 fn propose_command<'a>(alloc: Global) -> Result<Command<'a>, AllocError>
     ensures { IfOk result (λ command. IsShaped command propose_words) }
 {
-    let lp = file_word(alloc, "lp");
-    let dec = file_word(alloc, "dec");
-    Command::new(alloc, "propose").arg(lp)?.arg(dec)
+    Command::new(alloc, "propose")
+        .arg(file_word(alloc, "lp"))?
+        .arg(file_word(alloc, "dec"))
 }
 
 // `merge LP FIRST SECOND NEW [--dec FILE]`
 fn merge_command<'a>(alloc: Global) -> Result<Command<'a>, AllocError>
     ensures { IfOk result (λ command. IsShaped command merge_words) }
 {
-    let new = file_word(alloc, "new");
-    let dec = file_option(alloc, "dec");
-    both_command(alloc)?.arg(new)?.arg(dec)
+    both_command(alloc)?
+        .arg(file_word(alloc, "new"))?
+        .arg(file_option(alloc, "dec"))
 }
 
 // `merge LP FIRST SECOND`
 fn both_command<'a>(alloc: Global) -> Result<Command<'a>, AllocError>
     ensures { IfOk result (λ command. IsShaped command both_words) }
 {
-    let lp = file_word(alloc, "lp");
-    let first = file_word(alloc, "first");
-    let second = file_word(alloc, "second");
     Command::new(alloc, "merge")
-        .arg(lp)?
-        .arg(first)?
-        .arg(second)
+        .arg(file_word(alloc, "lp"))?
+        .arg(file_word(alloc, "first"))?
+        .arg(file_word(alloc, "second"))
 }
 
 // `migrate LP CERT NEW [--dec FILE]`
 fn migrate_command<'a>(alloc: Global) -> Result<Command<'a>, AllocError>
     ensures { IfOk result (λ command. IsShaped command migrate_words) }
 {
-    let lp = file_word(alloc, "lp");
-    let cert = file_word(alloc, "cert");
-    let new = file_word(alloc, "new");
-    let dec = file_option(alloc, "dec");
     Command::new(alloc, "migrate")
-        .arg(lp)?
-        .arg(cert)?
-        .arg(new)?
-        .arg(dec)
+        .arg(file_word(alloc, "lp"))?
+        .arg(file_word(alloc, "cert"))?
+        .arg(file_word(alloc, "new"))?
+        .arg(file_option(alloc, "dec"))
 }
 
 // A number that must be given, by its place.

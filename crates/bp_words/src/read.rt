@@ -84,14 +84,14 @@ fn solve_order(alloc: Global, solve: &ArgMatches) -> Result<Order, WordFault>
     if !is_leaf_placed(solve) {
         return Err(WordFault::Refused);
     }
-    let lp = given(alloc, solve, "lp")?;
-    let dec = optional(alloc, solve, "dec")?;
     let steps = optional_number(solve, "steps", 0, MOST_STEPS)?;
-    let cert = optional(alloc, solve, "cert")?;
-    let from = optional(alloc, solve, "from")?;
     let leaf = optional_number(solve, "leaf", 1, MOST_LEAF)?;
     let workers = optional_count(solve, "workers", 1, MOST_WORKERS)?;
     let order = optional_number(solve, "order", 0, u64::MAX)?;
+    let lp = given(alloc, solve, "lp")?;
+    let dec = optional(alloc, solve, "dec")?;
+    let cert = optional(alloc, solve, "cert")?;
+    let from = optional(alloc, solve, "from")?;
     Ok(Order::Solve(SolveOrder {
         lp,
         dec,
@@ -124,10 +124,10 @@ fn check_order(alloc: Global, check: &ArgMatches) -> Result<Order, WordFault>
     ensures refused { result ≡ Err WordFault.Refused →
         (order : Order) → HasValues (codes "check") (rows_of (found_of check.now)) order → ⊥ }
 {
+    let visits = optional_number(check, "visits", 0, MOST_VISITS)?;
     let lp = given(alloc, check, "lp")?;
     let cert = given(alloc, check, "cert")?;
     let dec = optional(alloc, check, "dec")?;
-    let visits = optional_number(check, "visits", 0, MOST_VISITS)?;
     Ok(Order::Check(CheckOrder {
         lp,
         cert,

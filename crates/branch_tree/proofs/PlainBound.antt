@@ -25,6 +25,7 @@ use Rattle.bp_theory.proofs.RoundProof.{parts_add_up_lem}
 use Rattle.bp_theory.proofs.SumLaws.{sum_of-flat_map, sum_of-map, sum_of-same, sum_of_more, sum_of_so_far_within}
 use Rattle.bp_model.specs.Named.{NamedProgram, IsKept}
 use Rattle.block_form.specs.Blocked.{BlockedProgram, IsFormed}
+use Rattle.block_form.proofs.PlainLemmas.{plain_blocking}
 use Rattle.branch_tree.specs.Bounds.{better_cost, better_total, total_limit}
 
 -- ---- the sums are small
@@ -237,7 +238,7 @@ plain_is_bound b total constant terms spans formed is c t s =
     ap (λ (z : ℤ). better_total z p.costs p.spans) (sym c) ∙ ap (λ (ts : List Term). better_total constant ts p.spans) (sym t)
     ∙ ap (λ (ss : List Span). better_total constant terms ss) (sym s) ∙ sym is in
     subst (IsBound b.blocking p.spans plain_proof) same
-    (subst (λ k. IsBound k p.spans plain_proof (better_total p.constant p.costs p.spans)) (sym formed.blocking)
+    (subst (λ k. IsBound k p.spans plain_proof (better_total p.constant p.costs p.spans)) (sym (plain_blocking formed))
     (subst (IsBound (blocking_of p b.dec []) p.spans plain_proof)
     (sum_by_copies (blocking_of p b.dec []) p.spans ∙ ap (λ z. p.constant +ℤ z) (same_sums p b.dec formed.kept.closed formed.kept.tidy_costs))
     (sum_is_bound (blocking_of p b.dec []) p.spans formed.kept.proper)))

@@ -20,7 +20,6 @@ pub const MAX_DEPTH: u32 = 8256;
 
 /// The tree of a search and the zone of its root, with the queue of the live leaves: by bound, and of equal bounds by the
 /// order in which they were made.
-#[derive(Drop)]
 pub struct Grove {
     tree: Tree,
     root: Zone,
@@ -28,6 +27,20 @@ pub struct Grove {
     live: u64,
     count: u64,
     depth: u32,
+}
+
+// What goes with a grove is proved here once, and not again wherever one goes.
+impl Drop for Grove {
+    fn drop(self) {
+        let Grove {
+            tree: _,
+            root: _,
+            queue: _,
+            live: _,
+            count: _,
+            depth: _,
+        } = self;
+    }
 }
 
 impl std::marker::Model for Grove {

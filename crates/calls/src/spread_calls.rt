@@ -74,19 +74,39 @@ fn push_used(
     ensures used { All (IsUsed zone.now b.now.blocking classes.now.firsts) used.new.items }
     ensures weights { All HasWeight used.new.items }
 {
+    if let Some(column) = used_once(alloc, b, zone, classes, point)? {
+        used.push(column)?;
+    }
+    Ok(())
+}
+
+// A point of the first class's first block, where it is one, used once.
+fn used_once(
+    alloc: Global,
+    b: &Blocked,
+    zone: &Zone,
+    classes: &Classes,
+    point: &[i64],
+) -> Result<Option<Used>, AllocError>
+    requires root { zone.now ≡ b.now.named.program.spans }
+    requires class { 0 < length classes.now.firsts }
+    ensures used { IfOk result (λ found. IfSome found
+        (IsUsed zone.now b.now.blocking classes.now.firsts)) }
+    ensures weight { IfOk result (λ found. IfSome found HasWeight) }
+{
     let _ = zone.spans();
     let first = classes.first(0);
     if first >= b.blocks() {
-        return Ok(());
+        return Ok(None);
     }
-    if let Some(point) = point_in(alloc, b, first, point)? {
-        used.push(Used {
+    match point_in(alloc, b, first, point)? {
+        Some(point) => Ok(Some(Used {
             class: 0,
             weight: ONE,
             point,
-        })?;
+        })),
+        None => Ok(None),
     }
-    Ok(())
 }
 
 // A point of a block at the root, where it is one: it is put into a pool, which takes no others.

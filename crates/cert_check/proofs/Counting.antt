@@ -10,6 +10,7 @@ use Rattle.bp_theory.specs.Trees.{IsZone, IsSubspan}
 use Rattle.bp_theory.proofs.ZipLaws.{AllZip-length}
 use Rattle.bp_theory.proofs.DecompositionProof.{decomposition_lem}
 use Rattle.block_form.specs.Blocked.{BlockedProgram, IsFormed}
+use Rattle.block_form.proofs.PlainLemmas.{plain_blocking}
 use Rattle.bp_theory.specs.Bound.{is_picked}
 use Rattle.bp_theory.specs.Classes.{IsSame}
 use Rattle.bp_theory.specs.declared.Span.{Span}
@@ -69,7 +70,7 @@ copies_there b zone k block formed in_root there is =
     let known : All (λ (j : Block). All (λ (c : Copy). c.var < n) j.copies) (blocking_of b.named.program b.dec []).blocks =
     (decomposition_lem.adds_up b.named.program b.dec [] formed.kept.closed (λ j d l. absurd (omega arith))).known in
     let all : All (λ (j : Block). All (λ (c : Copy). c.var < n) j.copies) b.blocking.blocks =
-    subst (λ (x : Blocking). All (λ (j : Block). All (λ (c : Copy). c.var < n) j.copies) x.blocks) (sym formed.blocking) known in
+    subst (λ (x : Blocking). All (λ (j : Block). All (λ (c : Copy). c.var < n) j.copies) x.blocks) (sym (plain_blocking formed)) known in
     let here : All (λ (c : Copy). c.var < n) block.copies = subst (λ (j : Block). All (λ (c : Copy). c.var < n) j.copies) (sym (is none)) (all k none there) in
     subst (λ (m : ℕ). All (λ (c : Copy). c.var < m) block.copies) (sym (AllZip-length IsSubspan zone b.named.program.spans in_root.inside)) here
 

@@ -18,6 +18,7 @@ use Rattle.bp_theory.specs.declared.CheckKind.{CheckKind}
 use Rattle.bp_theory.proofs.JudgeProof.{judged_lem}
 use Rattle.bp_theory.proofs.CutProof.{certified_is_true_lem}
 use Rattle.block_form.specs.Blocked.{BlockedProgram, IsFormed}
+use Rattle.block_form.proofs.PlainLemmas.{plain_blocking}
 use Rattle.cert_text.specs.Written.{certificate}
 use Rattle.cert_text.specs.Programs.{GoesWith}
 use Rattle.cert_check.specs.declared.judge.Judged.{Judged}
@@ -45,7 +46,7 @@ lines_are b claim zs t = ap (λ (xs : List Line). xs ++ tree_lines t b.named.pro
 -- lines that pass over one blocking pass over the same one
 other_blocking : (b : BlockedProgram) → IsFormed b → (claim : Claim) (lines : List Line) → AllByRecursion (Passes b.named.program b.blocking claim) lines
     → AllByRecursion (Passes b.named.program (blocking_of b.named.program b.dec []) claim) lines
-other_blocking b formed claim lines h = subst (λ (x : Blocking). AllByRecursion (Passes b.named.program x claim) lines) formed.blocking h
+other_blocking b formed claim lines h = subst (λ (x : Blocking). AllByRecursion (Passes b.named.program x claim) lines) (plain_blocking formed) h
 
 -- a line of the tree ends the walk over all lines, where the point's line passes
 behind_points : (b : BlockedProgram) (claim : Claim) (zs : List ℤ) (t : Tree) (zone : List Span) (left : Option ℕ) (first number : ℕ) (fault : Option CheckKind)
@@ -280,12 +281,12 @@ at_unpriced b claim zs t (Some most) number end =
     }
 
 -- what is stopped at a line is true if it is accepted
-never_accepted : (p : Program) (line : ℕ) (fault : Option CheckKind) → IsTrueIfAccepted p (stopped_at line fault)
+pub never_accepted : (p : Program) (line : ℕ) (fault : Option CheckKind) → IsTrueIfAccepted p (stopped_at line fault)
 never_accepted p line None = tt
 never_accepted p line (Some kind) = tt
 
 -- a certificate by the line that ends the walk over its lines
-ended : (b : BlockedProgram) → IsFormed b → (claim : Claim) (zs : List ℤ) (t : Tree) (left : Option ℕ) (number : ℕ) (fault : Option CheckKind)
+pub ended : (b : BlockedProgram) → IsFormed b → (claim : Claim) (zs : List ℤ) (t : Tree) (left : Option ℕ) (number : ℕ) (fault : Option CheckKind)
     → IsEnd b.named.program b.blocking claim (points_of claim zs ++ tree_lines t b.named.program.spans) left 3 number fault
     → IsJudgedWithin b (certificate claim zs t) left (stopped_at number fault)
 ended b formed claim zs t left number fault end = by fault here
@@ -293,7 +294,7 @@ ended b formed claim zs t left number fault end = by fault here
     here : IsEnd b.named.program (over b) claim (judged_lines b.named.program b.dec (certificate claim zs t)) left 3 number fault
     here =
         subst (λ (xs : List Line). IsEnd b.named.program (over b) claim xs left 3 number fault) (sym (lines_are b claim zs t))
-        (subst (λ (x : Blocking). IsEnd b.named.program x claim (points_of claim zs ++ tree_lines t b.named.program.spans) left 3 number fault) formed.blocking end)
+        (subst (λ (x : Blocking). IsEnd b.named.program x claim (points_of claim zs ++ tree_lines t b.named.program.spans) left 3 number fault) (plain_blocking formed) end)
 
     by : (fault : Option CheckKind) → IsEnd b.named.program (over b) claim (judged_lines b.named.program b.dec (certificate claim zs t)) left 3 number fault
         → IsJudgedWithin b (certificate claim zs t) left (stopped_at number fault)
@@ -314,7 +315,7 @@ all_there : (b : BlockedProgram) → IsFormed b → (claim : Claim) (zs : List �
 all_there b formed claim zs t left now spent most is = λ number f.
     no_unpriced b.named.program.spans (over b) (judged_lines b.named.program b.dec (certificate claim zs t)) most now
     (subst (λ (xs : List Line). IsLeft b.named.program.spans (over b) xs (Some most) now) (sym (lines_are b claim zs t))
-    (subst (λ (x : Blocking). IsLeft b.named.program.spans x (points_of claim zs ++ tree_lines t b.named.program.spans) (Some most) now) formed.blocking
+    (subst (λ (x : Blocking). IsLeft b.named.program.spans x (points_of claim zs ++ tree_lines t b.named.program.spans) (Some most) now) (plain_blocking formed)
     (subst (λ (o : Option ℕ). IsLeft b.named.program.spans b.blocking (points_of claim zs ++ tree_lines t b.named.program.spans) o now) is
     (both_left b.named.program.spans b.blocking (points_of claim zs) (tree_lines t b.named.program.spans) left left now
     (points_left b.named.program.spans b.blocking (named_value claim) zs left) spent))))

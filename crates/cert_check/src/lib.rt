@@ -11,4 +11,8 @@ mod tree;
 mod visits;
 
 pub use judge::{Judged, check};
+pub use leaf::judge_leaf;
+pub use place::{NodePlace, Rejection, Stop};
+pub use point::judge_claim;
 pub use price::bound_in;
+pub use tree::{back, sound_span, to_high, to_low};

@@ -1,5 +1,5 @@
 // The judgement of a point's line.
-ghost use Rattle.std.specs.Prelude.{◌≡◌, ◌↔◌, IsTrue, MatchOption};
+ghost use Rattle.std.specs.Prelude.{◌≡◌, ◌↔◌, IsTrue, MatchOption, Some};
 ghost use Rattle.bp_theory.specs.Program.{in_sense, value, IsFeasible};
 ghost use Rattle.bp_theory.specs.Blocking.{Blocking};
 ghost use Rattle.bp_theory.specs.Claims.{Reaches};
@@ -21,13 +21,23 @@ pub fn judge_point(b: &Blocked, cert: &Cert) -> Result<u64, Rejection>
         result }
 {
     let claim = cert.claim();
-    let value = value_of(&claim);
-    match (&value, cert.point()) {
-        (Some(value), Some(point)) => match value_fault(b.model(), value, point) {
+    match cert.point() {
+        Some(point) => judge_claim(b, &claim, point),
+        None => Ok(3),
+    }
+}
+
+/// Judges the line of a claim's point, where the claim names a value: gives the number of the line behind it.
+pub fn judge_claim(b: &Blocked, claim: &Claim, point: &[i64]) -> Result<u64, Rejection>
+    ensures { JudgesPoint b.now.named.program b.now.blocking claim.now
+        (point_lines (named_value claim.now) (Some point.now)) result }
+{
+    match &value_of(claim) {
+        Some(value) => match value_fault(b.model(), value, point) {
             Some(kind) => Err(Rejection { line: 3, kind }),
             None => Ok(4),
         },
-        _ => Ok(3),
+        None => Ok(3),
     }
 }
 

@@ -66,8 +66,8 @@ pub fn judge_tree(
     }
 }
 
-// The span of a variable in a zone, where a split behind a number is sound.
-fn sound_span(zone: &Zone, var: u32, at: &i64) -> Option<Span>
+/// The span of a variable in a zone, where a split behind a number is sound.
+pub fn sound_span(zone: &Zone, var: u32, at: &i64) -> Option<Span>
     ensures { MatchOption result (IsSoundSplit zone.now var at.now → ⊥)
         (λ span. (span ≡ span_at zone.now var) × (var < length zone.now) ×
         IsSoundSplit zone.now var at.now) }
@@ -90,8 +90,8 @@ fn is_within(span: &Span, at: &i64) -> bool
     span.lo <= *at && *at < span.hi
 }
 
-// The place of a split's low part, behind the split's line.
-fn to_low(at: NodePlace, var: u32, split: &i64) -> NodePlace
+/// The place of a split's low part, behind the split's line.
+pub fn to_low(at: NodePlace, var: u32, split: &i64) -> NodePlace
     requires sound { IsSoundSplit at.zone var split.now }
     requires few { at.line + 1 < 2 ^ 64 }
     ensures zone { result.zone ≡ low_part at.zone var split.now }
@@ -105,8 +105,8 @@ fn to_low(at: NodePlace, var: u32, split: &i64) -> NodePlace
     }
 }
 
-// The place of a split's high part, behind the lines of the low one.
-fn to_high(at: NodePlace, var: u32, span: &Span, split: &i64) -> NodePlace
+/// The place of a split's high part, behind the lines of the low one.
+pub fn to_high(at: NodePlace, var: u32, span: &Span, split: &i64) -> NodePlace
     requires there { var < length at.zone }
     requires below { split.now <ℤ span.now.hi }
     ensures zone { result.zone ≡ slice_set at.zone var
@@ -122,8 +122,8 @@ fn to_high(at: NodePlace, var: u32, span: &Span, split: &i64) -> NodePlace
     }
 }
 
-// The place behind a split's lines, with the variable's span of before.
-fn back(at: NodePlace, var: u32, span: &Span) -> NodePlace
+/// The place behind a split's lines, with the variable's span of before.
+pub fn back(at: NodePlace, var: u32, span: &Span) -> NodePlace
     requires there { var < length at.zone }
     requires proper { span.now.lo ≤ℤ span.now.hi }
     ensures zone { result.zone ≡ slice_set at.zone var span.now }

@@ -19,6 +19,7 @@ use Rattle.bp_theory.specs.declared.Proof.{Proof}
 use Rattle.bp_theory.specs.declared.Claim.{Claim}
 use Rattle.bp_theory.specs.declared.Claim.TheVariants.{Optimal, Infeasible, Bound}
 use Rattle.block_form.specs.Blocked.{BlockedProgram, IsFormed}
+use Rattle.block_form.proofs.PlainLemmas.{plain_blocking}
 use Rattle.search_laws.specs.declared.Side.{Side}
 use Rattle.search_laws.specs.declared.Side.TheVariants.{Low, High}
 use Rattle.search_laws.specs.Grove.{GrowingTree, live, shut, fork, leaves_below, growing_leaves, certificate_tree}
@@ -119,7 +120,7 @@ loaded_is_low b cert from line loaded deep =
 -- it is valid for the program's blocks, since it has no cuts
 valid_here : (b : BlockedProgram) (claim : Claim) (zs : List ℤ) (tree : Tree) → IsFormed b → IsCertified b.named.program b.dec (certificate claim zs tree)
     → IsValid b.named.program b.blocking (certificate claim zs tree)
-valid_here b claim zs tree formed valid = subst (λ (k : Blocking). IsValid b.named.program k (certificate claim zs tree)) (sym formed.blocking) valid.valid
+valid_here b claim zs tree formed valid = subst (λ (k : Blocking). IsValid b.named.program k (certificate claim zs tree)) (sym (plain_blocking formed)) valid.valid
 
 small_bound : (claim : Claim) → IsSmallClaim claim → HasSmallBound claim
 small_bound (Optimal v) h = tt

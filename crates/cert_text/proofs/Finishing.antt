@@ -13,7 +13,8 @@ use Rattle.bp_theory.specs.Judgement.{named_value}
 use Rattle.bp_theory.specs.declared.Claim.{Claim}
 use Rattle.cert_text.specs.Words.{word_text}
 use Rattle.cert_text.specs.Frames.{frame_of}
-use Rattle.cert_text.specs.Written.{written_claim, written_tree}
+use Rattle.bp_theory.specs.Trees as theory
+use Rattle.cert_text.specs.Written.{written_claim, written_tree, cert_of, certificate}
 use Rattle.cert_text.specs.Sketch.{tree_of}
 use Rattle.cert_text.specs.Readers.{told_of, place_of, stage_of}
 use Rattle.cert_text.specs.Stages.{Wait, plain_of, told, at_bpcert, IsOfSort, IsOf, Follows, AtNode, AtClaim, AtFirstEnd, over}
@@ -234,8 +235,9 @@ cut_minus above root frame r text line stands is at_line =
     (leaves_minus (frame_of frame) (stage_of above root r stands.count) part.done [] [] part.reached (subst S (sym part.of_sort) tt) tt (λ e. e))))
 
 -- the certificate that was read
-pub taken_well : (above : List Wait) (root : Tree) (frame : Frame) (r : Lines) (text : List ℕ) (cert : Kept) → StandsFor above root frame r text → r.part ≡ Fresh → r.spot ≡ s.Over → cert.claim ≡ r.claim → cert.point ≡ r.point → written_tree (tree_of cert.tree) ≡ root → IsCertText (frame_of frame) (kept_cert cert) text
-taken_well above root frame r text cert stands fresh ended claim point tree =
+pub read_whole : (above : List Wait) (root : Tree) (frame : Frame) (r : Lines) (text : List ℕ) (t : theory.Tree) → StandsFor above root frame r text → r.part ≡ Fresh → r.spot ≡ s.Over → written_tree t ≡ root
+    → IsCertText (frame_of frame) (cert_of (certificate r.claim r.point t)) text
+read_whole above root frame r text t stands fresh ended tree =
     let a = written_claim r.claim r.point in
     let Q : Part → Type 0 = λ p. IsPart (frame_of frame) (stage_of above root r stands.count) p text in
     let P : Spot → Type 0 = λ x. Reached (frame_of frame) (place_of above root r stands.count x) false text in
@@ -244,9 +246,14 @@ taken_well above root frame r text cert stands fresh ended claim point tree =
     let same : reached.before ≡ tokens_of (frame_of frame) whole.version whole.written = sym (append-nil reached.before) ∙ whole.tokens in
     let C : List Token → Type 0 = AreClean in
     let clean = subst C same reached.clean in
-    let kept : plain_of a root ≡ kept_cert cert =
+    let kept : plain_of a root ≡ cert_of (certificate r.claim r.point t) =
     ap (λ (x : texts.Claim). plain_of x root) (sym (same_claim r.claim r.point))
-    ∙ ap (λ (k : Claim). plain_of (written_claim k (unwrap_or (option_map (λ _. r.point) (named_value k)) [])) root) (sym claim)
-    ∙ ap (λ (zs : List ℤ). plain_of (written_claim cert.claim (unwrap_or (option_map (λ _. zs) (named_value cert.claim)) [])) root) (sym point)
-    ∙ ap (λ (x : Tree). plain_of (written_claim cert.claim (unwrap_or (option_map (λ _. cert.point) (named_value cert.claim)) [])) x) (sym tree) in
+    ∙ ap (λ (x : Tree). plain_of (written_claim r.claim (unwrap_or (option_map (λ _. r.point) (named_value r.claim)) [])) x) (sym tree) in
     (whole.version, record { written = whole.written; form = whole.form; clean = clean; bytes = reached.bytes ∙ ap text_of same; means = whole.means ∙ kept })
+
+-- the same as it is kept
+pub taken_well : (above : List Wait) (root : Tree) (frame : Frame) (r : Lines) (text : List ℕ) (cert : Kept) → StandsFor above root frame r text → r.part ≡ Fresh → r.spot ≡ s.Over → cert.claim ≡ r.claim → cert.point ≡ r.point → written_tree (tree_of cert.tree) ≡ root → IsCertText (frame_of frame) (kept_cert cert) text
+taken_well above root frame r text cert stands fresh ended claim point tree =
+    let P : Claim → Type 0 = λ k. IsCertText (frame_of frame) (cert_of (certificate k r.point (tree_of cert.tree))) text in
+    let Q : List ℤ → Type 0 = λ zs. IsCertText (frame_of frame) (cert_of (certificate cert.claim zs (tree_of cert.tree))) text in
+    subst Q (sym point) (subst P (sym claim) (read_whole above root frame r text (tree_of cert.tree) stands fresh ended tree))

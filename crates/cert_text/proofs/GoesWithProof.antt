@@ -24,7 +24,7 @@ use Rattle.cert_text.specs.Text.{Token, Words, LineEnd, Version, first_kind, is_
 use Rattle.cert_text.specs.Fault.{AreClean, IsCertText, IsFirstCertFault}
 use Rattle.cert_text.specs.Nodes.{nodes}
 use Rattle.cert_text.specs.Frames.{frame_of}
-use Rattle.cert_text.specs.Written.{in_text, written_pair, written_picked, written_proof, written_tree, written_claim, certificate}
+use Rattle.cert_text.specs.Written.{cert_of, in_text, written_pair, written_picked, written_proof, written_tree, written_claim, certificate}
 use Rattle.cert_text.specs.Sketch.{tree_of}
 use Rattle.cert_text.specs.Kept.{certificate_of, kept_cert}
 use Rattle.cert_text.specs.Programs.{frame_by, frame_for, ReadsFor, IsSmall, IsSmallClaim, GoesWith}
@@ -190,29 +190,32 @@ claim_clean frame version c clean =
 
 -- ---- a whole certificate
 
-goes_with : (b : BlockedProgram) → IsFormed b → (cert : Kept) (text : List ℕ) → length text < 2 ^ 64
-    → IsCertText (frame_for b) (kept_cert cert) text → GoesWith b (certificate_of cert)
-goes_with b formed cert text short spells =
+pub text_goes_with : (b : BlockedProgram) → IsFormed b → (claim : Claim) (zs : List ℤ) (t : theory.Tree) (text : List ℕ) → length text < 2 ^ 64
+    → IsCertText (frame_for b) (cert_of (certificate claim zs t)) text → GoesWith b (certificate claim zs t)
+text_goes_with b formed claim zs t text short spells =
     let frame : texts.Frame = frame_for b in
     let version : Version = spells.0 in
     let is = spells.1 in
-    let t : theory.Tree = tree_of cert.tree in
     let w : texts.Cert = is.written in
     let plain : w.cuts ≡ [] = no_cuts version w is.form in
     let P : List texts.Cut → Type 0 = λ cuts. AreClean (tree_lines frame version (length cuts) 0 [] w.tree) in
     let lines : AreClean (tree_lines frame version 0 0 [] w.tree) = subst P plain (tree_clean frame version w is.clean) in
     let trees : meant_tree version [] w.tree ≡ written_tree t = ap (λ (c : texts.Cert). c.tree) is.means in
-    let claims : w.claim ≡ written_claim cert.claim (unwrap_or (option_map (λ _. cert.point) (named_value cert.claim)) []) = ap (λ (c : texts.Cert). c.claim) is.means in
+    let claims : w.claim ≡ written_claim claim (unwrap_or (option_map (λ _. zs) (named_value claim)) []) = ap (λ (c : texts.Cert). c.claim) is.means in
     let Q : texts.Tree → Type 0 = IsFine frame 0 in
     let fine : IsFine frame 0 (written_tree t) = subst Q trees (fine_tree frame version 0 [] w.tree (none_kept frame) lines) in
     let C : texts.Claim → Type 0 = λ a. AreClean (claim_lines frame a) in
-    let few : 12 + 8 * nodes (written_tree t) ≤ length text = text_nodes frame version (kept_cert cert) text is in
+    let few : 12 + 8 * nodes (written_tree t) ≤ length text = text_nodes frame version (cert_of (certificate claim zs t)) text is in
     record {
-      claim = claim_small frame cert.claim (unwrap_or (option_map (λ _. cert.point) (named_value cert.claim)) []) (subst C claims (claim_clean frame version w is.clean));
+      claim = claim_small frame claim (unwrap_or (option_map (λ _. zs) (named_value claim)) []) (subst C claims (claim_clean frame version w is.clean));
       fits = All-from_recursion (λ (leaf : Leaf). Fits b.blocking leaf.proof) (leaves t b.named.program.spans) (tree_fits b formed 0 t b.named.program.spans fine);
       shallow = (let low = tree_shallow frame 0 t fine in omega (arith, low));
-      lines = (let less = lines_counted b cert.claim cert.point t in omega (arith, less, few, short));
+      lines = (let less = lines_counted b claim zs t in omega (arith, less, few, short));
     }
+
+goes_with : (b : BlockedProgram) → IsFormed b → (cert : Kept) (text : List ℕ) → length text < 2 ^ 64
+    → IsCertText (frame_for b) (kept_cert cert) text → GoesWith b (certificate_of cert)
+goes_with b formed cert text short spells = text_goes_with b formed cert.claim cert.point (tree_of cert.tree) text short spells
 
 pub goes_with_read : (b : BlockedProgram) → IsFormed b → (text : List ℕ) → length text < 2 ^ 64 → (r : Result Kept CertFault)
     → ReadsFor b text r → IfOk r (λ cert. GoesWith b (certificate_of cert))

@@ -9,6 +9,7 @@ use Rattle.bp_theory.specs.declared.Row.{Row}
 use Rattle.bp_theory.specs.declared.MasterRow.{MasterRow}
 use Rattle.block_form.specs.Blocked.{BlockedProgram, IsFormed}
 use Rattle.block_form.specs.Gather.{named_sides}
+use Rattle.block_form.proofs.PlainLemmas.{plain_blocking}
 
 false_by : (b : Bool) → (b ≡ true → ⊥) → b ≡ false
 false_by true h = absurd (h refl)
@@ -77,7 +78,7 @@ named_master (row ∷ rows) (Some k ∷ places) zero is = absurd (cc)
 named_master (row ∷ rows) (place ∷ places) (suc r) is = let rest = named_master rows places r is in (let low : r < length places = rest.0 in omega arith, rest.1)
 
 rows_are : (b : BlockedProgram) → IsFormed b → b.blocking.rows ≡ map (λ (e : Row × Option ℕ). named_sides e.0 e.1) (zip b.named.program.rows b.dec.places)
-rows_are b formed = ap (λ (x : Blocking). x.rows) formed.blocking ∙ named_rows b.named.program b.dec formed.apart
+rows_are b formed = ap (λ (x : Blocking). x.rows) (plain_blocking formed) ∙ named_rows b.named.program b.dec formed.apart
 
 pub masters_are_named : (b : BlockedProgram) → IsFormed b → (r : ℕ) → get_or (map is_none b.dec.places) r false ≡ true → IsSome (row_at b.blocking r)
 masters_are_named b formed r is =

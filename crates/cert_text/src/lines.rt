@@ -1,5 +1,5 @@
 // The lines of a certificate's text, read byte by byte: what has come of the text, and what each line says.
-ghost use Rattle.std.specs.Prelude.{◌≡◌, ℕ, [], ◌∷◌, OnOk, IfOk, MatchResult, Ok, List, Some, None, length, ◌++◌, ◌+◌, ◌-◌};
+ghost use Rattle.std.specs.Prelude.{◌≡◌, ℕ, [], ◌∷◌, OnOk, IfOk, MatchResult, Ok, List, Some, None, false, length, ◌++◌, ◌+◌, ◌-◌};
 ghost use Rattle.cert_text.specs.declared.frame.Frame.{Frame};
 ghost use Rattle.cert_text.specs.declared.words.Word.{Word};
 ghost use Rattle.cert_text.specs.Written.{in_text, written_claim, written_proof};
@@ -8,6 +8,7 @@ ghost use Rattle.bp_theory.specs.declared.Picked.TheVariants.{Every, These};
 ghost use Rattle.cert_text.specs.Stages.{Wait, told, at_node, low_of, behind, behind_leaf};
 ghost use Rattle.cert_text.specs.Versions.{version_of};
 ghost use Rattle.cert_text.specs.Readers.{Keeps, HasHighs, waits_behind, root_behind, waits_after, root_after, LeadsTo, KeepsHighs, told_of, stage_of, TakesNatural, TakesWhole};
+ghost use Rattle.cert_text.specs.Telling.{within, ahead, phase_of, phase_behind, HasSameClaim, IsShallow, Stays, Tells};
 ghost use Rattle.cert_text.specs.Frames.{frame_of};
 ghost use Rattle.cert_text.specs.Text.{is_deep, scale_fault, variable_fault};
 ghost use Rattle.cert_text.specs.Standing.{StandsFor};
@@ -93,6 +94,9 @@ impl Lines {
         ensures highs { (above : List Wait) (tree : Tree) → HasHighs above self.old →
             HasHighs (waits_behind above tree) self.new }
         ensures keeps { Keeps self.old self.new }
+        ensures phase { phase_of self.new ≡ phase_behind self.old.highs.items }
+        ensures claim { HasSameClaim self.old self.new }
+        ensures shallow { IsShallow self.new }
     {
         match self.highs.pop() {
             Some(depth) => {
@@ -115,6 +119,8 @@ impl Lines {
             (record { scale = self.old.scale; mults = self.old.mults; picked = Every }))) }
         ensures highs { IfOk result (λ event. KeepsHighs self.old self.new event) }
         ensures keeps { OnOk result (Keeps self.old self.new) }
+        ensures told { IfOk result (λ event. phase_of self.old ≡ within →
+            Tells self.old self.new event) }
     {
         let mults = self.had.next(alloc, self.version, self.mults.as_slice())?;
         let is_open = self.is_open;
@@ -141,6 +147,8 @@ impl Lines {
             }))) }
         ensures highs { IfOk result (λ event. KeepsHighs self.old self.new event) }
         ensures keeps { OnOk result (Keeps self.old self.new) }
+        ensures told { IfOk result (λ event. phase_of self.old ≡ within →
+            Tells self.old self.new event) }
     {
         let mults = self.had.next(alloc, self.version, self.mults.as_slice())?;
         let blocks = mem::replace(&mut self.blocks, Items::new(alloc));
@@ -162,6 +170,8 @@ impl Lines {
             (low_of (in_text self.old.place.var) self.old.place.at ∷ above)) }
         ensures highs { IfOk result (λ event. KeepsHighs self.old self.new event) }
         ensures keeps { OnOk result (Keeps self.old self.new) }
+        ensures told { IfOk result (λ event. self.old.spot ≡ spots.SplitEnd →
+            Tells self.old self.new event) }
     {
         self.depth = self.depth.saturating_add(1);
         self.highs.push(self.depth)?;
@@ -176,6 +186,8 @@ impl Lines {
             (told (version_of self.old.version) (written_claim self.old.claim self.old.point)) []) }
         ensures highs { IfOk result (λ event. KeepsHighs self.old self.new event) }
         ensures keeps { OnOk result (Keeps self.old self.new) }
+        ensures told { IfOk result (λ event. phase_of self.old ≡ ahead →
+            Tells self.old self.new event) }
     {
         self.depth = 0;
         self.highs = Vec::new(alloc);
@@ -230,6 +242,7 @@ impl Lines {
         ensures place { IfOk result (λ event. LeadsTo self.old self.new event word) }
         ensures highs { IfOk result (λ event. KeepsHighs self.old self.new event) }
         ensures keeps { OnOk result (Keeps self.old self.new) }
+        ensures told { IfOk result (λ event. Tells self.old self.new event) }
     {
         match word {
             Word::Optimal => self.go_to(Spot::OptimalValue),
@@ -244,6 +257,7 @@ impl Lines {
         ensures place { IfOk result (λ event. LeadsTo self.old self.new event word) }
         ensures highs { IfOk result (λ event. KeepsHighs self.old self.new event) }
         ensures keeps { OnOk result (Keeps self.old self.new) }
+        ensures told { IfOk result (λ event. Tells self.old self.new event) }
     {
         match word {
             Word::Value => self.go_to(Spot::KnownValue),
@@ -261,6 +275,7 @@ impl Lines {
             LeadsTo self.old self.new event word) }
         ensures highs { IfOk result (λ event. KeepsHighs self.old self.new event) }
         ensures keeps { OnOk result (Keeps self.old self.new) }
+        ensures told { IfOk result (λ event. Tells self.old self.new event) }
     {
         self.claim = Claim::Infeasible;
         self.begin_tree(alloc)
@@ -272,6 +287,7 @@ impl Lines {
         ensures place { IfOk result (λ event. LeadsTo self.old self.new event word) }
         ensures highs { IfOk result (λ event. KeepsHighs self.old self.new event) }
         ensures keeps { OnOk result (Keeps self.old self.new) }
+        ensures told { IfOk result (λ event. Tells self.old self.new event) }
     {
         match word {
             Word::Leaf => self.begin_leaf(false),
@@ -285,6 +301,7 @@ impl Lines {
         ensures place { IfOk result (λ event. LeadsTo self.old self.new event word) }
         ensures highs { IfOk result (λ event. KeepsHighs self.old self.new event) }
         ensures keeps { OnOk result (Keeps self.old self.new) }
+        ensures told { IfOk result (λ event. Tells self.old self.new event) }
     {
         match (self.spot, word) {
             (Spot::Bpcert, _) => self.go_to(Spot::Version),
@@ -345,10 +362,11 @@ impl Lines {
 
     // The variable behind which the next node is split, as its number from 0.
     fn variable_of(&self, frame: &Frame, value: u64) -> Result<u32, CertKind>
-        ensures { MatchResult result (λ v. ((above : List Wait) → HasHighs above self.now →
+        ensures judged { MatchResult result (λ v. ((above : List Wait) → HasHighs above self.now →
             variable_fault (frame_of frame.now) (length above) value ≡ None) × (v + 1 ≡ value))
             (λ kind. (above : List Wait) → HasHighs above self.now →
             variable_fault (frame_of frame.now) (length above) value ≡ Some kind) }
+        ensures shallow { OnOk result (is_deep self.now.depth ≡ false) }
     {
         judge_variable(frame, self.depth, value)
     }
@@ -415,7 +433,8 @@ impl Lines {
     // A block is priced.
     fn take_block(&mut self, frame: &Frame, value: u64) -> Result<(), CertFault>
         requires { self.old.spot ≡ spots.Block }
-        ensures { TakesNatural (frame_of frame.now) self.old self.new value result }
+        ensures takes { TakesNatural (frame_of frame.now) self.old self.new value result }
+        ensures stays { OnOk result (Stays self.old self.new) }
     {
         match judge_block(frame, self.last, value) {
             Err(kind) => Err(self.fault(kind)),
@@ -434,7 +453,8 @@ impl Lines {
     // A number without a sign.
     fn take_natural(&mut self, alloc: Global, frame: &Frame, value: u64) -> Result<(), CertFault>
         requires { spot_sort self.old.spot ≡ Natural }
-        ensures { TakesNatural (frame_of frame.now) self.old self.new value result }
+        ensures takes { TakesNatural (frame_of frame.now) self.old self.new value result }
+        ensures stays { OnOk result (Stays self.old self.new) }
     {
         match self.spot {
             Spot::Scale => match self.scale_of(value) {
@@ -482,7 +502,8 @@ impl Lines {
         value: u64,
     ) -> Result<(), CertFault>
         requires { self.old.spot ≡ spots.Coordinate }
-        ensures { TakesWhole (frame_of frame.now) self.old self.new negative value result }
+        ensures takes { TakesWhole (frame_of frame.now) self.old self.new negative value result }
+        ensures stays { OnOk result (Stays self.old self.new) }
     {
         match judge_coordinate(frame, self.point.len(), negative, value) {
             Err(kind) => Err(self.fault(kind)),
@@ -532,7 +553,8 @@ impl Lines {
     // A number with a sign.
     fn take_whole(&mut self, frame: &Frame, negative: bool, value: u64) -> Result<(), CertFault>
         requires { spot_sort self.old.spot ≡ Whole }
-        ensures { TakesWhole (frame_of frame.now) self.old self.new negative value result }
+        ensures takes { TakesWhole (frame_of frame.now) self.old self.new negative value result }
+        ensures stays { OnOk result (Stays self.old self.new) }
     {
         match self.spot {
             Spot::Coordinate => self.take_coordinate(frame, negative, value),
@@ -565,7 +587,9 @@ impl Lines {
 
     /// A reader that has read nothing.
     pub fn new(alloc: Global) -> Lines
-        ensures { (root : Tree) (frame : Frame) → StandsFor [] root frame result [] }
+        ensures stands { (root : Tree) (frame : Frame) → StandsFor [] root frame result [] }
+        ensures phase { phase_of result ≡ ahead }
+        ensures shallow { IsShallow result }
     {
         Lines {
             spot: Spot::Bpcert,

@@ -74,8 +74,8 @@ fn put_nodes<'a>(
     }
 }
 
-// The tree of an outcome, with its queue.
-fn outcome_grove(outcome: &Outcome) -> &Grove
+/// The tree of an outcome, with its queue.
+pub fn outcome_grove(outcome: &Outcome) -> &Grove
     ensures { result.now ≡ grove_of outcome.now }
 {
     match outcome {
@@ -85,8 +85,8 @@ fn outcome_grove(outcome: &Outcome) -> &Grove
     }
 }
 
-// The numbers of an outcome's best point, none where it has no point.
-fn outcome_point(outcome: &Outcome) -> &[i64]
+/// The numbers of an outcome's best point, none where it has no point.
+pub fn outcome_point(outcome: &Outcome) -> &[i64]
     ensures { result.now ≡ unwrap_or (point_of outcome.now) [] }
 {
     match outcome {
@@ -99,8 +99,8 @@ fn outcome_point(outcome: &Outcome) -> &[i64]
     }
 }
 
-// What an outcome claims.
-fn outcome_claim(maximises: bool, outcome: &Outcome) -> Claim
+/// What an outcome claims.
+pub fn outcome_claim(maximises: bool, outcome: &Outcome) -> Claim
     requires { HasSmallNumbers outcome.now }
     ensures { result ≡ claim_of maximises outcome.now }
 {

@@ -138,7 +138,7 @@ fn put_changes(
     put_tail(out, changes.as_slice(), &proof.picked)
 }
 
-// A leaf's line with its first word, behind a leaf that has these multipliers; gives its own.
+/// A leaf's line of version 2 with its first word, behind a leaf that has these multipliers; gives its own.
 pub fn put_changed_leaf<'a>(
     out: &mut Vec<u8>,
     alloc: Global,
@@ -155,7 +155,7 @@ pub fn put_changed_leaf<'a>(
     Ok(proof.mults.as_slice())
 }
 
-// A split's line.
+/// A split's line.
 pub fn put_split(out: &mut Vec<u8>, var: u32, at: &i64) -> Result<(), AllocError>
     ensures { OnOk result (out.new.items ≡ out.old.items ++
         (codes "split " ++ numeral (var + 1) ++ codes " " ++ signed_numeral at.now ++ codes "\n")) }
@@ -219,7 +219,7 @@ fn put_bound(
     }
 }
 
-// The line of a claim, and that of its point.
+/// The line of a claim, and that of its point.
 pub fn put_claim(out: &mut Vec<u8>, claim: &Claim, point: &[i64]) -> Result<(), AllocError>
     ensures { OnOk result (out.new.items ≡ out.old.items ++ claim_text claim.now point.now) }
 {

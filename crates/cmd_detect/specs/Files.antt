@@ -1,13 +1,13 @@
 -- The files after a run of `detect`.
 use Rattle.std.specs.Prelude.{ℕ, List}
 use Rattle.bp_shelf.specs.Shelf.{Files}
-use Rattle.bp_front.specs.Written.{Leaves, StandsUnput}
+use Rattle.bp_front.specs.Written.{LeavesText, StandsUnput}
 use Rattle.cmd_detect.specs.Detects.{Detects}
 pub use Rattle.bp_front.specs.Written.{answered, untouched, begun, unput}
 
 -- the files after a run, by its status
 abbrev pub DetectLeaves : (lp rows dec : List ℕ) → (before now : Files) → (status : ℕ) → Type 0
-DetectLeaves lp rows dec before now status = Leaves (Detects before lp rows) dec before now status
+DetectLeaves lp rows dec before now status = LeavesText (Detects before lp rows) dec before now status
 
 -- what stands where the report could not be put, which is put last
 abbrev pub DetectWrites : (lp rows dec : List ℕ) → (before now : Files) → Type 0

@@ -25,6 +25,7 @@ use Rattle.bp_theory.proofs.CutProof.{le-round_up, certified_is_true_lem}
 use Rattle.bp_theory.proofs.ShrinkProof.{one_bound_lem}
 use Rattle.bp_theory.proofs.TruthProof.{older_lem, in_sense_twice}
 use Rattle.block_form.specs.Blocked.{BlockedProgram, IsFormed}
+use Rattle.block_form.proofs.PlainLemmas.{plain_blocking}
 use Rattle.search_laws.specs.Grove.{GrowingTree, live, shut, fork, live_bounds}
 use Rattle.search_laws.specs.GroveFacts.{Settles, IsNoDearer, best_cost}
 use Rattle.search_laws.specs.Loading.{rounded_bound, LoadsLeaf, Loads}
@@ -181,7 +182,7 @@ loaded_over b best P zone (split v at low high) (fork w a first second) gives lo
 valid_here : (b : BlockedProgram) (cert : Certificate) → IsFormed b → cert.cuts ≡ [] → IsCertified b.named.program b.dec cert → IsValid b.named.program b.blocking cert
 valid_here b cert formed uncut valid =
     let p : Program = b.named.program in
-    subst (λ (k : Blocking). IsValid p k cert) (ap (λ (cuts : List Cut). blocking_of p b.dec (cut_rows p b.dec [] cuts)) uncut ∙ sym formed.blocking) valid.valid
+    subst (λ (k : Blocking). IsValid p k cert) (ap (λ (cuts : List Cut). blocking_of p b.dec (cut_rows p b.dec [] cuts)) uncut ∙ sym (plain_blocking formed)) valid.valid
 
 opened_over : (b : BlockedProgram) (text : List ℕ) (from : Loaded) → IsFormed b → (one : IsOpened b text from) → IsOver (Over b.named.program one.cert.claim) from.grove.tree
 opened_over b text from formed one =

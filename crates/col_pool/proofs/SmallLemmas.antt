@@ -22,6 +22,7 @@ use Rattle.bp_theory.proofs.DecompositionProof.{coef_in-copy_of, kept_at, all_bl
 use Rattle.bp_model.specs.Named.{NamedProgram, IsKept, HasSmallEnds}
 use Rattle.block_form.specs.Blocked.{BlockedProgram, IsFormed}
 use Rattle.block_form.proofs.GatherLemmas.{passing_few}
+use Rattle.block_form.proofs.PlainLemmas.{plain_blocking}
 use Rattle.pricing.specs.Form.{HasShortEnds, row_size, term_size, cost_size}
 use Rattle.col_pool.specs.Pools.{HasSmallSums, root_block, costs_of, coefs_of}
 
@@ -354,7 +355,7 @@ root_small b k formed l =
     let m = b.named in
     let none : Block = record { copies = []; rows = [] } in
     let faith = decomposition_lem.adds_up m.program b.dec [] formed.kept.closed (λ k d l. absurd (omega (arith, l))) in
-    subst (λ (bl : Blocking). HasSmallSums (record { block = get_or bl.blocks k none; spans = spans_of m.program.spans (get_or bl.blocks k none) })) (sym formed.blocking)
-    (let there : k < length (blocking_of m.program b.dec []).blocks = subst (λ (bl : Blocking). k < length bl.blocks) formed.blocking l in
+    subst (λ (bl : Blocking). HasSmallSums (record { block = get_or bl.blocks k none; spans = spans_of m.program.spans (get_or bl.blocks k none) })) (sym (plain_blocking formed))
+    (let there : k < length (blocking_of m.program b.dec []).blocks = subst (λ (bl : Blocking). k < length bl.blocks) (plain_blocking formed) l in
     sums_small m (get_or (blocking_of m.program b.dec []).blocks k none) formed.kept (blocks_small m b.dec formed.kept k none there)
     (faith.known k none there) (faith.mirrored k none there))

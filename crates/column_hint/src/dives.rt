@@ -3,14 +3,14 @@
 // Michel, Sadykov, Sverdlov and Vanderbeck, Column generation based primal heuristics, 2010.)
 ghost use Rattle.std.specs.Prelude.{◌≡◌, length};
 ghost use Rattle.bp_theory.specs.Trees.{IsZone};
-ghost use Rattle.column_hint.specs.Pools.{AreMadeFor};
+ghost use Rattle.hint_pools.specs.Pools.{AreMadeFor};
 
 use crate::master::{MasterColumn, RestrictedMaster};
-use crate::pools::{Place, Pools};
 use crate::rest::{is_inside, settle_rest, switch_off_outside};
 use block_class::Classes;
 use block_form::{Block, Blocked, Zone};
 use bp_theory::Span;
+use hint_pools::{Place, Pools};
 use point_hint::{Spans, forget, is_one_point, set, take_back, tighten};
 use std::alloc::{AllocError, Global};
 use std::num::saturating_f64_to_i64;

@@ -5,14 +5,15 @@
 ghost use Rattle.std.specs.Prelude.{◌≡◌, ◌<◌, length};
 ghost use Rattle.bp_theory.specs.Trees.{IsZone};
 ghost use Rattle.block_class.specs.Classes.{AreSameClasses};
-ghost use Rattle.column_hint.specs.Pools.{AreMadeFor};
+ghost use Rattle.hint_pools.specs.Pools.{AreMadeFor};
 
 use crate::lines::at_scale;
 use crate::master::RestrictedMaster;
 use crate::partition::add_partition;
-use crate::pools::Pools;
+use crate::several::add_several;
 use block_class::Classes;
 use block_form::{Blocked, Zone};
+use hint_pools::Pools;
 use point_hint::{UNIT, at, is_reached, quotient};
 use std::alloc::{AllocError, Global};
 use std::num::{nearest_i64_to_f64, saturating_f64_to_i64};
@@ -288,6 +289,9 @@ fn make_round(
     };
     let is_better = centre.take_if_better(alloc, all.mults.as_slice(), value)?;
     let added = add_priced(alloc, b, classes, pools, &mut all.master)?;
+    let mults = all.mults.as_slice();
+    let more = add_several(alloc, b, classes, zone, pools, &mut all.master, mults)?;
+    let added = added.saturating_add(more);
     add_partition_if_asked(alloc, b, classes, zone, pools, all, effort)?;
     Ok(end_round(centre, all, effort, solved, added, is_better))
 }

@@ -1,13 +1,12 @@
 // The restricted master of a zone: the master rows less what the blocks of one point take, the classes of the other
 // blocks, and columns of these. What a row misses costs a penalty, which keeps its multiplier in a range.
-use crate::budget::is_settled as is_settled_block;
 use crate::lines::{Lines, at_scale, place_of};
-use crate::pools::{Place, Pools};
 use block_class::Classes;
 use block_form::{Block, Blocked, Zone};
 use bp_theory::Span;
 use col_pool::Column;
 use column_lp::{ColumnProgram, Mark};
+use hint_pools::{Place, Pools, is_settled as is_settled_block};
 use indexmap::IndexSet;
 use lp_factor::Entry;
 use point_hint::{at, product};
@@ -55,7 +54,6 @@ pub struct MasterColumn {
 
 /// A restricted master: its program, the lines of its rows, its number of each class of the zone, its columns, what the
 /// blocks of one point take from the rows, and their cost with the constant.
-#[derive(Drop)]
 pub struct RestrictedMaster {
     program: ColumnProgram,
     lines: Lines,
@@ -67,6 +65,23 @@ pub struct RestrictedMaster {
     settled: i128,
     penalty: f64,
     spent: u64,
+}
+
+impl Drop for RestrictedMaster {
+    fn drop(self) {
+        let RestrictedMaster {
+            program: _,
+            lines: _,
+            numbers: _,
+            sizes: _,
+            columns: _,
+            known: _,
+            sums: _,
+            settled: _,
+            penalty: _,
+            spent: _,
+        } = self;
+    }
 }
 
 /// Whether columns serve a zone: a block has rows of its own, and there are master rows.

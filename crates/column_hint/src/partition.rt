@@ -1,17 +1,18 @@
-// Columns that go together, for classes of identical blocks: each block of a class is priced in what those before it
-// leave of the rows' sides. One class gives one column a round otherwise. No bound comes from these.
+// Columns that go together, for classes of identical blocks without a graph of states: each block of a class is priced in
+// what those before it leave of the rows' sides. One class gives one column a round otherwise. No bound comes from these.
 ghost use Rattle.std.specs.Prelude.{◌<◌, length};
+ghost use Rattle.std.specs.Bool.{OnTrue};
 ghost use Rattle.bp_theory.specs.Trees.{IsZone};
 ghost use Rattle.knap_price.specs.Kept as by_table;
 ghost use Rattle.pricing.specs.Form.{AreOf};
-ghost use Rattle.column_hint.specs.Pools.{AreMadeFor};
+ghost use Rattle.hint_pools.specs.Pools.{AreMadeFor};
 
-use crate::budget::alone;
 use crate::master::{RestrictedMaster, block_spans};
-use crate::pools::Pools;
+use crate::several::gives_several;
 use block_class::Classes;
 use block_form::{Block, Blocked, Zone};
 use bp_theory::{Proof, Sense, Span};
+use hint_pools::{Pools, alone};
 use knap_price::KnapPricer;
 use point_hint::{UNIT, at, narrow, product, sum_at};
 use pricing::{Cap, Priced, Pricer, is_form, is_priceable};
@@ -56,14 +57,52 @@ pub fn add_partition(
     let many = classes.len();
     for offset in 0..many {
         let class = place_after(round, offset, many);
-        let size = master.size(class);
-        if class < many && size > 1 {
-            let first = classes.first(class);
-            let found = priced_blocks(alloc, b, zone, pools, mults, first, size, &mut sides)?;
-            add_points(alloc, b, pools, master, class, first, found)?;
-        }
+        add_parted(
+            alloc, b, classes, zone, pools, master, mults, class, &mut sides,
+        )?;
     }
     Ok(())
+}
+
+// Adds the columns of a class, where it gets some.
+fn add_parted(
+    alloc: Global,
+    b: &Blocked,
+    classes: &Classes,
+    zone: &Zone,
+    pools: &mut Pools,
+    master: &mut RestrictedMaster,
+    mults: &[i64],
+    class: u32,
+    sides: &mut Vec<Side>,
+) -> Result<(), AllocError>
+    requires made_for { AreMadeFor b.now pools.old }
+    requires zone { IsZone b.now.named.program.spans zone.now }
+    ensures made_for { AreMadeFor b.now pools.new }
+{
+    if !is_parted(b, classes, pools, master, class) {
+        return Ok(());
+    }
+    let first = classes.first(class);
+    let size = master.size(class);
+    let found = priced_blocks(alloc, b, zone, pools, mults, first, size, sides)?;
+    add_points(alloc, b, pools, master, class, first, found)
+}
+
+// Whether a class gets columns of partitions: where it has several blocks, which give no points beside the cheapest one.
+fn is_parted(
+    b: &Blocked,
+    classes: &Classes,
+    pools: &Pools,
+    master: &RestrictedMaster,
+    class: u32,
+) -> bool
+    requires made_for { AreMadeFor b.now pools.now }
+    ensures { OnTrue result (class < length classes.now.firsts) }
+{
+    class < classes.len()
+        && master.size(class) > 1
+        && !gives_several(b, pools, classes.first(class))
 }
 
 // The place so far behind a start, round from the end to the beginning.
@@ -98,7 +137,7 @@ fn sides_of(
 }
 
 // The points of blocks of a class, each priced in what those before it leave: by a table of their own where one takes
-// the block, else as their bounds are, by a graph or a search that is made already.
+// the block, else as their bounds are, by a search that is made already.
 fn priced_blocks(
     alloc: Global,
     b: &Blocked,

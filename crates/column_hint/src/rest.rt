@@ -2,16 +2,15 @@
 ghost use Rattle.std.specs.Prelude.{◌≡◌, ◌<◌, length};
 ghost use Rattle.bp_theory.specs.Trees.{IsZone};
 ghost use Rattle.block_class.specs.Classes.{AreSameClasses};
-ghost use Rattle.column_hint.specs.Pools.{AreMadeFor};
+ghost use Rattle.hint_pools.specs.Pools.{AreMadeFor};
 
-use crate::budget::is_settled;
 use crate::dives::{Dive, lows};
 use crate::generation::add_class;
 use crate::master::{RestrictedMaster, block_spans};
-use crate::pools::Pools;
 use block_class::Classes;
 use block_form::{Block, Blocked, Zone};
 use bp_theory::Span;
+use hint_pools::{Pools, is_settled};
 use point_hint::{is_reached, narrow};
 use std::alloc::{AllocError, Global};
 

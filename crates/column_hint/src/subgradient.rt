@@ -7,13 +7,13 @@
 ghost use Rattle.std.specs.Prelude.{◌≡◌};
 ghost use Rattle.bp_theory.specs.Trees.{IsZone};
 ghost use Rattle.block_class.specs.Classes.{AreSameClasses};
-ghost use Rattle.column_hint.specs.Pools.{AreMadeFor};
+ghost use Rattle.hint_pools.specs.Pools.{AreMadeFor};
 
-use crate::pools::Pools;
 use block_class::Classes;
 use block_form::{Blocked, MAX_SCALE};
 use bp_theory::{MasterRow, Sense, Span};
 use branch_tree::Turn;
+use hint_pools::Pools;
 use point_hint::{
     UNIT, at, clipped, dense_costs, feasible_cost, is_below, is_reached, meets, product, put,
     quotient, reduced_costs, signed, slope, sum_at, write_sums,

@@ -3,15 +3,15 @@
 // master of the rest is settled again. A hint, which the model judges.
 ghost use Rattle.std.specs.Prelude.{◌≡◌};
 ghost use Rattle.bp_theory.specs.Trees.{IsZone};
-ghost use Rattle.column_hint.specs.Pools.{AreMadeFor};
+ghost use Rattle.hint_pools.specs.Pools.{AreMadeFor};
 
 use crate::dives::{Dive, drawn, lows};
 use crate::master::RestrictedMaster;
-use crate::pools::Pools;
 use crate::rest::{settle_rest, switch_off_outside};
 use block_class::Classes;
 use block_form::{Block, Blocked, Zone};
 use bp_theory::Span;
+use hint_pools::Pools;
 use point_hint::{Spans, forget, put, set, take_back, tighten};
 use std::alloc::{AllocError, Global};
 use std::num::{nearest_i64_to_f64, saturating_f64_to_i64};

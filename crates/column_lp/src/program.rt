@@ -10,7 +10,6 @@ pub const NOISE: f64 = 1e-7;
 /// side. What a row lacks or has too much may stay, at a cost of its own for each: a slack is one of cost 0, and a
 /// penalty keeps a multiplier in a range. So there is always a solution. The basis has a member for each row, a column
 /// or what a row lacks or has too much, which is the factors' logical taken with a sign: -1 where it lacks.
-#[derive(Drop)]
 pub struct ColumnProgram {
     pub(crate) columns: Vectors,
     pub(crate) costs: Vec<f64>,
@@ -29,6 +28,30 @@ pub struct ColumnProgram {
     pub(crate) alpha: Vec<f64>,
     pub(crate) rho: Vec<f64>,
     pub(crate) pivots: u64,
+}
+
+impl Drop for ColumnProgram {
+    fn drop(self) {
+        let ColumnProgram {
+            columns: _,
+            costs: _,
+            positions: _,
+            is_off: _,
+            sides: _,
+            lacks: _,
+            excesses: _,
+            basis: _,
+            signs: _,
+            logicals: _,
+            weights: _,
+            mults: _,
+            factor: _,
+            listed: _,
+            alpha: _,
+            rho: _,
+            pivots: _,
+        } = self;
+    }
 }
 
 /// What stood at a moment: the basis, its signs, and the sides of the rows.
@@ -50,33 +73,53 @@ pub enum Entering {
 impl ColumnProgram {
     /// Rows with sides and no columns. What rows lack or have too much costs nothing yet.
     pub fn make(alloc: Global, sides: &[f64]) -> Result<ColumnProgram, AllocError> {
-        let rows = sides.len();
-        let mut program = ColumnProgram {
+        let factor = Factor::make(alloc, place(sides.len()))?;
+        let mut program = ColumnProgram::empty(alloc, factor);
+        program.take_rows(sides)?;
+        program.compute_weights();
+        program.turn_signs();
+        Ok(program)
+    }
+
+    // No rows and no columns yet.
+    fn empty(alloc: Global, factor: Factor) -> ColumnProgram {
+        ColumnProgram {
             columns: Vectors::make(alloc),
             costs: Vec::new(alloc),
             positions: Vec::new(alloc),
             is_off: Vec::new(alloc),
-            sides: sides.to_vec(alloc)?,
-            lacks: Vec::from_elem(alloc, 0.0, rows)?,
-            excesses: Vec::from_elem(alloc, 0.0, rows)?,
+            sides: Vec::new(alloc),
+            lacks: Vec::new(alloc),
+            excesses: Vec::new(alloc),
             basis: Vec::new(alloc),
-            signs: Vec::from_elem(alloc, -1.0, rows)?,
-            logicals: Vec::from_elem(alloc, NONE, rows)?,
-            weights: Vec::from_elem(alloc, 0.0, rows)?,
-            mults: Vec::from_elem(alloc, 0.0, rows)?,
-            factor: Factor::make(alloc, place(rows))?,
+            signs: Vec::new(alloc),
+            logicals: Vec::new(alloc),
+            weights: Vec::new(alloc),
+            mults: Vec::new(alloc),
+            factor,
             listed: Vec::new(alloc),
-            alpha: Vec::from_elem(alloc, 0.0, rows)?,
-            rho: Vec::from_elem(alloc, 0.0, rows)?,
+            alpha: Vec::new(alloc),
+            rho: Vec::new(alloc),
             pivots: 0,
-        };
-        for row in 0..rows {
-            program.basis.push(Basic::Logical(place(row)))?;
-            put_place(program.logicals.as_mut_slice(), row, place(row));
         }
-        program.compute_weights();
-        program.turn_signs();
-        Ok(program)
+    }
+
+    // Takes in rows with sides, each with what it lacks in the basis.
+    fn take_rows(&mut self, sides: &[f64]) -> Result<(), AllocError> {
+        let rows = sides.len();
+        self.sides.extend_from_slice(sides)?;
+        self.lacks.resize(rows, 0.0)?;
+        self.excesses.resize(rows, 0.0)?;
+        self.signs.resize(rows, -1.0)?;
+        self.weights.resize(rows, 0.0)?;
+        self.mults.resize(rows, 0.0)?;
+        self.alpha.resize(rows, 0.0)?;
+        self.rho.resize(rows, 0.0)?;
+        for row in 0..rows {
+            self.basis.push(Basic::Logical(place(row)))?;
+            self.logicals.push(place(row))?;
+        }
+        Ok(())
     }
 
     /// How many rows there are.

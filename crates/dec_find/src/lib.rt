@@ -5,8 +5,6 @@
 mod fault;
 mod join;
 mod rows;
-#[cfg(test)]
-mod tests;
 mod text;
 mod trees;
 

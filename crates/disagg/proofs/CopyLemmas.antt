@@ -13,6 +13,7 @@ use Rattle.bp_theory.specs.Blocking.{Copy, Block, Blocking}
 use Rattle.bp_theory.specs.Decomposition.{Decomposition, ProofRow, proof_rows, is_in, is_first, members, block_of, lone_block, lone_variables, blocking_of, copy_of, IsLinking}
 use Rattle.bp_theory.proofs.CopyProof.{copies_of_each_lem}
 use Rattle.block_form.specs.Blocked.{BlockedProgram, IsFormed, HasCopyAt}
+use Rattle.block_form.proofs.PlainLemmas.{plain_blocking}
 
 -- ---- lists
 
@@ -148,8 +149,8 @@ pub one_copy : (b : BlockedProgram) (v : ℕ) (a c : ℕ × ℕ) → IsFormed b 
 one_copy b v a c formed first second =
     let p = b.named.program in
     let bs : List Block = (blocking_of p b.dec []).blocks in
-    let first' : HasCopyAt bs v a = subst (λ (bl : Blocking). HasCopyAt bl.blocks v a) formed.blocking first in
-    let second' : HasCopyAt bs v c = subst (λ (bl : Blocking). HasCopyAt bl.blocks v c) formed.blocking second in
+    let first' : HasCopyAt bs v a = subst (λ (bl : Blocking). HasCopyAt bl.blocks v a) (plain_blocking formed) first in
+    let second' : HasCopyAt bs v c = subst (λ (bl : Blocking). HasCopyAt bl.blocks v c) (plain_blocking formed) second in
     let same : a.0 ≡ c.0 = one_home p b.dec v a.0 c.0 formed.apart (home_of p b.dec v a first') (home_of p b.dec v c second') in
     let empty : Block = record { copies = []; rows = [] } in
     let block : Block = get_or bs a.0 empty in

@@ -15,6 +15,7 @@ use Rattle.bp_theory.proofs.DecompositionProof.{decomposition_lem}
 use Rattle.search_laws.specs.declared.UsedColumn.{UsedColumn}
 use Rattle.search_laws.specs.Spread.{block_at, class_at, class_blocks, AreClasses, IsUsed, times, IsWhole, class_points, rank, block_point, IsSpread}
 use Rattle.block_form.specs.Blocked.{BlockedProgram, IsFormed, HasCopyAt}
+use Rattle.block_form.proofs.PlainLemmas.{plain_blocking}
 use Rattle.block_class.specs.Classes.{Grouping}
 use Rattle.disagg.specs.Spreads.{IsSpreadable, point_at, points_at}
 use Rattle.disagg.proofs.DealLemmas.{rank_below, sizes_agree}
@@ -128,6 +129,6 @@ spread_is b zone g used decks columns x formed are known fits deck column number
         → (get_or (block_at b.blocking j).copies i (record { var = 0; cost = pos 0; coefs = [] })).var < length b.named.program.spans
     vars_known j i l m =
         let all : All (λ (k : Block). All (λ (c : Copy). c.var < length b.named.program.spans) k.copies) b.blocking.blocks =
-        subst (λ (bl : Blocking). All (λ (k : Block). All (λ (c : Copy). c.var < length b.named.program.spans) k.copies) bl.blocks) (sym formed.blocking)
+        subst (λ (bl : Blocking). All (λ (k : Block). All (λ (c : Copy). c.var < length b.named.program.spans) k.copies) bl.blocks) (sym (plain_blocking formed))
         (decomposition_lem.adds_up b.named.program b.dec [] formed.kept.closed (λ k d l. absurd (omega (arith, l)))).known in
         all j (record { copies = []; rows = [] }) l i (record { var = 0; cost = pos 0; coefs = [] }) m

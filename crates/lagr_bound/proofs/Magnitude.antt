@@ -32,6 +32,7 @@ use Rattle.bp_theory.proofs.DecompositionProof.{get_or-map_past, first_takes, co
 use Rattle.bp_theory.proofs.CopyProof.{copies_of_each_lem}
 use Rattle.bp_model.specs.Named.{cost_limit}
 use Rattle.block_form.specs.Blocked.{BlockedProgram, IsFormed}
+use Rattle.block_form.proofs.PlainLemmas.{plain_blocking}
 use Rattle.lagr_bound.specs.Sizes.{IsSmallCopy, IsSmallProof, IsSmallBlock, block_size, base_size, bound_size}
 use Rattle.lagr_bound.proofs.MultLemmas.{key, rows_of}
 use Rattle.lagr_bound.proofs.Sums.{sum_by-same, sum_by-smaller, sum_by-joined, sum_by-mul, sum_by-flat_map, copies_within, cost_size-maps}
@@ -168,7 +169,7 @@ copies_small b formed =
     let rows : List ProofRow = proof_rows p d [] in
     let one : (first : Bool) (v k : ℕ) → IsSmallCopy (copy_of p rows first v k) =
     λ first v k. copy_small p rows first v k formed.kept.cost_activity (limited b formed) (few_rows b formed) in
-    subst (λ (bs : Blocking). All (λ (k : Block). All IsSmallCopy k.copies) bs.blocks) (sym formed.blocking)
+    subst (λ (bs : Blocking). All (λ (k : Block). All IsSmallCopy k.copies) bs.blocks) (sym (plain_blocking formed))
     (all_blocks p d rows (λ (k : Block). All IsSmallCopy k.copies)
     (λ k. All-map IsSmallCopy (λ v. copy_of p rows (is_first p d v k) v k) (members p d k) (λ i v l. one (is_first p d (get_or (members p d k) i v) k) (get_or (members p d k) i v) k))
     (λ v l. All-from_recursion IsSmallCopy (copy_of p rows true v d.blocks ∷ []) (one true v d.blocks, tt)))
@@ -380,7 +381,7 @@ row_below b i formed some = ⊎_elim
 -- a proof that fits is small
 pub proof_small : (b : BlockedProgram) (proof : Proof) → IsFormed b → Fits b.blocking proof → IsSmallProof proof
 proof_small b proof formed fits =
-    let rows = subst (λ (bs : Blocking). All (λ (m : ℕ × ℤ). IsSome (row_at bs m.0)) proof.mults) formed.blocking fits.rows in
+    let rows = subst (λ (bs : Blocking). All (λ (m : ℕ × ℤ). IsSome (row_at bs m.0)) proof.mults) (plain_blocking formed) fits.rows in
     let few = few_below (rows_of proof.mults) (length (proof_rows b.named.program b.dec [])) fits.ascend
     (λ k l. subst (λ i. i < length (proof_rows b.named.program b.dec [])) (sym (get_or-map_past (λ (m : ℕ × ℤ). m.0) proof.mults k (0, pos 0)))
     (row_below b (key proof.mults k) formed (rows k (0, pos 0) (omega (arith, l, length-map proof.mults (λ (m : ℕ × ℤ). m.0)))))) in
@@ -401,7 +402,7 @@ all_weigh b proof formed fits =
     let cs : List Copy = copies_of p b.dec in
     let r : ℕ → ℕ = λ v. reach (span_at p.spans v) in
     let small = proof_small b proof formed fits in
-    let rows = subst (λ (k : Blocking). All (λ (m : ℕ × ℤ). IsSome (row_at k m.0)) proof.mults) formed.blocking fits.rows in
+    let rows = subst (λ (k : Blocking). All (λ (m : ℕ × ℤ). IsSome (row_at k m.0)) proof.mults) (plain_blocking formed) fits.rows in
     let cost : ℕ = sum_by (λ (c : Copy). unsigned_abs c.cost * r c.var) cs in
     let row : ℕ × ℤ → ℕ = λ m. sum_by (λ (c : Copy). unsigned_abs (coef_in c m.0) * r c.var) cs in
     let side_size : ℕ × ℤ → ℕ = λ m. unsigned_abs (side_at (row_at bs m.0) m.1) in
@@ -473,7 +474,7 @@ bound_small b zone proof formed in_root fits =
     sum_by-smaller (λ (c : Copy). unsigned_abs (reduced_cost proof c) * reach (span_at zone c.var)) (λ (c : Copy). unsigned_abs (reduced_cost proof c) * reach (span_at p.spans c.var)) cs
     (each (λ (c : Copy). unsigned_abs (reduced_cost proof c) * reach (span_at zone c.var) ≤ unsigned_abs (reduced_cost proof c) * reach (span_at p.spans c.var))
     (λ c. mul-le-mul_left (unsigned_abs (reduced_cost proof c)) (reach_within p.spans zone in_root c.var)) cs) in
-    subst (λ (k : Blocking). bound_size k zone proof < price_limit) (sym formed.blocking)
+    subst (λ (k : Blocking). bound_size k zone proof < price_limit) (sym (plain_blocking formed))
     (omega (arith, all, less, blocks_weigh zone proof bs.blocks))
   where
     each : {X : Type 0} (P : X → Type 0) → ((x : X) → P x) → (xs : List X) → AllByRecursion P xs
@@ -491,13 +492,21 @@ few_copies n cs ascend below =
           (λ k l. subst (λ v. v < n) (sym (get_or-map_past (λ (c : Copy). c.var) cs k none)) (below k none (omega (arith, l, length-map cs (λ (c : Copy). c.var))))),
     )
 
+-- the variables of a block are in a zone
+pub vars_there : (b : BlockedProgram) (zone : List Span) → IsFormed b → IsZone b.named.program.spans zone → (k : ℕ) (d : Block) → k < length b.blocking.blocks
+    → All (λ (c : Copy). c.var < length zone) (get_or b.blocking.blocks k d).copies
+vars_there b zone formed in_root k d l = λ i c m.
+    let same : length zone ≡ length b.named.program.spans = AllZip-length IsSubspan zone b.named.program.spans in_root.inside in
+    let there = subst (λ (bs : Blocking). All (λ (k : Block). All (λ (c : Copy). c.var < length b.named.program.spans) k.copies) bs.blocks) (sym (plain_blocking formed)) (known b formed) in
+    omega (arith, there k d l i c m, same)
+
 -- so each block is small
 pub blocks_small : (b : BlockedProgram) (zone : List Span) (proof : Proof) → IsFormed b → IsZone b.named.program.spans zone → Fits b.blocking proof
     → All (IsSmallBlock zone proof) b.blocking.blocks
 blocks_small b zone proof formed in_root fits = λ k d l.
     let same : length zone ≡ length b.named.program.spans = AllZip-length IsSubspan zone b.named.program.spans in_root.inside in
-    let there = subst (λ (bs : Blocking). All (λ (k : Block). All (λ (c : Copy). c.var < length b.named.program.spans) k.copies) bs.blocks) (sym formed.blocking) (known b formed) in
-    let ascend = subst (λ (bs : Blocking). All (λ (k : Block). IsStrictlyIncreasing (map (λ (c : Copy). c.var) k.copies)) bs.blocks) (sym formed.blocking)
+    let there = subst (λ (bs : Blocking). All (λ (k : Block). All (λ (c : Copy). c.var < length b.named.program.spans) k.copies) bs.blocks) (sym (plain_blocking formed)) (known b formed) in
+    let ascend = subst (λ (bs : Blocking). All (λ (k : Block). IsStrictlyIncreasing (map (λ (c : Copy). c.var) k.copies)) bs.blocks) (sym (plain_blocking formed))
     (copies_of_each_lem.ascend b.named.program b.dec []) in
     record {
       copies = copies_small b formed k d l;

@@ -22,7 +22,9 @@ pub struct Desk {
 }
 
 impl Desk {
-    ghost use Rattle.std.specs.Prelude.{◌≡◌, IfOk, IsTrue};
+    ghost use Rattle.std.specs.Prelude.{◌≡◌, ◌<◌, IfOk, IsTrue, All, length};
+    ghost use Rattle.std.specs.Bool.{OnTrue};
+    ghost use Rattle.bp_theory.specs.Bound.{IsPoint};
     ghost use Rattle.knap_price.specs.Rooms.{count_of};
     ghost use Rattle.lagr_bound.specs.Pricers.{is_search, IsEnough, IsFitting, IsUngraphed, HasSpent};
     ghost use Rattle.bp_theory.specs.Bound.{spans_of};
@@ -95,6 +97,46 @@ impl Desk {
         ensures { result.now ≡ priced_point self.now }
     {
         self.pricer.point()
+    }
+
+    /// Whether it ranks points of a block beside the cheapest one: where its blocks have a graph of states.
+    pub fn ranks(&self) -> bool {
+        self.pricer.ranks()
+    }
+
+    /// Ranks points of a block in a zone beside the cheapest one at its reduced costs; how many there are.
+    pub fn rank(
+        &mut self,
+        alloc: Global,
+        block: &Block,
+        zone: &Zone,
+        proof: &Proof,
+    ) -> Result<usize, AllocError>
+        requires same_block { form_of self.old ≡ form_in block.now }
+        requires zone { IsZone block.now.spans (spans_of zone.now block.now.block) }
+        requires block { IsSmallBlock zone.now proof.now block.now.block }
+        requires proof { IsSmallProof proof.now }
+        ensures form { form_of self.new ≡ form_of self.old }
+    {
+        fill_costs(&mut self.costs, block, proof);
+        fill_spans(&mut self.spans, block, zone);
+        self.pricer
+            .rank(alloc, self.spans.as_slice(), self.costs.as_slice())
+    }
+
+    /// Keeps the point of a rank in place of the priced one, of the block that points were ranked of last, in the same zone;
+    /// whether there is one. It is a point of the block in the zone in any case.
+    pub fn choose(&mut self, block: &Block, zone: &Zone, rank: usize) -> bool
+        requires same_block { form_of self.old ≡ form_in block.now }
+        requires zone { IsZone block.now.spans (spans_of zone.now block.now.block) }
+        requires there { All (λ c. c.var < length zone.now) block.now.block.copies }
+        ensures point { OnTrue result (IsPoint block.now.block.rows
+            (spans_of zone.now block.now.block) (priced_point self.new)) }
+        ensures form { form_of self.new ≡ form_of self.old }
+    {
+        fill_spans(&mut self.spans, block, zone);
+        self.pricer
+            .choose(rank, self.spans.as_slice(), self.costs.as_slice())
     }
 }
 

@@ -16,6 +16,7 @@ mod plain;
 mod pricers;
 mod rounded;
 mod seats;
+mod several;
 mod told;
 mod work;
 

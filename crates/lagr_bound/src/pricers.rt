@@ -74,7 +74,9 @@ pub enum BlockPricer {
 }
 
 impl BlockPricer {
-    ghost use Rattle.std.specs.Prelude.{◌≡◌, IfOk, IsTrue};
+    ghost use Rattle.std.specs.Prelude.{◌≡◌, IfOk, IsTrue, length};
+    ghost use Rattle.std.specs.Bool.{OnTrue};
+    ghost use Rattle.bp_theory.specs.Bound.{IsPoint};
     ghost use Rattle.pricing.specs.Form.{IsForm, IsPriceable, AreOf};
     ghost use Rattle.pricing.specs.Priced.{IsPriced};
     ghost use Rattle.knap_price.specs.Rooms.{count_of};
@@ -152,6 +154,47 @@ impl BlockPricer {
             BlockPricer::Table(plan) => plan.point(),
             BlockPricer::States(pricer) => pricer.point(),
             BlockPricer::Search(pricer) => pricer.point(),
+        }
+    }
+
+    /// Whether it ranks points beside the cheapest one: a graph does.
+    pub fn ranks(&self) -> bool {
+        match self {
+            BlockPricer::States(_) => true,
+            _ => false,
+        }
+    }
+
+    /// Ranks points in a zone beside the cheapest one, as a graph of states does; how many there are, none without a graph.
+    pub fn rank(
+        &mut self,
+        alloc: Global,
+        zone: &[Span],
+        costs: &[i128],
+    ) -> Result<usize, AllocError>
+        requires zone { length zone.now ≡ length (spans_of self.old) }
+        requires costs { length costs.now ≡ length (spans_of self.old) }
+        ensures same_rows { rows_of self.new ≡ rows_of self.old }
+        ensures same_spans { spans_of self.new ≡ spans_of self.old }
+    {
+        match self {
+            BlockPricer::States(pricer) => pricer.rank(alloc, zone, costs),
+            _ => Ok(0),
+        }
+    }
+
+    /// Keeps the point of a rank in place of the point that it keeps, in the zone and at the costs that points were ranked
+    /// for; whether there is one.
+    pub fn choose(&mut self, rank: usize, zone: &[Span], costs: &[i128]) -> bool
+        requires zone { length zone.now ≡ length (spans_of self.old) }
+        requires costs { length costs.now ≡ length (spans_of self.old) }
+        ensures point { OnTrue result (IsPoint (rows_of self.old) zone.now (kept_point self.new)) }
+        ensures same_rows { rows_of self.new ≡ rows_of self.old }
+        ensures same_spans { spans_of self.new ≡ spans_of self.old }
+    {
+        match self {
+            BlockPricer::States(pricer) => pricer.choose(rank, zone, costs),
+            _ => false,
         }
     }
 }

@@ -20,7 +20,6 @@ use std::alloc::{AllocError, Global};
 /// Pricers for the blocks of a program in blocks, with all memory that pricing needs; and the points that the last bound
 /// told. Blocks with the same rows and the same spans at the root share one pricer, as far as they are found: a table where
 /// one takes the block, else a graph of states where one suits it, else a search. All tables share their cells.
-#[derive(Drop)]
 pub struct Work {
     pub(crate) desks: Vec<Desk>,
     pub(crate) seats: Vec<usize>,
@@ -31,6 +30,18 @@ pub struct Work {
     ghost points: { map room_of told.items ≡ map span_count (map (form_at (map form_of desks.items)) seats.items) },
     ghost room: { vec_len known ≡ vec_len seats },
     ghost enough: { AreEnough (count_of cells) (map form_of desks.items) },
+}
+
+impl Drop for Work {
+    fn drop(self) {
+        let Work {
+            desks: _,
+            seats: _,
+            told: _,
+            known: _,
+            cells: _,
+        } = self;
+    }
 }
 
 impl Work {

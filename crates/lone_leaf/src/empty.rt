@@ -4,8 +4,9 @@ use crate::numbers::product;
 use crate::relaxation::LoneLeaves;
 use block_form::{Blocked, MAX_MULTIPLIER, MAX_SCALE};
 use bp_theory::{Row, Sense, Span};
+use lp_factor::put;
 use std::alloc::{AllocError, Global};
-use std::num::{nearest_u64_to_f64, saturating_f64_to_i64};
+use std::num::{nearest_i64_to_f64, nearest_u64_to_f64, saturating_f64_to_i64};
 
 // The powers of two by which a ray is scaled where its least or its greatest number was made 1.
 const POWERS: [u32; 12] = [0, 1, 2, 4, 6, 8, 12, 16, 20, 26, 32, 36];
@@ -45,7 +46,7 @@ impl LoneLeaves {
                 if greatest * size < MOST {
                     for factor in [size, -size] {
                         let mults = whole(alloc, b, ray.as_slice(), factor)?;
-                        if self.least_value(b, mults.as_slice(), spans, 0) > 0 {
+                        if self.least_value(b, mults.as_slice(), spans) > 0 {
                             return Ok(Some(mults));
                         }
                     }
@@ -65,38 +66,55 @@ impl LoneLeaves {
         wanted: i64,
     ) -> u32 {
         let mut found = MAX_SCALE;
-        let mut most = i128::MIN;
+        let mut most = f64::MIN;
         for scale in SCALES {
-            let bound = rounded_up(self.least_value(b, mults, spans, scale), scale);
+            let unit = nearest_u64_to_f64(u64::from(scale));
+            let bound = (self.about_value(b, mults, spans, scale) / unit).ceil();
             if bound > most {
                 most = bound;
                 found = scale;
             }
-            if most >= i128::from(wanted) {
+            if most >= nearest_i64_to_f64(wanted) {
                 break;
             }
         }
         found
     }
 
-    // What multipliers at the greatest scale, rounded to another, give at least within spans; at scale 0 they are taken
-    // as they are. What is left of each variable's cost is kept.
-    fn least_value(&mut self, b: &Blocked, mults: &[i64], spans: &[Span], scale: u32) -> i128 {
+    // What multipliers at the greatest scale, rounded to another, give at least within spans: exactly while all sums
+    // are below `2^53`.
+    fn about_value(&mut self, b: &Blocked, mults: &[i64], spans: &[Span], scale: u32) -> f64 {
         let model = b.model();
-        self.whole.fill(0);
+        let unit = nearest_u64_to_f64(u64::from(scale));
+        self.rests.fill(0.0);
         for term in model.costs() {
-            put_whole(
-                self.whole.as_mut_slice(),
-                term.var,
-                product(&term.coef, &i64::from(scale)),
-            );
+            let cost = nearest_i64_to_f64(term.coef) * unit;
+            put(self.rests.as_mut_slice(), term.var as usize, cost);
         }
-        let mut sum = product(&model.constant(), &i64::from(scale));
+        let mut sum = nearest_i64_to_f64(model.constant()) * unit;
         for (row, mult) in model.all_rows().iter().zip(mults) {
             let mult = at_scale(*mult, scale);
             if mult != 0 {
-                sum = sum.saturating_add(product(&mult, &side(row, mult)));
-                take_row(self.whole.as_mut_slice(), row, mult);
+                let factor = nearest_i64_to_f64(mult);
+                sum += factor * nearest_i64_to_f64(side(row, mult));
+                take_about(self.rests.as_mut_slice(), row, factor);
+            }
+        }
+        for (rest, span) in self.rests.iter().zip(spans) {
+            let end = if *rest > 0.0 { span.lo } else { span.hi };
+            sum += *rest * nearest_i64_to_f64(end);
+        }
+        sum
+    }
+
+    // What multipliers give at least within spans where nothing costs. What they leave of each variable is kept.
+    fn least_value(&mut self, b: &Blocked, mults: &[i64], spans: &[Span]) -> i128 {
+        self.whole.fill(0);
+        let mut sum: i128 = 0;
+        for (row, mult) in b.model().all_rows().iter().zip(mults) {
+            if *mult != 0 {
+                sum = sum.saturating_add(product(mult, &side(row, *mult)));
+                take_row(self.whole.as_mut_slice(), row, *mult);
             }
         }
         for (reduced, span) in self.whole.iter().zip(spans) {
@@ -135,14 +153,6 @@ impl LoneLeaves {
     }
 }
 
-// Writes a number at a variable, if it is there.
-fn put_whole(numbers: &mut [i128], var: u32, number: i128) {
-    let place = var as usize;
-    if place < numbers.len() {
-        numbers[place] = number;
-    }
-}
-
 /// A multiplier at the greatest scale, rounded to the nearest at another, within the limit; at scale 0 as it is.
 pub fn at_scale(mult: i64, scale: u32) -> i64 {
     if scale == 0 {
@@ -160,26 +170,22 @@ pub fn at_scale(mult: i64, scale: u32) -> i64 {
     (apart / divisor).min(most).max(-most) as i64
 }
 
-// A bound at a scale, rounded up.
-fn rounded_up(value: i128, scale: u32) -> i128 {
-    let scale = i128::from(scale);
-    if scale <= 0 {
-        return value;
-    }
-    let below = value / scale;
-    if value > 0 && below.saturating_mul(scale) < value {
-        below.saturating_add(1)
-    } else {
-        below
-    }
-}
-
 // Takes a multiple of a row from numbers by variable.
 fn take_row(numbers: &mut [i128], row: &Row, mult: i64) {
     for term in row.terms.as_slice() {
         let place = term.var as usize;
         if place < numbers.len() {
             numbers[place] = numbers[place].saturating_sub(product(&term.coef, &mult));
+        }
+    }
+}
+
+// Takes a multiple of a row from numbers by variable, about.
+fn take_about(numbers: &mut [f64], row: &Row, factor: f64) {
+    for term in row.terms.as_slice() {
+        let place = term.var as usize;
+        if place < numbers.len() {
+            numbers[place] -= nearest_i64_to_f64(term.coef) * factor;
         }
     }
 }

@@ -27,7 +27,6 @@ pub const SLACK: f64 = 1e-4;
 /// The relaxation of a program's rows with the basis of the last leaf, the bases of the leaves that were forked, the
 /// scores of variables, and how many iterations dives took. Kept bases take 64 MB at most; the rest grows with the
 /// program alone.
-#[derive(Drop)]
 pub struct LoneLeaves {
     pub(crate) lp: Lp,
     pub(crate) bases: Bases,
@@ -40,8 +39,30 @@ pub struct LoneLeaves {
     pub(crate) dived: u64,
     pub(crate) last: Option<u64>,
     pub(crate) whole: Vec<i128>,
+    pub(crate) rests: Vec<f64>,
     pub(crate) queue: Vec<u32>,
     pub(crate) is_queued: Vec<bool>,
+}
+
+impl Drop for LoneLeaves {
+    fn drop(self) {
+        let LoneLeaves {
+            lp: _,
+            bases: _,
+            scores: _,
+            snapshot: _,
+            constant: _,
+            root: _,
+            most: _,
+            leaves: _,
+            dived: _,
+            last: _,
+            whole: _,
+            rests: _,
+            queue: _,
+            is_queued: _,
+        } = self;
+    }
 }
 
 /// Whether no block of a program has rows, as where each is a single variable.
@@ -60,23 +81,29 @@ impl LoneLeaves {
     /// The relaxation of a program's rows, where nothing is known of leaves.
     pub fn make(alloc: Global, b: &Blocked) -> Result<LoneLeaves, AllocError> {
         let model = b.model();
-        let lp = relaxation_of(alloc, model)?;
         let vars = model.vars() as usize;
-        let most = most_iterations(model);
+        let scores = Scores::make(alloc, vars)?;
+        let root = model.spans().to_vec(alloc)?;
+        let whole = Vec::from_elem(alloc, 0i128, vars)?;
+        let rests = Vec::from_elem(alloc, 0.0, vars)?;
+        let is_queued = Vec::from_elem(alloc, false, model.rows() as usize)?;
+        // What takes most comes last: no call behind it fails, so nothing has to let it go.
+        let lp = relaxation_of(alloc, model)?;
         Ok(LoneLeaves {
             lp,
             bases: Bases::make(alloc),
-            scores: Scores::make(alloc, vars)?,
+            scores,
             snapshot: Snapshot::make(alloc),
             constant: nearest_i64_to_f64(model.constant()),
-            root: model.spans().to_vec(alloc)?,
-            most,
+            root,
+            most: most_iterations(model),
             leaves: 0,
             dived: 0,
             last: None,
-            whole: Vec::from_elem(alloc, 0i128, vars)?,
+            whole,
+            rests,
             queue: Vec::new(alloc),
-            is_queued: Vec::from_elem(alloc, false, model.rows() as usize)?,
+            is_queued,
         })
     }
 

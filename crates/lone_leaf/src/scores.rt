@@ -72,13 +72,24 @@ impl Gains {
 }
 
 /// Gains below and above splits, and activities.
-#[derive(Drop)]
 pub struct Scores {
     pub below: Gains,
     pub above: Gains,
     activities: Vec<f64>,
     step: f64,
     most: f64,
+}
+
+impl Drop for Scores {
+    fn drop(self) {
+        let Scores {
+            below: _,
+            above: _,
+            activities: _,
+            step: _,
+            most: _,
+        } = self;
+    }
 }
 
 impl Scores {

@@ -12,7 +12,6 @@ const PERTURBATION: f64 = 1e-5;
 /// A linear program: columns with spans and costs, and rows with ranges, where row `i` reads that its sum less its
 /// logical is 0. Costs are perturbed once, away from 0; multipliers are by the true ones. Its memory is that of the
 /// numbers, once by columns and once by rows, and of the factors.
-#[derive(Drop)]
 pub struct Lp {
     pub(crate) alloc: Global,
     pub(crate) columns: usize,
@@ -40,6 +39,37 @@ pub struct Lp {
     seed: u64,
 }
 
+impl Drop for Lp {
+    fn drop(self) {
+        let Lp {
+            alloc: _,
+            columns: _,
+            rows: _,
+            by_columns: _,
+            by_rows: _,
+            costs: _,
+            moved: _,
+            variables: _,
+            statuses: _,
+            head: _,
+            weights: _,
+            factor: _,
+            basics: _,
+            is_stale: _,
+            ray: _,
+            rho: _,
+            alpha: _,
+            spare: _,
+            mults: _,
+            row: _,
+            nonzeros: _,
+            candidates: _,
+            iterations: _,
+            seed: _,
+        } = self;
+    }
+}
+
 impl Lp {
     /// A linear program with these columns by rows, ranges of rows, spans of columns and costs, at the basis of its
     /// logicals. What is missing of spans and costs is 0, and what is there beyond the columns is not used.
@@ -51,7 +81,18 @@ impl Lp {
         costs: &[f64],
     ) -> Result<Lp, AllocError> {
         let mut lp = Lp::empty(alloc, by_columns, ranges.len())?;
-        for column in 0..lp.columns {
+        lp.begin_with(ranges, spans, costs)?;
+        Ok(lp)
+    }
+
+    // Takes in the variables of columns and rows, and begins at the basis of logicals.
+    fn begin_with(
+        &mut self,
+        ranges: &[Range],
+        spans: &[Range],
+        costs: &[f64],
+    ) -> Result<(), AllocError> {
+        for column in 0..self.columns {
             let span = match spans.get(column) {
                 Some(span) => *span,
                 None => Range {
@@ -59,20 +100,20 @@ impl Lp {
                     upper: 0.0,
                 },
             };
-            lp.take_variable(&span, at(costs, column))?;
+            self.take_variable(&span, at(costs, column))?;
         }
         for range in ranges {
-            lp.variables.push(Variable::make(range, 0.0))?;
+            self.variables.push(Variable::make(range, 0.0))?;
         }
-        lp.fit()?;
-        lp.reset()?;
-        Ok(lp)
+        self.fit()?;
+        self.reset()
     }
 
     // These columns by so many rows, with nothing said of variables yet.
     fn empty(alloc: Global, by_columns: Vectors, rows: usize) -> Result<Lp, AllocError> {
         let mut by_rows = Vectors::make(alloc);
         by_columns.transpose(rows, &mut by_rows)?;
+        let factor = Factor::make(alloc, place(rows))?;
         Ok(Lp {
             alloc,
             columns: by_columns.len(),
@@ -85,7 +126,7 @@ impl Lp {
             statuses: Vec::new(alloc),
             head: Vec::new(alloc),
             weights: Vec::new(alloc),
-            factor: Factor::make(alloc, place(rows))?,
+            factor,
             basics: Vec::new(alloc),
             is_stale: true,
             ray: Vec::new(alloc),

@@ -16,7 +16,8 @@ const AGREES: f64 = 1e-6;
 const LEAST_PIVOT: f64 = 1e-9;
 
 /// How much a solution may take: iterations, the objective by true costs at which it ends, where one is given, and
-/// whether it only updates the factors that there are.
+/// whether it only updates the factors that there are. It then goes on from the reduced costs and values at hand: since
+/// these were made, only spans of basic variables may have changed.
 #[derive(Clone, Copy, Debug)]
 pub struct Effort {
     pub iterations: u32,
@@ -85,11 +86,15 @@ impl Lp {
     }
 
     // Makes what an iteration needs anew: costs without shifts, factors where they are old, reduced costs and values.
+    // Where factors are only updated, what is at hand stands unless they are stale.
     fn begin(&mut self, effort: Effort) -> Result<(), AllocError> {
+        if effort.keeps_factors && !self.is_stale {
+            return Ok(());
+        }
         if !effort.keeps_factors {
             self.forget_shifts();
         }
-        if self.is_stale || (!effort.keeps_factors && self.factor.wants_refactor()) {
+        if self.is_stale || self.factor.wants_refactor() {
             self.refactor()?;
         }
         self.fresh_reduced();

@@ -11,7 +11,6 @@ const LEAST: f64 = 1e-9;
 
 /// What stands while factors are made: the columns of the basis by positions, the same by rows, at which place in the
 /// order of pivots each row and position stands, and how many numbers are left in each.
-#[derive(Drop)]
 pub struct Builder {
     rows: u32,
     columns: Vectors,
@@ -24,6 +23,24 @@ pub struct Builder {
     nucleus: Nucleus,
     upper: Vectors,
     upper_columns: Vectors,
+}
+
+impl Drop for Builder {
+    fn drop(self) {
+        let Builder {
+            rows: _,
+            columns: _,
+            by_rows: _,
+            row_places: _,
+            position_places: _,
+            row_counts: _,
+            position_counts: _,
+            ready: _,
+            nucleus: _,
+            upper: _,
+            upper_columns: _,
+        } = self;
+    }
 }
 
 impl Builder {

@@ -37,7 +37,6 @@ pub struct Pivot {
 /// 1957; Suhl and Suhl, Computing sparse LU factorizations for large-scale linear programming bases, 1990), with
 /// updates in product form (Dantzig and Orchard-Hays, The product form for the inverse in the simplex method, 1954).
 /// Its memory is that of the factors and of the updates since they were made.
-#[derive(Drop)]
 pub struct Factor {
     rows: u32,
     pivots: Vec<Pivot>,
@@ -48,6 +47,22 @@ pub struct Factor {
     etas: Etas,
     scratch: Vec<f64>,
     builder: Builder,
+}
+
+impl Drop for Factor {
+    fn drop(self) {
+        let Factor {
+            rows: _,
+            pivots: _,
+            lower: _,
+            first_lower: _,
+            upper_columns: _,
+            upper_rows: _,
+            etas: _,
+            scratch: _,
+            builder: _,
+        } = self;
+    }
 }
 
 impl Factor {

@@ -19,7 +19,6 @@ const DROP: f64 = 1e-13;
 const LOOKS: u32 = 4;
 
 /// Rows of numbers by positions, the rows in which each position stands, and both by their counts.
-#[derive(Drop)]
 pub struct Nucleus {
     alloc: Global,
     rows: Vec<Vec<Entry>>,
@@ -30,6 +29,22 @@ pub struct Nucleus {
     targets: Vec<u32>,
     work: Vec<f64>,
     marks: Vec<bool>,
+}
+
+impl Drop for Nucleus {
+    fn drop(self) {
+        let Nucleus {
+            alloc: _,
+            rows: _,
+            patterns: _,
+            row_lists: _,
+            position_lists: _,
+            pivot_row: _,
+            targets: _,
+            work: _,
+            marks: _,
+        } = self;
+    }
 }
 
 // The best pivot so far, what it costs, and how many rows and columns were looked at.

@@ -67,6 +67,9 @@ pub fn no_notes(alloc: Global) -> Notes
     }
 }
 
+/// Lets notes go, in one place for all callers.
+pub fn let_notes_go(_notes: Notes) {}
+
 /// Whether a colon follows.
 fn is_colon(next: Option<Symbol>) -> bool
     ensures { (text : List ℕ) → result ≡ specs_is_colon (next_in text next) }
@@ -174,6 +177,7 @@ fn add_row(alloc: Global, notes: Notes, at: usize, name: &str) -> Result<Notes, 
         notes.row_tokens.push(at)?;
         Ok(notes)
     } else {
+        let_notes_go(notes);
         Err(ParseFault::At {
             token: at,
             kind: LpKind::RowTwice,
@@ -304,6 +308,7 @@ fn within_limits(notes: Notes, at: usize) -> Result<Notes, ParseFault>
     ensures fault { IfErr result (λ f. (f ≡ At at Limit) × (are_too_many notes ≡ true)) }
 {
     if too_many(&notes) {
+        let_notes_go(notes);
         Err(ParseFault::At {
             token: at,
             kind: LpKind::Limit,

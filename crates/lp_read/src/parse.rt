@@ -10,7 +10,7 @@ ghost use Rattle.lp_read.specs.Parsing.{ReadsOn, StopsAt, IsParseFault, IsParsed
 ghost use Rattle.lp_read.specs.declared.stage.Stage.TheVariants as stages;
 ghost use Rattle.lp_read.specs.declared.notes.ParseFault.TheVariants as faults;
 
-use crate::notes::{Notes, ParseFault, no_notes, note};
+use crate::notes::{Notes, ParseFault, let_notes_go, no_notes, note};
 use crate::stage::{Stage, let_go};
 use crate::step::step;
 use crate::symbol::Symbol;
@@ -119,7 +119,11 @@ fn read_symbol(
 {
     let State { stage, notes } = state;
     match own_fault(symbol) {
-        Some(kind) => Err(ParseFault::At { token: at, kind }),
+        Some(kind) => {
+            let_go(stage);
+            let_notes_go(notes);
+            Err(ParseFault::At { token: at, kind })
+        }
         None => read_fit(alloc, bytes, stage, notes, at, symbol, next),
     }
 }

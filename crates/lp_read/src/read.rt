@@ -2,6 +2,10 @@
 ghost use Rattle.std.specs.Prelude.{◌≡◌, ◌+◌, ◌≤◌, ◌^◌, length, count_by, slice_index_or, IfOk, IfErr};
 ghost use Rattle.lp_token.specs.Cut.{Cut, is_line_feed, line_at};
 ghost use Rattle.lp_read.specs.Symbols.{symbols};
+ghost use Rattle.lp_read.specs.TreeIn.{tree_in};
+ghost use Rattle.lp_read.specs.Roles as roles;
+ghost use Rattle.lp_read.specs.Meaning.{tokens_of};
+ghost use Rattle.lp_read.specs.PartsOf.{IsTextOfSome, IsRefused, IsModelOf};
 ghost use Rattle.lp_read.specs.Reading.{line_of as specs_line_of};
 ghost use Rattle.lp_read.specs.Parsing.{IsParsed};
 ghost use Rattle.lp_read.specs.Model.{Means, IsFaultOf};
@@ -10,7 +14,8 @@ use crate::meaning::{MeaningFault, model_of};
 use crate::notes::{Notes, ParseFault};
 use crate::parse::{Parsed, parse};
 use crate::symbol::symbols_of;
-use bp_model::Model;
+use crate::tree::Tree;
+use bp_model::{Model, Names};
 use bp_theory::Items;
 use lp_token::{LpFault, LpKind, Tok, tokens};
 use std::alloc::Global;
@@ -74,7 +79,7 @@ fn read_tree(alloc: Global, bytes: &[u8], tokens: &[Tok], parsed: Parsed) -> Res
         row_tokens,
         terms: _,
     } = notes;
-    match model_of(alloc, bytes, &tree, names, row_names) {
+    match model_of_tree(alloc, bytes, tree, names, row_names) {
         Ok(model) => Ok(model),
         Err(MeaningFault::At { variable, kind }) => Err(LpFault::At {
             line: line_of(tokens, place_at(&first_tokens, variable)),
@@ -90,6 +95,23 @@ fn read_tree(alloc: Global, bytes: &[u8], tokens: &[Tok], parsed: Parsed) -> Res
         }),
         Err(MeaningFault::NoMemory) => Err(LpFault::NoMemory),
     }
+}
+
+/// The model that a text's tree means, or its first fault, by which time the tree is let go.
+fn model_of_tree(
+    alloc: Global,
+    text: &[u8],
+    tree: Tree,
+    names: Names,
+    row_names: Names,
+) -> Result<Model, MeaningFault>
+    requires text_of { IsTextOfSome text.now (tree_in text.now tree) }
+    requires variables { names ≡ roles.variables (tokens_of (tree_in text.now tree)) }
+    requires row_names { row_names ≡ roles.row_names (tokens_of (tree_in text.now tree)) }
+    ensures model { IfOk result (IsModelOf (tree_in text.now tree)) }
+    ensures fault { IfErr result (IsRefused (tree_in text.now tree)) }
+{
+    model_of(alloc, text, &tree, names, row_names)
 }
 
 /// The place of a number, 0 where there is none.

@@ -27,6 +27,7 @@ use Rattle.bp_theory.proofs.ShrinkProof.{one_bound_lem}
 use Rattle.bp_theory.proofs.FaithProof.{activity_of_places}
 use Rattle.bp_theory.proofs.DecompositionProof.{decomposition_lem, get_or-map_past, mirrored_row, eqb_itself}
 use Rattle.block_form.specs.Blocked.{BlockedProgram, IsFormed}
+use Rattle.block_form.proofs.PlainLemmas.{plain_blocking}
 use Rattle.node_eval.specs.Shown.{ShutsOff, IsMissed, row_proof, block_proof, closing_sign}
 
 -- ---- the zone of one point
@@ -290,7 +291,7 @@ master_shuts b x i m formed missed e sign =
     ∙ get_or_append_left own links no_row i (omega (arith, missed.there, long))
     ∙ row_in_proofs p.rows d.places i r missed.there formed.places.each
     ∙ ap (proof_row (get_or p.rows i r)) e in
-    subst (λ (bs : Blocking). ShutsOff bs (zone_of x) (row_proof i m)) (sym formed.blocking)
+    subst (λ (bs : Blocking). ShutsOff bs (zone_of x) (row_proof i m)) (sym (plain_blocking formed))
     (row_shuts p (map full_row (proof_rows p d [])) (blocking_of p d []) x i (get_or p.rows i r) m adds
     (get_or-map_past full_row (proof_rows p d []) i no_row ∙ ap full_row kind) (missed.missed r) (sign r))
 
@@ -303,7 +304,7 @@ own_shuts b x i k formed missed e =
     let r : Row = record { sense = Eq; low = pos 0; rhs = pos 0; terms = [] } in
     let found = row_in_block k p.rows d.places i r missed.there formed.places.each e in
     let there : k < d.blocks = subst (IsPlace d.blocks) e (formed.places.known i None (omega (arith, missed.there, formed.places.each))) in
-    subst (λ (bs : Blocking). ShutsOff bs (zone_of x) (block_proof k)) (sym formed.blocking)
+    subst (λ (bs : Blocking). ShutsOff bs (zone_of x) (block_proof k)) (sym (plain_blocking formed))
     (block_shuts p d [] x k found.0 r formed.kept.closed there found.1
     (subst (λ (row : Row). HasVariablesBelow (length p.spans) row.terms) (sym found.2) (formed.kept.closed.rows i r missed.there))
     (λ h. missed.missed r (subst (MeetsRow x) found.2 h)))
@@ -312,6 +313,6 @@ own_shuts b x i k formed missed e =
 pub point_holds : (b : BlockedProgram) (x : List ℤ) → IsFormed b → Holds b.blocking (zone_of x) plain_proof (cost b.named.program x)
 point_holds b x formed =
     let p : Program = b.named.program in
-    subst (λ (bs : Blocking). Holds bs (zone_of x) plain_proof (cost p x)) (sym formed.blocking)
+    subst (λ (bs : Blocking). Holds bs (zone_of x) plain_proof (cost p x)) (sym (plain_blocking formed))
     (plain_holds p (map full_row (proof_rows p b.dec [])) (blocking_of p b.dec []) x
     (decomposition_lem.adds_up p b.dec [] formed.kept.closed (λ k d l. absurd (omega arith))))

@@ -2,7 +2,7 @@
 ghost use Rattle.std.specs.Prelude.{◌≡◌, ◌<◌, ◌^◌, ◌<ℤ◌, unsigned_abs, IfOk, IfSome};
 ghost use Rattle.block_class.specs.Classes.{AreSameClasses};
 ghost use Rattle.branch_tree.specs.Turns.{IsTurn};
-ghost use Rattle.column_hint.specs.Pools.{AreMadeFor};
+ghost use Rattle.hint_pools.specs.Pools.{AreMadeFor};
 ghost use Rattle.search_laws.specs.GroveFacts.{best_cost};
 ghost use Rattle.search_laws.specs.Verdicts.{IsVerdict, IsNext, IsThorough, cheaper_cost};
 ghost use Rattle.node_eval.specs.Shown.{IsShown, IsBetter, IsOpen, ShutsOff};

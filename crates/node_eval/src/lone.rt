@@ -4,7 +4,7 @@ ghost use Rattle.bp_theory.specs.Trees.{IsZone};
 ghost use Rattle.bp_theory.specs.declared.Picked.TheVariants.{These};
 ghost use Rattle.branch_tree.specs.Turns.{IsTurn};
 ghost use Rattle.lone_leaf.specs.Rowless.{AreRowless};
-ghost use Rattle.column_hint.specs.Pools.{AreMadeFor};
+ghost use Rattle.hint_pools.specs.Pools.{AreMadeFor};
 ghost use Rattle.search_laws.specs.Verdicts.{IsVerdict, IsThorough};
 ghost use Rattle.node_eval.specs.Shown.{IsShown, IsOpen, ShutsOff};
 ghost use Rattle.node_eval.specs.Openings.{IsStrong};

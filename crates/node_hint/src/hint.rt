@@ -2,7 +2,7 @@
 ghost use Rattle.std.specs.Prelude.{◌≡◌, ◌<◌, IfOk, All, length};
 ghost use Rattle.bp_theory.specs.Trees.{IsZone};
 ghost use Rattle.block_class.specs.Classes.{AreSameClasses};
-ghost use Rattle.column_hint.specs.Pools.{AreMadeFor};
+ghost use Rattle.hint_pools.specs.Pools.{AreMadeFor};
 ghost use Rattle.search_laws.specs.declared.UsedColumn.{UsedColumn as AUsed};
 
 use crate::points::{find_points, point_by_mean};

@@ -1,5 +1,5 @@
 // Hints for leaves of programs whose blocks have no rows.
-ghost use Rattle.column_hint.specs.Pools.{AreMadeFor};
+ghost use Rattle.hint_pools.specs.Pools.{AreMadeFor};
 
 use crate::hint::first_incumbent;
 use block_form::{Blocked, MAX_SCALE};

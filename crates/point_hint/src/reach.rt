@@ -52,12 +52,30 @@ pub fn unreached(b: &Blocked, spans: &[Span]) -> Option<(u32, i64)> {
     for i in 0..model.rows() {
         let row = model.row(i);
         if b.master_row(i).is_some() {
-            if let Some(sign) = missing_sign(row, &reach_of(row.terms.as_slice(), spans)) {
+            if let Some(sign) = missing_sign(row, &short_reach(row.terms.as_slice(), spans)) {
                 return Some((i, sign));
             }
         }
     }
     None
+}
+
+// What a row's terms can reach over spans, by sums of 64 bits: a model's are below `2^62`.
+fn short_reach(terms: &[Term], spans: &[Span]) -> Reach {
+    let mut least: i64 = 0;
+    let mut most: i64 = 0;
+    for term in terms {
+        if let Some(span) = spans.get(term.var as usize) {
+            let low = term.coef.saturating_mul(span.lo);
+            let high = term.coef.saturating_mul(span.hi);
+            least = least.saturating_add(low.min(high));
+            most = most.saturating_add(low.max(high));
+        }
+    }
+    Reach {
+        least: i128::from(least),
+        most: i128::from(most),
+    }
 }
 
 /// The sign that shows that a row can't be met, where it can't.

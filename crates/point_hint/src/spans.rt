@@ -17,7 +17,6 @@ const LOOKS: u32 = 8;
 
 /// Spans that shrink, what they were before, in the order of the changes, what is kept of each row and of the costs, the
 /// rows that wait to be looked at since a side of theirs came nearer, and how many terms were looked at.
-#[derive(Drop)]
 pub struct Spans {
     pub now: Vec<Span>,
     pub before: Vec<(u32, Span)>,
@@ -28,6 +27,22 @@ pub struct Spans {
     lines: Vec<Line>,
     waiting: Vec<u32>,
     is_waiting: Vec<bool>,
+}
+
+impl Drop for Spans {
+    fn drop(self) {
+        let Spans {
+            now: _,
+            before: _,
+            looked: _,
+            entries: _,
+            costs: _,
+            cost: _,
+            lines: _,
+            waiting: _,
+            is_waiting: _,
+        } = self;
+    }
 }
 
 impl Spans {

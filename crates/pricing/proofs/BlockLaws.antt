@@ -19,6 +19,7 @@ use Rattle.bp_theory.proofs.ZipLaws.{AllZip_at, AllZip-length}
 use Rattle.bp_theory.proofs.DecompositionProof.{decomposition_lem, all_blocks}
 use Rattle.bp_model.specs.Named.{HasSmallEnds}
 use Rattle.block_form.specs.Blocked.{BlockedProgram, IsFormed}
+use Rattle.block_form.proofs.PlainLemmas.{plain_blocking}
 use Rattle.pricing.specs.Form.{term_size, HasShortEnds, IsForm}
 use Rattle.pricing.specs.Laws.{BlocksHaveForm}
 
@@ -128,7 +129,7 @@ form_of p k vars many ends small few mirrored =
 pub blocks_have_form_lem : BlocksHaveForm
 blocks_have_form_lem b formed =
     let p : Program = b.named.program in
-    subst (λ (blocks : List Block). All (λ k. IsForm k.rows (spans_of p.spans k)) blocks) (sym (ap (λ c. c.blocks) formed.blocking))
+    subst (λ (blocks : List Block). All (λ k. IsForm k.rows (spans_of p.spans k)) blocks) (sym (ap (λ c. c.blocks) (plain_blocking formed)))
     (λ i k l.
     let adds : AddsUp p (map full_row (proof_rows p b.dec [])) (blocking_of p b.dec []) =
     decomposition_lem.adds_up p b.dec [] formed.kept.closed (λ j r m. absurd (omega arith)) in

@@ -10,6 +10,8 @@ mod drawn;
 #[cfg(test)]
 mod known;
 #[cfg(test)]
+mod lots;
+#[cfg(test)]
 mod packed;
 #[cfg(test)]
 mod problem;

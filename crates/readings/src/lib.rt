@@ -1,10 +1,16 @@
-//! Tests of what LP texts and certificates read as, and of models at their limits. They stand apart from the crates that
-//! they test, since a crate that has tests is proved twice, and others wait for these.
+//! Tests of what LP texts, texts of decompositions, lists of rows and certificates read as, and of models at their limits.
+//! They stand apart from the crates that they test, since a crate that has tests is proved twice, and others wait for these.
 #![tactic(auto)]
 
 #[cfg(test)]
 mod certificates;
 #[cfg(test)]
+mod decompositions;
+#[cfg(test)]
 mod lp_texts;
 #[cfg(test)]
 mod models;
+#[cfg(test)]
+mod row_lists;
+#[cfg(test)]
+mod tokens;

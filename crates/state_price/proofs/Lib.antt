@@ -1,6 +1,7 @@
 pub mod WindowLaws
 pub mod GraphLaws
 pub mod ExpandLaws
+pub mod BesideLaws
 pub mod BestLaws
 pub mod ShortLaws
 pub mod PassLaws
@@ -13,3 +14,7 @@ pub mod LayerLaws
 pub mod LimitLaws
 pub mod SizeLaws
 pub mod MergeLaws
+pub mod PairLaws
+pub mod PairPassLaws
+pub mod PlaceLaws
+pub mod OrderLaws

@@ -7,32 +7,36 @@ use Rattle.std.proofs.lemmas.List.{drop-set-lt, get_or-set_same, length-set}
 use Rattle.std.specs.List.{AllByRecursion}
 use Rattle.std.proofs.lemmas.List.Elements.{recursion_from_All, All-from_recursion}
 use Rattle.bp_theory.specs.Sums.{dot}
-use Rattle.bp_theory.specs.Program.{IsInside, reach}
+use Rattle.bp_theory.specs.Program.{IsInside, IsWithin, reach}
 use Rattle.bp_theory.specs.declared.Span.{Span}
 use Rattle.pricing.specs.Form.{cost_size}
 use Rattle.pricing.proofs.EndLaws.{number-le_reach, product-within}
-use Rattle.state_price.specs.Graphs.{arc_at, IsWay, IsArcSafe, IsStepSafe, IsSafe}
+use Rattle.state_price.specs.Graphs.{arc_at, IsWay, IsStepSafe}
 use Rattle.state_price.specs.Best.{no_way, cell_at, pick_at, chosen_number, AreBounded, IsBest, LeadsOn, way_of, IsReached, AreLeast}
 use Rattle.state_price.specs.declared.graph.Arc.{Arc}
 use Rattle.state_price.proofs.BestLaws.{chosen_within, open_by, chosen_cheapest}
 
+-- arcs that have a number lead to nodes below a number
+abbrev pub LeadBelow : (wide : ℕ) → List Arc → Type 0
+LeadBelow wide arcs = (j : ℕ) (y : ℤ) → j < length arcs → IsWithin (arc_at arcs j).label y → (arc_at arcs j).to < wide
+
+pub safe_below : (wide : ℕ) (arcs : List Arc) → IsStepSafe wide arcs → LeadBelow wide arcs
+safe_below wide arcs safe j y l within = (safe.each j (record { from = 0; to = 0; label = record { lo = pos 0; hi = pos 0 } }) l).to
+
 -- the cells of a layer from those of the next
-pub layer_least : (arcs : List Arc) (steps : List (List Arc)) (p : List ℕ) (ps : List (List ℕ)) (s : Span) (ss : List Span) (r : ℤ) (rs : List ℤ) (wide : ℕ) (next now : List ℤ)
-    → IsStepSafe wide arcs → AreLeast steps ps ss rs wide next
+pub layer_least : (arcs : List Arc) (steps : List (List Arc)) (p : List ℕ) (ps : List (List ℕ)) (s : Span) (ss : List Span) (r : ℤ) (rs : List ℤ) (behind wide : ℕ) (next now : List ℤ)
+    → LeadBelow behind arcs → AreLeast steps ps ss rs behind next
     → ((node : ℕ) → node < wide → IsBest arcs next s r (length arcs) node (cell_at now node) (pick_at p node))
     → AreLeast (arcs ∷ steps) (p ∷ ps) (s ∷ ss) (r ∷ rs) wide now
-layer_least arcs steps p ps s ss r rs wide next now safe below best node l = record { least = least; reached = reached }
+layer_least arcs steps p ps s ss r rs behind wide next now safe below best node l = record { least = least; reached = reached }
   where
-    arc_safe : (j : ℕ) → j < length arcs → IsArcSafe wide (arc_at arcs j)
-    arc_safe j lt = safe.each j (record { from = 0; to = 0; label = record { lo = pos 0; hi = pos 0 } }) lt
-
     through : (a b c d e f : ℤ) → a ≤ℤ (b +ℤ c) → b ≤ℤ d → c ≤ℤ e → f ≡ e +ℤ d → a ≤ℤ f
     through a b c d e f p q w x = omega (arith, ints)
 
     least : (ys : List ℤ) → IsWay (arcs ∷ steps) node ys → IsInside (s ∷ ss) ys → (cell_at now node <ℤ no_way) × (cell_at now node ≤ℤ dot (r ∷ rs) ys)
     least [] way inside = absurd way
     least (y ∷ ys) (j, leads, way) inside =
-        let rest = (below (arc_at arcs j).to (arc_safe j leads.there).to).least ys way inside.1 in
+        let rest = (below (arc_at arcs j).to (safe j y leads.there leads.within)).least ys way inside.1 in
         let b = (best node l).least j leads.there leads.from (record { meets = open_by (arc_at arcs j).label s y leads.within inside.0; goes_on = rest.0 }) in (
           b.0,
           through (cell_at now node) (cell_at next (arc_at arcs j).to) (r *ℤ chosen_number (arc_at arcs j).label s r) (dot rs ys) (r *ℤ y) (r *ℤ y +ℤ dot rs ys)
@@ -45,7 +49,8 @@ layer_least arcs steps p ps s ss r rs wide next now safe below best node l = rec
     reached : cell_at now node <ℤ no_way → IsReached (arcs ∷ steps) (p ∷ ps) (s ∷ ss) (r ∷ rs) node (cell_at now node)
     reached has =
         let at = (best node l).reached has in
-        let rest = (below (arc_at arcs (pick_at p node)).to (arc_safe (pick_at p node) at.there).to).reached at.usable.goes_on in
+        let rest = (below (arc_at arcs (pick_at p node)).to
+        (safe (pick_at p node) (chosen_number (arc_at arcs (pick_at p node)).label s r) at.there (chosen_within (arc_at arcs (pick_at p node)).label s r at.usable.meets).0)).reached at.usable.goes_on in
         record {
           leads = (at.there, at.from, at.usable.meets, rest.leads);
           value = swapped (cell_at now node) (cell_at next (arc_at arcs (pick_at p node)).to) (r *ℤ chosen_number (arc_at arcs (pick_at p node)).label s r)
@@ -118,21 +123,21 @@ least_bounded steps picks zone costs wide cells bound e f many small least node 
     omega (arith, small, subst (λ v. unsigned_abs v ≤ cost_size zone costs) r.value (dot_small zone costs (way_of steps picks zone costs node) w.1))
 
 -- a loop's step: one layer more in front
-pub least_more : (steps : List (List Arc)) (picks now_picks : List (List ℕ)) (zone : List Span) (costs : List ℤ) (k : ℕ) (p : List ℕ) (wide : ℕ) (next now : List ℤ)
+pub least_more : (steps : List (List Arc)) (picks now_picks : List (List ℕ)) (zone : List Span) (costs : List ℤ) (k : ℕ) (p : List ℕ) (behind wide : ℕ) (next now : List ℤ)
     → (arcs : List Arc) (s : Span) (r : ℤ)
     → k < length steps → length picks ≡ length steps → length zone ≡ length steps → length costs ≡ length steps
     → arcs ≡ get_or steps k [] → s ≡ get_or zone k (record { lo = pos 0; hi = pos 0 }) → r ≡ get_or costs k (pos 0) → now_picks ≡ set picks k p
-    → IsStepSafe wide arcs
-    → AreLeast (drop (k + 1) steps) (drop (k + 1) picks) (drop (k + 1) zone) (drop (k + 1) costs) wide next
+    → LeadBelow behind arcs
+    → AreLeast (drop (k + 1) steps) (drop (k + 1) picks) (drop (k + 1) zone) (drop (k + 1) costs) behind next
     → ((node : ℕ) → node < wide → IsBest arcs next s r (length arcs) node (cell_at now node) (pick_at p node))
     → AreLeast (drop k steps) (drop k now_picks) (drop k zone) (drop k costs) wide now
-least_more steps picks now_picks zone costs k p wide next now arcs s r there many e f is_arcs is_s is_r is_picks safe below best =
+least_more steps picks now_picks zone costs k p behind wide next now arcs s r there many e f is_arcs is_s is_r is_picks safe below best =
     subst (λ (xs : List (List Arc)). AreLeast xs (drop k now_picks) (drop k zone) (drop k costs) wide now) (sym front_steps)
     (subst (λ (xs : List (List ℕ)). AreLeast (arcs ∷ drop (suc k) steps) xs (drop k zone) (drop k costs) wide now) (sym front_picks)
     (subst (λ (xs : List Span). AreLeast (arcs ∷ drop (suc k) steps) (p ∷ drop (suc k) picks) xs (drop k costs) wide now) (sym front_zone)
     (subst (λ (xs : List ℤ). AreLeast (arcs ∷ drop (suc k) steps) (p ∷ drop (suc k) picks) (s ∷ drop (suc k) zone) xs wide now) (sym front_costs)
-    (layer_least arcs (drop (suc k) steps) p (drop (suc k) picks) s (drop (suc k) zone) r (drop (suc k) costs) wide next now safe
-    (subst (λ n. AreLeast (drop n steps) (drop n picks) (drop n zone) (drop n costs) wide next) one below) best))))
+    (layer_least arcs (drop (suc k) steps) p (drop (suc k) picks) s (drop (suc k) zone) r (drop (suc k) costs) behind wide next now safe
+    (subst (λ n. AreLeast (drop n steps) (drop n picks) (drop n zone) (drop n costs) behind next) one below) best))))
   where
     one : k + 1 ≡ suc k
     one = omega arith
@@ -163,17 +168,16 @@ wide_rows picks k wide p h e = All-from_recursion (λ (row : List ℕ). length r
     by (x ∷ xs) (suc k) a = (a.0, by xs k a.1)
 
 -- a loop's step over what a pass keeps
-pub pass_more : (steps : List (List Arc)) (picks : List (List ℕ)) (zone : List Span) (costs : List ℤ) (k : ℕ) (p : List ℕ) (wide : ℕ) (next next_now now : List ℤ) (arcs : List Arc)
+pub pass_more : (steps : List (List Arc)) (picks : List (List ℕ)) (zone : List Span) (costs : List ℤ) (k : ℕ) (p : List ℕ) (behind wide : ℕ) (next next_now now : List ℤ) (arcs : List Arc)
     → 0 < k → k ≤ length steps → length picks ≡ length steps → length zone ≡ length steps → length costs ≡ length steps
-    → arcs ≡ get_or steps (k - 1) [] → IsSafe wide steps → next_now ≡ now
-    → AreLeast (drop k steps) (drop k picks) (drop k zone) (drop k costs) wide next
+    → arcs ≡ get_or steps (k - 1) [] → LeadBelow behind arcs → next_now ≡ now
+    → AreLeast (drop k steps) (drop k picks) (drop k zone) (drop k costs) behind next
     → ((node : ℕ) → node < wide → IsBest arcs next (get_or zone (k - 1) (record { lo = pos 0; hi = pos 0 })) (get_or costs (k - 1) (pos 0)) (length arcs) node (cell_at now node) (pick_at p node))
     → AreLeast (drop (k - 1) steps) (drop (k - 1) (set picks (k - 1) p)) (drop (k - 1) zone) (drop (k - 1) costs) wide next_now
-pass_more steps picks zone costs k p wide next next_now now arcs some there many e f is safe same below best =
+pass_more steps picks zone costs k p behind wide next next_now now arcs some there many e f is safe same below best =
     subst (λ (cells : List ℤ). AreLeast (drop (k - 1) steps) (drop (k - 1) (set picks (k - 1) p)) (drop (k - 1) zone) (drop (k - 1) costs) wide cells) (sym same)
-    (least_more steps picks (set picks (k - 1) p) zone costs (k - 1) p wide next now arcs _ _ (omega (arith, some, there)) many e f is refl refl refl
-    (subst (IsStepSafe wide) (sym is) (safe (k - 1) [] (omega (arith, some, there))))
-    (subst (λ n. AreLeast (drop n steps) (drop n picks) (drop n zone) (drop n costs) wide next) back below) best)
+    (least_more steps picks (set picks (k - 1) p) zone costs (k - 1) p behind wide next now arcs _ _ (omega (arith, some, there)) many e f is refl refl refl safe
+    (subst (λ n. AreLeast (drop n steps) (drop n picks) (drop n zone) (drop n costs) behind next) back below) best)
   where
     back : k ≡ k - 1 + 1
     back = omega (arith, some)

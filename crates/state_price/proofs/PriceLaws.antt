@@ -44,7 +44,7 @@ price_none rows spans zone costs steps picks wide cells g p some least none y h 
     g.complete y (point_of_root rows spans zone costs y p h) (λ way. none ((least 0 some).least y way h.inside).0)
 
 -- a way meets the rows
-way_meets : (rows : List Row) (spans : List Span) (steps : List (List Arc)) (ys : List ℤ) → IsFaithful rows spans steps → IsWay steps 0 ys → All (MeetsRow ys) rows
+pub way_meets : (rows : List Row) (spans : List Span) (steps : List (List Arc)) (ys : List ℤ) → IsFaithful rows spans steps → IsWay steps 0 ys → All (MeetsRow ys) rows
 way_meets rows spans steps ys g way = All-from_recursion (MeetsRow ys) rows (by (rows_decided ys rows))
   where
     by : Decided (AllByRecursion (MeetsRow ys) rows) → AllByRecursion (MeetsRow ys) rows

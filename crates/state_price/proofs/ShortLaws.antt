@@ -5,13 +5,14 @@ use Rattle.std.proofs.Math.Nat.{mul-le-mul_left}
 use Rattle.std.specs.Prelude.{◌≤ℤ◌, ◌<ℤ◌, ◌⊎◌, unsigned_abs, FitsSigned, if◌then◌else◌, int_lt}
 use Rattle.std.specs.Int.{w64, int_min}
 use Rattle.std.proofs.lemmas.Int.{ints, clamps, by_lt_z, fits_signed_from_abs}
-use Rattle.std.proofs.lemmas.List.{get_or-map, length-map, map-set, set-get_or}
+use Rattle.std.proofs.lemmas.Bool.{cases_eq, cases_lt}
+use Rattle.std.proofs.lemmas.List.{get_or-map, length-map, map-set, set-get_or, length-set, get_or-set_same, get_or-set_other}
 use Rattle.bp_theory.specs.Program.{reach}
 use Rattle.bp_theory.specs.declared.Span.{Span}
 use Rattle.pricing.proofs.EndLaws.{number-le_reach, product-within}
 use Rattle.state_price.specs.Graphs.{arc_at}
-use Rattle.state_price.specs.Best.{no_way, cell_at, pick_at, IsOpen, chosen_number, AreBounded, IsBest}
-use Rattle.state_price.specs.Short.{far, closed, widened_cell, widened, IsOwn, IsTotal}
+use Rattle.state_price.specs.Best.{no_way, cell_at, pick_at, IsOpen, chosen_number, IsBest}
+use Rattle.state_price.specs.Short.{far, closed, widened_cell, widened, AreCells, IsReady, IsOwn, IsTotal}
 use Rattle.state_price.specs.declared.graph.Arc.{Arc}
 use Rattle.state_price.proofs.BestLaws.{chosen_within, best_unusable, best_tried}
 
@@ -101,21 +102,23 @@ sum_fits label span cost rest own small short is = by (own_small label span cost
     by (inr h) = fits_signed_from_abs w64 (rest +ℤ own) (omega (arith, ints, h, short))
 
 -- a cell of a way is short
-pub rest_short : (next : List ℤ) (node : ℕ) → node < length next → AreBounded (2 ^ 60) (widened next) → cell_at next node <ℤ far → unsigned_abs (cell_at next node) ≤ 2 ^ 60
-rest_short next node l bounded h =
-    subst (λ z. unsigned_abs z ≤ 2 ^ 60) (widened_at next node l ∙ near_kept (cell_at next node) h)
-    (bounded node (subst (λ n. node < n) (sym (length-widened next)) l) (has_way_at next node l h))
+pub rest_short : (cell : ℤ) → IsReady cell → cell <ℤ far → unsigned_abs cell ≤ 2 ^ 60
+rest_short cell (inl e) h = absurd (both_ways cell far h (same cell e))
+  where
+    same : (v : ℤ) → v ≡ far → far ≤ℤ v
+    same v e = omega (arith, ints)
+rest_short cell (inr short) h = short
 
 -- the cost by an arc that leads to a node with a way
-pub total_way : (next : List ℤ) (span : Span) (cost : ℤ) (arc : Arc) (own v : ℤ) → arc.to < length next → AreBounded (2 ^ 60) (widened next)
+pub total_way : (next : List ℤ) (span : Span) (cost : ℤ) (arc : Arc) (own v : ℤ) → arc.to < length next → IsReady (cell_at next arc.to)
     → unsigned_abs cost * reach span ≤ 2 ^ 60 → cell_at next arc.to <ℤ far → IsOwn arc.label span cost own → v ≡ cell_at next arc.to +ℤ own → IsTotal (widened next) span cost arc v
-total_way next span cost arc own v there bounded small way (inl (meets, value)) is = inl (
+total_way next span cost arc own v there ready small way (inl (meets, value)) is = inl (
   record {
     usable = record { meets = meets; goes_on = has_way_at next arc.to there way };
     value = is ∙ ap (λ z. cell_at next arc.to +ℤ z) value ∙ ap (λ z. z +ℤ cost *ℤ chosen_number arc.label span cost) (sym (widened_at next arc.to there ∙ near_kept (cell_at next arc.to) way));
-    small = low (cell_at next arc.to) own v (rest_short next arc.to there bounded way) own_is is;
+    small = low (cell_at next arc.to) own v (rest_short (cell_at next arc.to) ready way) own_is is;
   },
-  less (cell_at next arc.to) own v (rest_short next arc.to there bounded way) own_is is,
+  less (cell_at next arc.to) own v (rest_short (cell_at next arc.to) ready way) own_is is,
 )
   where
     own_is : unsigned_abs own ≤ 2 ^ 60
@@ -126,9 +129,9 @@ total_way next span cost arc own v there bounded small way (inl (meets, value)) 
 
     less : (a b v : ℤ) → unsigned_abs a ≤ 2 ^ 60 → unsigned_abs b ≤ 2 ^ 60 → v ≡ a +ℤ b → v <ℤ far
     less a b v h k e = omega (arith, ints, h, k, e)
-total_way next span cost arc own v there bounded small way (inr (none, value)) is = inr (
+total_way next span cost arc own v there ready small way (inr (none, value)) is = inr (
   (λ usable. none usable.meets),
-  high (cell_at next arc.to) own v (rest_short next arc.to there bounded way) value is,
+  high (cell_at next arc.to) own v (rest_short (cell_at next arc.to) ready way) value is,
 )
   where
     high : (a b v : ℤ) → unsigned_abs a ≤ 2 ^ 60 → b ≡ closed → v ≡ a +ℤ b → far ≤ℤ v
@@ -208,3 +211,51 @@ none_at cells k l e = widened_at cells k l ∙ ap (λ z. widened_cell z) e ∙ f
 
 pub zero_at : (cells : List ℤ) (k : ℕ) → k < length cells → cell_at cells k ≡ pos 0 → cell_at (widened cells) k ≡ pos 0
 zero_at cells k l e = widened_at cells k l ∙ ap (λ z. widened_cell z) e ∙ near_kept (pos 0) (omega (arith, ints))
+
+-- a cell that was written
+pub cells_set : (wide node : ℕ) (cells : List ℤ) (v : ℤ) → AreCells wide cells → node < wide → v ≤ℤ far → AreCells wide (set cells node v)
+cells_set wide node cells v h there low = record {
+  each = length-set cells node v ∙ h.each;
+  near = λ k l. ⊎_elim
+      (λ e. subst (λ z. z ≤ℤ far) (sym (ap (λ n. cell_at (set cells node v) n) e ∙ get_or-set_same cells node v (pos 0) (omega (arith, there, h.each)))) low)
+      (λ n. subst (λ z. z ≤ℤ far) (sym (get_or-set_other cells node k v (pos 0) n)) (h.near k (omega (arith, l, length-set cells node v))))
+      (cases_eq k node);
+  dead = get_or-set_other cells node wide v (pos 0) (λ e. omega (arith, e, there)) ∙ h.dead;
+}
+
+-- with one more of no way
+pub far_more : (wide node : ℕ) (cells : List ℤ) → AreCells wide cells → node < wide → ((k : ℕ) → k < node → cell_at cells k ≡ far)
+    → (k : ℕ) → k < node + 1 → cell_at (set cells node far) k ≡ far
+far_more wide node cells h there had k l = ⊎_elim
+    (λ e. ap (λ n. cell_at (set cells node far) n) e ∙ get_or-set_same cells node far (pos 0) (omega (arith, there, h.each)))
+    (λ n. get_or-set_other cells node k far (pos 0) n ∙ had k (less k node l n))
+    (cases_eq k node)
+  where
+    less : (i k : ℕ) → i < k + 1 → (i ≡ k → ⊥) → i < k
+    less i k l n = ⊎_elim (λ a. a) (λ b. absurd (n (omega (arith, l, b)))) (cases_lt i k)
+
+-- with one more of no cost
+pub zero_more : (wide node : ℕ) (cells : List ℤ) → AreCells wide cells → node < wide → ((k : ℕ) → k < node → cell_at (widened cells) k ≡ pos 0)
+    → (k : ℕ) → k < node + 1 → cell_at (widened (set cells node (pos 0))) k ≡ pos 0
+zero_more wide node cells h there had k l = zero_at (set cells node (pos 0)) k (omega (arith, l, there, h.each, length-set cells node (pos 0)))
+    (⊎_elim
+    (λ e. ap (λ n. cell_at (set cells node (pos 0)) n) e ∙ get_or-set_same cells node (pos 0) (pos 0) (omega (arith, there, h.each)))
+    (λ n. get_or-set_other cells node k (pos 0) (pos 0) n ∙ raw (cell_at cells k) (sym (widened_at cells k (omega (arith, l, there, h.each))) ∙ had k (less k node l n)))
+    (cases_eq k node))
+  where
+    less : (i k : ℕ) → i < k + 1 → (i ≡ k → ⊥) → i < k
+    less i k l n = ⊎_elim (λ a. a) (λ b. absurd (n (omega (arith, l, b)))) (cases_lt i k)
+
+    raw : (c : ℤ) → widened_cell c ≡ pos 0 → c ≡ pos 0
+    raw c e = by (int_lt c far) refl
+      where
+        not_none : no_way ≡ pos 0 → ⊥
+        not_none e = omega (arith, ints, e)
+
+        by : (t : Bool) → int_lt c far ≡ t → c ≡ pos 0
+        by true q = sym (near_kept c (is_less c far q)) ∙ e
+        by false q = absurd (not_none (sym (far_none c (is_more c far q)) ∙ e))
+
+-- the lesser one of a number and a cell is no greater than that of no way
+pub lesser_low : (v cell : ℤ) → cell ≤ℤ far → int_min v cell ≤ℤ far
+lesser_low v cell h = omega (arith, ints, clamps, h)

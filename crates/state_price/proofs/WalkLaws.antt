@@ -5,12 +5,13 @@ use Rattle.std.proofs.lemmas.Bool.{cases_lt, cases_eq}
 use Rattle.std.proofs.lemmas.List.{get_or-set_same, get_or-set_other}
 use Rattle.bp_theory.specs.declared.Span.{Span}
 use Rattle.state_price.specs.Graphs.{arc_at}
-use Rattle.state_price.specs.Best.{pick_at, chosen_number, LeadsOn, way_of}
+use Rattle.state_price.specs.Best.{pick_at, IsOpen, chosen_number, LeadsOn, way_of}
 use Rattle.state_price.specs.declared.graph.Arc.{Arc}
 
 -- one step of a way
 pub record IsStep (steps : List (List Arc)) (picks : List (List ℕ)) (zone : List Span) (costs way : List ℤ) (k node : ℕ) (arcs : List Arc) (row : List ℕ) : Type 0 where
   pub there : pick_at row node < length arcs
+  pub meets : IsOpen (arc_at arcs (pick_at row node)).label (get_or zone k (record { lo = pos 0; hi = pos 0 }))
   pub number : get_or way k (pos 0) ≡ chosen_number (arc_at arcs (pick_at row node)).label (get_or zone k (record { lo = pos 0; hi = pos 0 })) (get_or costs k (pos 0))
   pub leads : LeadsOn (drop (k + 1) steps) (drop (k + 1) picks) (drop (k + 1) zone) (arc_at arcs (pick_at row node)).to
   pub rest : drop (k + 1) way ≡ way_of (drop (k + 1) steps) (drop (k + 1) picks) (drop (k + 1) zone) (drop (k + 1) costs) (arc_at arcs (pick_at row node)).to
@@ -45,6 +46,7 @@ step_of_way steps picks zone costs way k node arcs row a b c d is_arcs is_row le
     ∙ ap (λ (xs : List ℤ). way_of (arcs ∷ drop (suc k) steps) (row ∷ drop (suc k) picks) (get_or zone k (record { lo = pos 0; hi = pos 0 }) ∷ drop (suc k) zone) xs node) front_costs in
     record {
       there = l.0;
+      meets = l.2;
       number = head_is way (way_of (drop (suc k) steps) (drop (suc k) picks) (drop (suc k) zone) (drop (suc k) costs) (arc_at arcs (pick_at row node)).to) _ (pos 0) k w;
       leads = subst (λ n. LeadsOn (drop n steps) (drop n picks) (drop n zone) (arc_at arcs (pick_at row node)).to) one l.3;
       rest = subst (λ n. drop n way ≡ way_of (drop n steps) (drop n picks) (drop n zone) (drop n costs) (arc_at arcs (pick_at row node)).to) one

@@ -2,6 +2,7 @@
 use Rattle.std.specs.Prelude.{List, ℤ}
 use Rattle.bp_theory.specs.declared.Span.{Span}
 use Rattle.bp_theory.specs.declared.Row.{Row}
+use Rattle.state_price.specs.Arranged.{block_point}
 use Rattle.state_price.specs.declared.pricer.StatePricer.{StatePricer}
 
 -- the rows that its points meet
@@ -14,4 +15,4 @@ spans_of pricer = pricer.spans.items
 
 -- the point that it keeps
 abbrev pub kept_point : StatePricer → List ℤ
-kept_point pricer = pricer.work.point.items
+kept_point pricer = block_point pricer.arranged pricer.work.point.items

@@ -1,14 +1,16 @@
-// The least cost of a way within a zone, by the pass that the costs allow.
+// The least cost of a way within a zone, by each of the two passes.
 ghost use Rattle.std.specs.Prelude.{◌≡◌, ◌<◌, ◌≤◌, ◌^◌, length, vec_len};
 ghost use Rattle.pricing.specs.Form.{cost_size};
 ghost use Rattle.state_price.specs.Best.{cell_at, IsLeastFrom};
 ghost use Rattle.state_price.specs.Short.{widened};
+ghost use Rattle.state_price.specs.Pairs.{steps_with, AreLinked};
 ghost use Rattle.state_price.specs.Rooms.{HasRoom};
 
 use crate::graph::Graph;
+use crate::pairs::Pair;
 use crate::pass::{NO_WAY, Work, pass};
-use crate::short::{are_short, has_short_way, short_pass};
-use bp_theory::Span;
+use crate::short::{has_short_way, short_pass};
+use bp_theory::{Items, Span};
 
 /// The first cell.
 fn first_of(cells: &Vec<i128>) -> i128
@@ -37,8 +39,29 @@ fn first_widened(cells: &Vec<i64>) -> i128
     widened_of(cell)
 }
 
-/// The least cost of a way within a zone, which the picks then lead, or that of no way: in 64 bits where that is enough.
-pub fn least_in(graph: &Graph, work: &mut Work, zone: &[Span], costs: &[i128]) -> i128
+/// The least cost of a way within a zone, which the picks then lead, or that of no way: in 64 bits.
+pub fn short_least(
+    graph: &Graph,
+    lists: &[Items<Pair>],
+    work: &mut Work,
+    zone: &[Span],
+    costs: &[i128],
+) -> i128
+    requires room { HasRoom graph.now work.old }
+    requires linked { AreLinked graph.now.wide graph.now.steps.items lists.now }
+    requires zone { length zone.now ≡ vec_len graph.now.steps }
+    requires costs { length costs.now ≡ vec_len graph.now.steps }
+    requires sizes { cost_size zone.now costs.now ≤ 2 ^ 60 }
+    ensures room { HasRoom graph.now work.new }
+    ensures least { IsLeastFrom (steps_with graph.now.wide graph.now.steps.items lists.now)
+        work.new.picks.items zone.now costs.now 0 result }
+{
+    short_pass(work, graph, lists, zone, costs);
+    first_widened(&work.short_next)
+}
+
+/// The same in 128 bits.
+pub fn long_least(graph: &Graph, work: &mut Work, zone: &[Span], costs: &[i128]) -> i128
     requires room { HasRoom graph.now work.old }
     requires zone { length zone.now ≡ vec_len graph.now.steps }
     requires costs { length costs.now ≡ vec_len graph.now.steps }
@@ -47,10 +70,6 @@ pub fn least_in(graph: &Graph, work: &mut Work, zone: &[Span], costs: &[i128]) -
     ensures least { IsLeastFrom graph.now.steps.items work.new.picks.items zone.now costs.now 0
         result }
 {
-    if are_short(zone, costs) {
-        short_pass(work, graph, zone, costs);
-        return first_widened(&work.short_next);
-    }
     pass(work, graph, zone, costs);
     first_of(&work.next)
 }

@@ -3,6 +3,9 @@
 //! (Trick, A dynamic programming approach for consistency and propagation for knapsack constraints, 2003.)
 #![tactic(auto)]
 
+mod arranged;
+mod beginnings;
+mod beside;
 mod build;
 mod clip;
 mod columns;
@@ -11,12 +14,17 @@ mod fans;
 mod graph;
 mod layers;
 mod least;
+mod margins;
 mod merge;
+mod order;
+mod pairs;
 mod pass;
 mod picks;
 mod pricer;
 mod root;
+mod rule;
 mod short;
+mod short_pairs;
 mod states;
 mod twins;
 mod walk;

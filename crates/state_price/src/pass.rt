@@ -9,6 +9,7 @@ ghost use Rattle.state_price.specs.Rooms.{HasRoom};
 
 use crate::graph::{Arc, Graph};
 use crate::picks::Picks;
+use crate::short::FAR;
 use bp_theory::Span;
 use pricing::{plus, times};
 use std::alloc::{AllocError, Global};
@@ -16,7 +17,8 @@ use std::alloc::{AllocError, Global};
 /// The cell of a node without a way to the end.
 pub const NO_WAY: i128 = i128::MAX;
 
-/// The least costs of the nodes of a layer and of the next, both also in 64 bits, the arcs that reach them, and a point.
+/// The least costs of the nodes of a layer and of the next, both also in 64 bits, where the dead node has one too, the arcs that
+/// reach them, and a point.
 #[derive(Drop)]
 pub struct Work {
     pub now: Vec<i128>,
@@ -225,11 +227,14 @@ impl Work {
         ensures { IfOk result (λ work. HasRoom graph.now work) }
     {
         let layers = graph.steps.len();
+        let Some(cells) = graph.wide.checked_add(1) else {
+            return Err(AllocError);
+        };
         Ok(Work {
             now: Vec::from_elem(alloc, 0, graph.wide)?,
             next: Vec::from_elem(alloc, 0, graph.wide)?,
-            short_now: Vec::from_elem(alloc, 0, graph.wide)?,
-            short_next: Vec::from_elem(alloc, 0, graph.wide)?,
+            short_now: Vec::from_elem(alloc, FAR, cells)?,
+            short_next: Vec::from_elem(alloc, FAR, cells)?,
             picks: picks_of(alloc, layers, graph.wide)?,
             point: Vec::from_elem(alloc, 0, layers)?,
         })

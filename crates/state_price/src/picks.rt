@@ -29,6 +29,13 @@ impl Picks {
         })
     }
 
+    /// How many nodes it is for.
+    pub fn len(&self) -> usize
+        ensures { result ≡ length self.now }
+    {
+        self.arcs.len()
+    }
+
     /// The arc at a node.
     pub fn at(&self, node: usize) -> u32
         requires { node < length self.now }

@@ -5,17 +5,20 @@ ghost use Rattle.std.specs.Int.{w64, int_min};
 ghost use Rattle.bp_theory.specs.Program.{reach};
 ghost use Rattle.pricing.specs.Form.{cost_size};
 ghost use Rattle.state_price.specs.Graphs.{IsArcSafe, IsStepSafe};
-ghost use Rattle.state_price.specs.Best.{no_way, cell_at, pick_at, chosen_number, AreBounded, IsBest, AreLeast};
-ghost use Rattle.state_price.specs.Short.{far, widened, AreNear, IsOwn, IsTotal};
+ghost use Rattle.state_price.specs.Best.{no_way, cell_at, pick_at, chosen_number, IsBest, AreLeast};
+ghost use Rattle.state_price.specs.Short.{far, widened, AreCells, IsReady, AreReady, IsOwn, IsTotal};
+ghost use Rattle.state_price.specs.Pairs.{arcs_with, steps_with, cells_of, pairs_at, IsPairSafe, AreLinked};
 ghost use Rattle.state_price.specs.Rooms.{HasRoom};
 
 use crate::graph::{Arc, Graph};
+use crate::pairs::{Pair, pairs_at};
 use crate::pass::{Work, is_open, number_of};
 use crate::picks::Picks;
-use bp_theory::Span;
+use crate::short_pairs::relax_pairs;
+use bp_theory::{Items, Span};
 
 /// The cell of a node without a way to the end.
-const FAR: i64 = 1 << 62;
+pub const FAR: i64 = 1 << 62;
 
 /// The cost by a label without a number of the zone's span: with a cell of a way it is no less than that of no way.
 const CLOSED: i64 = 3 << 61;
@@ -78,7 +81,7 @@ fn cheapest(label: &Span, span: &Span, cost: &i64) -> i64
 }
 
 /// The cost of the cheapest number of a label in a zone's span, if it has one.
-fn own_of(label: &Span, span: &Span, cost: &i64) -> i64
+pub fn own_of(label: &Span, span: &Span, cost: &i64) -> i64
     requires { unsigned_abs cost.now * reach span.now ≤ 2 ^ 60 }
     ensures { IsOwn label.now span.now cost.now result }
 {
@@ -90,7 +93,7 @@ fn own_of(label: &Span, span: &Span, cost: &i64) -> i64
 }
 
 /// A cell of a way and a cost more.
-fn with_own(rest: &i64, own: &i64) -> i64
+pub fn with_own(rest: &i64, own: &i64) -> i64
     requires { FitsSigned w64 (rest.now +ℤ own.now) }
     ensures { result ≡ rest.now +ℤ own.now }
 {
@@ -107,7 +110,7 @@ pub fn has_short_way(cell: &i64) -> bool
 /// The least cost by an arc; no less than that of no way where it may not be taken.
 fn total_by(arc: &Arc, next: &Vec<i64>, span: &Span, cost: &i64) -> i64
     requires there { arc.now.to < vec_len next.now }
-    requires bounded { AreBounded (2 ^ 60) (widened next.now.items) }
+    requires ready { IsReady (cell_at next.now.items arc.now.to) }
     requires cost { unsigned_abs cost.now * reach span.now ≤ 2 ^ 60 }
     ensures { IsTotal (widened next.now.items) span.now cost.now arc.now result }
 {
@@ -120,14 +123,14 @@ fn total_by(arc: &Arc, next: &Vec<i64>, span: &Span, cost: &i64) -> i64
 }
 
 /// The lesser one of two numbers.
-fn lesser(a: &i64, b: &i64) -> i64
+pub fn lesser(a: &i64, b: &i64) -> i64
     ensures { result ≡ int_min a.now b.now }
 {
     if *a < *b { *a } else { *b }
 }
 
 /// One of two arcs.
-fn either(is_first: bool, first: u32, second: u32) -> u32
+pub fn either(is_first: bool, first: u32, second: u32) -> u32
     ensures { result ≡ (if is_first then first else second) }
 {
     if is_first { first } else { second }
@@ -135,8 +138,8 @@ fn either(is_first: bool, first: u32, second: u32) -> u32
 
 /// Takes a cost for the least at a node, and an arc, where it is less. Both are written in any case, so that there is no jump.
 fn keep(now: &mut Vec<i64>, picks: &mut Picks, node: usize, total: &i64, place: u32)
-    requires node { node < vec_len now.old }
-    requires picks { length picks.old ≡ vec_len now.old }
+    requires node { node < length picks.old }
+    requires cell { node < vec_len now.old }
     ensures cells { now.new.items ≡ slice_set now.old.items node
         (int_min total.now (cell_at now.old.items node)) }
     ensures picks { picks.new ≡ slice_set picks.old node
@@ -160,15 +163,13 @@ fn relax(
 )
     requires place { place < length arcs.now }
     requires few { length arcs.now < 2 ^ 32 }
-    requires safe { All (IsArcSafe (vec_len now.old)) arcs.now }
-    requires picks { length picks.old ≡ vec_len now.old }
-    requires next { vec_len next.now ≡ vec_len now.old }
-    requires near { AreNear now.old.items }
-    requires bounded { AreBounded (2 ^ 60) (widened next.now.items) }
+    requires safe { All (IsArcSafe (length picks.old)) arcs.now }
+    requires cells { AreCells (length picks.old) now.old.items }
+    requires next { AreCells (length picks.old) next.now.items }
+    requires ready { AreReady next.now.items arcs.now }
     requires cost { unsigned_abs cost.now * reach span.now ≤ 2 ^ 60 }
-    ensures cells { vec_len now.new ≡ vec_len now.old }
+    ensures cells { AreCells (length picks.old) now.new.items }
     ensures picks { length picks.new ≡ length picks.old }
-    ensures near { AreNear now.new.items }
     ensures best { (node : ℕ) →
         IsBest arcs.now (widened next.now.items) span.now cost.now place node
         (cell_at (widened now.old.items) node) (pick_at picks.old node) →
@@ -180,34 +181,29 @@ fn relax(
     keep(now, picks, arc.from as usize, &total, place as u32);
 }
 
-/// Writes a number into each cell.
-fn fill(cells: &mut [i64], number: i64)
-    ensures len { length cells.new ≡ length cells.old }
-    ensures all { (k : ℕ) → k < length cells.old → cell_at cells.new k ≡ number }
-{
-    cells.fill(number);
-}
-
 /// Writes that no node has a way.
-#[tactic(auto, using(crate::proofs::ShortLaws::none_at))]
-fn clear(cells: &mut [i64])
-    ensures len { length cells.new ≡ length cells.old }
-    ensures near { AreNear cells.new }
-    ensures none { (k : ℕ) → k < length cells.old → cell_at (widened cells.new) k ≡ no_way }
+fn clear(cells: &mut Vec<i64>, nodes: usize)
+    requires { AreCells nodes cells.old.items }
+    ensures cells { AreCells nodes cells.new.items }
+    ensures none { (k : ℕ) → k < nodes → cell_at (widened cells.new.items) k ≡ no_way }
 {
-    fill(cells, FAR);
+    for node in 0..nodes {
+        cells[node] = FAR;
+    }
 }
 
-/// Writes that no cost is left.
-#[tactic(auto, using(crate::proofs::ShortLaws::zero_at))]
-fn zero(cells: &mut [i64])
-    ensures len { length cells.new ≡ length cells.old }
-    ensures zeros { (k : ℕ) → k < length cells.old → cell_at (widened cells.new) k ≡ pos 0 }
+/// Writes that no cost is left at a node. The dead node keeps its cell.
+fn zero(cells: &mut Vec<i64>, nodes: usize)
+    requires { AreCells nodes cells.old.items }
+    ensures cells { AreCells nodes cells.new.items }
+    ensures zeros { (k : ℕ) → k < nodes → cell_at (widened cells.new.items) k ≡ pos 0 }
 {
-    fill(cells, 0);
+    for node in 0..nodes {
+        cells[node] = 0;
+    }
 }
 
-/// The least costs of a layer's nodes from those of the next.
+/// The least costs of a layer's nodes from those of the next, by its arcs.
 fn relax_layer(
     now: &mut Vec<i64>,
     picks: &mut Picks,
@@ -216,40 +212,81 @@ fn relax_layer(
     span: &Span,
     cost: &i64,
 )
-    requires safe { IsStepSafe (vec_len now.old) arcs.now }
-    requires picks { length picks.old ≡ vec_len now.old }
-    requires next { vec_len next.now ≡ vec_len now.old }
-    requires bounded { AreBounded (2 ^ 60) (widened next.now.items) }
+    requires safe { IsStepSafe (length picks.old) arcs.now }
+    requires cells { AreCells (length picks.old) now.old.items }
+    requires next { AreCells (length picks.old) next.now.items }
+    requires ready { AreReady next.now.items arcs.now }
     requires cost { unsigned_abs cost.now * reach span.now ≤ 2 ^ 60 }
-    ensures cells { vec_len now.new ≡ vec_len now.old }
+    ensures cells { AreCells (length picks.old) now.new.items }
     ensures picks { length picks.new ≡ length picks.old }
-    ensures best { (node : ℕ) → node < vec_len now.old →
+    ensures best { (node : ℕ) → node < length picks.old →
         IsBest arcs.now (widened next.now.items) span.now cost.now (length arcs.now) node
         (cell_at (widened now.new.items) node) (pick_at picks.new node) }
 {
-    clear(now);
+    clear(now, picks.len());
     for place in 0..arcs.len() {
         relax(now, picks, arcs, place, next, span, cost);
     }
 }
 
+/// The least costs of a layer's nodes from those of the next, by its pairs, or by its arcs where it has no pairs.
+fn relax_step(
+    now: &mut Vec<i64>,
+    picks: &mut Picks,
+    arcs: &[Arc],
+    pairs: &[Pair],
+    next: &Vec<i64>,
+    span: &Span,
+    cost: &i64,
+)
+    requires safe { IsStepSafe (length picks.old) arcs.now }
+    requires nodes { length pairs.now ≤ length picks.old }
+    requires few { length pairs.now < 2 ^ 31 }
+    requires pairs { All (IsPairSafe (length picks.old) (length picks.old)) pairs.now }
+    requires cells { AreCells (length picks.old) now.old.items }
+    requires next { AreCells (length picks.old) next.now.items }
+    requires ready { AreReady next.now.items (arcs_with (length picks.old) arcs.now pairs.now) }
+    requires cost { unsigned_abs cost.now * reach span.now ≤ 2 ^ 60 }
+    ensures cells { AreCells (length picks.old) now.new.items }
+    ensures picks { length picks.new ≡ length picks.old }
+    ensures best { (node : ℕ) → node < cells_of (length picks.old) pairs.now →
+        IsBest (arcs_with (length picks.old) arcs.now pairs.now) (widened next.now.items)
+        span.now cost.now (length (arcs_with (length picks.old) arcs.now pairs.now)) node
+        (cell_at (widened now.new.items) node) (pick_at picks.new node) }
+{
+    if pairs.is_empty() {
+        relax_layer(now, picks, arcs, next, span, cost);
+        return;
+    }
+    relax_pairs(now, picks, pairs, next, span, cost);
+}
+
 /// Finds the least cost from each node of each layer to the end; at last `short_next` has those of the first layer.
-pub fn short_pass(work: &mut Work, graph: &Graph, zone: &[Span], costs: &[i128])
+pub fn short_pass(
+    work: &mut Work,
+    graph: &Graph,
+    lists: &[Items<Pair>],
+    zone: &[Span],
+    costs: &[i128],
+)
     requires room { HasRoom graph.now work.old }
+    requires linked { AreLinked graph.now.wide graph.now.steps.items lists.now }
     requires zone { length zone.now ≡ vec_len graph.now.steps }
     requires costs { length costs.now ≡ vec_len graph.now.steps }
     requires sizes { cost_size zone.now costs.now ≤ 2 ^ 60 }
     ensures room { HasRoom graph.now work.new }
-    ensures least { AreLeast graph.now.steps.items work.new.picks.items zone.now costs.now
-        graph.now.wide (widened work.new.short_next.items) }
+    ensures least { AreLeast (steps_with graph.now.wide graph.now.steps.items lists.now)
+        work.new.picks.items zone.now costs.now (cells_of graph.now.wide (pairs_at lists.now 0))
+        (widened work.new.short_next.items) }
 {
-    zero(&mut work.short_next);
+    zero(&mut work.short_next, graph.wide);
     for k in (0..graph.steps.len()).rev() {
         let cost = shortened(&costs[k]);
-        relax_layer(
+        relax_step(
             &mut work.short_now,
             &mut work.picks[k],
             graph.steps[k].as_slice(),
+            pairs_at(lists, k),
             &work.short_next,
             &zone[k],
             &cost,

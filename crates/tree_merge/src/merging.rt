@@ -3,12 +3,14 @@ ghost use Rattle.std.specs.Prelude.{◌≡◌, ◌+◌, ◌<◌, ◌^◌, IfOk};
 ghost use Rattle.search_laws.specs.Verdicts.{cheaper_cost};
 ghost use Rattle.branch_tree.specs.Groves.{made};
 ghost use Rattle.branch_tree.specs.Loads.{IsLoaded};
+ghost use Rattle.branch_tree.specs.Trees.{tree_of};
+ghost use Rattle.tree_merge.specs.Merging.{merged, shut_by};
 ghost use Rattle.tree_merge.specs.Merges.{cost_in, cheaper_of, IsMergedOf};
 
 use crate::nodes::{join, less_of};
 use block_form::Blocked;
 use bp_theory::Items;
-use branch_tree::{Grove, Loaded};
+use branch_tree::{Grove, Loaded, Tree};
 use std::alloc::{AllocError, Global};
 
 /// The two trees made into one, with the cheaper of their best points, the first's of equals. A shut leaf of either
@@ -36,12 +38,24 @@ pub fn merge(
         best: other,
     } = second;
     let cost = less_of(&cost_in(&best), &cost_in(&other));
-    let tree = join(alloc, &cost, left.tree(), right.tree())?;
+    let best = cheaper_of(best, other);
+    let tree = joined(alloc, &cost, left, right)?;
     let grove = Grove::adopt(alloc, b, Box::into_inner(tree))?;
-    Ok(Loaded {
-        grove,
-        best: cheaper_of(best, other),
-    })
+    Ok(Loaded { grove, best })
+}
+
+// The trees of two groves made into one. The groves are let go here, on one path: each form of a tree goes in its own way,
+// and a caller would have to prove all of them wherever it ends.
+fn joined(
+    alloc: Global,
+    cost: &Option<i64>,
+    left: Grove,
+    right: Grove,
+) -> Result<Box<Tree>, AllocError>
+    ensures { IfOk result (λ node. tree_of node.value ≡ shut_by cost.now
+        (merged left.tree right.tree)) }
+{
+    join(alloc, cost, left.tree(), right.tree())
 }
 
 // The cost of a best point, where there is one.

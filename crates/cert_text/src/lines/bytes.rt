@@ -1,10 +1,11 @@
 // A reader of lines goes on by a byte, or ends.
-ghost use Rattle.std.specs.Prelude.{◌≡◌, ℕ, [], ◌∷◌, Bool, List, true, false, if◌then◌else◌, Ok, Some, None, length, slice_index_or, ◌+◌, ◌-◌, ◌<◌, ◌^◌};
+ghost use Rattle.std.specs.Prelude.{◌≡◌, ℕ, [], ◌∷◌, Bool, List, true, false, if◌then◌else◌, Ok, Some, None, IfOk, OnOk, length, slice_index_or, ◌+◌, ◌-◌, ◌<◌, ◌^◌};
 ghost use Rattle.cert_text.specs.declared.frame.Frame.{Frame};
 ghost use Rattle.cert_text.specs.declared.words.Word.{Word};
 ghost use Rattle.cert_text.specs.Cert.{Tree};
 ghost use Rattle.cert_text.specs.Stages.{Wait, words, line_fault, is_deep_stage};
 ghost use Rattle.cert_text.specs.Readers.{HasHighs, stage_of};
+ghost use Rattle.cert_text.specs.Telling.{Stays, Tells};
 ghost use Rattle.cert_text.specs.Frames.{frame_of};
 ghost use Rattle.cert_text.specs.Words.{word_text, word_begins, word_token};
 ghost use Rattle.cert_text.specs.Text.{fault_of};
@@ -68,6 +69,7 @@ impl Lines {
         ensures at_end { (above : List Wait) (root : Tree) (text : List ℕ) → length text < 2 ^ 64 →
             StandsFor above root frame.now self.old text → EndsTextAt above root frame.now self.new
             text result }
+        ensures stays { OnOk result (Stays self.old self.new) }
     {
         match sort_of(self.spot) {
             Sort::Natural => self.take_natural(alloc, frame, value),
@@ -83,12 +85,13 @@ impl Lines {
         frame: &Frame,
         word: Word,
     ) -> Result<Option<Event>, CertFault>
-        ensures { (above : List Wait) (root : Tree) (text : List ℕ) (byte count : ℕ) → length text +
+        ensures steps { (above : List Wait) (root : Tree) (text : List ℕ) (byte count : ℕ) → length text +
             1 < 2 ^ 64 →
             InWordAt above root frame.now self.old word count text → slice_index_or (word_text word)
             count 0 ≡
             byte → count + 1 ≡ length (word_text word) → Steps above root frame.now self.new text
             byte result }
+        ensures told { IfOk result (λ event. Tells self.old self.new event) }
     {
         if self.is_faulty_end(frame, word) {
             return Err(self.fault(CertKind::Length));
@@ -115,10 +118,11 @@ impl Lines {
         done: usize,
         byte: u8,
     ) -> Result<Option<Event>, CertFault>
-        ensures { (above : List Wait) (root : Tree) (text : List ℕ) → length text + 1 < 2 ^ 64 →
+        ensures steps { (above : List Wait) (root : Tree) (text : List ℕ) → length text + 1 < 2 ^ 64 →
             (done ≡ 0 → word_begins word byte ≡ true) → InWordAt above root frame.now self.old word
             done text →
             Steps above root frame.now self.new text byte result }
+        ensures told { IfOk result (λ event. Tells self.old self.new event) }
     {
         let bytes = bytes_of(word);
         if done >= bytes.len() {
@@ -150,12 +154,13 @@ impl Lines {
 
     // The number of a node that is too deep begins with a byte, or the text leaves the grammar.
     fn begin_deep(&mut self, byte: u8) -> Result<Option<Event>, CertFault>
-        ensures { (above : List Wait) (root : Tree) (frame : Frame) (text : List ℕ) (number : Bool)
+        ensures steps { (above : List Wait) (root : Tree) (frame : Frame) (text : List ℕ) (number : Bool)
             → length text + 1 < 2 ^ 64 →
             (between : Between above root frame self.old number text) →
             is_deep_stage (stage_of above root self.old between.count) ≡ true → MayStand number
             (byte ∷ []) →
             Steps above root frame self.new text byte result }
+        ensures told { IfOk result (λ event. Tells self.old self.new event) }
     {
         if digit(byte) {
             return Err(self.fault(CertKind::Depth));
@@ -170,10 +175,11 @@ impl Lines {
     // The byte behind a minus, where the number comes of a node that is too deep.
     fn behind_deep_minus(&self, byte: u8) -> Result<Option<Event>, CertFault>
         requires { self.now.part ≡ DeepMinus }
-        ensures { (above : List Wait) (root : Tree) (frame : Frame) (text : List ℕ) → length text +
+        ensures steps { (above : List Wait) (root : Tree) (frame : Frame) (text : List ℕ) → length text +
             1 < 2 ^ 64 →
             StandsFor above root frame self.now text → Steps above root frame self.now text byte
             result }
+        ensures told { IfOk result (λ event. Tells self.now self.now event) }
     {
         if digit(byte) {
             return Err(self.fault(CertKind::Depth));
@@ -183,12 +189,13 @@ impl Lines {
 
     // A number begins with a byte, or the text leaves the grammar.
     fn begin_number(&mut self, byte: u8) -> Result<Option<Event>, CertFault>
-        ensures { (above : List Wait) (root : Tree) (frame : Frame) (text : List ℕ) (number : Bool)
+        ensures steps { (above : List Wait) (root : Tree) (frame : Frame) (text : List ℕ) (number : Bool)
             → length text + 1 < 2 ^ 64 →
             (between : Between above root frame self.old number text) → MayStand number (byte ∷ [])
             →
             ((v : Word) → Comes v (words (stage_of above root self.old between.count)) →
             word_begins v byte ≡ false) → Steps above root frame self.new text byte result }
+        ensures told { IfOk result (λ event. Tells self.old self.new event) }
     {
         if self.awaits_deep() {
             return self.begin_deep(byte);
@@ -237,10 +244,11 @@ impl Lines {
     ) -> Result<Option<Event>, CertFault>
         requires part { self.old.part ≡ Digits negative value }
         requires digit { is_digit byte ≡ true }
-        ensures { (above : List Wait) (root : Tree) (frame : Frame) (text : List ℕ) → length text +
+        ensures steps { (above : List Wait) (root : Tree) (frame : Frame) (text : List ℕ) → length text +
             1 < 2 ^ 64 →
             StandsFor above root frame self.old text → Steps above root frame self.new text byte
             result }
+        ensures told { IfOk result (λ event. Tells self.old self.new event) }
     {
         if value == 0 {
             return Err(self.fault(CertKind::Syntax));
@@ -256,10 +264,11 @@ impl Lines {
     // The byte behind a minus.
     fn behind_minus(&mut self, byte: u8) -> Result<Option<Event>, CertFault>
         requires { self.old.part ≡ Minus }
-        ensures { (above : List Wait) (root : Tree) (frame : Frame) (text : List ℕ) → length text +
+        ensures steps { (above : List Wait) (root : Tree) (frame : Frame) (text : List ℕ) → length text +
             1 < 2 ^ 64 →
             StandsFor above root frame self.old text → Steps above root frame self.new text byte
             result }
+        ensures told { IfOk result (λ event. Tells self.old self.new event) }
     {
         if digit(byte) {
             if byte == b'0' {
@@ -272,11 +281,12 @@ impl Lines {
 
     // A token begins with a byte.
     fn begin(&mut self, alloc: Global, frame: &Frame, byte: u8) -> Result<Option<Event>, CertFault>
-        ensures { (above : List Wait) (root : Tree) (text : List ℕ) (number : Bool) → length text +
+        ensures steps { (above : List Wait) (root : Tree) (text : List ℕ) (number : Bool) → length text +
             1 < 2 ^ 64 →
             Between above root frame.now self.old number text → (number ≡ true → is_digit byte ≡
             false) →
             Steps above root frame.now self.new text byte result }
+        ensures told { IfOk result (λ event. Tells self.old self.new event) }
     {
         match pick(words_at(self.version, self.spot, self.left > 0), byte) {
             Some(word) => self.go_on(alloc, frame, word, 0, byte),
@@ -292,9 +302,10 @@ impl Lines {
         frame: &Frame,
         byte: u8,
     ) -> Result<Option<Event>, CertFault>
-        ensures { (above : List Wait) (root : Tree) (text : List ℕ) → length text + 1 < 2 ^ 64 →
+        ensures steps { (above : List Wait) (root : Tree) (text : List ℕ) → length text + 1 < 2 ^ 64 →
             StandsFor above root frame.now self.old text →
             Steps above root frame.now self.new text byte result }
+        ensures told { IfOk result (λ event. Tells self.old self.new event) }
     {
         match self.part {
             Part::Fresh => self.begin(alloc, frame, byte),
@@ -315,9 +326,10 @@ impl Lines {
 
     /// The text ends here: it is a certificate's, or has a fault.
     pub fn end(&mut self, alloc: Global, frame: &Frame) -> Result<(), CertFault>
-        ensures { (above : List Wait) (root : Tree) (text : List ℕ) → length text < 2 ^ 64 →
+        ensures ends { (above : List Wait) (root : Tree) (text : List ℕ) → length text < 2 ^ 64 →
             StandsFor above root frame.now self.old text →
             EndsWell above root frame.now self.new text result }
+        ensures same { OnOk result (self.new ≡ self.old) }
     {
         match self.part {
             Part::Fresh => match self.spot {

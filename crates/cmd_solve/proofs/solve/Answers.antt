@@ -10,6 +10,7 @@ use Rattle.cmd_solve.specs.Saves as leaves
 use Rattle.cmd_solve.specs.Solves.{SolvesBy}
 use Rattle.cmd_solve.specs.declared.crew.CrewOrder.{CrewOrder}
 use Rattle.cmd_solve.specs.Crews.{ordered_crew, EventsBy}
+use Rattle.cmd_solve.proofs.Outcomes.{lift_saved}
 use Rattle.cmd_solve.proofs.CrewEvents.{lift_events, none_of, printed_none}
 use Rattle.cmd_solve.proofs.solve.Goals as goal
 
@@ -109,3 +110,9 @@ returns-in-Err-Refused-clause-events g c = λ told.
 
 pub returns-in-Ok-clause-untouched : goal.returns-in-Ok-clause-untouched
 returns-in-Ok-clause-untouched g c = λ told untouched. c.solve_blocks.ensures.untouched (c.in-Ok.ensures.told ∙ told) untouched ∙ c.in-Ok.ensures.files
+
+pub returns-in-Ok-clause-saved : goal.returns-in-Ok-clause-saved
+returns-in-Ok-clause-saved g c = λ told.
+    let still : IsTrue (g.F.Shelf.tells c.load.new.shelf) = subst (λ (t : Bool). IsTrue t) (sym c.in-Ok.ensures.told) told in
+    lift_saved (g.F.Shelf.file c.args.shelf.now) c.args.lp.now (option_map (λ name. name.now) c.args.dec) (option_map (λ name. name.now) c.args.cert)
+    (g.F.Shelf.file c.solve_blocks.new.shelf) c.in-Ok.b c.solve_blocks.result.kept (c.in-Ok.ensures.blocked told) (c.solve_blocks.ensures.saved still)

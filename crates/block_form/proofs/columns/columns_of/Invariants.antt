@@ -5,5 +5,5 @@ use Rattle.block_form.proofs.columns.columns_of.Given as goal
 abbrev pub invariant-loop-number : goal.invariant-loop-number
 invariant-loop-number l = record {
   len : vec_len l.columns ≡ l.vars;
-  columns : (j : ℕ) → j < l.vars → slice_index_or l.columns.items j [] ≡ column_from 0 (take l.number l.rows) j;
+  columns : (j : ℕ) → j < l.vars → slice_index_or l.columns.items j [] ≡ column_from l.first (take l.number l.rows) j;
 }

@@ -1,7 +1,7 @@
 use Rattle.std.proofs.Common.{◌≡◌, ◌≤◌, length}
 use Rattle.bp_theory.specs.Trees.{steps}
 use Rattle.search_laws.specs.Grove.{certificate_tree}
-use Rattle.column_hint.specs.Pools.{AreMadeFor}
+use Rattle.hint_pools.specs.Pools.{AreMadeFor}
 use Rattle.bp_crew.specs.States.{IsCrewOf, crew_of}
 use Rattle.bp_crew.specs.Draws.{moment_of}
 use Rattle.bp_crew.specs.Runs.{IsDrawnTo}

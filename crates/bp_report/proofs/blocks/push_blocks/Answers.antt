@@ -1,5 +1,5 @@
 use Rattle.std.proofs.Common.{◌≡◌, ◌∙◌, arith, length}
-use Rattle.bp_report.specs.Report.{block_line}
+use Rattle.bp_report.specs.Report.{shown_block}
 use Rattle.bp_report.proofs.Pieces.{piece_more}
 use Rattle.bp_report.proofs.BlockRows.{rows_at, rows_count}
 use Rattle.bp_report.proofs.blocks.push_blocks.Goals as goal
@@ -17,5 +17,5 @@ push_block-requires-clause-rows c =
 
 pub loop-block-preserved : goal.loop-block-preserved
 loop-block-preserved c =
-    piece_more (block_line c.args.b.now) c.loop-block.block c.args.text.now.items c.loop-block.text.items c.push_block.new.text.items
+    piece_more (shown_block c.args.b.now) c.loop-block.block c.args.text.now.items c.loop-block.text.items c.push_block.new.text.items
     c.loop-block.invariant c.in_ok-push_block.ensures

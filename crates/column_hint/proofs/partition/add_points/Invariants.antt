@@ -1,4 +1,4 @@
-use Rattle.column_hint.specs.Pools.{AreMadeFor}
+use Rattle.hint_pools.specs.Pools.{AreMadeFor}
 use Rattle.column_hint.proofs.partition.add_points.Given as goal
 
 abbrev pub invariant-loop-point : goal.invariant-loop-point

@@ -1,5 +1,5 @@
 use Rattle.std.proofs.Common.{sym, subst}
-use Rattle.column_hint.specs.Pools.{AreMadeFor}
+use Rattle.hint_pools.specs.Pools.{AreMadeFor}
 use Rattle.column_hint.proofs.partition.price_as_bounds.Goals.{else-loop-test, then-loop-test+in_ok-point+in_default}
 use Rattle.column_hint.proofs.partition.price_as_bounds.Goals as goal
 

@@ -1,4 +1,4 @@
-use Rattle.column_hint.specs.Pools.{AreMadeFor}
+use Rattle.hint_pools.specs.Pools.{AreMadeFor}
 use Rattle.column_hint.proofs.subgradient.take_steps.Given as goal
 
 abbrev pub invariant-loop-number : goal.invariant-loop-number

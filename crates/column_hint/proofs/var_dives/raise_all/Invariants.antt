@@ -1,4 +1,4 @@
-use Rattle.column_hint.specs.Pools.{AreMadeFor}
+use Rattle.hint_pools.specs.Pools.{AreMadeFor}
 use Rattle.column_hint.proofs.var_dives.raise_all.Given as goal
 
 abbrev pub invariant-loop : goal.invariant-loop

@@ -24,7 +24,7 @@ loop-var-preserved c =
           (λ more.
           let same : v ≡ c.loop-var.var = omega (arith, more, m) in (
             at,
-            subst (λ w. HasCopyAt c.args.b.now.blocking.blocks w at) (sym same) c.var_place-block.ensures,
+            subst (λ w. HasCopyAt c.args.b.now.blocking.blocks w at) (sym same) c.var_place-block.ensures.copy,
             ap (λ ns. value_at ns v) pushed ∙ number_last old number v (c.loop-var.invariant.each ∙ sym same)
                 ∙ c.number_of.ensures ∙ ap (λ (n : ℕ). value_at (point_at c.args.used.now n) at.1) c.column_of-column.ensures,
           ))

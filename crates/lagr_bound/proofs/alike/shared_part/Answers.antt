@@ -1,4 +1,4 @@
-use Rattle.std.proofs.Common.{◌≡◌, ◌∙◌, sym, ap, subst, ℕ, ◌<◌, ◌+◌, List, Option, Some, None, map, length, set, arith, to_z, of_z}
+use Rattle.std.proofs.Common.{◌≡◌, ◌∙◌, sym, ap, subst, get_or, ℕ, ◌<◌, ◌+◌, List, Option, Some, None, map, length, set, arith, to_z, of_z}
 use Rattle.std.proofs.Math.IntN.{ℤ}
 use Rattle.std.specs.Int.{w128}
 use Rattle.std.proofs.lemmas.Int.{ints}
@@ -6,10 +6,12 @@ use Rattle.bp_theory.specs.Bound.{IsPart}
 use Rattle.search_laws.specs.Spread.{block_at, class_at}
 use Rattle.pricing.specs.declared.Priced.TheVariants.{Least}
 use Rattle.lagr_bound.specs.Told.{told_point}
+use Rattle.std.proofs.lemmas.List.{length-map}
+use Rattle.lagr_bound.specs.Forms.{BlockForm, form_with, forms_in}
 use Rattle.lagr_bound.specs.Works.{forms_of, priced_at}
 use Rattle.lagr_bound.proofs.PartLemmas.{price_is_part, best_point}
 use Rattle.lagr_bound.proofs.DeskLemmas.{point_fits}
-use Rattle.lagr_bound.proofs.SharedLemmas.{known_of, known_part, known_new, told_new, known_wide, told_wide, none_is, if_not_least}
+use Rattle.lagr_bound.proofs.SharedLemmas.{known_of, known_part, known_new, known_skip, first_there, told_new, known_wide, told_wide, none_is, if_not_least}
 use Rattle.lagr_bound.specs.Bounded.{AreKnown, AreTold}
 use Rattle.lagr_bound.proofs.alike.shared_part.Goals as goal
 
@@ -74,3 +76,24 @@ returns-in_default-answer c = record {
   known = if_not_least c.price-answer.result _ c.in_default-answer.not-Least;
   told = if_not_least c.price-answer.result _ c.in_default-answer.not-Least;
 }
+
+pub returns-then-not-is_picked-clause-known : goal.returns-then-not-is_picked-clause-known
+returns-then-not-is_picked-clause-known c =
+    known_skip c.args.b.now.blocking c.args.zone.now c.args.proof.now c.args.classes.now.classes c.args.classes.now.firsts c.args.number c.args.work.now.known.items
+    c.requires.known (λ class m same own. let other = c.if-not-is_picked.ensures in absurd cc)
+
+pub returns-in-Some-clause-known : goal.returns-in-Some-clause-known
+returns-in-Some-clause-known c =
+    let firsts : List ℕ = c.args.classes.now.firsts in
+    known_skip c.args.b.now.blocking c.args.zone.now c.args.proof.now c.args.classes.now.classes firsts c.args.number c.args.work.now.known.items
+    c.requires.known
+    (λ class m same own.
+    let first_is : c.first-first.result ≡ class_at firsts class = c.first-first.ensures ∙ ap (class_at firsts) (c.class_of.ensures.class ∙ same) in
+    (c.in-Some.least, ap (λ n. get_or c.args.work.now.known.items n None) (sym first_is) ∙ sym c.known_at.ensures ∙ c.in-Some.is))
+
+pub keep-requires-clause-first : goal.keep-requires-clause-first
+keep-requires-clause-first c =
+    let there : class_at c.args.classes.now.firsts c.class_of.result < length c.args.b.now.blocking.blocks =
+    first_there c.args.b.now.blocking c.args.zone.now c.args.classes.now c.class_of.result c.requires.classes c.class_of.ensures.there in
+    let many : length (forms_of c.price-answer.new.self) ≡ length (forms_in c.args.b.now) = ap (λ (fs : List BlockForm). length fs) (c.in-Least.ensures.made_for ∙ c.requires.made_for) in
+    omega (arith, many, there, c.first-first.ensures, length-map c.args.b.now.blocking.blocks (form_with c.args.b.now.named.program.spans))

@@ -4,14 +4,14 @@ use Rattle.lp_read.specs.TreeIn.{tree_in}
 use Rattle.lp_read.proofs.ReadTree.{refusal, text_of, means, variable_refused, objective_refused, row_refused}
 use Rattle.lp_read.proofs.read.read_tree.Goals as goal
 
-pub model_of-requires-clause-text_of : goal.model_of-requires-clause-text_of
-model_of-requires-clause-text_of c = (c.args.tokens.now, text_of c.args.bytes.now c.args.tokens.now c.args.parsed c.requires.parsed)
+pub model_of_tree-requires-clause-text_of : goal.model_of_tree-requires-clause-text_of
+model_of_tree-requires-clause-text_of c = (c.args.tokens.now, text_of c.args.bytes.now c.args.tokens.now c.args.parsed c.requires.parsed)
 
-pub model_of-requires-clause-variables : goal.model_of-requires-clause-variables
-model_of-requires-clause-variables c = c.requires.parsed.notes.names
+pub model_of_tree-requires-clause-variables : goal.model_of_tree-requires-clause-variables
+model_of_tree-requires-clause-variables c = c.requires.parsed.notes.names
 
-pub model_of-requires-clause-row_names : goal.model_of-requires-clause-row_names
-model_of-requires-clause-row_names c = c.requires.parsed.notes.row_names
+pub model_of_tree-requires-clause-row_names : goal.model_of_tree-requires-clause-row_names
+model_of_tree-requires-clause-row_names c = c.requires.parsed.notes.row_names
 
 pub returns-in-Ok-clause-read : goal.returns-in-Ok-clause-read
 returns-in-Ok-clause-read c = means c.args.bytes.now c.args.tokens.now c.args.parsed c.in-Ok.model c.requires.size c.requires.cut c.requires.parsed c.in-Ok.ensures.model

@@ -1,4 +1,4 @@
-use Rattle.column_hint.specs.Pools.{AreMadeFor}
+use Rattle.hint_pools.specs.Pools.{AreMadeFor}
 use Rattle.node_hint.proofs.points.dive_single.Given as goal
 
 abbrev pub invariant-loop-dive : goal.invariant-loop-dive

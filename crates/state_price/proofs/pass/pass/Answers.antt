@@ -1,7 +1,9 @@
-use Rattle.std.proofs.Common.{◌≡◌, ◌∙◌, ap, ◌-◌, ◌^◌, ◌<◌, ◌≤◌, ℕ, List, [], arith, length, drop}
+use Rattle.std.proofs.Common.{◌≡◌, ◌∙◌, sym, ap, subst, get_or, ◌-◌, ◌^◌, ◌<◌, ◌≤◌, ℕ, List, [], arith, length, drop}
 use Rattle.std.proofs.Math.IntN.{ℤ, pos}
 use Rattle.std.proofs.lemmas.List.{length-drop, length-set, get_or_read}
-use Rattle.state_price.proofs.PassLaws.{least_bounded, cost_size-drop, cost_size-at, wide_rows, pass_more}
+use Rattle.state_price.specs.Graphs.{IsStepSafe}
+use Rattle.state_price.specs.declared.graph.Arc.{Arc}
+use Rattle.state_price.proofs.PassLaws.{safe_below, least_bounded, cost_size-drop, cost_size-at, wide_rows, pass_more}
 use Rattle.state_price.proofs.pass.pass.Goals as goal
 
 pub relax_layer-requires-clause-bounded : goal.relax_layer-requires-clause-bounded
@@ -29,6 +31,8 @@ loop-k-preserved c =
     let ys : c.swap.new.y.items ≡ c.relax_layer.new.now.items = cc in
     let len : length c.swap.new.y.items ≡ length c.relax_layer.new.now.items = ap (λ (zs : List ℤ). length zs) ys in
     let was : length c.loop-k.work.now.items ≡ c.args.graph.now.wide = c.loop-k.invariant.room.now in
+    let is : c.as_slice.result.now ≡ get_or c.args.graph.now.steps.items (c.loop-k.k - 1) [] =
+    c.as_slice.ensures ∙ get_or_read c.args.graph.now.steps.items (c.loop-k.k - 1) c.index.result.now (at c.loop-k.k (length c.args.graph.now.steps.items) c.loop-k-test.true (omega (arith, c.loop-k.auto.k, c.args.graph.now.steps.ok.0))) c.index.ensures [] in
     record {
       room = record {
         now = ap (λ (zs : List ℤ). length zs) xs ∙ c.loop-k.invariant.room.next;
@@ -41,12 +45,12 @@ loop-k-preserved c =
             ∙ c.loop-k.invariant.room.picks (c.loop-k.k - 1) [] (at c.loop-k.k (length c.loop-k.work.picks.items) c.loop-k-test.true (omega (arith, c.loop-k.auto.k, c.args.graph.now.steps.ok.0, c.loop-k.invariant.room.many))));
         point = c.loop-k.invariant.room.point;
       };
-      least = pass_more c.args.graph.now.steps.items c.loop-k.work.picks.items c.args.zone.now c.args.costs.now c.loop-k.k c.relax_layer.new.picks c.args.graph.now.wide
+      least = pass_more c.args.graph.now.steps.items c.loop-k.work.picks.items c.args.zone.now c.args.costs.now c.loop-k.k c.relax_layer.new.picks c.args.graph.now.wide c.args.graph.now.wide
           c.loop-k.work.next.items c.swap.new.y.items c.relax_layer.new.now.items c.as_slice.result.now
           c.loop-k-test.true (omega (arith, c.loop-k.auto.k, c.args.graph.now.steps.ok.0)) c.loop-k.invariant.room.many
           (omega (arith, c.requires.zone, c.args.graph.now.steps.ok.0)) (omega (arith, c.requires.costs, c.args.graph.now.steps.ok.0))
-          (c.as_slice.ensures ∙ get_or_read c.args.graph.now.steps.items (c.loop-k.k - 1) c.index.result.now (at c.loop-k.k (length c.args.graph.now.steps.items) c.loop-k-test.true (omega (arith, c.loop-k.auto.k, c.args.graph.now.steps.ok.0))) c.index.ensures [])
-          c.args.graph.now.safe ys c.loop-k.invariant.least
+          is
+          (safe_below c.args.graph.now.wide c.as_slice.result.now (subst (λ (xs : List Arc). IsStepSafe c.args.graph.now.wide xs) (sym is) (c.args.graph.now.safe (c.loop-k.k - 1) [] (at c.loop-k.k (length c.args.graph.now.steps.items) c.loop-k-test.true (omega (arith, c.loop-k.auto.k, c.args.graph.now.steps.ok.0)))))) ys c.loop-k.invariant.least
           (λ node l. c.relax_layer.ensures.best node (omega (arith, l, was, c.loop-k.work.now.ok.0)));
     }
   where

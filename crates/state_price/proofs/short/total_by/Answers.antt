@@ -18,7 +18,7 @@ with_own-requires c =
     let way : cell_at c.args.next.now.items c.args.arc.now.to <ℤ far = subst (λ z. z <ℤ far) read (c.if-not-has_short_way.ensures.0 refl) in
     subst (λ z. FitsSigned w64 (c.index-rest.result.now +ℤ z)) (sym (passed_short c.own_of-own.result c.own_of-own.type_inv))
     (sum_fits c.args.arc.now.label c.args.span.now c.args.cost.now c.index-rest.result.now c.own_of-own.result c.requires.cost
-    (subst (λ z. unsigned_abs z ≤ 2 ^ 60) (sym read) (rest_short c.args.next.now.items c.args.arc.now.to there c.requires.bounded way)) c.own_of-own.ensures)
+    (subst (λ z. unsigned_abs z ≤ 2 ^ 60) (sym read) (rest_short (cell_at c.args.next.now.items c.args.arc.now.to) c.requires.ready way)) c.own_of-own.ensures)
 
 pub returns-then-not-has_short_way : goal.returns-then-not-has_short_way
 returns-then-not-has_short_way c =
@@ -37,6 +37,6 @@ returns c =
     let read : c.index-rest.result.now ≡ cell_at c.args.next.now.items c.args.arc.now.to =
     get_or_read c.args.next.now.items c.args.arc.now.to c.index-rest.result.now there c.index-rest.ensures (pos 0) in
     let way : cell_at c.args.next.now.items c.args.arc.now.to <ℤ far = subst (λ z. z <ℤ far) read (c.if-not-has_short_way.ensures.0 refl) in
-    total_way c.args.next.now.items c.args.span.now c.args.cost.now c.args.arc.now c.own_of-own.result _ there c.requires.bounded c.requires.cost way c.own_of-own.ensures
+    total_way c.args.next.now.items c.args.span.now c.args.cost.now c.args.arc.now c.own_of-own.result _ there c.requires.ready c.requires.cost way c.own_of-own.ensures
     (passed_short c.with_own.result c.with_own.type_inv ∙ c.with_own.ensures ∙ ap (λ z. z +ℤ to_z w64 (of_z w64 c.own_of-own.result)) read
     ∙ ap (λ z. cell_at c.args.next.now.items c.args.arc.now.to +ℤ z) (passed_short c.own_of-own.result c.own_of-own.type_inv))

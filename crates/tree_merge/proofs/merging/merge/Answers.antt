@@ -4,7 +4,7 @@ use Rattle.search_laws.specs.GroveFacts.{IsSearch}
 use Rattle.branch_tree.specs.Adopted.{point_in}
 use Rattle.branch_tree.specs.Trees.{tree_of}
 use Rattle.branch_tree.specs.declared.tree.Tree.{Tree}
-use Rattle.std.proofs.Common.{ap}
+use Rattle.std.proofs.Common.{ap, refl}
 use Rattle.tree_merge.specs.Laws.{merged_by}
 use Rattle.tree_merge.specs.Merges.{cost_in, cheaper_of}
 use Rattle.tree_merge.proofs.LoadedProof.{merged_search, merged_tree, few_merged, deep_merged, few_steps, merged_state}
@@ -18,7 +18,7 @@ adopt-requires-clause-kept c =
     let is : tree_of c.into_inner.result ≡ merged_by (cost_in c.args.first.best) (cost_in c.args.second.best) t u =
     ap (λ (n : Tree). tree_of n) c.into_inner.ensures
     ∙ merged_tree c.less_of-cost.result c.cost_in.result c.cost_in-2.result c.args.first.best c.args.second.best (tree_of c.in_ok-tree.tree.value)
-    (tree_of c.tree.result.now) (tree_of c.tree-2.result.now) t u c.in_ok-tree.ensures c.less_of-cost.ensures c.cost_in.ensures c.cost_in-2.ensures c.tree.ensures.tree c.tree-2.ensures.tree in
+    t u t u c.in_ok-tree.ensures c.less_of-cost.ensures c.cost_in.ensures c.cost_in-2.ensures refl refl in
     (subst (λ (m : GrowingTree). IsSearch c.args.b.now.named.program c.args.b.now.blocking m (point_in (cheaper_of c.args.first.best c.args.second.best))) (sym is)
     (merged_search c.args.b.now c.args.first.grove c.args.second.grove c.args.first.best c.args.second.best c.blocks-2.ensures.formed c.requires.first c.requires.second)).grove
 
@@ -29,7 +29,7 @@ adopt-requires-clause-deep c =
     let is : tree_of c.into_inner.result ≡ merged_by (cost_in c.args.first.best) (cost_in c.args.second.best) t u =
     ap (λ (n : Tree). tree_of n) c.into_inner.ensures
     ∙ merged_tree c.less_of-cost.result c.cost_in.result c.cost_in-2.result c.args.first.best c.args.second.best (tree_of c.in_ok-tree.tree.value)
-    (tree_of c.tree.result.now) (tree_of c.tree-2.result.now) t u c.in_ok-tree.ensures c.less_of-cost.ensures c.cost_in.ensures c.cost_in-2.ensures c.tree.ensures.tree c.tree-2.ensures.tree in
+    t u t u c.in_ok-tree.ensures c.less_of-cost.ensures c.cost_in.ensures c.cost_in-2.ensures refl refl in
     deep_merged c.args.b.now (tree_of c.into_inner.result) (point_in (cheaper_of c.args.first.best c.args.second.best))
     (subst (λ (m : GrowingTree). IsSearch c.args.b.now.named.program c.args.b.now.blocking m (point_in (cheaper_of c.args.first.best c.args.second.best))) (sym is)
     (merged_search c.args.b.now c.args.first.grove c.args.second.grove c.args.first.best c.args.second.best c.blocks-2.ensures.formed c.requires.first c.requires.second))
@@ -41,7 +41,7 @@ adopt-requires-clause-few c =
     let is : tree_of c.into_inner.result ≡ merged_by (cost_in c.args.first.best) (cost_in c.args.second.best) t u =
     ap (λ (n : Tree). tree_of n) c.into_inner.ensures
     ∙ merged_tree c.less_of-cost.result c.cost_in.result c.cost_in-2.result c.args.first.best c.args.second.best (tree_of c.in_ok-tree.tree.value)
-    (tree_of c.tree.result.now) (tree_of c.tree-2.result.now) t u c.in_ok-tree.ensures c.less_of-cost.ensures c.cost_in.ensures c.cost_in-2.ensures c.tree.ensures.tree c.tree-2.ensures.tree in
+    t u t u c.in_ok-tree.ensures c.less_of-cost.ensures c.cost_in.ensures c.cost_in-2.ensures refl refl in
     few_merged c.args.first.best c.args.second.best (tree_of c.into_inner.result) t u is c.requires.few
 
 pub invariant_of-result : goal.invariant_of-result
@@ -51,7 +51,7 @@ invariant_of-result c =
     let is : tree_of c.into_inner.result ≡ merged_by (cost_in c.args.first.best) (cost_in c.args.second.best) t u =
     ap (λ (n : Tree). tree_of n) c.into_inner.ensures
     ∙ merged_tree c.less_of-cost.result c.cost_in.result c.cost_in-2.result c.args.first.best c.args.second.best (tree_of c.in_ok-tree.tree.value)
-    (tree_of c.tree.result.now) (tree_of c.tree-2.result.now) t u c.in_ok-tree.ensures c.less_of-cost.ensures c.cost_in.ensures c.cost_in-2.ensures c.tree.ensures.tree c.tree-2.ensures.tree in
+    t u t u c.in_ok-tree.ensures c.less_of-cost.ensures c.cost_in.ensures c.cost_in-2.ensures refl refl in
     record {
       few = few_steps c.in_ok-grove.grove (tree_of c.into_inner.result) c.in_ok-grove.ensures.adopted.tree
           (few_merged c.args.first.best c.args.second.best (tree_of c.into_inner.result) t u is c.requires.few);
@@ -64,6 +64,6 @@ returns-clause-loaded c =
     let is : tree_of c.into_inner.result ≡ merged_by (cost_in c.args.first.best) (cost_in c.args.second.best) t u =
     ap (λ (n : Tree). tree_of n) c.into_inner.ensures
     ∙ merged_tree c.less_of-cost.result c.cost_in.result c.cost_in-2.result c.args.first.best c.args.second.best (tree_of c.in_ok-tree.tree.value)
-    (tree_of c.tree.result.now) (tree_of c.tree-2.result.now) t u c.in_ok-tree.ensures c.less_of-cost.ensures c.cost_in.ensures c.cost_in-2.ensures c.tree.ensures.tree c.tree-2.ensures.tree in
-    merged_state c.args.b.now c.args.first.grove c.args.second.grove c.in_ok-grove.grove (tree_of c.into_inner.result) c.args.first.best c.args.second.best c.cheaper_of.result
-    c.blocks-2.ensures.formed c.requires.first c.requires.second is c.in_ok-grove.ensures.adopted c.in_ok-grove.ensures.standing c.cheaper_of.ensures
+    t u t u c.in_ok-tree.ensures c.less_of-cost.ensures c.cost_in.ensures c.cost_in-2.ensures refl refl in
+    merged_state c.args.b.now c.args.first.grove c.args.second.grove c.in_ok-grove.grove (tree_of c.into_inner.result) c.args.first.best c.args.second.best c.cheaper_of-best.result
+    c.blocks-2.ensures.formed c.requires.first c.requires.second is c.in_ok-grove.ensures.adopted c.in_ok-grove.ensures.standing c.cheaper_of-best.ensures

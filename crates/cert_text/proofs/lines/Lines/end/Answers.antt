@@ -5,29 +5,29 @@ use Rattle.cert_text.proofs.Finishing.{cut_between, cut_word, cut_minus}
 use Rattle.cert_text.proofs.Feeding.{end_fault}
 use Rattle.cert_text.proofs.lines.Lines.end.Goals as goal
 
-pub returns-in_default : goal.returns-in_default
-returns-in_default c =
+pub returns-in_default-clause-ends : goal.returns-in_default-clause-ends
+returns-in_default-clause-ends c =
     let r = c.args.self.now in
     let frame = c.args.frame.now in
     λ above root text small stands. end_fault above root frame r text r.line Syntax (Err c.fault.result) (ap Err c.fault.ensures) (cut_between above root frame r _ text r.line (fresh_between above root frame r text stands c.in-Fresh.is) c.in_default.not-Over refl)
 
-pub returns-in-InWord : goal.returns-in-InWord
-returns-in-InWord c =
+pub returns-in-InWord-clause-ends : goal.returns-in-InWord-clause-ends
+returns-in-InWord-clause-ends c =
     let r = c.args.self.now in
     λ above root text small stands. end_fault above root c.args.frame.now r text r.line Syntax (Err c.fault-in-InWord.result) (ap Err c.fault-in-InWord.ensures) (cut_word above root c.args.frame.now r text c.in-InWord.word c.in-InWord.done r.line stands c.in-InWord.is refl)
 
-pub returns-in-Minus : goal.returns-in-Minus
-returns-in-Minus c =
+pub returns-in-Minus-clause-ends : goal.returns-in-Minus-clause-ends
+returns-in-Minus-clause-ends c =
     let r = c.args.self.now in
     λ above root text small stands. end_fault above root c.args.frame.now r text r.line Syntax (Err c.fault-in-Minus.result) (ap Err c.fault-in-Minus.ensures) (cut_minus above root c.args.frame.now r text r.line stands c.in-Minus.is refl)
 
-pub returns-in-DeepMinus : goal.returns-in-DeepMinus
-returns-in-DeepMinus c =
+pub returns-in-DeepMinus-clause-ends : goal.returns-in-DeepMinus-clause-ends
+returns-in-DeepMinus-clause-ends c =
     let r = c.args.self.now in
     λ above root text small stands. end_fault above root c.args.frame.now r text r.line Syntax (Err c.fault-in-DeepMinus.result) (ap Err c.fault-in-DeepMinus.ensures) (cut_deep_minus above root c.args.frame.now r text r.line stands c.in-DeepMinus.is refl)
 
-pub returns-in-Ok : goal.returns-in-Ok
-returns-in-Ok c =
+pub returns-in-Ok-clause-ends : goal.returns-in-Ok-clause-ends
+returns-in-Ok-clause-ends c =
     let r = c.end_number.new.self in
     let frame = c.args.frame.now in
     λ above root text small stands. let between = c.in-Ok.ensures.at_end above root text small stands in

@@ -4,18 +4,18 @@ use Rattle.cert_text.specs.Readers.{waits_after, root_after}
 use Rattle.cert_text.proofs.WordSteps.{at_fault, end_at_fault, line_ends_well, other_ends_well}
 use Rattle.cert_text.proofs.lines.Lines.end_word.Goals as goal
 
-pub returns-then-is_faulty_end : goal.returns-then-is_faulty_end
-returns-then-is_faulty_end c =
+pub returns-then-is_faulty_end-clause-steps : goal.returns-then-is_faulty_end-clause-steps
+returns-then-is_faulty_end-clause-steps c =
     let r = c.args.self.now in
     let frame = c.args.frame.now in
     λ above root text byte count small at is last. at_fault above root frame r text byte r.line Length (Err c.fault.result) (ap Err c.fault.ensures) (end_at_fault above root frame r c.args.word count byte r.line text Length at (c.if-is_faulty_end.ensures above root at.count) is last refl)
 
-pub returns-then-ends_line : goal.returns-then-ends_line
-returns-then-ends_line c =
+pub returns-then-ends_line-clause-steps : goal.returns-then-ends_line-clause-steps
+returns-then-ends_line-clause-steps c =
     λ above root text byte count small at is last. line_ends_well above (waits_after above c.in-Ok.event) root (root_after above root c.in-Ok.event) c.args.frame.now c.args.self.now c.after_word.new.self c.args.word count byte _ text at small (c.if-is_faulty_end.ensures above root at.count)
     (λ n. c.in-Ok.ensures.place above root n at.counts.highs) (c.in-Ok.ensures.highs above at.counts.highs) c.in-Ok.ensures.keeps is last (sym c.if-ends_line.ensures) c.saturating_add-self.ensures
 
-pub returns-else-ends_line : goal.returns-else-ends_line
-returns-else-ends_line c =
+pub returns-else-ends_line-clause-steps : goal.returns-else-ends_line-clause-steps
+returns-else-ends_line-clause-steps c =
     λ above root text byte count small at is last. other_ends_well above (waits_after above c.in-Ok.event) root (root_after above root c.in-Ok.event) c.args.frame.now c.args.self.now c.after_word.new.self c.args.word count byte text at (c.if-is_faulty_end.ensures above root at.count)
     (λ n. c.in-Ok.ensures.place above root n at.counts.highs) (c.in-Ok.ensures.highs above at.counts.highs) c.in-Ok.ensures.keeps is last (sym c.if-ends_line.ensures)

@@ -2,13 +2,12 @@ use Rattle.std.proofs.Common.{rules, ◌≡◌, ◌+◌, ◌-◌, ◌++◌, ◌�
 use Rattle.cert_text.specs.Frames.{frame_of}
 use Rattle.cert_text.specs.Signed.{signed}
 use Rattle.cert_text.specs.Versions.{changed_fault}
-use Rattle.cert_text.specs.declared.lines.Lines.{Lines}
 use Rattle.cert_text.specs.declared.spots.Spot.TheVariants as s
 use Rattle.cert_text.proofs.LineFacts.{multiplier_passes, multiplier_kept}
 use Rattle.cert_text.proofs.lines.Lines.take_whole.Goals as goal
 
-pub returns-in-Ok-keep_multiplier : goal.returns-in-Ok-keep_multiplier
-returns-in-Ok-keep_multiplier c =
+pub returns-in-Ok-keep_multiplier-clause-takes : goal.returns-in-Ok-keep_multiplier-clause-takes
+returns-in-Ok-keep_multiplier-clause-takes c =
     let r = c.args.self.now in
     let new = c.keep_multiplier.new.self in
     let z = signed c.args.negative c.args.value in

@@ -1,0 +1,28 @@
+-- A leaf that is taken is an event of its worker.
+use Rattle.std.proofs.Common.{◌≡◌, refl, sym, subst, List, Result, Ok, Err}
+use Rattle.std.specs.Prelude.{OnOk}
+use Rattle.block_form.specs.Blocked.{BlockedProgram}
+use Rattle.search_laws.specs.Crew.{CrewEvent, takes}
+use Rattle.search_laws.specs.declared.Side.{Side}
+use Rattle.search_laws.specs.declared.Kind.TheVariants.{Take}
+use Rattle.bp_crew.specs.declared.choice.Task.{Task}
+use Rattle.bp_crew.specs.declared.choice.Task.TheVariants.{Take as TakeTask}
+use Rattle.bp_crew.specs.declared.choice.Choice.{Choice}
+use Rattle.bp_crew.specs.States.{CrewState, IsEvent}
+use Rattle.bp_crew.specs.Draws.{IsOf}
+use Rattle.bp_crew.specs.Runs.{IsDone}
+use Rattle.bp_crew.proofs.run.act.Goals as goal
+
+done_by : {T E : Type 0} (b : BlockedProgram) (before after : CrewState) (choice : Choice) (r : Result T E) → choice.task ≡ TakeTask
+    → OnOk r ((path : List Side) × IsEvent b before (takes choice.worker path) after) → OnOk r (IsDone b before choice after)
+done_by b before after choice (Ok done) is event = record {
+  event = takes choice.worker event.0;
+  is = event.1;
+  worker = refl;
+  kind = subst (λ (t : Task). IsOf t Take) (sym is) tt;
+}
+done_by b before after choice (Err fault) is event = tt
+
+pub returns-in-Take-clause-done : goal.returns-in-Take-clause-done
+returns-in-Take-clause-done c =
+    done_by c.args.b.now c.args.crew.now c.take.new.self c.args.choice c.take.result c.in-Take.is (c.take.ensures.event c.args.b.now c.requires.kept)

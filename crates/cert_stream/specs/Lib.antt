@@ -1,0 +1,9 @@
+-- Other crates cite Checks, Wholes and Streams. The rest are words of contracts here alone.
+pub mod Faults
+pub mod Turns
+pub mod Laws
+pub mod Paths
+pub mod Walks
+pub mod Checks
+pub mod Wholes
+pub mod Streams

@@ -1,0 +1,206 @@
+// A certificate that is judged as its text is fed.
+ghost use Rattle.std.specs.Prelude.{◌≡◌, ℕ, ◌+◌, ◌≤◌, ◌<◌, ◌^◌, List, [], ◌∷◌, ◌++◌, length, Option, None, Some, Result, Err, IfOk, IfSome, OnOk};
+ghost use Rattle.bp_theory.specs.Limits.{greatest_depth};
+ghost use Rattle.block_form.specs.Blocked.{BlockedProgram};
+ghost use Rattle.lagr_bound.specs.Forms.{forms_in};
+ghost use Rattle.lagr_bound.specs.Works.{forms_of};
+ghost use Rattle.cert_check.specs.Judging.{stopped_at};
+ghost use Rattle.cert_stream.specs.Walks.{IsWalkIn, IsWithin};
+ghost use Rattle.cert_stream.specs.Checks.{IsMadeFor, TakesEvent, held_after, ChecksFor, answer_by, Finishes};
+ghost use Rattle.cert_stream.specs.declared.fault.FeedFault as faults;
+
+use crate::fault::{FeedFault, feed_fault};
+use crate::path::Path;
+use crate::walk::{Walk, begin, enter, leave};
+use block_form::{Blocked, Zone};
+use cert_check::{Judged, NodePlace, Stop};
+use cert_text::{Event, Frame, Lines, program_frame};
+use lagr_bound::Work;
+use std::alloc::{AllocError, Global};
+use std::mem;
+
+/// A judge of a certificate whose text is fed in pieces. It keeps neither the text nor the tree: of the nodes that came only
+/// the splits above the one that comes next. All its calls are to be given the program in blocks that it was made for.
+#[derive(Drop)]
+pub struct Checker {
+    frame: Frame,
+    lines: Lines,
+    walk: Walk,
+    work: Option<Work>,
+    held: u64,
+    fed: u64,
+    fault: Option<FeedFault>,
+}
+
+impl Checker {
+    /// A checker that was fed nothing. Where a number of visits is given, the searches for the picked blocks of the leaves may
+    /// look at so many beginnings of assignments together, as in `cert_check::check`.
+    pub fn make(alloc: Global, b: &Blocked, visits: Option<u64>) -> Result<Checker, AllocError>
+        ensures made_for { IfOk result (IsMadeFor b.now) }
+        ensures stands { IfOk result (λ checker. ChecksFor b.now visits checker []) }
+        ensures fed { IfOk result (λ checker. checker.fed ≡ 0) }
+        ensures none { IfOk result (λ checker. checker.fault ≡ None) }
+    {
+        let frame = program_frame(alloc, b)?;
+        let zone = Zone::root(alloc, b)?;
+        Ok(Checker {
+            frame,
+            lines: Lines::new(alloc),
+            walk: Walk::At(Path {
+                place: NodePlace {
+                    zone,
+                    line: 3,
+                    left: visits,
+                },
+                forks: Vec::new(alloc),
+            }),
+            work: None,
+            held: 0,
+            fed: 0,
+            fault: None,
+        })
+    }
+
+    /// Feeds a further piece of the text. The first fault of the text is answered as soon as no further bytes can mend it, and
+    /// from then on, and so is want of memory.
+    pub fn feed(&mut self, alloc: Global, b: &Blocked, piece: &[u8]) -> Result<(), FeedFault>
+        requires made_for { IsMadeFor b.now self.old }
+        requires few { self.old.fed + length piece.now < 2 ^ 63 }
+        ensures made_for { IsMadeFor b.now self.new }
+        ensures fed { self.new.fed ≤ self.old.fed + length piece.now }
+        ensures told { result ≡ answer_by self.new.fault }
+        ensures kept { (fault : faults.FeedFault) → self.old.fault ≡ Some fault →
+            self.new.fault ≡ Some fault }
+        ensures stands { (visits : Option ℕ) (text : List ℕ) →
+            ChecksFor b.now visits self.old text →
+            ChecksFor b.now visits self.new (text ++ piece.now) }
+    {
+        match self.fault {
+            Some(fault) => return Err(fault),
+            None => {}
+        }
+        for byte in piece {
+            match self.step(alloc, b, *byte) {
+                Err(fault) => return Err(fault),
+                Ok(()) => {}
+            }
+        }
+        Ok(())
+    }
+
+    // One byte more, where no fault has come.
+    fn step(&mut self, alloc: Global, b: &Blocked, byte: u8) -> Result<(), FeedFault>
+        requires made_for { IsMadeFor b.now self.old }
+        requires few { self.old.fed + 1 < 2 ^ 63 }
+        requires none { self.old.fault ≡ None }
+        ensures made_for { IsMadeFor b.now self.new }
+        ensures fed { self.new.fed ≡ self.old.fed + 1 }
+        ensures told { result ≡ answer_by self.new.fault }
+        ensures stands { (visits : Option ℕ) (text : List ℕ) →
+            ChecksFor b.now visits self.old text →
+            ChecksFor b.now visits self.new (text ++ byte ∷ []) }
+    {
+        self.fed += 1;
+        match self.lines.step(alloc, &self.frame, byte) {
+            Err(fault) => Err(self.keep_fault(feed_fault(&fault))),
+            Ok(None) => Ok(()),
+            Ok(Some(event)) => match self.take(alloc, b, event) {
+                Err(_) => Err(self.keep_fault(FeedFault::NoMemory)),
+                Ok(()) => Ok(()),
+            },
+        }
+    }
+
+    // A fault is answered from now on.
+    fn keep_fault(&mut self, fault: FeedFault) -> FeedFault
+        ensures kept { self.new ≡ record self.old { fault = Some fault } }
+        ensures told { result ≡ fault }
+    {
+        self.fault = Some(fault);
+        fault
+    }
+
+    // What a line says is judged.
+    fn take(&mut self, alloc: Global, b: &Blocked, event: Event) -> Result<(), AllocError>
+        requires made_for { IfSome self.old.work (λ made. forms_of made ≡ forms_in b.now) }
+        requires inside { IsWalkIn b.now.named.program.spans self.old.walk }
+        requires few { IsWithin (2 ^ 63 + 2) self.old.walk }
+        ensures rest { self.new ≡ record self.old {
+          walk = self.new.walk;
+          work = self.new.work;
+          held = self.new.held;
+        } }
+        ensures made_for { IfSome self.new.work (λ made. forms_of made ≡ forms_in b.now) }
+        ensures inside { IsWalkIn b.now.named.program.spans self.new.walk }
+        ensures line { (most : ℕ) → 3 ≤ most → IsWithin most self.old.walk →
+            IsWithin (most + 1) self.new.walk }
+        ensures held { OnOk result (self.new.held ≡ held_after self.old.held event) }
+        ensures judged { OnOk result (TakesEvent b.now self.old.lines.claim self.old.lines.point
+            self.old.walk self.new.walk event) }
+    {
+        let walk = mem::replace(&mut self.walk, Walk::Misfit);
+        let claim = self.lines.claim();
+        match event {
+            Event::Claim => {
+                self.walk = begin(walk, b, &claim, self.lines.point());
+                self.held = 0;
+                Ok(())
+            }
+            Event::Split(split) => {
+                self.walk = enter(walk, split)?;
+                self.held = self.held.saturating_add(1);
+                Ok(())
+            }
+            Event::Leaf { is_open, proof } => {
+                self.walk = leave(walk, alloc, b, &claim, &mut self.work, &proof, is_open)?;
+                self.held = self.held.saturating_sub(1);
+                Ok(())
+            }
+        }
+    }
+
+    /// What the certificate is judged to be, where its text ends here, or the first fault of the text.
+    pub fn finish(self, alloc: Global) -> Result<Judged, FeedFault>
+        requires stands { (b : BlockedProgram) × (visits : Option ℕ) × (text : List ℕ) ×
+            IsMadeFor b self × ChecksFor b visits self text }
+        ensures finishes { (b : BlockedProgram) (visits : Option ℕ) (text : List ℕ) →
+            IsMadeFor b self → ChecksFor b visits self text → Finishes b visits text result }
+        ensures kept { (fault : faults.FeedFault) → self.fault ≡ Some fault →
+            result ≡ Err fault }
+    {
+        match self.fault {
+            Some(fault) => return Err(fault),
+            None => {}
+        }
+        let mut lines = self.lines;
+        match lines.end(alloc, &self.frame) {
+            Err(fault) => Err(feed_fault(&fault)),
+            Ok(()) => match self.walk {
+                Walk::At(_) => Ok(Judged::Accepted(lines.claim())),
+                Walk::Ended(stop) => Ok(stopped(&stop)),
+                Walk::Misfit => unreachable!(),
+            },
+        }
+    }
+
+    /// How many high parts of splits are still to come, at most 8,257: no more is kept of the nodes that came than the splits
+    /// above the next one.
+    pub fn held(&self) -> u64
+        ensures held { result ≡ self.now.held }
+        ensures few { (b : BlockedProgram) (visits : Option ℕ) (text : List ℕ) →
+            self.now.fault ≡ None → ChecksFor b visits self.now text → result ≤ greatest_depth + 1 }
+    {
+        self.held
+    }
+}
+
+// What a certificate is judged to be by the line that ends the judgement.
+fn stopped(stop: &Stop) -> Judged
+    ensures { result ≡ stopped_at stop.now.line stop.now.fault }
+{
+    let line = stop.line;
+    match stop.fault {
+        Some(kind) => Judged::Rejected { line, kind },
+        None => Judged::Unknown { line },
+    }
+}

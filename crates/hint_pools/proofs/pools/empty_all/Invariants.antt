@@ -1,0 +1,6 @@
+use Rattle.std.proofs.Common.{All}
+use Rattle.hint_pools.specs.Pools.{IsStoreOf}
+use Rattle.hint_pools.proofs.pools.empty_all.Given as goal
+
+abbrev pub invariant-loop-place : goal.invariant-loop-place
+invariant-loop-place l = All (IsStoreOf l.b) l.stores.items
