@@ -359,6 +359,22 @@ def knapsack(draw, items, rows):
     return text
 
 
+def plants(draw, many, orders):
+    """Plants take orders within their hours; each week for which they rent a machine together gives all of them more. An order brings little more
+    than its hours. The weeks are one variable, which links the plants' blocks."""
+    text, every, most = Text(), range(orders), 12
+    hours = [[draw.randint(20, 100) for _ in every] for _ in range(many)]
+    more = [sum(own) // (2 * most) for own in hours]
+    text.cost(sum(more) * 23 // 20, "weeks")
+    text.integer("weeks", most)
+    for k, own in enumerate(hours):
+        for i in every:
+            text.cost(-(own[i] + 10), f"x{k}_{i}")
+            text.integer(f"x{k}_{i}", 1)
+        text.row(f"h{k}", [*((own[i], f"x{k}_{i}") for i in every), (-more[k], "weeks")], "<=", sum(own) // 4, k)
+    return text
+
+
 MAKERS = {
     "assignment-gen": lambda draw, seed, jobs: generated(seed, 4, jobs),
     **{f"assignment-{kind}": lambda draw, seed, agents, jobs, kind=kind: assignment(draw, kind, agents, jobs) for kind in "ABCDE"},
@@ -379,6 +395,7 @@ MAKERS = {
     "roster-alike": lambda draw, seed, nurses, days: roster(draw, nurses, days, True),
     "crews": lambda draw, seed, many, duties: crews(draw, many, duties),
     "knapsack": lambda draw, seed, items, rows: knapsack(draw, items, rows),
+    "plants": lambda draw, seed, many, orders: plants(draw, many, orders),
 }
 
 SIZES = [
@@ -403,6 +420,7 @@ SIZES = [
     "vehicles-5-25", "vehicles-two-5-25", "vehicles-two-6-36",
     "roster-6-7", "roster-10-7", "roster-10-14", "roster-alike-10-14",
     "crews-10-25", "crews-20-50",
+    "plants-2-25", "plants-2-40", "plants-3-25",
 ]
 
 

@@ -7,8 +7,8 @@ PROGRAM is the program to run, or else release/bprice; CALLS is the program of c
 crates/calls/out/calls. The script wants a C compiler, `cc`.
 
 A run whose Nth request is refused must either end as it ends with ample memory, with the same status, output and files, or with status 9,
-nothing printed, and its files as they were before; of `gen` the LP file may hold its whole text. A run that ended with status 9 is
-begun again over what it left, with nothing refused, and must then end as it ends with ample memory. The line of each run tells its
+nothing printed, and its files as they were before; of `gen` the LP file may hold its whole text, and of `solve` the certificate's a
+beginning of it. A run that ended with status 9 is begun again over what it left, with nothing refused, and must then end as it ends with ample memory. The line of each run tells its
 requests, and how many of them, refused, led to status 9 and how many to the answer. The last line tells the sums, and the
 script ends with status 1 where a run did anything else.
 
@@ -117,22 +117,22 @@ FILES = {
     "kept.cert": "kept\n",
 }
 
-# The words of each run, and the files of which one may hold its whole text where memory is wanting.
+# The words of each run, and the files of which one may hold its whole text, or a beginning of it, where memory is wanting.
 RUNS = [
-    ("solve two.lp", []),
-    ("check two.lp optimal.cert", []),
-    ("check two.lp optimal.cert --visits 9", []),
-    ("solve agents.lp --dec agents.dec --cert kept.cert", []),
-    ("gen 0 1 made.lp made.dec", ["made.lp"]),
-    ("demo 7 1", []),
-    ("show agents.lp --dec agents.dec --blocks", []),
-    ("detect agents.lp jobs.txt found.dec", []),
-    ("propose agents.lp proposed.dec", []),
-    ("merge two.lp open.cert optimal.cert merged.cert", []),
-    ("migrate two.lp open.cert migrated.cert", []),
-    ("solve two.lp --from open.cert --cert more.cert", []),
-    ("solve agents.lp --dec agents.dec --workers 2 --order 3", []),
-    ("solve two.lp --from open.cert --leaf 1 --cert more.cert", []),
+    ("solve two.lp", [], []),
+    ("check two.lp optimal.cert", [], []),
+    ("check two.lp optimal.cert --visits 9", [], []),
+    ("solve agents.lp --dec agents.dec --cert kept.cert", [], ["kept.cert"]),
+    ("gen 0 1 made.lp made.dec", ["made.lp"], []),
+    ("demo 7 1", [], []),
+    ("show agents.lp --dec agents.dec --blocks", [], []),
+    ("detect agents.lp jobs.txt found.dec", [], []),
+    ("propose agents.lp proposed.dec", [], []),
+    ("merge two.lp open.cert optimal.cert merged.cert", [], []),
+    ("migrate two.lp open.cert migrated.cert", [], []),
+    ("solve two.lp --from open.cert --cert more.cert", [], ["more.cert"]),
+    ("solve agents.lp --dec agents.dec --workers 2 --order 3", [], []),
+    ("solve two.lp --from open.cert --leaf 1 --cert more.cert", [], ["more.cert"]),
 ]
 
 # The number of a request that no run comes to.
@@ -179,15 +179,19 @@ def run(program, refuser, words, call):
         return ended, again, calls
 
 
-def stands(before, answer, now, partly):
-    """Whether files are as before, up to those of which the whole text may stand."""
+def stands(before, answer, now, whole, begun):
+    """Whether files are as before, up to those of which the whole text or a beginning of it may stand."""
     for name in set(before) | set(now):
-        if now.get(name) != before.get(name) and not (name in partly and now.get(name) == answer.get(name)):
+        if now.get(name) == before.get(name):
+            continue
+        if name not in now or name not in answer:
+            return False
+        if not (name in whole and now[name] == answer[name] or name in begun and answer[name].startswith(now[name])):
             return False
     return True
 
 
-def try_all(program, refuser, text, partly):
+def try_all(program, refuser, text, whole, begun):
     """Refuses each request of a run in turn: how many requests, how often status 9 and the answer came, and what was odd."""
     words = text.split()
     answer, _, calls = run(program, refuser, words, NEVER)
@@ -197,7 +201,7 @@ def try_all(program, refuser, text, partly):
         ended, again, _ = run(program, refuser, words, call)
         if ended == answer:
             same += 1
-        elif ended[0] == 9 and ended[1] == b"" and stands(before, answer[2], ended[2], partly) and again == answer:
+        elif ended[0] == 9 and ended[1] == b"" and stands(before, answer[2], ended[2], whole, begun) and again == answer:
             wants += 1
         else:
             odd.append((call, ended[0]))
@@ -267,8 +271,8 @@ def main():
         with open(source, "w") as file:
             file.write(REFUSER)
         subprocess.run(["cc", "-shared", "-fPIC", "-O1", "-o", refuser, source, "-ldl"], check=True)
-        for text, partly in RUNS:
-            sums = [a + b for a, b in zip(sums, try_all(program, refuser, text, partly))]
+        for text, whole, begun in RUNS:
+            sums = [a + b for a, b in zip(sums, try_all(program, refuser, text, whole, begun))]
         if calls:
             well = try_calls(calls, refuser, os.path.join(here, "../crates/calls"))
     print(f"{len(RUNS)} runs, {sums[0]} requests, refused: {sums[1]} want of memory, {sums[2]} the answer, {sums[3]} anything else")

@@ -63,5 +63,8 @@ checks routing 'optimal 37' model.lp model.cert
 solves assignment
 solves assignment --dec model.dec
 checks assignment 'optimal 92' model.lp model.cert
+solves shared-machine
+solves shared-machine --dec model.dec
+checks shared-machine 'optimal 18' model.lp model.cert --dec model.dec
 
 exit $failed

@@ -214,19 +214,18 @@ def read_dec(text, model):
 
 
 def form_blocks(model, block_of, count):
-    """The blocks of the decomposition, and behind them each variable that stands in no block's row."""
-    names, rows, home = list(model.names), list(model.row_names), {}
-    blocks = [Block([], []) for _ in range(count)]
-    for i, row in ((i, row) for i, row in enumerate(model.rows) if block_of[i]):
-        blocks[block_of[i] - 1].rows.append(row)
-        for j, a in row.terms.items():
-            home.setdefault(j, []).extend([i] * (a != 0))
-    for j, name in enumerate(names):
-        found = home.get(j) or []
-        others = [i for i in found if block_of[i] != block_of[found[0]]]
-        need(not others, "refused blocks linking", name, *(rows[i] for i in found[:1] + others[:1]))
-        (blocks[block_of[found[0]] - 1].variables if found else blocks).append(j if found else Block([j], []))
-    return block_of, blocks
+    """The blocks, and behind them each variable that stands in no block's row; the link rows, by the variable and block of a further copy."""
+    blocks, links, home = [Block([], []) for _ in range(count)], [], {}
+    for k, row in ((k - 1, row) for k, row in zip(block_of, model.rows) if k):
+        blocks[k].rows.append(row)
+        for j in (j for j, a in row.terms.items() if a):
+            home.setdefault(j, set()).add(k)
+    for j in range(len(model.names)):
+        blocks += [Block([], [])] * (j not in home)
+        for k in sorted(home.get(j, [-1])):
+            blocks[k].variables.append(j)
+        links += [(j, k) for k in sorted(home.get(j, []))[1:]]
+    return block_of + [0] * len(links), blocks, links
 
 
 class Certificate:
@@ -297,20 +296,20 @@ class Certificate:
             need(rows[row] != had.get(row, 0), "refused cert", self.line, "number")
         self.take(b" priced ")
         self.had = {row: p for row, p in rows.items() if p}
-        return list(self.had.items()), set(range(blocks) if self.take(b"all", b"") else self.ascending(self.number(INFINITE, 0), blocks))
+        return self.had, set(range(blocks) if self.take(b"all", b"") else self.ascending(self.number(INFINITE, 0), blocks))
 
 
 class Judge:
-    def __init__(self, model, blocks, most_states):
-        self.model, self.blocks, self.most_states, self.known = model, blocks, most_states, {}
+    def __init__(self, model, blocks, links, most_states):
+        self.model, self.blocks, self.links, self.most_states, self.known = model, blocks, links, most_states, {}
+        self.rows = model.rows + [Row({j: 1}, [0, 0]) for j, _ in links]  # of a link row the term of the first copy
 
     def judge(self, cert):
         zones, model = [[tuple(span) for span in self.model.spans]], self.model
         if cert.point is not None:
-            sums = [sum(a * cert.point[j] for j, a in row.terms.items()) for row in model.rows]
             value = model.constant + model.sign * sum(c * x for c, x in zip(model.costs, cert.point))
             need(all(low <= x <= high for x, (low, high) in zip(cert.point, zones[0])), "rejected 3 point-bound")
-            need(all(row.sides[0] <= total <= row.sides[1] for row, total in zip(model.rows, sums)), "rejected 3 point-row")
+            need(all(row.sides[0] <= sum(a * cert.point[j] for j, a in row.terms.items()) <= row.sides[1] for row in model.rows), "rejected 3 point-row")
             need(value == cert.value, "rejected 3 value")
         claimed = cert.value if cert.bound is None else cert.bound
         for node in cert.nodes:
@@ -327,44 +326,45 @@ class Judge:
 
     def bound(self, leaf, zone):
         bound, reduced = leaf.number * self.model.sign * self.model.constant, [leaf.number * cost for cost in self.model.costs]
-        for row, p in ((self.model.rows[i], p) for i, p in leaf.rows):
+        for row, p in ((self.rows[i], p) for i, p in leaf.rows.items()):
             need(abs(row.sides[p < 0]) != INFINITE, "rejected", leaf.line, "sign")
             bound += p * row.sides[p < 0]
             for j, a in row.terms.items():
                 reduced[j] -= p * a
+        further = {link: leaf.rows.get(i, 0) for i, link in enumerate(self.links, len(self.model.rows))}  # of copies that are not the first
         for k, block in enumerate(self.blocks):
-            key = (k, k in leaf.priced, tuple((reduced[j], zone[j]) for j in block.variables))
+            key = (k, k in leaf.priced, tuple((further.get((j, k), reduced[j]), zone[j]) for j in block.variables))
             if key not in self.known:
-                self.known[key] = self.least(block.variables, block.rows if k in leaf.priced else [], reduced, zone, leaf.line)
+                self.known[key] = self.least(block.variables, block.rows if k in leaf.priced else [], key[2], leaf.line)
             bound += self.known[key]
         return bound
 
-    def least(self, variables, rows, reduced, zone, line):
-        """The least sum over the zone's points that meet the rows, for each state: the rows' sums so far, None if they can't be missed."""
+    def least(self, variables, rows, priced, line):
+        """The least sum by cost and span over the points that meet the rows, for each state: the rows' sums so far, None if they can't be missed."""
         def settle(total, row, rest):
             return None if total is None or row.sides[0] <= total + rest[0] and total + rest[1] <= row.sides[1] else total
         rests, states = [[(0, 0)] * len(rows)], 0  # what the variables behind each place can add to each row
-        for j in reversed(variables):
-            ends = [sorted(row.terms.get(j, 0) * end for end in zone[j]) for row in rows]
+        for j, (_, span) in reversed([*zip(variables, priced)]):
+            ends = [sorted(row.terms.get(j, 0) * end for end in span) for row in rows]
             rests.append([(rest[0] + end[0], rest[1] + end[1]) for rest, end in zip(rests[-1], ends)])
         rest = rests.pop()
         can_meet = all(row.sides[0] <= most and least <= row.sides[1] for row, (least, most) in zip(rows, rest))
         least_of = {tuple(map(settle, [0] * len(rows), rows, rest)): 0} if can_meet else {}
-        for j in variables:
+        for j, (price, span) in zip(variables, priced):
             following, rest, column = {}, rests.pop(), [row.terms.get(j, 0) for row in rows]
             for state, cost in least_of.items():
-                low, high = zone[j]
+                low, high = span
                 weighed = [part for part in zip(state, column, rows, rest) if part[0] is not None and part[1]]
                 for total, a, row, (least, most) in weighed:
                     first, last = ((side - total) * (a // abs(a)) for side in (row.sides[0] - most, row.sides[1] - least)[::a // abs(a)])
                     low, high = max(low, -(-first // abs(a))), min(high, last // abs(a))
                 picks = range(low, high + 1)
                 if not weighed or not rests:  # then any of them will do
-                    picks = picks[:1] if reduced[j] >= 0 else picks[-1:]
+                    picks = picks[:1] if price >= 0 else picks[-1:]
                 need((states := states + max(0, picks.stop - picks.start)) <= self.most_states, "unknown", line)
                 for x in picks:
                     after = tuple(map(settle, (None if total is None else total + a * x for total, a in zip(state, column)), rows, rest))
-                    following[after] = min(following.get(after, INFINITE), cost + reduced[j] * x)
+                    following[after] = min(following.get(after, INFINITE), cost + price * x)
             least_of = following
         return min(least_of.values(), default=INFINITE)
 
@@ -373,9 +373,9 @@ def check(lp, cert, dec=None, most_states=5_000_000):
     """The report for the texts of a model, a certificate and perhaps a decomposition."""
     try:
         model = Model(lp)
-        block_of, blocks = form_blocks(model, *read_dec(b"NBLOCKS 0" if dec is None else dec, model))
+        block_of, blocks, links = form_blocks(model, *read_dec(b"NBLOCKS 0" if dec is None else dec, model))
         cert = Certificate(cert, len(model.names), block_of, len(blocks))
-        Judge(model, blocks, most_states).judge(cert)
+        Judge(model, blocks, links, most_states).judge(cert)
     except Stop as stop:
         return str(stop)
     return f"accepted {cert.claim}"

@@ -30,12 +30,21 @@ def test_matrix(tmp_path):
     assert (tmp_path / "a.png").read_bytes().startswith(b"\x89PNG")
 
 
-@pytest.mark.parametrize("folder", ["cutting-stock", "rostering", "routing", "assignment"])
+def test_links(tmp_path):
+    """A variable of two blocks has a column in each, and a link row below the master rows."""
+    words = "matrix", EXAMPLES / "shared-machine/model.lp", "--dec", EXAMPLES / "shared-machine/model.dec"
+    assert told(*words, tmp_path / "a.svg") == ("", 0)
+    text = (tmp_path / "a.svg").read_text()
+    assert "links (1)" in text and "master rows" not in text and "10 copies of variables, block by block" in text
+    assert text.count("1 block of 5 variables, 1 row<") == 2
+
+
+@pytest.mark.parametrize("folder", ["cutting-stock", "rostering", "routing", "assignment", "shared-machine"])
 def test_classes(folder):
     """The classes that are coloured are those of `show`."""
     model = draw.texts.Model((EXAMPLES / folder / "model.lp").read_bytes())
-    block_of, blocks = draw.texts.form_blocks(model, *draw.texts.read_dec((EXAMPLES / folder / "model.dec").read_bytes(), model))
-    classes = draw.classes_of(model, block_of, blocks)
+    block_of, blocks, links = draw.texts.form_blocks(model, *draw.texts.read_dec((EXAMPLES / folder / "model.dec").read_bytes(), model))
+    classes = draw.classes_of(model, block_of, blocks, links)
     report, _ = run("show", EXAMPLES / folder / "model.lp", "--dec", EXAMPLES / folder / "model.dec")
     shown = re.findall(r"class \d+ first (\d+) size (\d+) variables (\d+) rows ([1-9]\d*)", report)
     own = [(classes.index(kind) + 1, classes.count(kind)) for kind in sorted(set(classes) - {None})]
@@ -44,9 +53,9 @@ def test_classes(folder):
 
 def tree_of(folder, cert):
     model = draw.texts.Model((EXAMPLES / folder / "model.lp").read_bytes())
-    block_of, blocks = draw.texts.form_blocks(model, *draw.texts.read_dec(b"NBLOCKS 0", model))
+    block_of, blocks, links = draw.texts.form_blocks(model, *draw.texts.read_dec(b"NBLOCKS 0", model))
     cert = draw.texts.Certificate(cert, len(model.names), block_of, len(blocks))
-    return draw.Tree(model, cert, draw.texts.Judge(model, blocks, 1000))
+    return draw.Tree(model, cert, draw.texts.Judge(model, blocks, links, 1000))
 
 
 def test_tree(tmp_path):

@@ -13,7 +13,7 @@ from conftest import TOP, load_tool, run
 TOOL = TOP / "tools" / "check_certificate.py"
 checker = load_tool(TOOL)
 STATUS = {"accepted": 0, "refused": 3, "rejected": 6}
-PROGRAM_ALONE = re.compile(r"refused (lp [0-9]+ (limit|activity)|dec 0 limit|dec [0-9]+ unknown-var|blocks var-place \S+)\n")
+PROGRAM_ALONE = re.compile(r"refused (lp [0-9]+ (limit|activity)|dec 0 limit|dec [0-9]+ unknown-var|blocks (var-place \S+|links))\n")
 EXAMPLES = [
     ("cutting-stock/model.lp", "cutting-stock/model.cert", "cutting-stock/model.dec"),
     ("cutting-stock/harder.lp", "cutting-stock/harder.cert", "cutting-stock/harder.dec"),
@@ -181,6 +181,39 @@ def mutated(draw, text):
 
 WORDS = [b"leaf", b"open", b"split", b"optimal", b"infeasible", b"bound", b"value", b"rows", b"change", b"priced all", b"priced 0", b" ", b"<=", b">=", b"=",
          b"Bounds", b"Generals", b"Binaries", b"+", b"-", b"BLOCK", b"MASTERCONSS", b"NBLOCKS", b"free", b"inf"]
+
+
+LINKED = (b"Maximize\n obj: 3 x + 2 y + 2 z\nSubject To\n c1: x + y <= 1\n c2: x + z <= 1\nBinaries\n x y z\nEnd\n",
+          b"NBLOCKS 2\nBLOCK 1\n c1\nBLOCK 2\n c2\nLINKINGVARS\n x\n")
+
+
+@pytest.mark.parametrize("leaf, answer", [
+    ("leaf 1 change 1 3 -1 priced all", "accepted optimal 4"),
+    ("leaf 2 change 1 3 -4 priced all", "accepted optimal 4"),
+    ("leaf 1 change 0 priced all", "rejected 4 weak"),
+    ("leaf 1 change 1 3 1 priced all", "rejected 4 weak"),
+    ("leaf 1 change 1 3 -1 priced 1 1", "rejected 4 weak"),
+    ("leaf 1 change 1 3 -1 priced 2 1 2", "accepted optimal 4"),
+    ("leaf 1 change 1 2 -1 priced all", "refused cert 4 number"),
+    ("leaf 1 change 1 4 -1 priced all", "refused cert 4 number"),
+    ("split 1 0\nleaf 1 change 1 3 1 priced all\nleaf 1 change 1 3 0 priced all", "accepted optimal 4"),
+    ("split 1 0\nleaf 1 change 1 3 1 priced all\nleaf 1 change 1 3 1 priced all", "refused cert 6 number"),
+])
+def test_link_rows(room, leaf, answer):
+    """Row 3 says that the copies of x in both blocks are one number."""
+    lp, dec = LINKED
+    assert room.agree(lp, f"bpcert 2\nclaim optimal 4\npoint 0 1 1\n{leaf}\nend\n".encode(), dec) == answer
+    assert room.agree(lp, b"bpcert 1\nclaim optimal 4\npoint 0 1 1\nleaf 1 rows 1 3 -1 priced all\nend\n") == "refused cert 4 number"
+
+
+def test_further_copies(room):
+    """Two link rows of one variable in three blocks, and one of another between them, in the order of variables and blocks."""
+    lp = b"min\n x + y\nst\n a: x + y >= 1\n b: x - y >= 0\n c: x >= 0\n m: x + y <= 2\nbin\n x y\nend\n"
+    dec = b"NBLOCKS 3\nBLOCK 3\n a\nBLOCK 1\n b\nBLOCK 2\n c\n"
+    for rows, answer in (("0", "rejected 4 weak"), ("1 7 1", "rejected 4 weak"), ("2 5 1 6 1", "rejected 4 weak"), ("2 5 1 7 1", "rejected 4 weak"),
+                         ("2 6 1 7 1", "accepted optimal 1"), ("1 8 1", "refused cert 4 number"), ("1 4 1", "rejected 4 sign")):
+        cert = f"bpcert 1\nclaim optimal 1\npoint 1 0\nleaf 1 rows {rows} priced all\nend\n".encode()
+        assert room.agree(lp, cert, dec) == answer
 
 
 @pytest.mark.parametrize("seed, example", enumerate(EXAMPLES))

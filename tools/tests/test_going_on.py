@@ -2,6 +2,7 @@
 no certificate of the model it says what the checker for strangers says, with every file as it was."""
 import random
 import re
+import resource
 
 import pytest
 
@@ -134,6 +135,18 @@ def test_cut_off_at_each_byte(room):
         line = 1 + cert[:count].count(b"\n")
         assert room.refuses(cert[:count], ["from"]).startswith(f"refused cert {line} ")
     assert room.begins("--from", "part") == room.first
+
+
+def test_no_more_bytes_fit(room):
+    """What stands is a beginning of the certificate, also in place of the one to go on from, and every other file is as it was."""
+    start, words = room.cert("part"), ["--from", "part", "--steps", 3, "--cert"]
+    assert room.solve(*words, "whole")[1] == 5
+    whole = room.cert("whole")
+    for size in {*range(0, len(whole), 13), len(whole) - 1}:
+        (room.path / "part").write_bytes(start)
+        limited = {"preexec_fn": lambda: resource.setrlimit(resource.RLIMIT_FSIZE, (size, size)), "restore_signals": False}
+        assert run("solve", *room.words, *words, "part", cwd=room.path, **limited) == ("", 8)
+        assert {name: room.cert(name) for name in ("part", "whole", *room.texts())} == {"part": whole[:size], "whole": whole, **room.texts()}
 
 
 def test_points_of_another_length(room):

@@ -22,7 +22,7 @@ class Count:
 
     def __init__(self, lp, cert, dec=None):
         self.model = checker.Model(lp)
-        self.block_of, self.blocks = checker.form_blocks(self.model, *checker.read_dec(b"NBLOCKS 0" if dec is None else dec, self.model))
+        self.block_of, self.blocks, self.links = checker.form_blocks(self.model, *checker.read_dec(b"NBLOCKS 0" if dec is None else dec, self.model))
         self.leaves, zones = [], [list(map(tuple, self.model.spans))]
         for node in checker.Certificate(cert, len(self.model.names), self.block_of, len(self.blocks)).nodes:
             zone = zones.pop()
@@ -37,13 +37,18 @@ class Count:
     def visits(self, priced, zone):
         first = {}
         for k in sorted(priced):
-            first.setdefault(self.likeness(self.blocks[k], zone), k)
+            first.setdefault(self.likeness(k, zone), k)
         return sum(self.prefixes(self.blocks[k], zone) for k in first.values())
 
-    def likeness(self, block, zone):
+    def likeness(self, k, zone):
         """What two blocks of one class have in common."""
-        masters = [row for row, place in zip(self.model.rows, self.block_of) if place == 0]
-        return (tuple((self.model.costs[j], zone[j], tuple(row.terms.get(j, 0) for row in masters)) for j in block.variables),
+        block, masters = self.blocks[k], [row for row, place in zip(self.model.rows, self.block_of) if place == 0]
+
+        def copy(j):
+            is_first = (j, k) not in self.links
+            links = tuple((var == j and is_first) - ((var, home) == (j, k)) for var, home in self.links)
+            return is_first * self.model.costs[j], zone[j], tuple(is_first * row.terms.get(j, 0) for row in masters), links
+        return (tuple(map(copy, block.variables)),
                 tuple((tuple(row.terms.get(j, 0) for j in block.variables), tuple(row.sides)) for row in block.rows))
 
     def prefixes(self, block, zone):

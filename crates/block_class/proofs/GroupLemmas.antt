@@ -13,9 +13,8 @@ use Rattle.bp_theory.specs.declared.Span.{Span}
 use Rattle.search_laws.specs.Spread.{block_at, class_at, AreClasses}
 use Rattle.block_class.specs.Classes.{Grouping, IsFirstOf, AreSameClasses}
 use Rattle.block_class.specs.Signatures.{signature, IsGrouped}
-use Rattle.bp_theory.specs.Decomposition.{proof_rows}
 use Rattle.block_form.specs.Blocked.{BlockedProgram, IsFormed}
-use Rattle.block_class.proofs.SameLemmas.{HasCoefs, same_from_signature, signature_from_same, formed_have}
+use Rattle.block_class.proofs.SameLemmas.{HasCoefs, same_from_signature, signature_from_same, named_count, formed_have}
 use Rattle.std.proofs.lemmas.Cmp.{lists_equiv, int_eq_equiv}
 use Rattle.std.proofs.lemmas.Map.Keys.{apart_from_distinct}
 
@@ -194,7 +193,7 @@ pub program_classes : (b : BlockedProgram) (zone : List Span) (m : ℕ) (kept : 
     → IsGrouped (λ j. signature zone (block_at b.blocking j)) m kept classes firsts → IsDistinct (pointwise int_eq) kept
     → AreSameClasses zone b.blocking (record { classes = classes; firsts = firsts })
 program_classes b zone m kept classes firsts formed m_is h distinct =
-    classes_are (length (proof_rows b.named.program b.dec [])) m zone b.blocking kept classes firsts m_is h distinct (formed_have b formed)
+    classes_are (named_count b) m zone b.blocking kept classes firsts m_is h distinct (formed_have b formed)
 
 -- no blocks are grouped by no signatures
 pub none_grouped : (sig : ℕ → List ℤ) (kept : List (List ℤ)) (classes firsts : List ℕ) → kept ≡ [] → classes ≡ [] → firsts ≡ [] → IsGrouped sig 0 kept classes firsts

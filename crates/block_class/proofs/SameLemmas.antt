@@ -8,11 +8,13 @@ use Rattle.bp_theory.specs.Program.{Program}
 use Rattle.bp_theory.specs.Blocking.{Copy, Block, Blocking, coef_in}
 use Rattle.bp_theory.specs.Classes.{IsSame}
 use Rattle.bp_theory.specs.Decomposition.{Decomposition, ProofRow, proof_rows, numbered, copy_coefficient, copy_of, is_first, members, blocking_of}
+use Rattle.bp_theory.specs.Cuts.{cut_rows}
+use Rattle.bp_theory.specs.declared.Row.{Row}
 use Rattle.bp_theory.specs.declared.Span.{Span}
 use Rattle.bp_theory.specs.Trees.{IsSubzone}
 use Rattle.bp_theory.proofs.DecompositionProof.{all_blocks, decomposition_lem, numbered_at}
+use Rattle.bp_theory.proofs.CutProof.{cuts_are_met_lem}
 use Rattle.block_form.specs.Blocked.{BlockedProgram, IsFormed}
-use Rattle.block_form.proofs.PlainLemmas.{plain_blocking}
 use Rattle.search_laws.specs.Spread.{block_at}
 use Rattle.block_class.specs.Signatures.{signature}
 use Rattle.block_class.proofs.SignatureLemmas.{AreAlike, signature_read, signature_written}
@@ -69,10 +71,10 @@ copies_have p rows first k [] = tt
 copies_have p rows first k (v ∷ vs) = (copy_has p rows (first v) v k, copies_have p rows first k vs)
 
 -- the copies of each block have coefficients in as many rows
-pub blocks_have : (p : Program) (d : Decomposition)
-    → All (λ (k : Block). AllByRecursion (HasCoefs (length (proof_rows p d []))) k.copies) (blocking_of p d []).blocks
-blocks_have p d =
-    let rows : List ProofRow = proof_rows p d [] in
+pub blocks_have : (p : Program) (d : Decomposition) (cuts : List Row)
+    → All (λ (k : Block). AllByRecursion (HasCoefs (length (proof_rows p d cuts))) k.copies) (blocking_of p d cuts).blocks
+blocks_have p d cuts =
+    let rows : List ProofRow = proof_rows p d cuts in
     all_blocks p d rows (λ (k : Block). AllByRecursion (HasCoefs (length rows)) k.copies)
     (λ k. copies_have p rows (λ v. is_first p d v k) k (members p d k))
     (λ v l. (copy_has p rows true v d.blocks, tt))
@@ -100,18 +102,22 @@ signature_from_same n zone k l h g same =
 
 -- ---- a program in blocks
 
+-- how many rows proofs may name
+abbrev pub named_count : BlockedProgram → ℕ
+named_count b = length (proof_rows b.named.program b.dec (cut_rows b.named.program b.dec [] b.cuts))
+
 -- the blocks' copies have coefficients in as many rows
-pub formed_have : (b : BlockedProgram) → IsFormed b → All (λ (k : Block). AllByRecursion (HasCoefs (length (proof_rows b.named.program b.dec []))) k.copies) b.blocking.blocks
+pub formed_have : (b : BlockedProgram) → IsFormed b → All (λ (k : Block). AllByRecursion (HasCoefs (named_count b)) k.copies) b.blocking.blocks
 formed_have b formed =
-    subst (λ (bl : Blocking). All (λ (k : Block). AllByRecursion (HasCoefs (length (proof_rows b.named.program b.dec []))) k.copies) bl.blocks) (sym (plain_blocking formed))
-    (blocks_have b.named.program b.dec)
+    subst (λ (bl : Blocking). All (λ (k : Block). AllByRecursion (HasCoefs (named_count b)) k.copies) bl.blocks) (sym formed.blocking)
+    (blocks_have b.named.program b.dec (cut_rows b.named.program b.dec [] b.cuts))
 
 -- a block's variables are in each zone
 pub vars_in_zone : (b : BlockedProgram) (zone : List Span) (block : Block) (k : ℕ) → IsFormed b → IsSubzone zone b.named.program.spans
     → block ≡ block_at b.blocking k → k < length b.blocking.blocks → All (λ (c : Copy). c.var < length zone) block.copies
 vars_in_zone b zone block k formed inside is l =
-    let known = subst (λ (bl : Blocking). All (λ (e : Block). All (λ (c : Copy). c.var < length b.named.program.spans) e.copies) bl.blocks) (sym (plain_blocking formed))
-    (decomposition_lem.adds_up b.named.program b.dec [] formed.kept.closed (λ i d m. absurd (omega (arith, m)))).known in
+    let known = subst (λ (bl : Blocking). All (λ (e : Block). All (λ (c : Copy). c.var < length b.named.program.spans) e.copies) bl.blocks) (sym formed.blocking)
+    (decomposition_lem.adds_up b.named.program b.dec (cut_rows b.named.program b.dec [] b.cuts) formed.kept.closed (cuts_are_met_lem.closed b.named.program b.dec b.cuts)).known in
     subst (λ (e : Block). All (λ (c : Copy). c.var < length zone) e.copies) (sym is)
     (subst (λ (n : ℕ). All (λ (c : Copy). c.var < n) (block_at b.blocking k).copies) (sym (as_long zone b.named.program.spans inside)) (known k _ l))
   where

@@ -8,22 +8,20 @@ use Rattle.std.proofs.lemmas.List.Elements.{recursion_from_All, All-nil}
 use Rattle.std.proofs.lemmas.List.FromFn.{length-range_with_len}
 use Rattle.bp_theory.specs.Program.{Program, KeepsActivity}
 use Rattle.bp_theory.specs.Blocking.{Block, Blocking, sides_of}
-use Rattle.bp_theory.specs.Decomposition.{Decomposition, ProofRow, whole_row, link_row, links_of, full_row, proof_row, members, lone_variables, lone_block, blocking_of, rows_of, row_with_places, is_block, is_in, is_first, IsPlace, HasPlaces, IsClosed, IsLinking, HasLargeLinks, IsMisplaced, IsFirstMisplaced, link_count, copy_of, HasVariablesBelow, IsTidyFrom}
+use Rattle.bp_theory.specs.Decomposition.{Decomposition, ProofRow, whole_row, link_row, links_of, full_row, proof_row, members, lone_variables, lone_block, blocking_of, rows_of, row_with_places, is_block, is_in, is_first, IsPlace, HasPlaces, HasLargeLinks, IsMisplaced, IsFirstMisplaced, link_count, copy_of, HasVariablesBelow, IsTidyFrom}
 use Rattle.bp_theory.specs.declared.Row.{Row}
 use Rattle.bp_theory.specs.declared.MasterRow.{MasterRow}
 use Rattle.bp_model.specs.Named.{NamedProgram, IsKept}
 use Rattle.bp_model.specs.Dec.{HasListed}
 use Rattle.block_form.specs.Blocked.{RootBlock, HaveRootSpans, AreMade, AreParts}
-use Rattle.block_form.specs.Checks.{IsFirstLinked}
 use Rattle.block_form.specs.Cuts.{KeepsCuts, IsSmallCut, AreCutRows}
-use Rattle.block_form.specs.Gather.{all_sides, link_sides, named_sides, IsApart, IsFirstApart, IsElsewhere, IsFirstElsewhere}
+use Rattle.block_form.specs.Gather.{all_sides, link_sides, named_sides, IsElsewhere, IsFirstElsewhere}
 use Rattle.block_form.specs.Homes.{AreHomes, further}
 use Rattle.block_form.specs.Source.{IsSource, block_in, rows_in, copy_in}
 use Rattle.block_form.specs.declared.source.Source.{Source}
 use Rattle.block_form.proofs.CopyLemmas.{links_counted}
-use Rattle.block_form.proofs.FormLemmas.{first_linked, none_linking, first_misplaced, none_misplaced}
+use Rattle.block_form.proofs.FormLemmas.{first_misplaced, none_misplaced}
 use Rattle.block_form.proofs.GatherLemmas.{passing_few}
-use Rattle.block_form.proofs.RangeLemmas.{none_pass}
 
 -- ---- lone blocks
 
@@ -128,7 +126,7 @@ sides_are s links links_is =
 
 -- ---- what is made
 
-made : (s : Source) (own all shown : List RootBlock) (named given : List (Option MasterRow)) (links : ℕ) → IsSource s
+pub made : (s : Source) (own all shown : List RootBlock) (named given : List (Option MasterRow)) (links : ℕ) → IsSource s
     → links ≡ link_count s.model.now.program s.dec.now
     → map (λ (k : RootBlock). k.block) own ≡ map (λ k. block_in s k (members s.model.now.program s.dec.now k)) (range_with_len 0 s.dec.now.blocks)
     → map (λ (k : RootBlock). k.block) all ≡ map (λ (k : RootBlock). k.block) own
@@ -162,53 +160,18 @@ made s own all shown named given links source links_is own_are all_are root show
       spans = subst (λ (bs : List RootBlock). HaveRootSpans p.spans bs) (sym shown_are) root;
     }
 
-pub made_at : (m : NamedProgram) (d : Decomposition) (cuts : List Row) (s : Source) (own all shown : List RootBlock) (rows : List Row) (places : List (Option ℕ))
-    (named given : List (Option MasterRow)) (links count : ℕ) → IsSource s → s.model.now ≡ m → s.dec.now ≡ d → s.cuts.now ≡ cuts
-    → rows ≡ m.program.rows → places ≡ d.places → count ≡ length m.program.rows → links ≡ s.end - count
-    → map (λ (k : RootBlock). k.block) own ≡ map (λ k. block_in s k (members s.model.now.program s.dec.now k)) (range_with_len 0 s.dec.now.blocks)
-    → map (λ (k : RootBlock). k.block) all ≡ map (λ (k : RootBlock). k.block) own
-    ++ map (λ v. block_in s s.dec.now.blocks (v ∷ [])) (lone_variables s.model.now.program s.dec.now)
-    → HaveRootSpans s.model.now.program.spans all → shown ≡ all → named ≡ all_sides rows places links cuts → given ≡ named → AreMade m d cuts shown given
-made_at m d cuts s own all shown rows places named given links count source model_is dec_is cuts_are rows_are places_are count_is links_is own_are all_are root shown_are named_are given_are =
-    let p = s.model.now.program in
-    let counted : links ≡ link_count p s.dec.now =
-    omega (arith, links_is, count_is, source.end, links_counted p s.dec.now s.homes.items source.homes, ap (λ (n : NamedProgram). length n.program.rows) model_is) in
-    subst (λ (cs : List Row). AreMade m d cs shown given) cuts_are
-    (subst (λ (e : Decomposition). AreMade m e s.cuts.now shown given) dec_is
-    (subst (λ (n : NamedProgram). AreMade n s.dec.now s.cuts.now shown given) model_is
-    (made s own all shown named given links source counted own_are all_are root shown_are
-    (named_are
-    ∙ ap (λ (rs : List Row). all_sides rs places links cuts) (rows_are ∙ sym (ap (λ (n : NamedProgram). n.program.rows) model_is))
-    ∙ ap (λ (ps : List (Option ℕ)). all_sides p.rows ps links cuts) (places_are ∙ sym (ap (λ (e : Decomposition). e.places) dec_is))
-    ∙ ap (λ (cs : List Row). all_sides p.rows s.dec.now.places links cs) (sym cuts_are))
-    given_are)))
+-- the same by what the source is of
+pub made_here : (m : NamedProgram) (d : Decomposition) (s : Source) (blocks : List RootBlock) (rows : List (Option MasterRow)) → s.model.now ≡ m → s.dec.now ≡ d → s.cuts.now ≡ []
+    → AreMade s.model.now s.dec.now s.cuts.now blocks rows → AreMade m d [] blocks rows
+made_here m d s blocks rows model_is dec_is cuts_are h =
+    subst (λ (cs : List Row). AreMade m d cs blocks rows) cuts_are
+    (subst (λ (e : Decomposition). AreMade m e s.cuts.now blocks rows) dec_is (subst (λ (n : NamedProgram). AreMade n s.dec.now s.cuts.now blocks rows) model_is h))
 
--- ---- for as long as no variable links
+pub large_at : (m : NamedProgram) (d : Decomposition) (s : Source) → s.model.now ≡ m → s.dec.now ≡ d → HasLargeLinks s.model.now.program s.dec.now → HasLargeLinks m.program d
+large_at m d s model_is dec_is h =
+    subst (λ (e : Decomposition). HasLargeLinks m.program e) dec_is (subst (λ (n : NamedProgram). HasLargeLinks n.program s.dec.now) model_is h)
 
--- where no two pass, none is behind the first
-one_passes : (q : ℕ → Bool) (a n : ℕ) → ((j k : ℕ) → j < k → k < a + n → q j ≡ true → q k ≡ true → ⊥) → drop 1 (filter q (range_with_len a n)) ≡ []
-one_passes q a zero h = refl
-one_passes q a (suc n) h = by (q a) refl (one_passes q (a + 1) n (λ j k less high. h j k less (omega (arith, high))))
-  where
-    by : (b : Bool) → q a ≡ b → drop 1 (filter q (range_with_len (a + 1) n)) ≡ []
-        → drop 1 (if b then a ∷ filter q (range_with_len (a + 1) n) else filter q (range_with_len (a + 1) n)) ≡ []
-    by true here rest = none_pass q (a + 1) n (λ k low high. h a k (omega (arith, low)) (omega (arith, high)) here)
-    by false here rest = rest
-
-no_links : (p : Program) (d : Decomposition) → ((w : ℕ) → IsLinking p d w → ⊥) → (vs : List ℕ) → flat_map (links_of p d) vs ≡ []
-no_links p d none [] = refl
-no_links p d none (v ∷ vs) =
-    ap (λ ks. map (link_row v) ks ++ flat_map (links_of p d) vs)
-    (one_passes (is_in p d v) 0 d.blocks (λ j k less high jin kin. none v (record { first = j; later = k; apart = less; there = omega (arith, high); in_first = jin; in_later = kin })))
-    ∙ no_links p d none vs
-
-not_large : (m : NamedProgram) (d : Decomposition) → IsKept m → ((w : ℕ) → IsLinking m.program d w → ⊥) → HasLargeLinks m.program d → ⊥
-not_large m d kept none large = ⊎_elim
-    (λ many.
-    let counted : link_count m.program d ≡ 0 = ap (λ (rows : List ProofRow). length rows) (no_links m.program d none (range_with_len 0 (length m.program.spans))) in
-    let no : ⊥ = omega (arith, many, counted, kept.rows) in no)
-    (λ wide. none wide.0 wide.2)
-    large
+-- ---- programs in blocks
 
 no_cuts : (p : Program) (d : Decomposition) → KeepsCuts p d []
 no_cuts p d = record { few = omega arith; small = All-nil IsSmallCut; fitting = tt; bounded = All-nil (KeepsActivity p) }
@@ -216,39 +179,23 @@ no_cuts p d = record { few = omega arith; small = All-nil IsSmallCut; fitting = 
 pub no_cut_rows : (p : Program) → AreCutRows p []
 no_cut_rows p = record { few = omega arith; below = All-nil (λ (row : Row). HasVariablesBelow (length p.spans) row.terms); tidy = All-nil (λ (row : Row). IsTidyFrom 0 row.terms) }
 
--- what is made of a model and a decomposition without links is a program in blocks
-pub parts_plain : (m : NamedProgram) (d : Decomposition) (blocks : List RootBlock) (rows : List (Option MasterRow)) → IsKept m → HasPlaces m.program d
-    → ((w : ℕ) → IsLinking m.program d w → ⊥) → AreMade m d [] blocks rows → AreParts m d [] blocks rows
-parts_plain m d blocks rows kept places none made = record {
+-- what is made of a model and a decomposition is a program in blocks without cuts
+pub parts_bare : (m : NamedProgram) (d : Decomposition) (blocks : List RootBlock) (rows : List (Option MasterRow)) → IsKept m → HasPlaces m.program d
+    → (HasLargeLinks m.program d → ⊥) → AreMade m d [] blocks rows → AreParts m d [] blocks rows
+parts_bare m d blocks rows kept places moderate made = record {
   formed = record {
     kept = kept;
     places = places;
     count = omega (arith, made.count, length-map blocks (λ (k : RootBlock). k.block));
-    moderate = not_large m d kept none;
+    moderate = moderate;
     cuts_kept = no_cuts m.program d;
     blocking = made.blocking;
-    apart = none;
     uncut = refl;
   };
   spans = made.spans;
 }
 
 -- ---- the same where slices show the parts
-
-pub first_linked_at : (p : Program) (d : Decomposition) (rows : List Row) (places : List (Option ℕ)) (vars v row1 row2 : ℕ)
-    → rows ≡ p.rows → places ≡ d.places → vars ≡ length p.spans → HasPlaces p d → IsFirstApart rows places vars v row1 row2 → IsFirstLinked p d v row1 row2
-first_linked_at p d rows places vars v row1 row2 rows_are places_are vars_are has h =
-    first_linked p d v row1 row2 has
-    (subst (λ n. IsFirstApart p.rows d.places n v row1 row2) vars_are
-    (subst (λ (ps : List (Option ℕ)). IsFirstApart p.rows ps vars v row1 row2) places_are
-    (subst (λ (rs : List Row). IsFirstApart rs places vars v row1 row2) rows_are h)))
-
-pub none_linking_at : (p : Program) (d : Decomposition) (rows : List Row) (places : List (Option ℕ)) (vars : ℕ)
-    → rows ≡ p.rows → places ≡ d.places → vars ≡ length p.spans → IsClosed p → ((v : ℕ) → v < vars → IsApart rows places v) → (w : ℕ) → IsLinking p d w → ⊥
-none_linking_at p d rows places vars rows_are places_are vars_are closed apart =
-    none_linking p d closed (λ v l.
-    subst (λ (ps : List (Option ℕ)). IsApart p.rows ps v) places_are
-    (subst (λ (rs : List Row). IsApart rs places v) rows_are (apart v (omega (arith, l, vars_are)))))
 
 pub first_misplaced_at : (p : Program) (d : Decomposition) (homes shown : List (List ℕ)) (listed : List (ℕ × Option ℕ)) (v : ℕ) → shown ≡ homes → listed ≡ d.listed
     → AreHomes p d homes → HasListed p d → IsFirstElsewhere shown listed v → IsFirstMisplaced p d v

@@ -14,8 +14,8 @@ use Rattle.bp_theory.specs.declared.Term.{Term}
 use Rattle.bp_theory.specs.declared.Row.{Row}
 use Rattle.bp_theory.proofs.KeyLaws.{if_same, if_other}
 use Rattle.block_form.specs.Stand.{StandsInRow}
-use Rattle.block_form.specs.Gather.{coefs_from, IsApart, IsLinkOf, IsFirstApart}
-use Rattle.block_form.specs.Columns.{row_entries, column_from, AreColumns, master_entries, row_at, PlacedAt, IsOfOne, IsCrossing, IsFirstCrossing}
+use Rattle.block_form.specs.Gather.{coefs_from}
+use Rattle.block_form.specs.Columns.{row_entries, column_from, master_entries, row_at, PlacedAt}
 use Rattle.block_form.proofs.StandLemmas.{before_none}
 
 pub row_entries-append : (row j : ℕ) (ts us : List Term) → row_entries row j (ts ++ us) ≡ row_entries row j ts ++ row_entries row j us
@@ -172,31 +172,6 @@ has_entry first (row ∷ rows) v (suc r) l stands =
     let back = column_from (suc first) rows v in
     (length front + h.0, omega (arith, h.1, length-append front back), ap (λ (e : ℕ × ℤ). e.0) (get_or-append-add front back h.0 (0, pos 0)) ∙ h.2 ∙ omega arith)
 
--- rows never fall along a column
-never_falls : (first : ℕ) (rows : List Row) (v i j : ℕ) → i ≤ j → j < length (column_from first rows v) → row_at (column_from first rows v) i ≤ row_at (column_from first rows v) j
-never_falls first [] v i j m l = absurd (omega arith)
-never_falls first (row ∷ rows) v i j m l =
-    let front = row_entries first v row.terms in
-    let back = column_from (suc first) rows v in
-    let long = length-append front back in
-    let all = All-from_recursion (Stands first (row ∷ rows) v) (front ++ back) (all_stand first (row ∷ rows) v) in
-    ⊎_elim
-    (λ inside.
-    let here : row_at (front ++ back) i ≡ first =
-    ap (λ (e : ℕ × ℤ). e.0) (get_or_append_left front back (0, pos 0) i inside)
-    ∙ (All-from_recursion (λ (e : ℕ × ℤ). (e.0 ≡ first) × (stands_in v row ≡ true)) front (entries_stand first v row.terms) i (0, pos 0) inside).0 in
-    let there = all j (0, pos 0) l in
-    omega (arith, here, there.1))
-    (λ past.
-    let a : ℕ = i - length front in
-    let b : ℕ = j - length front in
-    let at_i : row_at (front ++ back) i ≡ row_at back a =
-    ap (λ n. row_at (front ++ back) n) (let e : i ≡ length front + a = omega (arith, past) in e) ∙ ap (λ (e : ℕ × ℤ). e.0) (get_or-append-add front back a (0, pos 0)) in
-    let at_j : row_at (front ++ back) j ≡ row_at back b =
-    ap (λ n. row_at (front ++ back) n) (let e : j ≡ length front + b = omega (arith, past, m) in e) ∙ ap (λ (e : ℕ × ℤ). e.0) (get_or-append-add front back b (0, pos 0)) in
-    omega (arith, at_i, at_j, never_falls (suc first) rows v a b (omega (arith, m)) (omega (arith, l, long, past, m))))
-    (cases_lt i (length front))
-
 -- ---- columns and rows tell the same of blocks
 
 pub placed_stands : (rows : List Row) (places : List (Option ℕ)) (v i k : ℕ) → PlacedAt places (column_from 0 rows v) i k → StandsInRow rows places v (row_at (column_from 0 rows v) i) k
@@ -208,45 +183,6 @@ stands_placed rows places v r k h =
     let e = has_entry 0 rows v r h.there h.stands in
     let same : row_at (column_from 0 rows v) e.0 ≡ r = omega (arith, e.2) in
     (e.0, record { there = e.1; place = ap (λ n. get_or places n None) same ∙ h.place }, same)
-
-pub apart_shown : (rows : List Row) (places : List (Option ℕ)) (v : ℕ) → IsOfOne places (column_from 0 rows v) → IsApart rows places v
-apart_shown rows places v h r k s j one two =
-    let a = stands_placed rows places v r k one in
-    let b = stands_placed rows places v s j two in
-    h a.0 k b.0 j a.1 b.1
-
-pub link_shown : (rows : List Row) (places : List (Option ℕ)) (v row1 row2 : ℕ) → IsCrossing places (column_from 0 rows v) row1 row2 → IsLinkOf rows places v row1 row2
-link_shown rows places v row1 row2 h = record {
-  home = h.home;
-  first = record {
-    stands = subst (λ r. StandsInRow rows places v r h.home) h.first.row_is (placed_stands rows places v h.first.at h.home h.first.placed);
-    first = λ r k l s.
-        let e = stands_placed rows places v r k s in
-        h.first.first e.0 k (before h.first.at e.0 r row1 l h.first.row_is e.2 e.1.there) e.1;
-  };
-  other = record {
-    block = h.other.block;
-    stands = subst (λ r. StandsInRow rows places v r h.other.block) h.other.row_is (placed_stands rows places v h.other.at h.other.block h.other.placed);
-    apart = h.other.apart;
-    first = λ r k l s.
-        let e = stands_placed rows places v r k s in
-        h.other.first e.0 k (before h.other.at e.0 r row2 l h.other.row_is e.2 e.1.there) e.1;
-  };
-}
-  where
-    before : (at i r row : ℕ) → r < row → row_at (column_from 0 rows v) at ≡ row → row_at (column_from 0 rows v) i ≡ r → i < length (column_from 0 rows v) → i < at
-    before at i r row l at_is i_is inside = ⊎_elim
-        (λ less. less)
-        (λ more. absurd (let none : ⊥ = omega (arith, never_falls 0 rows v at i more inside, l, at_is, i_is) in none))
-        (cases_lt i at)
-
-pub first_apart_shown : (rows : List Row) (places : List (Option ℕ)) (columns : List (List (ℕ × ℤ))) (n v row1 row2 : ℕ) → AreColumns rows columns → length columns ≡ n
-    → IsFirstCrossing places columns v row1 row2 → IsFirstApart rows places n v row1 row2
-first_apart_shown rows places columns n v row1 row2 are each h = record {
-  there = omega (arith, h.there, each);
-  earlier = λ w l. apart_shown rows places w (subst (IsOfOne places) (are w (omega (arith, l, h.there))) (h.earlier w l));
-  link = link_shown rows places v row1 row2 (subst (λ (column : List (ℕ × ℤ)). IsCrossing places column row1 row2) (are v h.there) h.crossing);
-}
 
 -- ---- coefficients in master rows
 

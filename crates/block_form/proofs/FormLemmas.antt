@@ -6,14 +6,13 @@ use Rattle.std.proofs.lemmas.Bool.{cases_lt}
 use Rattle.std.proofs.lemmas.Bool.Decides.{eqb_tells}
 use Rattle.std.proofs.lemmas.List.Elements.{recursion_from_All, All-from_recursion}
 use Rattle.bp_theory.specs.Program.{Program}
-use Rattle.bp_theory.specs.Decomposition.{Decomposition, is_block, stands_in, is_in, IsClosed, IsPlace, HasPlaces, IsLinking, IsMisplaced, IsFirstMisplaced, place_of}
+use Rattle.bp_theory.specs.Decomposition.{Decomposition, is_block, stands_in, is_in, IsMisplaced, IsFirstMisplaced, place_of}
 use Rattle.bp_theory.specs.declared.Term.{Term}
 use Rattle.bp_theory.specs.declared.Row.{Row}
 use Rattle.bp_theory.specs.declared.Sense.TheVariants.{Le}
 use Rattle.bp_theory.proofs.DecompositionProof.{eqb_itself}
 use Rattle.block_form.specs.Stand.{StandsInRow}
-use Rattle.block_form.specs.Gather.{IsApart, IsLinkOf, IsFirstApart, IsElsewhere, IsFirstElsewhere, IsOneElse}
-use Rattle.block_form.specs.Checks.{IsFirstLinked}
+use Rattle.block_form.specs.Gather.{IsElsewhere, IsFirstElsewhere, IsOneElse}
 use Rattle.block_form.specs.Homes.{homes_in, AreHomes}
 use Rattle.block_form.proofs.GatherLemmas.{any_default}
 use Rattle.block_form.proofs.RangeLemmas.{at_place, kept_passing}
@@ -107,59 +106,6 @@ unfolding any_in
 stands_from_in p d v k e =
     let h = place_from_any v k p.rows d.places e in
     (h.0, record { there = h.1; place = h.2; stands = λ row. subst (λ (x : Row). stands_in v x ≡ true) (any_default p.rows h.0 none_row row h.1) h.3 })
-
--- ---- linking variables and homes
-
-pub apart_not_linking : (p : Program) (d : Decomposition) (v : ℕ) → IsApart p.rows d.places v → IsLinking p d v → ⊥
-apart_not_linking p d v apart link =
-    let one = stands_from_in p d v link.first link.in_first in
-    let two = stands_from_in p d v link.later link.in_later in
-    let same : link.first ≡ link.later = apart one.0 link.first two.0 link.later one.1 two.1 in
-    omega (arith, same, link.apart)
-
--- a row's block is there
-pub block_there : (p : Program) (d : Decomposition) (r k : ℕ) → HasPlaces p d → r < length p.rows → get_or d.places r None ≡ Some k → k < d.blocks
-block_there p d r k h l at = subst (IsPlace d.blocks) at (h.known r None (omega (arith, l, h.each)))
-
-two_blocks_link : (p : Program) (d : Decomposition) (v k j : ℕ) → k < d.blocks → j < d.blocks → is_in p d v k ≡ true → is_in p d v j ≡ true → k ≢ j → IsLinking p d v
-two_blocks_link p d v k j kl jl kin jin apart = ⊎_elim
-    (λ less. record { first = k; later = j; apart = less; there = jl; in_first = kin; in_later = jin })
-    (λ more. record { first = j; later = k; apart = omega (arith, more, apart); there = kl; in_first = jin; in_later = kin })
-    (cases_lt k j)
-
-link_linking : (p : Program) (d : Decomposition) (v row1 row2 : ℕ) → HasPlaces p d → IsLinkOf p.rows d.places v row1 row2 → IsLinking p d v
-link_linking p d v row1 row2 places link =
-    two_blocks_link p d v link.other.block link.home
-    (block_there p d row2 link.other.block places link.other.stands.there link.other.stands.place)
-    (block_there p d row1 link.home places link.first.stands.there link.first.stands.place)
-    (in_from_stands p d v row2 link.other.block link.other.stands) (in_from_stands p d v row1 link.home link.first.stands) link.other.apart
-
-pub first_linked : (p : Program) (d : Decomposition) (v row1 row2 : ℕ) → HasPlaces p d → IsFirstApart p.rows d.places (length p.spans) v row1 row2 → IsFirstLinked p d v row1 row2
-first_linked p d v row1 row2 places h = record {
-  there = h.there;
-  linking = link_linking p d v row1 row2 places h.link;
-  earlier = λ w l. apart_not_linking p d w (h.earlier w l);
-  home = h.link.home;
-  first = h.link.first;
-  other = h.link.other;
-}
-
--- who stands in a row is a variable of the program
-stands_below : (n v : ℕ) (terms : List Term) → AllByRecursion (λ t. t.var < n) terms → list_any (λ (t : Term). t.var == v) terms ≡ true → v < n
-stands_below n v [] below e = absurd (true≢false (sym e))
-stands_below n v (t ∷ ts) below e = ⊎_elim
-    (λ same. omega (arith, below.0, same.1))
-    (λ other. stands_below n v ts below.1 (sym (ap (λ b. b || list_any (λ (u : Term). u.var == v) ts) other.0) ∙ e))
-    (eqb_tells t.var v)
-
-in_below : (p : Program) (d : Decomposition) (v k : ℕ) → IsClosed p → is_in p d v k ≡ true → v < length p.spans
-in_below p d v k closed e =
-    let h = stands_from_in p d v k e in
-    stands_below (length p.spans) v (get_or p.rows h.0 none_row).terms
-    (recursion_from_All (λ t. t.var < length p.spans) (get_or p.rows h.0 none_row).terms (closed.rows h.0 none_row h.1.there)) (h.1.stands none_row)
-
-pub none_linking : (p : Program) (d : Decomposition) → IsClosed p → ((v : ℕ) → v < length p.spans → IsApart p.rows d.places v) → (w : ℕ) → IsLinking p d w → ⊥
-none_linking p d closed apart w link = apart_not_linking p d w (apart w (in_below p d w link.first closed link.in_first)) link
 
 -- ---- misplaced variables
 

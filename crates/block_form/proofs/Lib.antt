@@ -11,4 +11,6 @@ pub mod LinkLemmas
 pub mod HomeLemmas
 pub mod CopyLemmas
 pub mod SumLemmas
+pub mod LargeLemmas
+mod NamedRows
 pub mod PlainLemmas

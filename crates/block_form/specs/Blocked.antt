@@ -3,7 +3,7 @@ use Rattle.std.specs.Prelude.{◌≡◌, ℕ, List, [], ◌∷◌, map, length, 
 use Rattle.bp_theory.specs.Limits.{most_parts}
 use Rattle.bp_theory.specs.Blocking.{Copy, Block, Blocking}
 use Rattle.bp_theory.specs.Bound.{spans_of}
-use Rattle.bp_theory.specs.Decomposition.{Decomposition, HasPlaces, IsLinking, HasLargeLinks, blocking_of}
+use Rattle.bp_theory.specs.Decomposition.{Decomposition, HasPlaces, HasLargeLinks, blocking_of}
 use Rattle.bp_theory.specs.Cuts.{cut_rows}
 use Rattle.bp_theory.specs.declared.Cut.{Cut}
 use Rattle.bp_theory.specs.declared.Row.{Row}
@@ -25,7 +25,7 @@ pub record BlockedProgram : Type 0 where
   pub blocking : Blocking
 
 -- what a program in blocks keeps: its limits, at most so many blocks as may be, a place for each row, few and small link rows and cuts, and the blocking
--- that the decomposition and the cuts give the program; and for now no variable in rows of two blocks, and no cuts
+-- that the decomposition and the cuts give the program; and for now no cuts
 pub record IsFormed (b : BlockedProgram) : Type 0 where
   pub kept : IsKept b.named
   pub places : HasPlaces b.named.program b.dec
@@ -33,7 +33,6 @@ pub record IsFormed (b : BlockedProgram) : Type 0 where
   pub moderate : HasLargeLinks b.named.program b.dec → ⊥
   pub cuts_kept : KeepsCuts b.named.program b.dec b.cuts
   pub blocking : b.blocking ≡ blocking_of b.named.program b.dec (cut_rows b.named.program b.dec [] b.cuts)
-  pub apart : (v : ℕ) → IsLinking b.named.program b.dec v → ⊥
   pub uncut : b.cuts ≡ []
 
 -- copies from their variables, costs and coefficients

@@ -1,5 +1,5 @@
 -- Rows by variables: the rows in which each variable stands, with its coefficients, and the blocks of these rows.
-use Rattle.std.specs.Prelude.{◌≡◌, ◌≢◌, ℕ, suc, ◌<◌, ◌==◌, if◌then◌else◌, is_none, List, [], ◌∷◌, ◌++◌, filter, length, Option, Some, None, ℤ, pos, slice_index_or}
+use Rattle.std.specs.Prelude.{◌≡◌, ℕ, suc, ◌<◌, ◌==◌, if◌then◌else◌, is_none, List, [], ◌∷◌, ◌++◌, filter, length, Option, Some, None, ℤ, pos, slice_index_or}
 use Rattle.bp_theory.specs.declared.Term.{Term}
 use Rattle.bp_theory.specs.declared.Row.{Row}
 
@@ -32,35 +32,3 @@ row_at column i = (slice_index_or column i (0, pos 0)).0
 pub record PlacedAt (places : List (Option ℕ)) (column : List (ℕ × ℤ)) (i block : ℕ) : Type 0 where
   pub there : i < length column
   pub place : slice_index_or places (row_at column i) None ≡ Some block
-
--- the first row of a block in a column
-pub record IsFirstPlaced (places : List (Option ℕ)) (column : List (ℕ × ℤ)) (row block : ℕ) : Type 0 where
-  pub at : ℕ
-  pub placed : PlacedAt places column at block
-  pub row_is : row_at column at ≡ row
-  pub first : (i k : ℕ) → i < at → PlacedAt places column i k → ⊥
-
--- the first row of another block in a column
-pub record IsFirstElse (places : List (Option ℕ)) (column : List (ℕ × ℤ)) (home row : ℕ) : Type 0 where
-  pub at : ℕ
-  pub block : ℕ
-  pub placed : PlacedAt places column at block
-  pub row_is : row_at column at ≡ row
-  pub apart : block ≢ home
-  pub first : (i k : ℕ) → i < at → PlacedAt places column i k → k ≡ home
-
--- no two rows of a column are of different blocks
-abbrev pub IsOfOne : List (Option ℕ) → List (ℕ × ℤ) → Type 0
-IsOfOne places column = (i k j l : ℕ) → PlacedAt places column i k → PlacedAt places column j l → k ≡ l
-
--- the first row of a block in a column, and the first of another block
-pub record IsCrossing (places : List (Option ℕ)) (column : List (ℕ × ℤ)) (row1 row2 : ℕ) : Type 0 where
-  pub home : ℕ
-  pub first : IsFirstPlaced places column row1 home
-  pub other : IsFirstElse places column home row2
-
--- the first column with rows of two blocks
-pub record IsFirstCrossing (places : List (Option ℕ)) (columns : List (List (ℕ × ℤ))) (v row1 row2 : ℕ) : Type 0 where
-  pub there : v < length columns
-  pub earlier : (w : ℕ) → w < v → IsOfOne places (slice_index_or columns w [])
-  pub crossing : IsCrossing places (slice_index_or columns v []) row1 row2

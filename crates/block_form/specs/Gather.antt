@@ -5,7 +5,6 @@ use Rattle.std.specs.Ordering.{int_eq}
 use Rattle.bp_theory.specs.Program.{coefficient}
 use Rattle.bp_theory.specs.Blocking.{sides_of}
 use Rattle.bp_theory.specs.declared.MasterRow.{MasterRow}
-use Rattle.block_form.specs.Stand.{StandsInRow, IsFirstBlockRow, IsFirstOtherRow}
 use Rattle.bp_theory.specs.Decomposition.{is_block, row_with_places}
 use Rattle.bp_theory.specs.declared.Term.{Term}
 use Rattle.bp_theory.specs.declared.Row.{Row}
@@ -47,22 +46,6 @@ homeless homes = filter (λ v. is_empty (slice_index_or homes v [])) (range_with
 -- one of a variable's homes isn't that of its list
 abbrev pub IsOneElse : List ℕ → Option ℕ → Type 0
 IsOneElse homes list = (i : ℕ) × (i < length homes) × ((d : ℕ) → list ≢ Some (slice_index_or homes i d))
-
--- no two rows of different blocks have a variable
-abbrev pub IsApart : List Row → List (Option ℕ) → ℕ → Type 0
-IsApart rows places v = (r k s j : ℕ) → StandsInRow rows places v r k → StandsInRow rows places v s j → k ≡ j
-
--- the first block row of a variable, and the first row of another block where it stands
-pub record IsLinkOf (rows : List Row) (places : List (Option ℕ)) (v row1 row2 : ℕ) : Type 0 where
-  pub home : ℕ
-  pub first : IsFirstBlockRow rows places v row1 home
-  pub other : IsFirstOtherRow rows places v home row2
-
--- the first of so many variables that two rows of different blocks have, with its first block row and the first of another block
-pub record IsFirstApart (rows : List Row) (places : List (Option ℕ)) (vars v row1 row2 : ℕ) : Type 0 where
-  pub there : v < vars
-  pub earlier : (w : ℕ) → w < v → IsApart rows places w
-  pub link : IsLinkOf rows places v row1 row2
 
 -- a listed variable has a home elsewhere
 abbrev pub IsElsewhere : List (List ℕ) → ℕ × Option ℕ → Type 0

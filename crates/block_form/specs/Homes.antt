@@ -1,7 +1,9 @@
 -- The blocks in whose rows variables stand, and the link rows of their further copies.
-use Rattle.std.specs.Prelude.{◌≡◌, ◌⊎◌, ℕ, ◌+◌, ◌<◌, ◌≤◌, true, Bool, List, [], map, filter, drop, take, length, Option, Some, None, ℤ, pos, slice_index_or, sum_by}
+use Rattle.std.specs.Prelude.{◌≡◌, ◌⊎◌, ℕ, ◌+◌, ◌*◌, ◌<◌, ◌≤◌, true, Bool, List, [], map, filter, drop, take, length, Option, Some, None, ℤ, pos, slice_index_or, sum_by}
 use Rattle.std.specs.List.{range_with_len, list_any}
-use Rattle.bp_theory.specs.Program.{Program}
+use Rattle.bp_theory.specs.Limits.{number_limit}
+use Rattle.bp_theory.specs.Program.{Program, reach, span_at}
+use Rattle.bp_theory.specs.declared.Span.{Span}
 use Rattle.bp_theory.specs.Decomposition.{Decomposition, is_block, is_in, is_first}
 
 -- whether a column has an entry in a row of a block
@@ -49,3 +51,11 @@ link_entries first count = map (λ i. (i, pos 1)) (range_with_len first count)
 abbrev pub IsHeld : Program → Decomposition → ℕ → ℕ → Type 0
 IsHeld p d v k =
     ((k < d.blocks) × (is_in p d v k ≡ true)) ⊎ ((k ≡ d.blocks) × (is_first p d v d.blocks ≡ true))
+
+-- the difference of two numbers of a span may leave 62 bits
+abbrev pub IsWide : Span → Type 0
+IsWide span = number_limit ≤ 2 * reach span
+
+-- some variable with a further copy has a wide span
+abbrev pub HasWideCopies : List (List ℕ) → List Span → Type 0
+HasWideCopies homes spans = (v : ℕ) × (v < length homes) × (1 < length (slice_index_or homes v [])) × IsWide (span_at spans v)

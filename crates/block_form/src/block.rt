@@ -3,13 +3,25 @@ use bp_theory::{Items, Row, Span};
 
 /// A block: the copies of its variables, each with its span at the root, its cost and its coefficients in the master
 /// rows, and the block's own rows, whose terms name places among the copies.
-#[derive(Drop)]
 pub struct Block {
     vars: Items<u32>,
     spans: Items<Span>,
     costs: Items<i64>,
     masters: Items<Items<(u32, i64)>>,
     rows: Items<Row>,
+}
+
+// What goes with one is proved here once, and not again wherever one goes.
+impl Drop for Block {
+    fn drop(self) {
+        let Block {
+            vars: _,
+            spans: _,
+            costs: _,
+            masters: _,
+            rows: _,
+        } = self;
+    }
 }
 
 impl std::marker::Model for Block {

@@ -13,13 +13,25 @@ pub struct Base {
 }
 
 /// A program in blocks: a model, a decomposition of it, cuts, and the blocks that these make.
-#[derive(Drop)]
 pub struct Blocked {
     base: Rc<Base>,
     cuts: Items<Cut>,
     blocks: Items<Block>,
     rows: Items<Option<MasterRow>>,
     places: Items<(u32, u32)>,
+}
+
+// What goes with one is proved here once, and not again wherever one goes.
+impl Drop for Blocked {
+    fn drop(self) {
+        let Blocked {
+            base: _,
+            cuts: _,
+            blocks: _,
+            rows: _,
+            places: _,
+        } = self;
+    }
 }
 
 impl std::marker::Model for Blocked {
@@ -133,6 +145,14 @@ impl Blocked {
         ensures first { IsFirstCopyAt self.now.blocking.blocks var result }
     {
         place_at(self.places.as_slice(), var)
+    }
+
+    /// How many numbers of rows there are for proofs: those of the model's rows, then of the link rows, then of the cuts.
+    pub fn named_rows(&self) -> u32
+        ensures rows { result ≡ length self.now.blocking.rows }
+        ensures formed { IsFormed self.now }
+    {
+        self.rows.len() as u32
     }
 
     /// The sense and sides of a row that proofs may name: a master row, a link row or a cut; none for each other number.

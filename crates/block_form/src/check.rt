@@ -1,30 +1,32 @@
 // The blocks that a decomposition gives a model, or what it is refused for.
-ghost use Rattle.std.specs.Prelude.{◌≡◌, ℕ, [], length, All, IfOk, IfErr, OnOk};
-ghost use Rattle.bp_theory.specs.Decomposition.{HasPlaces, IsLinking, IsMisplaced};
+ghost use Rattle.std.specs.Prelude.{◌≡◌, [], length, All, IfOk, IfErr, OnOk};
+ghost use Rattle.bp_theory.specs.Decomposition.{HasPlaces, IsMisplaced};
 ghost use Rattle.bp_model.specs.Dec.{HasListed};
 ghost use Rattle.block_form.specs.Blocked.{AreMade, AreParts, IsFormed};
 ghost use Rattle.block_form.specs.declared.fault.BlockFault.TheVariants.{NoMemory};
-ghost use Rattle.block_form.specs.Columns.{AreColumns};
 ghost use Rattle.block_form.specs.Checks.{HasBlockFault};
+ghost use Rattle.block_form.specs.Columns.{AreColumns};
 ghost use Rattle.block_form.specs.Cuts.{AreCutRows};
 ghost use Rattle.block_form.specs.Homes.{AreHomes};
+ghost use Rattle.block_form.specs.Source.{IsSource};
 
 use crate::assemble::{home_blocks, named_rows, push_lone_blocks};
 use crate::block::Block;
 use crate::blocked::{Base, Blocked};
 use crate::columns::columns_of;
 use crate::fault::{BlockFault, Unblocked};
-use crate::homes::{first_elsewhere, first_link, homes_of};
+use crate::homes::{first_elsewhere, homes_of};
+use crate::links::are_large;
 use crate::places::var_places;
 use crate::source::Source;
 use bp_model::{Dec, Model};
-use bp_theory::{Items, MasterRow, Row};
+use bp_theory::{Items, MasterRow};
 use std::alloc::{AllocError, Global};
 use std::rc::Rc;
 
-/// The program in blocks that a decomposition of a model makes. Refused are a variable that stands in rows of two
-/// blocks, and else a listed variable that stands in a row of a block other than its list's, the first of each.
-/// Each refusal hands the model back.
+/// The program in blocks that a decomposition of a model makes, without cuts. Refused are the first listed variable that
+/// stands in a row of a block other than its list's, and else too many rows and link rows, or a variable with copies in
+/// several blocks whose difference may leave 62 bits. Each refusal hands the model back.
 pub fn check_blocks(alloc: Global, model: Model, dec: Dec) -> Result<Blocked, Unblocked>
     requires places { HasPlaces model.program dec }
     requires listed { HasListed model.program dec }
@@ -87,51 +89,41 @@ fn parts_of(
         dec.now.listed) }
     ensures fault { IfErr result (HasBlockFault model.now.program dec.now) }
 {
-    let places = dec.places();
     let Ok(columns) = columns_of(alloc, model.vars(), 0, model.all_rows()) else {
         return Err(BlockFault::NoMemory);
     };
-    if let Some(link) = first_link(columns.as_slice(), places) {
-        return Err(BlockFault::Linking {
-            var: link.var,
-            row1: link.row1,
-            row2: link.row2,
-        });
-    }
-    let Ok(homes) = homes_of(alloc, dec.blocks(), columns.as_slice(), places) else {
+    let Ok(homes) = homes_of(alloc, dec.blocks(), columns.as_slice(), dec.places()) else {
         return Err(BlockFault::NoMemory);
     };
     if let Some(var) = first_elsewhere(homes.as_slice(), dec.listed()) {
         return Err(BlockFault::VarPlace(var));
     }
     let cuts = Vec::new(alloc);
-    let Ok(parts) = made_parts(alloc, model, dec, cuts.as_slice(), columns, homes) else {
+    let Ok(source) = Source::make(alloc, model, dec, cuts.as_slice(), columns, homes) else {
+        return Err(BlockFault::NoMemory);
+    };
+    if are_large(&source) {
+        return Err(BlockFault::Links);
+    }
+    let Ok(parts) = made_parts(alloc, &source) else {
         return Err(BlockFault::NoMemory);
     };
     Ok(parts)
 }
 
-// The blocks and the named rows of a model, a decomposition of it and rows of cuts, by columns and homes.
+// The blocks and the named rows of a model, a decomposition of it and rows of cuts.
 fn made_parts(
     alloc: Global,
-    model: &Model,
-    dec: &Dec,
-    cuts: &[Row],
-    columns: Vec<Items<(u32, i64)>>,
-    homes: Vec<Items<u32>>,
+    source: &Source,
 ) -> Result<(Items<Block>, Items<Option<MasterRow>>), AllocError>
-    requires places { HasPlaces model.now.program dec.now }
-    requires cuts { AreCutRows model.now.program cuts.now }
-    requires columns { AreColumns model.now.program.rows columns.items }
-    requires each_column { length columns.items ≡ length model.now.program.spans }
-    requires homes { AreHomes model.now.program dec.now homes.items }
-    ensures { IfOk result (λ parts. AreMade model.now dec.now cuts.now parts.0 parts.1) }
+    requires { IsSource source.now }
+    ensures { IfOk result (λ parts. AreMade source.now.model.now source.now.dec.now
+        source.now.cuts.now parts.0 parts.1) }
 {
-    let rows = model.all_rows();
-    let source = Source::make(alloc, model, dec, cuts, columns, homes)?;
-    let mut blocks = home_blocks(alloc, &source)?;
-    push_lone_blocks(alloc, &source, &mut blocks)?;
-    let links = source.end.saturating_sub(model.rows());
-    let named = named_rows(alloc, rows, dec.places(), links, cuts)?;
+    let rows = source.model.all_rows();
+    let mut blocks = home_blocks(alloc, source)?;
+    push_lone_blocks(alloc, source, &mut blocks)?;
+    let links = source.end.saturating_sub(source.model.rows());
+    let named = named_rows(alloc, rows, source.dec.places(), links, source.cuts)?;
     Ok((Items::from_vec(blocks), Items::from_vec(named)))
 }

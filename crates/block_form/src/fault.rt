@@ -4,10 +4,10 @@ use bp_model::Model;
 /// What a decomposition is refused for.
 #[derive(Clone, Copy, Debug, PartialEq, Eq)]
 pub enum BlockFault {
-    /// This variable stands in rows of two blocks: its first block row, and the first row of another block where it stands.
-    Linking { var: u32, row1: u32, row2: u32 },
     /// This listed variable stands in a row of a block other than its list's.
     VarPlace(u32),
+    /// Rows and link rows are too many, or the copies of a variable may differ by more than 62 bits hold.
+    Links,
     /// Want of memory.
     NoMemory,
 }

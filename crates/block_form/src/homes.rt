@@ -1,21 +1,12 @@
 // The blocks in whose rows variables stand, and what is wrong with them.
-ghost use Rattle.std.specs.Prelude.{◌≡◌, ◌≢◌, ℕ, ◌<◌, ◌^◌, length, All, IfOk, MatchOption, MatchBool, slice_index_or, true, Some, []};
+ghost use Rattle.std.specs.Prelude.{◌≡◌, ◌≢◌, ℕ, ◌<◌, length, All, IfOk, MatchOption, MatchBool, slice_index_or, true, Some, []};
 ghost use Rattle.bp_theory.specs.Decomposition.{IsPlace};
-ghost use Rattle.block_form.specs.Columns.{IsCrossing, IsFirstCrossing, IsOfOne};
 ghost use Rattle.block_form.specs.Homes.{has_block, shown_homes, IsNearer, IsNext};
 ghost use Rattle.block_form.specs.Gather.{IsElsewhere, IsFirstElsewhere, IsOneElse};
 
-use crate::stand::{block_at, first_else, first_placed};
+use crate::stand::block_at;
 use bp_theory::Items;
 use std::alloc::{AllocError, Global};
-
-/// Two rows of different blocks with one variable.
-#[derive(Clone, Copy)]
-pub struct Link {
-    pub var: u32,
-    pub row1: u32,
-    pub row2: u32,
-}
 
 /// For each variable its homes, the blocks in whose rows it stands, ascending, by its column.
 pub fn homes_of(
@@ -87,36 +78,6 @@ fn nearer(found: Option<u32>, place: Option<u32>, from: u32) -> Option<u32>
             }
         },
     }
-}
-
-/// The first variable that stands in rows of two blocks, by the columns, with its first block row and the first row of
-/// another block.
-pub fn first_link(columns: &[Items<(u32, i64)>], places: &[Option<u32>]) -> Option<Link>
-    requires { length columns.now < 2 ^ 32 }
-    ensures { MatchOption result ((v : ℕ) → v < length columns.now →
-        IsOfOne places.now (slice_index_or columns.now v []))
-        (λ link. IsFirstCrossing places.now columns.now link.var link.row1 link.row2) }
-{
-    for v in 0..columns.len() {
-        if let Some((row1, row2)) = link_of(columns[v].as_slice(), places) {
-            return Some(Link {
-                var: v as u32,
-                row1,
-                row2,
-            });
-        }
-    }
-    None
-}
-
-// The first row of a block in a column and the first of another block, if there are both.
-fn link_of(column: &[(u32, i64)], places: &[Option<u32>]) -> Option<(u32, u32)>
-    ensures { MatchOption result (IsOfOne places.now column.now)
-        (λ link. IsCrossing places.now column.now link.0 link.1) }
-{
-    let (row1, home) = first_placed(column, places)?;
-    let row2 = first_else(column, places, home)?;
-    Some((row1, row2))
 }
 
 /// The first listed variable with a home that isn't that of its list.

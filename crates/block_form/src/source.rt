@@ -12,7 +12,6 @@ use std::alloc::{AllocError, Global};
 
 /// What blocks are assembled from: a model, a decomposition of it and the rows of cuts, and by variables the rows in
 /// which each stands, its homes, the number of its first link row, and the cuts in which it stands.
-#[derive(Drop)]
 pub struct Source<'a> {
     pub model: &'a Model,
     pub dec: &'a Dec,
@@ -23,6 +22,22 @@ pub struct Source<'a> {
     /// The number behind the last link row, which is the first cut's.
     pub end: u32,
     pub cut_columns: Vec<Items<(u32, i64)>>,
+}
+
+// What goes with one is proved here once, and not again wherever one goes.
+impl<'a> Drop for Source<'a> {
+    fn drop(self) {
+        let Source {
+            model: _,
+            dec: _,
+            cuts: _,
+            columns: _,
+            homes: _,
+            links: _,
+            end: _,
+            cut_columns: _,
+        } = self;
+    }
 }
 
 impl<'a> Source<'a> {

@@ -1,41 +1,10 @@
 // Where variables stand in rows of blocks.
-ghost use Rattle.std.specs.Prelude.{◌≡◌, ℕ, ◌<◌, ◌≤◌, length, slice_index_or, None, MatchOption};
+ghost use Rattle.std.specs.Prelude.{◌≡◌, ◌≤◌, length, slice_index_or, None};
 ghost use Rattle.std.specs.List.Sorted.{IsStrictlyIncreasing};
 ghost use Rattle.bp_theory.specs.Program.{coefficient};
 ghost use Rattle.bp_theory.specs.Decomposition.{place_of, IsTidyFrom};
-ghost use Rattle.block_form.specs.Columns.{IsFirstElse, IsFirstPlaced, PlacedAt};
 
 use bp_theory::Term;
-
-/// The first row of a block in a column, with its block.
-pub fn first_placed(column: &[(u32, i64)], places: &[Option<u32>]) -> Option<(u32, u32)>
-    ensures { MatchOption result ((i k : ℕ) → PlacedAt places.now column.now i k → ⊥)
-        (λ found. IsFirstPlaced places.now column.now found.0 found.1) }
-{
-    for i in 0..column.len() {
-        let row = column[i].0;
-        if let Some(block) = block_at(places, row) {
-            return Some((row, block));
-        }
-    }
-    None
-}
-
-/// The first row of a block other than this in a column.
-pub fn first_else(column: &[(u32, i64)], places: &[Option<u32>], home: u32) -> Option<u32>
-    ensures { MatchOption result ((i k : ℕ) → PlacedAt places.now column.now i k → k ≡ home)
-        (λ row. IsFirstElse places.now column.now home row) }
-{
-    for i in 0..column.len() {
-        let row = column[i].0;
-        if let Some(block) = block_at(places, row) {
-            if block != home {
-                return Some(row);
-            }
-        }
-    }
-    None
-}
 
 /// The block of a row, none for a master row.
 pub fn block_at(places: &[Option<u32>], row: u32) -> Option<u32>

@@ -19,9 +19,6 @@ use Rattle.search_laws.specs.Grove.{GrowingTree}
 use Rattle.lp_read.specs.Reading as lp_text
 use Rattle.lp_read.proofs.Readings as lp_laws
 use Rattle.block_form.specs.Blocked.{BlockedProgram}
-use Rattle.block_form.specs.Checks.{HasBlockFault}
-use Rattle.block_form.specs.declared.fault.BlockFault.{BlockFault}
-use Rattle.block_form.specs.declared.fault.BlockFault.TheVariants.{Linking, VarPlace, NoMemory}
 use Rattle.branch_tree.specs.declared.outcome.Outcome.{Outcome}
 use Rattle.branch_tree.specs.declared.outcome.Outcome.TheVariants.{Optimal, Infeasible, Budget}
 use Rattle.bp_search.specs.Ends.{EndsWithin, given_steps, last_step}
@@ -38,6 +35,7 @@ use Rattle.cmd_solve.specs.Leaves.{IsWorkedOn}
 use Rattle.cmd_solve.specs.Solves as solves
 use Rattle.cmd_solve.specs.Solves.{SolvesBlocked, SolvesBelow, SolvesOn, SolvesBy, AnswersSolve, outcome_status, outcome_certificate}
 use Rattle.cmd_solve.specs.Saves.{HasCertificate}
+use Rattle.bp_cli.proofs.PlainForm.{plain_fault}
 use Rattle.bp_cli.specs.Headline.{IsTrueReport, optimal, infeasible, budget, HasProgram, IsCount, IsStoppedAfter, IsOutcomeStatus, WasStopped, TellsTruly, AcceptsTruly}
 
 -- ---- what files come to
@@ -88,18 +86,12 @@ files_move before now lp dec f same others (read_lp text m _ there means come) =
 abbrev NoEnd : Front → Type 0
 NoEnd f = EndsOrHas (λ status. ⊥) (λ b. Unit {0}) f
 
--- the plain form has no fault
-plain_fault : (m : NamedProgram) (fault : BlockFault) → fault ≢ NoMemory → HasBlockFault m.program (plain_of m.program) fault → ⊥
-plain_fault m (Linking v r s) known has = let there = has.linking.there in omega arith
-plain_fault m (VarPlace v) known has = let there = has.1.there in omega arith
-plain_fault m NoMemory known has = known refl
+plain_blocks : (text : List ℕ) (m : NamedProgram) (f : Front) → Means text m → BlocksCome m (plain_of m.program) f → NoEnd f
+plain_blocks text m f means (formed b named decs is placed) = tt
+plain_blocks text m f means (refused fault known has) = absurd (plain_fault text m fault means known has)
 
-plain_blocks : (m : NamedProgram) (f : Front) → BlocksCome m (plain_of m.program) f → NoEnd f
-plain_blocks m f (formed b named decs is placed) = tt
-plain_blocks m f (refused fault known has) = absurd (plain_fault m fault known has)
-
-plain_dec : (files : Files) (m : NamedProgram) (f : Front) → DecComes files m None f → NoEnd f
-plain_dec files m f (plain _ come) = plain_blocks m f come
+plain_dec : (files : Files) (text : List ℕ) (m : NamedProgram) (f : Front) → Means text m → DecComes files m None f → NoEnd f
+plain_dec files text m f means (plain _ come) = plain_blocks text m f means come
 
 plain_files : (files : Files) (lp : List ℕ) (m : NamedProgram) (f : Front) → HasProgram (files lp) m → FilesCome files lp None f → NoEnd f
 plain_files files lp m f has (missing_lp there) = let text = has.there in absurd (cc)
@@ -109,7 +101,7 @@ plain_files files lp m f has (faulty_lp text line kind there fault) =
   where
     one_text : (file : Option (List ℕ)) (t u : List ℕ) → file ≡ Some t → file ≡ Some u → t ≡ u
     one_text file t u a b = cc
-plain_files files lp m f has (read_lp text n _ there means come) = plain_dec files n f come
+plain_files files lp m f has (read_lp text n _ there means come) = plain_dec files text n f means come
 
 -- ---- outcomes
 

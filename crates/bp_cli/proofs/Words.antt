@@ -13,6 +13,7 @@ use Rattle.cmd_detect.specs.Files as detected
 use Rattle.cmd_propose.specs.Files as proposed
 use Rattle.cmd_merge.specs.Files as merged
 use Rattle.cmd_migrate.specs.Files as migrated
+use Rattle.cmd_solve.proofs.Parts.{untouched_part}
 use Rattle.bp_cli.proofs.OneOrder.{one_order, not_both}
 
 -- an answer of the order
@@ -64,10 +65,11 @@ refused_two status (inr (inr want)) no_write no_want = absurd (no_want want)
 
 -- an order that was not begun left nothing
 pub nothing_written : (files : Files) (order : Order) → HasWritten order files files None 9
-nothing_written files (Solve given) = (tt, stands given.cert, λ _. refl) where
-  stands : (cert : Option (List ℕ)) → FilesStand cert files files
-  stands None = refl
-  stands (Some name) = λ other apart. refl
+nothing_written files (Solve given) =
+    (tt, stands given.cert, (λ _. refl), λ _. untouched_part files given.lp given.dec given.steps given.cert given.from given.leaf files refl) where
+      stands : (cert : Option (List ℕ)) → FilesStand cert files files
+      stands None = refl
+      stands (Some name) = λ other apart. refl
 nothing_written files (Check given) = refl
 nothing_written files (Show lp dec blocks) = refl
 nothing_written files (Gen seed size lp dec) = untouched refl refl

@@ -7,9 +7,9 @@ use Rattle.bp_words.specs.Orders.{IsOrderOf, AreRefused}
 use Rattle.bp_words.specs.declared.order.Order.{Order}
 use Rattle.bp_words.specs.declared.order.Order.TheVariants.{Solve, Check, Show, Gen, Demo, Detect, Propose, Merge, Migrate}
 use Rattle.bp_report.specs.Refusals.{words_refusal}
-use Rattle.bp_front.specs.Answers.{FilesStand, IsUntouched}
+use Rattle.bp_front.specs.Answers.{FilesStand}
 use Rattle.cmd_solve.specs.Solves.{AnswersSolve}
-use Rattle.cmd_solve.specs.Saves.{HasCertificate, LeavesCertificate}
+use Rattle.cmd_solve.specs.Saves.{HasCertificate, LeavesCertificate, IsUntouched, LeavesPart}
 use Rattle.cmd_solve.specs.Crews.{HasEvents}
 use Rattle.cmd_check.specs.Checks.{AnswersCheck}
 use Rattle.cmd_show.specs.Shows.{AnswersShow}
@@ -41,13 +41,14 @@ pub data Answers (words : List (List ℕ)) (files : Files) (kept : Option Outcom
   refused : AreRefused words → kept ≡ None → status ≡ 2 → report ≡ words_refusal → Answers words files kept status report
   ordered : (order : Order) → IsOrderOf words order → AnswersOrder order files kept status report → Answers words files kept status report
 
--- What an order wrote, and what stands of the files: the file of `--cert` holds the certificate of what is kept, and no other
--- file changed; or both made texts stand, or what a fault left of them; or the text of the decomposition that was found or chosen, or
+-- What an order wrote, and what stands of the files: the file of `--cert` holds the certificate of what is kept, or for want of
+-- memory what it held or a beginning of the certificate of an outcome, and no other file changed; or both made texts stand, or what a fault left of them; or the text of the decomposition that was found or chosen, or
 -- the certificate that was merged or written anew, likewise;
 -- every other order changes no file.
 abbrev pub HasWritten : Order → (before now : Files) → Option Outcome → (status : ℕ) → Type 0
 HasWritten (Solve given) before now kept status =
     HasCertificate before given.lp given.dec given.cert now kept × FilesStand given.cert before now × (IsUntouched status → now ≡ before)
+    × (status ≡ 9 → LeavesPart before given.lp given.dec given.steps given.cert given.from given.leaf now)
 HasWritten (Check given) before now kept status = now ≡ before
 HasWritten (Show lp dec blocks) before now kept status = now ≡ before
 HasWritten (Gen seed size lp dec) before now kept status = GenLeaves seed size lp dec before now status

@@ -64,8 +64,8 @@ pub fn run<F: Shelf, O: Sink>(alloc: Global, words: &[String], shelf: &mut F, ou
     ensures demonstrated { OfOrder (map string_bytes words.now)
         (λ order. Demonstrates order result.kept result.status (O.tells out.old) (O.taken out.old)
         (O.taken out.new)) }
-    // What is written: the valid certificate of the outcome that is kept, or the texts that are made; and that nothing
-    // else is.
+    // What is written: the valid certificate of the outcome that is kept, or for want of memory a beginning of that of an
+    // outcome, or the texts that are made; and that nothing else is.
     ensures written { IsTrue (F.tells shelf.old) → OfOrder (map string_bytes words.now)
         (λ order. HasWritten order (F.file shelf.old) (F.file shelf.new) result.kept
         result.status) }
@@ -123,8 +123,8 @@ fn answer_words<F: Shelf, O: Sink>(
     ensures demonstrated { OfOrder (map string_bytes words.now)
         (λ order. Demonstrates order result.kept result.status (O.tells out.old) (O.taken out.old)
         (O.taken out.new)) }
-    // What is written: the valid certificate of the outcome that is kept, or the texts that are made; and that nothing
-    // else is.
+    // What is written: the valid certificate of the outcome that is kept, or for want of memory a beginning of that of an
+    // outcome, or the texts that are made; and that nothing else is.
     ensures written { IsTrue (F.tells shelf.old) → OfOrder (map string_bytes words.now)
         (λ order. HasWritten order (F.file shelf.old) (F.file shelf.new) result.kept
         result.status) }

@@ -9,7 +9,7 @@ use Rattle.bp_shelf.specs.declared.shelf.ShelfFault.TheVariants as shelf
 use Rattle.block_form.specs.Blocked.{BlockedProgram}
 use Rattle.block_form.specs.Checks.{HasBlockFault}
 use Rattle.block_form.specs.declared.fault.BlockFault.{BlockFault}
-use Rattle.block_form.specs.declared.fault.BlockFault.TheVariants.{Linking, VarPlace, NoMemory}
+use Rattle.block_form.specs.declared.fault.BlockFault.TheVariants.{VarPlace, Links, NoMemory}
 use Rattle.lp_read.specs.Model.{Means}
 use Rattle.dec_read.specs.Reading.{ReadsDecomposition}
 use Rattle.bp_report.specs.Refusals.{dec_refusal, HasNamed}
@@ -69,13 +69,13 @@ blocks_halted files lp dec m d (Err (Stopped shelf.NoMemory)) model is halts = t
 blocks_halted files lp dec m d (Err (Stopped shelf.Missing)) model is halts = absurd (cc)
 blocks_halted files lp dec m d (Err (Stopped shelf.Failed)) model is halts = tt
 
--- the variables and rows that a fault names are there
+-- the variable that a fault names is there
 pub fault_named : (m : NamedProgram) (d : Decomposition) (fault : BlockFault) → HasListed m.program d → HasBlockFault m.program d fault → HasNamed m fault
-fault_named m d (Linking v r s) listed has = (has.there, has.first.stands.there, has.other.stands.there)
 fault_named m d (VarPlace v) listed has =
     let none : ℕ × Option ℕ = (0, None) in
-    let there = All-get_or (λ (e : ℕ × Option ℕ). (e.0 < length m.program.spans) × IsPlace d.blocks e.1) d.listed has.1.place none has.1.there listed in
-    subst (λ (n : ℕ). n < length m.program.spans) (has.1.var none) there.0
+    let there = All-get_or (λ (e : ℕ × Option ℕ). (e.0 < length m.program.spans) × IsPlace d.blocks e.1) d.listed has.place none has.there listed in
+    subst (λ (n : ℕ). n < length m.program.spans) (has.var none) there.0
+fault_named m d Links listed has = tt
 fault_named m d NoMemory listed has = tt
 
 -- ---- texts in whatever files

@@ -3,7 +3,7 @@ use Rattle.std.proofs.Common.{◌≡◌, ◌≢◌, ◌∙◌, refl, sym, ap, su
 use Rattle.std.proofs.lemmas.List.Elements.{All-get_or}
 use Rattle.bp_theory.specs.Program.{Program}
 use Rattle.bp_theory.specs.Blocking.{Blocking}
-use Rattle.bp_theory.specs.Decomposition.{Decomposition, IsMisplaced, IsLinking, blocking_of}
+use Rattle.bp_theory.specs.Decomposition.{Decomposition, IsMisplaced, HasLargeLinks, blocking_of}
 use Rattle.bp_model.specs.Named.{NamedProgram}
 use Rattle.bp_shelf.specs.Shelf.{Files}
 use Rattle.lp_read.specs.Reading as lp_text
@@ -16,7 +16,7 @@ use Rattle.block_form.specs.Checks.{HasBlockFault}
 use Rattle.block_form.proofs.PlainLemmas.{plain_blocking}
 use Rattle.bp_theory.specs.declared.Cut.{Cut}
 use Rattle.block_form.specs.declared.fault.BlockFault.{BlockFault}
-use Rattle.block_form.specs.declared.fault.BlockFault.TheVariants.{Linking, VarPlace, NoMemory}
+use Rattle.block_form.specs.declared.fault.BlockFault.TheVariants.{VarPlace, Links, NoMemory}
 use Rattle.bp_front.specs.Front.{Front, blocked, ends, BlocksCome, formed, refused, DecComes, plain, missing, faulty, read, FilesCome, missing_lp, faulty_lp, read_lp}
 use Rattle.bp_front.proofs.Unique.{one_program}
 
@@ -41,12 +41,12 @@ one_blocked b c f g named decs =
 -- what has blocks is not refused
 not_refused : (m : NamedProgram) (d : Decomposition) (b : BlockedProgram) (fault : BlockFault) → b.named ≡ m → b.dec ≡ d → IsFormed b
     → All (λ e. IsMisplaced m.program d e → ⊥) d.listed → fault ≢ NoMemory → HasBlockFault m.program d fault → ⊥
-not_refused m d b (Linking v r s) named decs f placed known has =
-    f.apart v (subst (λ (p : Program). IsLinking p b.dec v) (sym (ap (λ (n : NamedProgram). n.program) named))
-    (subst (λ (e : Decomposition). IsLinking m.program e v) (sym decs) has.linking))
 not_refused m d b (VarPlace v) named decs f placed known has =
     let none : ℕ × Option ℕ = (0, None) in
-    All-get_or (λ (e : ℕ × Option ℕ). IsMisplaced m.program d e → ⊥) d.listed has.1.place none has.1.there placed (has.1.misplaced none)
+    All-get_or (λ (e : ℕ × Option ℕ). IsMisplaced m.program d e → ⊥) d.listed has.place none has.there placed (has.misplaced none)
+not_refused m d b Links named decs f placed known has =
+    f.moderate (subst (λ (p : Program). HasLargeLinks p b.dec) (sym (ap (λ (n : NamedProgram). n.program) named))
+    (subst (λ (e : Decomposition). HasLargeLinks m.program e) (sym decs) has.1))
 not_refused m d b NoMemory named decs f placed known has = known refl
 
 one_in_blocks : (m : NamedProgram) (d : Decomposition) (f g : Front) → BlocksCome m d f → BlocksCome m d g → SameFront f g

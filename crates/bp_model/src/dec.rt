@@ -8,11 +8,21 @@ use std::alloc::{AllocError, Global};
 
 /// A decomposition: the number of its blocks, for each row its block or the master, and the listed variables with
 /// their places, at most 4,096 blocks. It goes with the model that it was made for.
-#[derive(Drop)]
 pub struct Dec {
     blocks: u32,
     places: Items<Option<u32>>,
     listed: Items<(u32, Option<u32>)>,
+}
+
+// What goes with one is proved here once, and not again wherever one goes.
+impl Drop for Dec {
+    fn drop(self) {
+        let Dec {
+            blocks: _,
+            places: _,
+            listed: _,
+        } = self;
+    }
 }
 
 impl std::marker::Model for Dec {

@@ -8,7 +8,6 @@ use bp_theory::{Items, Row, Span, Term};
 use std::alloc::Global;
 
 /// A bounded integer program in minimised form, with the names of its variables and rows.
-#[derive(Drop)]
 pub struct Model {
     names: Names,
     row_names: Names,
@@ -17,6 +16,21 @@ pub struct Model {
     costs: Items<Term>,
     constant: i64,
     maximises: bool,
+}
+
+// What goes with one is proved here once, and not again wherever one goes.
+impl Drop for Model {
+    fn drop(self) {
+        let Model {
+            names: _,
+            row_names: _,
+            spans: _,
+            rows: _,
+            costs: _,
+            constant: _,
+            maximises: _,
+        } = self;
+    }
 }
 
 impl std::marker::Model for Model {

@@ -11,9 +11,15 @@ use std::marker::Model;
 
 /// Names, each once, numbered from 0 in the order in which they came: fewer than `2^32`.
 /// Contracts see the list of their bytes.
-#[derive(Drop)]
 pub struct Names {
     table: IndexSet<String>,
+}
+
+// What goes with one is proved here once, and not again wherever one goes.
+impl Drop for Names {
+    fn drop(self) {
+        let Names { table: _ } = self;
+    }
 }
 
 impl Model for Names {

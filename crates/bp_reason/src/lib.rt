@@ -1,5 +1,5 @@
-//! Notes: why a run was refused or stopped, in words for people, on standard error. Nothing rests on them: the run and its
-//! report are what they would be without. A shelf and a sink that watch a run keep what its note is made of.
+//! Notes: why a run was refused or stopped, in words for people, on standard error, made of what a watched run has kept.
+//! Nothing rests on them: the run and its report are what they would be without.
 #![tactic(auto)]
 
 mod blocks;
@@ -11,7 +11,5 @@ mod place;
 mod reading;
 mod text;
 mod usage;
-mod watched;
 
 pub use note::explain;
-pub use watched::{Files, Seen, Watched, WatchedSink};

@@ -3,7 +3,7 @@ use crate::kinds::{AFTER_REJECTED, CERT, DEC, FROM, LP, REJECTED, ROWS};
 use crate::place::{Spot, line_of, lp_spot, names_spot};
 use crate::text::{put, put_name, put_number, put_quoted, put_sentence, sentence_of, word_at};
 use crate::usage::words_note;
-use crate::watched::{Files, Seen};
+use bp_watch::{Files, Seen};
 use std::alloc::{AllocError, Global};
 use std::str;
 
@@ -249,20 +249,15 @@ fn put_cert(note: &mut Vec<u8>, seen: &Seen, line: &str, kind: &str) -> Result<(
 // The note on a decomposition that does not go with the model.
 fn put_blocks(note: &mut Vec<u8>, seen: &Seen, line: &str) -> Result<(), AllocError> {
     let kind = word_at(line, 2);
-    let variable = word_at(line, 3).as_bytes();
     put_head(note, seen, "", None, kind)?;
-    put(note, "the variable ")?;
-    put_quoted(note, variable)?;
-    if kind == "linking" {
-        put(note, " stands in rows of two blocks, ")?;
-        put_quoted(note, word_at(line, 4).as_bytes())?;
-        put(note, " and ")?;
-        put_quoted(note, word_at(line, 5).as_bytes())?;
+    if kind == "links" {
         return put(
             note,
-            "; put one of the two rows under MASTERCONSS, or both in one block\n",
+            "a variable in rows of several blocks is linked by a row for each block but the first; these and the model's rows are more than 8192, or such a variable has a bound past 2305843009213693951; put rows of such variables under MASTERCONSS\n",
         );
     }
+    put(note, "the variable ")?;
+    put_quoted(note, word_at(line, 3).as_bytes())?;
     put(
         note,
         " stands in a row of a block, and is listed with another block or with the master; list it with the block in whose rows it stands, or in no list\n",

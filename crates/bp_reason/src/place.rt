@@ -2,7 +2,7 @@
 use crate::blocks::{Names, first_wrong};
 use crate::grammar::expected;
 use crate::reading::{Found, Reading, read, uncut};
-use crate::watched::{Files, Seen};
+use bp_watch::{Files, Seen};
 use std::alloc::{AllocError, Global};
 
 /// The place of a fault: its column, from 1, in bytes; the slice of its token; the key of its sentence; and what is

@@ -9,12 +9,13 @@ use Rattle.std.proofs.lemmas.List.FromFn.{fill_by_all, length-map-range_with_len
 use Rattle.std.proofs.lemmas.Option.{get_or_from_slice_get}
 use Rattle.bp_theory.specs.Blocking.{Copy, Block, Blocking}
 use Rattle.bp_theory.specs.Decomposition.{IsPlace, is_block, proof_rows, block_of, lone_block, lone_variables}
+use Rattle.bp_theory.specs.Cuts.{cut_rows}
+use Rattle.bp_theory.proofs.CutProof.{cuts_are_met_lem}
 use Rattle.bp_theory.proofs.DecompositionProof.{decomposition_lem}
 use Rattle.bp_model.specs.Named.{NamedProgram}
 use Rattle.block_form.specs.Blocked.{BlockedProgram, IsFormed}
 use Rattle.block_form.proofs.GatherLemmas.{passing_below}
 use Rattle.block_form.proofs.StandLemmas.{passing_more}
-use Rattle.block_form.proofs.PlainLemmas.{plain_blocking}
 use Rattle.dec_find.specs.Text.{spaced}
 use Rattle.search_laws.specs.Spread.{block_at}
 use Rattle.bp_report.specs.Report.{rows_of_block, name_of, counted_names, shown_block}
@@ -70,10 +71,11 @@ blocks_there : (b : BlockedProgram) → IsFormed b → b.dec.blocks ≤ length b
 blocks_there b formed =
     let p = b.named.program in
     let d = b.dec in
-    let own : List Block = map (block_of p d (proof_rows p d [])) (range_with_len 0 d.blocks) in
-    let lone : List Block = map (lone_block p d (proof_rows p d [])) (lone_variables p d) in
-    let all : length b.blocking.blocks ≡ length own + length lone = ap (λ (bl : Blocking). length bl.blocks) (plain_blocking formed) ∙ length-append own lone in
-    let count : length own ≡ d.blocks = length-map-range_with_len (block_of p d (proof_rows p d [])) 0 d.blocks in
+    let rows = proof_rows p d (cut_rows p d [] b.cuts) in
+    let own : List Block = map (block_of p d rows) (range_with_len 0 d.blocks) in
+    let lone : List Block = map (lone_block p d rows) (lone_variables p d) in
+    let all : length b.blocking.blocks ≡ length own + length lone = ap (λ (bl : Blocking). length bl.blocks) formed.blocking ∙ length-append own lone in
+    let count : length own ≡ d.blocks = length-map-range_with_len (block_of p d rows) 0 d.blocks in
     omega (arith, all, count)
 
 wider : (n m : ℕ) (place : Option ℕ) → n ≤ m → IsPlace n place → IsPlace m place
@@ -90,8 +92,8 @@ all_places b formed = λ k d l. wider b.dec.blocks (length b.blocking.blocks) (g
 pub vars_known : (b : BlockedProgram) (block : Block) (n : ℕ) (vars : List ℕ) → IsFormed b → n < length b.blocking.blocks → block ≡ get_or b.blocking.blocks n block
     → vars ≡ map (λ (c : Copy). c.var) block.copies → All (λ var. var < length b.named.program.spans) vars
 vars_known b block n vars formed there is vars_are =
-    let known = subst (λ (bl : Blocking). All (λ (e : Block). All (λ (c : Copy). c.var < length b.named.program.spans) e.copies) bl.blocks) (sym (plain_blocking formed))
-    (decomposition_lem.adds_up b.named.program b.dec [] formed.kept.closed (λ i d m. absurd (omega (arith, m)))).known in
+    let known = subst (λ (bl : Blocking). All (λ (e : Block). All (λ (c : Copy). c.var < length b.named.program.spans) e.copies) bl.blocks) (sym formed.blocking)
+    (decomposition_lem.adds_up b.named.program b.dec (cut_rows b.named.program b.dec [] b.cuts) formed.kept.closed (cuts_are_met_lem.closed b.named.program b.dec b.cuts)).known in
     subst (λ (vs : List ℕ). All (λ var. var < length b.named.program.spans) vs) (sym vars_are)
     (All-map (λ var. var < length b.named.program.spans) (λ (c : Copy). c.var) block.copies
     (subst (λ (e : Block). All (λ (c : Copy). c.var < length b.named.program.spans) e.copies) (sym is) (known n block there)))

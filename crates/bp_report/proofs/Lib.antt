@@ -1,3 +1,4 @@
 pub mod PointLines
 pub mod Pieces
+pub mod LinkRows
 pub mod BlockRows

@@ -91,26 +91,25 @@ leaf_refusal number = count_line (codes "refused leaf ") number
 abbrev pub rows_refusal : (line : ℕ) → RowsKind → List ℕ
 rows_refusal line kind = fault_line (codes "refused rows ") line (rows_kind_name kind)
 
--- the line on a linking variable with two rows of different blocks, and on a misplaced variable
-abbrev pub linking_line : (var row1 row2 : List ℕ) → List ℕ
-linking_line var row1 row2 = codes "refused blocks linking " ++ var ++ codes " " ++ row1 ++ codes " " ++ row2 ++ codes "\n"
+-- the line on link rows that are too many or too large
+abbrev pub links_refusal : List ℕ
+links_refusal = codes "refused blocks links\n"
 
+-- the line on a misplaced variable
 abbrev pub var_place_line : (var : List ℕ) → List ℕ
 var_place_line var = codes "refused blocks var-place " ++ var ++ codes "\n"
 
--- the report on a decomposition whose blocks are refused: the linking variable with two rows of different blocks, or the misplaced variable, by
--- their names; want of memory has no report
+-- the report on a decomposition whose blocks are refused: the misplaced variable by its name, or that links are too many or too large; want of
+-- memory has no report
 abbrev pub blocks_refusal : NamedProgram → BlockFault → List ℕ
-blocks_refusal m (block.Linking var row1 row2) =
-    linking_line (get_or m.names var []) (get_or m.row_names row1 []) (get_or m.row_names row2 [])
 blocks_refusal m (block.VarPlace var) = var_place_line (get_or m.names var [])
+blocks_refusal m block.Links = links_refusal
 blocks_refusal m block.NoMemory = []
 
--- the variables and rows that a fault names are there
+-- the variable that a fault names is there
 abbrev pub HasNamed : NamedProgram → BlockFault → Type 0
-HasNamed m (block.Linking var row1 row2) =
-    (var < length m.program.spans) × (row1 < length m.program.rows) × (row2 < length m.program.rows)
 HasNamed m (block.VarPlace var) = var < length m.program.spans
+HasNamed m block.Links = Unit {0}
 HasNamed m block.NoMemory = Unit {0}
 
 -- the names that a refusal tells are at hand

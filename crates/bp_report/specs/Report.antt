@@ -1,12 +1,12 @@
 -- The bytes of reports: lines of words with single spaces between, each line ended by one line feed.
-use Rattle.std.specs.Prelude.{ℕ, ◌+◌, nat_lt, Bool, if◌then◌else◌, option_map, map, filter, slice_index_or, length, count_by, is_none, List, [], ◌∷◌, ◌++◌, Option, Some, None, ℤ, codes, decimal}
+use Rattle.std.specs.Prelude.{ℕ, ◌+◌, ◌==◌, nat_lt, Bool, if◌then◌else◌, option_map, map, filter, slice_index_or, length, count_by, is_none, List, [], ◌∷◌, ◌++◌, Option, Some, None, ℤ, codes, decimal}
 use Rattle.bp_theory.specs.Limits.{demo_steps}
 use Rattle.std.specs.Fmt.{signed_decimal}
 use Rattle.std.specs.List.{range_with_len, flat_map}
 use Rattle.std.specs.Option.{ForSome}
 use Rattle.bp_theory.specs.Program.{IsInside, value, in_sense}
 use Rattle.bp_theory.specs.Blocking.{Copy}
-use Rattle.bp_theory.specs.Decomposition.{is_block}
+use Rattle.bp_theory.specs.Decomposition.{is_block, link_count}
 use Rattle.bp_theory.specs.declared.Claim.{Claim}
 use Rattle.bp_theory.specs.declared.Claim.TheVariants.{Optimal, Infeasible, Bound}
 use Rattle.bp_theory.specs.declared.CheckKind.{CheckKind}
@@ -157,12 +157,16 @@ class_line class first size variables rows =
     codes "class " ++ decimal (class + 1) ++ codes " first " ++ decimal (first + 1) ++ codes " size " ++ decimal size
     ++ codes " variables " ++ decimal variables ++ codes " rows " ++ decimal rows ++ codes "\n"
 
+-- the line of the link rows, which is there exactly where there are any
+abbrev pub links_line : ℕ → List ℕ
+links_line links = if links == 0 then [] else count_line (codes "links ") links
+
 -- the lines of the sizes of a program in blocks
 abbrev pub size_lines : BlockedProgram → (classes : ℕ) → List ℕ
 size_lines b classes =
     count_line (codes "variables ") (length b.named.program.spans) ++ count_line (codes "rows ") (length b.named.program.rows)
     ++ count_line (codes "master ") (count_by is_none b.dec.places) ++ count_line (codes "blocks ") (length b.blocking.blocks)
-    ++ count_line (codes "classes ") classes
+    ++ links_line (link_count b.named.program b.dec) ++ count_line (codes "classes ") classes
 
 -- the line of a class of blocks
 abbrev pub line_of_class : BlockedProgram → Grouping → ℕ → List ℕ

@@ -1,7 +1,7 @@
 // The reports on words and texts that are refused.
 ghost use Rattle.std.specs.Prelude.{◌≡◌, ◌++◌, IfOk, OnOk};
 ghost use Rattle.std.specs.Option.{option_map};
-ghost use Rattle.bp_report.specs.Refusals.{words_refusal, lp_kind_name, lp_refusal, dec_kind_name, dec_refusal, cert_kind_name, cert_refusal, from_refusal, leaf_refusal, rows_kind_name, rows_refusal, linking_line, var_place_line, blocks_refusal, HasNamed, CanName, refusal_report};
+ghost use Rattle.bp_report.specs.Refusals.{words_refusal, lp_kind_name, lp_refusal, dec_kind_name, dec_refusal, cert_kind_name, cert_refusal, from_refusal, leaf_refusal, rows_kind_name, rows_refusal, links_refusal, var_place_line, blocks_refusal, HasNamed, CanName, refusal_report};
 
 use crate::lines::{fault_text, push_count_line};
 use block_form::BlockFault;
@@ -111,26 +111,17 @@ pub fn blocks_text(alloc: Global, m: &Model, fault: &BlockFault) -> Result<Vec<u
     ensures { IfOk result (λ text. text.items ≡ blocks_refusal m.now fault.now) }
 {
     match fault {
-        BlockFault::Linking { var, row1, row2 } => {
-            linking_text(alloc, m.name(*var), m.row_name(*row1), m.row_name(*row2))
-        }
         BlockFault::VarPlace(var) => var_place_text(alloc, m.name(*var)),
+        BlockFault::Links => links_text(alloc),
         BlockFault::NoMemory => Ok(Vec::new(alloc)),
     }
 }
 
-// The report on a linking variable with two rows of different blocks.
-fn linking_text(alloc: Global, var: &str, row1: &str, row2: &str) -> Result<Vec<u8>, AllocError>
-    ensures { IfOk result (λ text. text.items ≡ linking_line var.now row1.now row2.now) }
+// The report on link rows that are too many or too large.
+fn links_text(alloc: Global) -> Result<Vec<u8>, AllocError>
+    ensures { IfOk result (λ text. text.items ≡ links_refusal) }
 {
-    let mut text = Vec::from_slice(alloc, b"refused blocks linking ")?;
-    text.extend_from_slice(var.as_bytes())?;
-    text.extend_from_slice(b" ")?;
-    text.extend_from_slice(row1.as_bytes())?;
-    text.extend_from_slice(b" ")?;
-    text.extend_from_slice(row2.as_bytes())?;
-    text.extend_from_slice(b"\n")?;
-    Ok(text)
+    Vec::from_slice(alloc, b"refused blocks links\n")
 }
 
 // The report on a misplaced variable.

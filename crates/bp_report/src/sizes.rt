@@ -1,7 +1,8 @@
 // The reports on sizes.
 ghost use Rattle.std.specs.Prelude.{◌≡◌, ◌++◌, ◌<◌, length, count_by, is_none, IfOk, OnOk, decimal};
+ghost use Rattle.bp_theory.specs.Decomposition.{link_count};
 ghost use Rattle.block_class.specs.Classes.{AreSameClasses};
-ghost use Rattle.bp_report.specs.Report.{size_lines, class_line, line_of_class, class_lines, show_report, made_report, detected_report, first_classes, proposed_line, proposed_report};
+ghost use Rattle.bp_report.specs.Report.{size_lines, links_line, class_line, line_of_class, class_lines, show_report, made_report, detected_report, first_classes, proposed_line, proposed_report};
 
 use crate::lines::{push_count, push_count_line};
 use block_class::Classes;
@@ -89,7 +90,27 @@ fn push_sizes(text: &mut Vec<u8>, b: &Blocked, classes: u32) -> Result<(), Alloc
     push_count_line(text, b"rows ", model.rows() as u64)?;
     push_count_line(text, b"master ", master_rows(b.dec().places()))?;
     push_count_line(text, b"blocks ", b.blocks() as u64)?;
+    push_links(text, link_rows(b))?;
     push_count_line(text, b"classes ", classes as u64)
+}
+
+// The line of the link rows, where there are any.
+fn push_links(text: &mut Vec<u8>, links: u64) -> Result<(), AllocError>
+    ensures { OnOk result (text.new.items ≡ text.old.items ++ links_line links) }
+{
+    if links == 0 {
+        return Ok(());
+    }
+    push_count_line(text, b"links ", links)
+}
+
+// How many link rows there are: of the rows that proofs may name, those behind the model's and before the cuts.
+fn link_rows(b: &Blocked) -> u64
+    ensures { result ≡ link_count b.now.named.program b.now.dec }
+{
+    let others = b.model().rows() as u64 + b.cuts().len() as u64;
+    let links = b.named_rows() as u64 - others;
+    links
 }
 
 // How many rows are in no block.

@@ -4,7 +4,8 @@
 
 use bp_cli::run;
 use bp_real::{FileShelf, OutSink};
-use bp_reason::{Files, Watched, WatchedSink, explain};
+use bp_reason::explain;
+use bp_watch::{Files, Watched, WatchedSink};
 use std::io::{ErrorKind, Write};
 use std::process::ExitCode;
 use std::rt::Env;

@@ -15,7 +15,9 @@ use Rattle.bp_theory.specs.Program.{Program, coefficient, span_at, reach}
 use Rattle.bp_theory.specs.Blocking.{Copy, Block, Blocking, all_copies}
 use Rattle.bp_theory.specs.Bound.{IsBound, IsPart, IsLeast, spans_of, reduced_cost, end_cost, box_least, base, plain_proof}
 use Rattle.bp_theory.specs.Decomposition.{Decomposition, ProofRow, IsClosed, IsTidyFrom, HasVariablesBelow, blocking_of, proof_rows, at_first, copy_of, is_in, is_first}
+use Rattle.bp_theory.specs.Cuts.{cut_rows}
 use Rattle.bp_theory.specs.Trees.{IsProper}
+use Rattle.bp_theory.specs.declared.Row.{Row}
 use Rattle.bp_theory.specs.declared.Span.{Span}
 use Rattle.bp_theory.specs.declared.Term.{Term}
 use Rattle.bp_theory.proofs.ClassProof.{least_over_box_lem}
@@ -25,7 +27,6 @@ use Rattle.bp_theory.proofs.RoundProof.{parts_add_up_lem}
 use Rattle.bp_theory.proofs.SumLaws.{sum_of-flat_map, sum_of-map, sum_of-same, sum_of_more, sum_of_so_far_within}
 use Rattle.bp_model.specs.Named.{NamedProgram, IsKept}
 use Rattle.block_form.specs.Blocked.{BlockedProgram, IsFormed}
-use Rattle.block_form.proofs.PlainLemmas.{plain_blocking}
 use Rattle.branch_tree.specs.Bounds.{better_cost, better_total, total_limit}
 
 -- ---- the sums are small
@@ -200,30 +201,30 @@ terms_past spans (t ∷ ts) n v all l =
     omega (arith, ints, if_other t.var v (better_cost spans t) (pos 0) (λ e. omega (arith, all.0, e)), terms_past spans ts n v all.1 l)
 
 -- what the copies of a variable cost at the better end is what its term costs there
-copies_cost : (p : Program) (d : Decomposition) → IsClosed p → IsTidyFrom 0 p.costs → (v : ℕ)
-    → sum_at (λ (c : Copy). c.var) (copy_better p.spans) (all_copies (blocking_of p d [])) v ≡ sum_at (λ (t : Term). t.var) (better_cost p.spans) p.costs v
-copies_cost p d closed tidy v = ⊎_elim
-    (λ l. copies_at p d (proof_rows p d []) (copy_better p.spans) v l
+copies_cost : (p : Program) (d : Decomposition) (cuts : List Row) → IsClosed p → IsTidyFrom 0 p.costs → (v : ℕ)
+    → sum_at (λ (c : Copy). c.var) (copy_better p.spans) (all_copies (blocking_of p d cuts)) v ≡ sum_at (λ (t : Term). t.var) (better_cost p.spans) p.costs v
+copies_cost p d cuts closed tidy v = ⊎_elim
+    (λ l. copies_at p d (proof_rows p d cuts) (copy_better p.spans) v l
     ∙ ap (λ z. z +ℤ (if is_first p d v d.blocks then least else pos 0))
-    (sum_of-same (λ k. if is_in p d v k then copy_better p.spans (copy_of p (proof_rows p d []) (is_first p d v k) v k) else pos 0)
+    (sum_of-same (λ k. if is_in p d v k then copy_better p.spans (copy_of p (proof_rows p d cuts) (is_first p d v k) v k) else pos 0)
     (λ k. if is_in p d v k then at_first (is_first p d v k) least else pos 0)
     (λ k. ap (λ z. if is_in p d v k then z else pos 0) (at_first_end (span_at p.spans v) (coefficient p.costs v) (is_first p d v k)))
     (range_with_len 0 d.blocks))
     ∙ first_takes (is_in p d v) least d.blocks
     ∙ sym (terms_at p.spans p.costs 0 v tidy))
-    (λ l. copies_past p d (proof_rows p d []) (copy_better p.spans) v l
+    (λ l. copies_past p d (proof_rows p d cuts) (copy_better p.spans) v l
     ∙ sym (terms_past p.spans p.costs (length p.spans) v (recursion_from_All (λ (t : Term). t.var < length p.spans) p.costs closed.costs) l))
     (cases_lt v (length p.spans))
   where
     least : ℤ
     least = end_cost (span_at p.spans v) (coefficient p.costs v)
 
-same_sums : (p : Program) (d : Decomposition) → IsClosed p → IsTidyFrom 0 p.costs
-    → sum_of (copy_better p.spans) (all_copies (blocking_of p d [])) ≡ sum_of (better_cost p.spans) p.costs
-same_sums p d closed tidy =
-    sum_of-same (copy_better p.spans) (λ c. copy_better p.spans c *ℤ pos 1) (λ c. times_one (copy_better p.spans c)) (all_copies (blocking_of p d []))
+same_sums : (p : Program) (d : Decomposition) (cuts : List Row) → IsClosed p → IsTidyFrom 0 p.costs
+    → sum_of (copy_better p.spans) (all_copies (blocking_of p d cuts)) ≡ sum_of (better_cost p.spans) p.costs
+same_sums p d cuts closed tidy =
+    sum_of-same (copy_better p.spans) (λ c. copy_better p.spans c *ℤ pos 1) (λ c. times_one (copy_better p.spans c)) (all_copies (blocking_of p d cuts))
     ∙ sum_of-same_keys (λ (c : Copy). c.var) (copy_better p.spans) (λ (t : Term). t.var) (better_cost p.spans) (λ v. pos 1)
-    (all_copies (blocking_of p d [])) p.costs (copies_cost p d closed tidy)
+    (all_copies (blocking_of p d cuts)) p.costs (copies_cost p d cuts closed tidy)
     ∙ sum_of-same (λ t. better_cost p.spans t *ℤ pos 1) (better_cost p.spans) (λ t. sym (times_one (better_cost p.spans t))) p.costs
   where
     times_one : (z : ℤ) → z ≡ z *ℤ pos 1
@@ -234,11 +235,12 @@ pub plain_is_bound : (b : BlockedProgram) (total constant : ℤ) (terms : List T
     → IsBound b.blocking b.named.program.spans plain_proof total
 plain_is_bound b total constant terms spans formed is c t s =
     let p : Program = b.named.program in
+    let cuts : List Row = cut_rows p b.dec [] b.cuts in
     let same : better_total p.constant p.costs p.spans ≡ total =
     ap (λ (z : ℤ). better_total z p.costs p.spans) (sym c) ∙ ap (λ (ts : List Term). better_total constant ts p.spans) (sym t)
     ∙ ap (λ (ss : List Span). better_total constant terms ss) (sym s) ∙ sym is in
     subst (IsBound b.blocking p.spans plain_proof) same
-    (subst (λ k. IsBound k p.spans plain_proof (better_total p.constant p.costs p.spans)) (sym (plain_blocking formed))
-    (subst (IsBound (blocking_of p b.dec []) p.spans plain_proof)
-    (sum_by_copies (blocking_of p b.dec []) p.spans ∙ ap (λ z. p.constant +ℤ z) (same_sums p b.dec formed.kept.closed formed.kept.tidy_costs))
-    (sum_is_bound (blocking_of p b.dec []) p.spans formed.kept.proper)))
+    (subst (λ k. IsBound k p.spans plain_proof (better_total p.constant p.costs p.spans)) (sym formed.blocking)
+    (subst (IsBound (blocking_of p b.dec cuts) p.spans plain_proof)
+    (sum_by_copies (blocking_of p b.dec cuts) p.spans ∙ ap (λ z. p.constant +ℤ z) (same_sums p b.dec cuts formed.kept.closed formed.kept.tidy_costs))
+    (sum_is_bound (blocking_of p b.dec cuts) p.spans formed.kept.proper)))

@@ -14,7 +14,7 @@ use lagr_bound::{Bounded, Work, bound, sum_bound};
 use pricing::Cap;
 use std::alloc::{AllocError, Global};
 
-// The row over both blocks.
+// The row over both blocks, or the link row behind two rows.
 const ROW: u32 = 2;
 
 // Which blocks a proof picks.
@@ -31,6 +31,41 @@ pub fn tell_all(alloc: Global, b: &Blocked, told: &mut Told) -> Result<(), Alloc
     tell_points(alloc, b, &root, told)?;
     tell_root(alloc, b, &root, told)?;
     tell_narrowed(alloc, b, &root, told)
+}
+
+/// Bounds of proofs with a multiplier of the link row of two blocks, at the root and where the variable that links them is 0.
+pub fn tell_linked(alloc: Global, b: &Blocked, told: &mut Told) -> Result<(), AllocError> {
+    let root = Zone::root(alloc, b)?;
+    tell_case(
+        alloc,
+        b,
+        &root,
+        -1,
+        Pick::Every,
+        "a link's -1, all picked",
+        told,
+    )?;
+    tell_case(
+        alloc,
+        b,
+        &root,
+        1,
+        Pick::Every,
+        "a link's 1, all picked",
+        told,
+    )?;
+    tell_case(
+        alloc,
+        b,
+        &root,
+        -1,
+        Pick::Nothing,
+        "a link's -1, none picked",
+        told,
+    )?;
+    let without = narrowed(alloc, b, &root, 0, 0)?;
+    let name = "a link's 1, all picked, x up to 0";
+    tell_case(alloc, b, &without, 1, Pick::Every, name, told)
 }
 
 // Bounds at the root, by the multiplier and the picked blocks.
@@ -77,7 +112,7 @@ fn tell_case(
     tell_answers(name, shared, single, told)
 }
 
-// The proof of scale 1 with this multiplier of the row over both blocks.
+// The proof of scale 1 with this multiplier of the row of both blocks.
 fn proof_of(alloc: Global, mult: i64, pick: Pick) -> Result<Proof, AllocError> {
     let mut mults = Items::new(alloc);
     mults.push((ROW, mult))?;

@@ -24,6 +24,7 @@ use told::Told;
 fn main(rt: HostRuntime) -> io::Result<()> {
     let mut told = Told::new(rt.alloc());
     tell_two(&rt, &mut told)?;
+    tell_linked(&rt, &mut told)?;
     tell_line(&rt, &mut told)?;
     tell_tall(&rt, &mut told)?;
     io::writer(&rt).write_all(told.bytes())?;
@@ -46,6 +47,16 @@ fn tell_blocks(alloc: Global, b: &Blocked, told: &mut Told) -> Result<(), AllocE
     bound_calls::tell_all(alloc, b, told)?;
     spread_calls::tell_all(alloc, b, told)?;
     search_calls::tell_all(alloc, b, told)
+}
+
+// Two blocks that a variable links.
+fn tell_linked(rt: &(impl Files + AllocGlobal), told: &mut Told) -> io::Result<()> {
+    let alloc = rt.alloc();
+    match blocks_in(rt, "linked.lp", "linked.dec")? {
+        None => told.line("linked.lp: not tried, a text is refused")?,
+        Some(b) => bound_calls::tell_linked(alloc, &b, told)?,
+    }
+    Ok(())
 }
 
 // A block of one variable with one number more than a pool has room for.

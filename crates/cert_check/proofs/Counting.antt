@@ -5,12 +5,14 @@ use Rattle.std.proofs.Math.Nat.{min-le_left, min-le_right, min-eq_left, min-eq_r
 use Rattle.std.proofs.lemmas.Bool.{cases_lt, cases_eq, true≢false}
 use Rattle.std.proofs.lemmas.List.{get_or-set_same, get_or-set_other, get_or-replicate, length-replicate}
 use Rattle.bp_theory.specs.Blocking.{Copy, Block, Blocking}
+use Rattle.bp_theory.specs.Cuts.{cut_rows}
 use Rattle.bp_theory.specs.Decomposition.{blocking_of}
+use Rattle.bp_theory.specs.declared.Row.{Row}
 use Rattle.bp_theory.specs.Trees.{IsZone, IsSubspan}
 use Rattle.bp_theory.proofs.ZipLaws.{AllZip-length}
 use Rattle.bp_theory.proofs.DecompositionProof.{decomposition_lem}
+use Rattle.bp_theory.proofs.CutProof.{cuts_are_met_lem}
 use Rattle.block_form.specs.Blocked.{BlockedProgram, IsFormed}
-use Rattle.block_form.proofs.PlainLemmas.{plain_blocking}
 use Rattle.bp_theory.specs.Bound.{is_picked}
 use Rattle.bp_theory.specs.Classes.{IsSame}
 use Rattle.bp_theory.specs.declared.Span.{Span}
@@ -67,10 +69,11 @@ pub copies_there : (b : BlockedProgram) (zone : List Span) (k : ℕ) (block : Bl
 copies_there b zone k block formed in_root there is =
     let n : ℕ = length b.named.program.spans in
     let none : Block = record { copies = []; rows = [] } in
-    let known : All (λ (j : Block). All (λ (c : Copy). c.var < n) j.copies) (blocking_of b.named.program b.dec []).blocks =
-    (decomposition_lem.adds_up b.named.program b.dec [] formed.kept.closed (λ j d l. absurd (omega arith))).known in
+    let cuts : List Row = cut_rows b.named.program b.dec [] b.cuts in
+    let known : All (λ (j : Block). All (λ (c : Copy). c.var < n) j.copies) (blocking_of b.named.program b.dec cuts).blocks =
+    (decomposition_lem.adds_up b.named.program b.dec cuts formed.kept.closed (cuts_are_met_lem.closed b.named.program b.dec b.cuts)).known in
     let all : All (λ (j : Block). All (λ (c : Copy). c.var < n) j.copies) b.blocking.blocks =
-    subst (λ (x : Blocking). All (λ (j : Block). All (λ (c : Copy). c.var < n) j.copies) x.blocks) (sym (plain_blocking formed)) known in
+    subst (λ (x : Blocking). All (λ (j : Block). All (λ (c : Copy). c.var < n) j.copies) x.blocks) (sym formed.blocking) known in
     let here : All (λ (c : Copy). c.var < n) block.copies = subst (λ (j : Block). All (λ (c : Copy). c.var < n) j.copies) (sym (is none)) (all k none there) in
     subst (λ (m : ℕ). All (λ (c : Copy). c.var < m) block.copies) (sym (AllZip-length IsSubspan zone b.named.program.spans in_root.inside)) here
 

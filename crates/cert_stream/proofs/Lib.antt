@@ -3,6 +3,7 @@ pub mod Pathing
 pub mod Judging
 pub mod Walking
 pub mod Stepping
+pub mod Waiting
 pub mod Finishing
 pub mod Streaming
 pub mod Alike

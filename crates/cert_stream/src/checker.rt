@@ -7,6 +7,7 @@ ghost use Rattle.lagr_bound.specs.Works.{forms_of};
 ghost use Rattle.cert_check.specs.Judging.{stopped_at};
 ghost use Rattle.cert_stream.specs.Walks.{IsWalkIn, IsWithin};
 ghost use Rattle.cert_stream.specs.Checks.{IsMadeFor, TakesEvent, held_after, ChecksFor, answer_by, Finishes};
+ghost use Rattle.cert_stream.specs.Seen.{TellsSeen};
 ghost use Rattle.cert_stream.specs.declared.fault.FeedFault as faults;
 
 use crate::fault::{FeedFault, feed_fault};
@@ -74,6 +75,8 @@ impl Checker {
         ensures stands { (visits : Option ℕ) (text : List ℕ) →
             ChecksFor b.now visits self.old text →
             ChecksFor b.now visits self.new (text ++ piece.now) }
+        ensures seen { (visits : Option ℕ) (text : List ℕ) →
+            ChecksFor b.now visits self.old text → TellsSeen b.now (text ++ piece.now) result }
     {
         match self.fault {
             Some(fault) => return Err(fault),

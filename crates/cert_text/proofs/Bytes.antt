@@ -3,15 +3,15 @@ use Rattle.std.proofs.Common.{◌≡◌, ◌≢◌, ◌⊎◌, ℕ, zero, suc, �
 use Rattle.std.specs.Prelude.{slice_index_or}
 use Rattle.std.specs.Ordering.{int_eq}
 use Rattle.std.proofs.lemmas.List.Sums.{sum_by-append}
-use Rattle.std.proofs.lemmas.Bool.{cases_lt}
+use Rattle.std.proofs.lemmas.Bool.{cases_lt, leb-true, true≢false}
 use Rattle.std.proofs.lemmas.Bool.Decides.{nat_tests}
 use Rattle.cert_text.specs.Cert as texts
 use Rattle.cert_text.specs.Cert.{Tree, multiplier}
-use Rattle.cert_text.specs.Text.{Kind, first_kind, is_past, is_deep, value_fault, coordinate_fault}
+use Rattle.cert_text.specs.Text.{Kind, first_kind, is_past, is_deep, value_fault, coordinate_fault, may_name}
 use Rattle.cert_text.specs.Fault.{line_behind}
 use Rattle.cert_text.specs.Words.{word_text}
 use Rattle.cert_text.specs.Spots.{spot_sort}
-use Rattle.cert_text.specs.Frames.{frame_of}
+use Rattle.cert_text.specs.Frames.{is_master, frame_of}
 use Rattle.cert_text.specs.Signed.{signed}
 use Rattle.cert_text.specs.Readers.{place_of, IsCount, slack}
 use Rattle.cert_text.specs.Stages.{at_bpcert, at_version, at_first_end, at_claim, at_kind, at_optimal, infeasible_end, at_bound, after_bound, at_value, claim_end, at_point, at_values, at_coordinate, at_node, at_scale, at_rows, at_count, at_pairs, at_row, row_gap, at_multiplier, at_priced, at_blocks, at_block, leaf_end, at_variable, variable_gap, at_place, split_end, at_end, last_end, over}
@@ -321,11 +321,11 @@ big_multiplier had row z same big =
 big_scale : (deep : Bool) (n : ℕ) → 2 ^ 63 ≤ n → first_kind ((deep, Depth) ∷ (nat_lt (2 ^ 20) n, TooLarge) ∷ []) ≡ first_kind ((deep, Depth) ∷ (true, TooLarge) ∷ [])
 big_scale deep n big = let past : nat_lt (2 ^ 20) n ≡ true = grind (arith, nat_tests) in ap (λ (t : Bool). first_kind ((deep, Depth) ∷ (t, TooLarge) ∷ [])) past
 
-big_row : (named below : Bool) (rows n : ℕ) → rows ≤ 2 ^ 32 → 2 ^ 63 ≤ n → (below && ((nat_le n rows && named) || (nat_lt rows n && nat_le n (rows + 0 + 0)))) ≡ false
-big_row named below rows n few big =
+big_row : (named below : Bool) (rows links n : ℕ) → rows + links ≤ 2 ^ 32 → 2 ^ 63 ≤ n → (below && ((nat_le n rows && named) || (nat_lt rows n && nat_le n (rows + links + 0)))) ≡ false
+big_row named below rows links n few big =
     let past : nat_le n rows ≡ false = grind (arith, nat_tests) in
-    let also : nat_le n (rows + 0 + 0) ≡ false = grind (arith, nat_tests) in
-    all below (nat_lt rows n) (nat_le n rows) (nat_le n (rows + 0 + 0)) past also where
+    let also : nat_le n (rows + links + 0) ≡ false = grind (arith, nat_tests) in
+    all below (nat_lt rows n) (nat_le n rows) (nat_le n (rows + links + 0)) past also where
       all : (x y p q : Bool) → p ≡ false → q ≡ false → (x && ((p && named) || (y && q))) ≡ false
       all false y p q e f = refl
       all true false p q e f = ap (λ (t : Bool). (t && named) || false) e
@@ -340,10 +340,9 @@ big_block below blocks n few big =
 
 -- what is known of a frame's numbers
 pub record IsSmall (frame : texts.Frame) : Type 0 where
-  pub rows : frame.rows ≤ 2 ^ 32
+  pub rows : frame.rows + frame.links ≤ 2 ^ 32
   pub variables : frame.variables < 2 ^ 32
   pub blocks : frame.blocks < 2 ^ 32
-  pub links : frame.links ≡ 0
 
 -- the fault of a number that is too great to be kept
 big_fault : texts.Frame → Stage → Option Kind
@@ -368,8 +367,7 @@ big_is frame (at_priced a ws o s ps) z small of_sort big = refl
 big_is frame (at_row a ws o s ps last n) z small of_sort big =
     let below = nat_lt last (nat_abs z) in
     let named = frame.is_master (nat_abs z) in
-    let P : ℕ → Type 0 = λ links. (below && ((nat_le (nat_abs z) frame.rows && named) || (nat_lt frame.rows (nat_abs z) && nat_le (nat_abs z) (frame.rows + links + 0)))) ≡ false in
-    ap (λ (t : Bool). first_kind ((not t, Number) ∷ [])) (subst P (sym small.links) (big_row named below frame.rows (nat_abs z) small.rows big))
+    ap (λ (t : Bool). first_kind ((not t, Number) ∷ [])) (big_row named below frame.rows frame.links (nat_abs z) small.rows big)
 big_is frame (at_multiplier a ws o s ps r n) z small of_sort big = big_multiplier a.had r z (int_eq z (multiplier a.had r)) big
 big_is frame (at_block a ws o s ps ks last n) z small of_sort big = ap (λ (t : Bool). first_kind ((not t, Number) ∷ [])) (big_block (nat_lt last (nat_abs z)) frame.blocks (nat_abs z) small.blocks big)
 big_is frame (at_variable a ws) z small of_sort big =
@@ -454,5 +452,17 @@ kept_alike frame stage negative n value small of_n of_value kept = ⊎_elim
       sizes n value kept = ⊎_elim (λ few. let same : n ≡ value = omega arith in inl same) (λ many. let a : 2 ^ 63 ≤ n = omega arith in let b : 2 ^ 63 ≤ value = omega arith in inr (a, b)) (cases_lt n (2 ^ 64))
 
 -- a frame's numbers are small
-pub frame_small : (frame : Frame) → frame.variables < 2 ^ 32 → frame.blocks < 2 ^ 32 → length frame.masters ≤ 2 ^ 32 → IsSmall (frame_of frame)
-frame_small frame variables blocks rows = record { rows = rows; variables = variables; blocks = blocks; links = refl }
+pub frame_small : (frame : Frame) → frame.variables < 2 ^ 32 → frame.blocks < 2 ^ 32 → length frame.masters + frame.links ≤ 2 ^ 32 → IsSmall (frame_of frame)
+frame_small frame variables blocks rows = record { rows = rows; variables = variables; blocks = blocks }
+
+-- a row that may be named is among the model's rows and the link rows
+pub named_low : (frame : Frame) (row : ℕ) → may_name (frame_of frame) 0 row ≡ true → row ≤ length frame.masters + frame.links
+named_low frame row is =
+    by (nat_le row (length frame.masters)) (is_master frame row) (nat_lt (length frame.masters) row) (nat_le row (length frame.masters + frame.links + 0)) refl refl is
+  where
+    by : (w x u v : Bool) → nat_le row (length frame.masters) ≡ w → nat_le row (length frame.masters + frame.links + 0) ≡ v → ((w && x) || (u && v)) ≡ true
+        → row ≤ length frame.masters + frame.links
+    by true x u v p q is = let low = leb-true row (length frame.masters) p in omega (arith, low)
+    by false x true true p q is = let low = leb-true row (length frame.masters + frame.links + 0) q in omega (arith, low)
+    by false x true false p q is = absurd (true≢false (sym is))
+    by false x false v p q is = absurd (true≢false (sym is))

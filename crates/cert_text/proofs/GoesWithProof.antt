@@ -37,7 +37,7 @@ use Rattle.cert_text.specs.declared.fault.CertKind.TheVariants.{TooLarge}
 use Rattle.cert_text.proofs.Meaning.{clean_front, tree_clean}
 use Rattle.cert_text.proofs.Putting.{Rises, rises_increasing, above_rises}
 use Rattle.cert_text.proofs.Fine.{scale_small, block_tested, IsKept, none_kept, IsFineLeaf, IsFine, fine_tree, text_nodes, no_cuts}
-use Rattle.cert_text.proofs.MasterRows.{masters_are_named}
+use Rattle.cert_text.proofs.NamedRows.{named_of_text}
 
 -- ---- lists
 
@@ -82,34 +82,11 @@ picked_fit frame (These ks) clean =
     let h = blocks_fit frame 0 ks clean.1 in
     (rises_increasing 0 ks h.0, All-from_recursion (λ k. k < frame.blocks) ks h.1)
 
--- a row that a leaf may name
-named_at : (masters : List Bool) (r : ℕ)
-    → ((nat_le (r + 1) (length masters) && (nat_lt 0 (r + 1) && get_or masters (r + 1 - 1) false)) || (nat_lt (length masters) (r + 1) && nat_le (r + 1) (length masters + 0 + 0))) ≡ true
-    → get_or masters r false ≡ true
-named_at masters r is =
-    let same : r ≡ r + 1 - 1 = omega arith in
-    ap (λ (n : ℕ). get_or masters n false) same
-    ∙ by (nat_le (r + 1) (length masters)) (nat_lt 0 (r + 1)) (get_or masters (r + 1 - 1) false) (nat_lt (length masters) (r + 1)) (nat_le (r + 1) (length masters + 0 + 0))
-    (λ u v. let low : length masters < r + 1 = ltb-true (length masters) (r + 1) u in let high : r + 1 ≤ length masters + 0 + 0 = leb-true (r + 1) (length masters + 0 + 0) v in omega arith) is
-  where
-    by : (w x y u v : Bool) → (u ≡ true → v ≡ true → ⊥) → ((w && (x && y)) || (u && v)) ≡ true → y ≡ true
-    by w x true u v none is = refl
-    by w x false true true none is = absurd (none refl refl)
-    by true true false true false none is = absurd (cc)
-    by true true false false v none is = absurd (cc)
-    by true false false true false none is = absurd (cc)
-    by true false false false v none is = absurd (cc)
-    by false x false true false none is = absurd (cc)
-    by false x false false v none is = absurd (cc)
-
-may_name_master : (b : BlockedProgram) → IsFormed b → (r : ℕ) → may_name (frame_for b) 0 (r + 1) ≡ true → IsSome (row_at b.blocking r)
-may_name_master b formed r is = masters_are_named b formed r (named_at (map is_none b.dec.places) r is)
-
 -- a faultless leaf's proof fits
 leaf_fits : (b : BlockedProgram) → IsFormed b → (depth : ℕ) (proof : given.Proof) → IsFineLeaf (frame_for b) depth (written_proof proof) → Fits b.blocking proof
 leaf_fits b formed depth proof fine =
     let frame : texts.Frame = frame_for b in
-    let fits = pairs_fit b.blocking frame proof.mults (may_name_master b formed) fine.pairs.each in
+    let fits = pairs_fit b.blocking frame proof.mults (named_of_text b formed) fine.pairs.each in
     record {
       scale = (scale_small depth proof.scale fine.scale).1;
       sizes = All-from_recursion (λ m. unsigned_abs m.1 ≤ 2 ^ 40) proof.mults (all_mapped (IsFitting b.blocking) (λ m. unsigned_abs m.1 ≤ 2 ^ 40) (λ m h. h.0) proof.mults fits);
@@ -227,7 +204,10 @@ read_by b frame text (Ok cert) same h = subst (λ (f : texts.Frame). IsCertText 
 read_by b frame text (Err NoMemory) same h = tt
 read_by b frame text (Err (At line kind)) same h = subst (λ (f : texts.Frame). IsFirstCertFault f text line kind) same h
 
-pub frame_is : (frame : Frame) (variables : ℕ) (masters : List Bool) (blocks : ℕ) → frame.variables ≡ variables → frame.masters ≡ masters → frame.blocks ≡ blocks
-    → frame_of frame ≡ frame_by variables masters blocks
-frame_is frame variables masters blocks v m k =
-    ap (λ n. frame_by n frame.masters frame.blocks) v ∙ ap (λ (ms : List Bool). frame_by variables ms frame.blocks) m ∙ ap (λ n. frame_by variables masters n) k
+pub frame_is : (frame : Frame) (variables : ℕ) (masters : List Bool) (links blocks : ℕ) → frame.variables ≡ variables → frame.masters ≡ masters → frame.links ≡ links → frame.blocks ≡ blocks
+    → frame_of frame ≡ frame_by variables masters links blocks
+frame_is frame variables masters links blocks v m l k =
+    ap (λ n. frame_by n frame.masters frame.links frame.blocks) v
+    ∙ ap (λ (ms : List Bool). frame_by variables ms frame.links frame.blocks) m
+    ∙ ap (λ n. frame_by variables masters n frame.blocks) l
+    ∙ ap (λ n. frame_by variables masters links n) k

@@ -36,7 +36,7 @@ use Rattle.cert_text.specs.declared.fault.CertKind.TheVariants.{TooLarge, Number
 use Rattle.cert_text.proofs.PlainProof.{plain_lem, same_claim}
 use Rattle.cert_text.proofs.Meaning.{kept_none}
 use Rattle.cert_text.proofs.Finishing.{cert_means}
-use Rattle.cert_text.proofs.MasterRows.{named_are_masters}
+use Rattle.cert_text.proofs.NamedRows.{text_of_named}
 use Rattle.cert_text.proofs.GoesWithProof.{first_all, second_all}
 use Rattle.cert_text.proofs.Putting.{Rises}
 
@@ -139,25 +139,6 @@ picked_clean : (frame : texts.Frame) (picked : Picked) → ArePicked frame.block
 picked_clean frame Every h = (refl, tt)
 picked_clean frame (These ks) h = (refl, blocks_clean frame 0 ks (rises ks h.0) (recursion_from_All (λ k. k < frame.blocks) ks h.1))
 
-named_in : (masters : List Bool) (r : ℕ) → r < length masters → get_or masters r false ≡ true
-    → ((nat_le (r + 1) (length masters) && (nat_lt 0 (r + 1) && get_or masters (r + 1 - 1) false)) || (nat_lt (length masters) (r + 1) && nat_le (r + 1) (length masters + 0 + 0))) ≡ true
-named_in masters r there is =
-    let same : r + 1 - 1 ≡ r = omega arith in
-    by (nat_le (r + 1) (length masters)) (nat_lt 0 (r + 1)) (get_or masters (r + 1 - 1) false) (nat_lt (length masters) (r + 1) && nat_le (r + 1) (length masters + 0 + 0))
-    (le-leb (r + 1) (length masters) (omega arith)) (lt-ltb 0 (r + 1) (omega arith)) (ap (λ (n : ℕ). get_or masters n false) same ∙ is)
-  where
-    by : (w x y u : Bool) → w ≡ true → x ≡ true → y ≡ true → ((w && (x && y)) || u) ≡ true
-    by true true true u p q r = refl
-    by true true false u p q r = absurd (true≢false (sym r))
-    by true false y u p q r = absurd (true≢false (sym q))
-    by false x y u p q r = absurd (true≢false (sym p))
-
-master_may_be_named : (b : BlockedProgram) → IsFormed b → (r : ℕ) → IsSome (row_at b.blocking r) → may_name (frame_for b) 0 (r + 1) ≡ true
-master_may_be_named b formed r is =
-    let h = named_are_masters b formed r is in
-    let size : length (map is_none b.dec.places) ≡ length b.dec.places = simp length-map in
-    named_in (map is_none b.dec.places) r (let low : r < length b.dec.places = h.0 in omega (arith, low, size)) h.1
-
 all_mapped : {X : Type 0} (P Q : X → Type 0) → ((x : X) → P x → Q x) → (xs : List X) → AllByRecursion P xs → AllByRecursion Q xs
 all_mapped P Q f [] h = tt
 all_mapped P Q f (x ∷ xs) h = (f x h.0, all_mapped P Q f xs h.1)
@@ -169,7 +150,7 @@ leaf_clean b formed above proof shallow fits =
     let named : ℕ → Bool = may_name frame 0 in
     let pairs : List Token = pairs_behind named (2 ^ 40) [] 0 (map written_pair proof.mults) in
     let picked : List Token = Words (codes " priced ") ∷ picked_words frame (written_picked proof.picked) in
-    let there = all_mapped (λ (m : ℕ × ℤ). IsSome (row_at b.blocking m.0)) (λ (m : ℕ × ℤ). named (m.0 + 1) ≡ true) (λ m h. master_may_be_named b formed m.0 h) proof.mults
+    let there = all_mapped (λ (m : ℕ × ℤ). IsSome (row_at b.blocking m.0)) (λ (m : ℕ × ℤ). named (m.0 + 1) ≡ true) (λ m h. text_of_named b formed m.0 h) proof.mults
     (recursion_from_All (λ (m : ℕ × ℤ). IsSome (row_at b.blocking m.0)) proof.mults fits.rows) in
     let rows = pairs_clean named 0 proof.mults (rises (map (λ (m : ℕ × ℤ). m.0) proof.mults) fits.ascend)
     (recursion_from_All (λ (m : ℕ × ℤ). unsigned_abs m.1 ≤ 2 ^ 40) proof.mults fits.sizes) (recursion_from_All (λ (m : ℕ × ℤ). m.1 ≢ pos 0) proof.mults fits.nonzero) there in (

@@ -1,5 +1,7 @@
 -- Certificates of programs in blocks: what reading needs to know, what is read, and what holds of it.
-use Rattle.std.specs.Prelude.{◌≡◌, IfSome, ℕ, ◌+◌, ◌-◌, ◌<◌, ◌≤◌, ◌^◌, Bool, false, ◌&&◌, List, length, map, is_none, nat_lt, slice_index_or, All, Result, Ok, Err, Some, None, ℤ, unsigned_abs}
+use Rattle.std.specs.Prelude.{◌≡◌, IfSome, ℕ, ◌+◌, ◌-◌, ◌<◌, ◌≤◌, ◌^◌, Bool, false, ◌&&◌, List, length, map, is_some, nat_lt, slice_index_or, All, Result, Ok, Err, Some, None, ℤ, unsigned_abs}
+use Rattle.std.specs.List.{range_with_len}
+use Rattle.bp_theory.specs.Blocking.{row_at}
 use Rattle.bp_theory.specs.Bound.{Fits}
 use Rattle.bp_theory.specs.Trees.{Tree, leaves, depth, HasSoundSplits}
 use Rattle.bp_theory.specs.Claims.{Certificate}
@@ -18,19 +20,27 @@ use Rattle.cert_text.specs.declared.cert.Cert.{Cert as Kept}
 use Rattle.cert_text.specs.declared.fault.CertFault.{CertFault}
 use Rattle.cert_text.specs.declared.fault.CertFault.TheVariants.{At, NoMemory}
 
--- so many variables and blocks, and for each row whether it is a master row, by the numbers in texts
-abbrev pub frame_by : ℕ → List Bool → ℕ → texts.Frame
-frame_by variables masters blocks = record {
+-- so many variables, link rows and blocks, and for each row of the model whether it is a master row, by the numbers in texts
+abbrev pub frame_by : ℕ → List Bool → ℕ → ℕ → texts.Frame
+frame_by variables masters links blocks = record {
   variables = variables;
   rows = length masters;
   is_master = λ row. nat_lt 0 row && slice_index_or masters (row - 1) false;
-  links = 0;
+  links = links;
   blocks = blocks;
 }
 
+-- for each row of the model, whether it is a master row: proofs may name it
+abbrev pub masters_of : BlockedProgram → List Bool
+masters_of b = map (λ row. is_some (row_at b.blocking row)) (range_with_len 0 (length b.named.program.rows))
+
+-- how many link rows there are: the rows that proofs may name behind the model's
+abbrev pub links_behind : BlockedProgram → ℕ
+links_behind b = length b.blocking.rows - length b.named.program.rows
+
 -- what reading needs to know of a program in blocks
 abbrev pub frame_for : BlockedProgram → texts.Frame
-frame_for b = frame_by (length b.named.program.spans) (map is_none b.dec.places) (length b.blocking.blocks)
+frame_for b = frame_by (length b.named.program.spans) (masters_of b) (links_behind b) (length b.blocking.blocks)
 
 -- what is read of a text for a program in blocks: the certificate that the text has, or else its first fault
 abbrev pub ReadsFor : BlockedProgram → List ℕ → Result Kept CertFault → Type 0

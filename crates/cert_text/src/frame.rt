@@ -1,5 +1,5 @@
 // What reading a certificate needs to know of a model and its blocks.
-ghost use Rattle.std.specs.Prelude.{length, ◌≤◌, ◌<◌, ◌^◌};
+ghost use Rattle.std.specs.Prelude.{length, ◌+◌, ◌≤◌, ◌<◌, ◌^◌};
 
 use bp_theory::Items;
 
@@ -8,11 +8,13 @@ use bp_theory::Items;
 pub struct Frame {
     /// How many variables there are.
     pub variables: u32,
-    /// For each row in order, whether it is a master row.
+    /// For each row of the model in order, whether it is a master row, which proofs may name.
     pub masters: Items<bool>,
+    /// How many link rows there are. Proofs name them by the numbers behind the model's rows.
+    pub links: u32,
     /// How many blocks there are.
     pub blocks: u32,
-    ghost few_rows: { length masters ≤ 2 ^ 32 },
+    ghost few_rows: { length masters + links ≤ 2 ^ 32 },
     ghost few_variables: { variables < 2 ^ 32 },
     ghost few_blocks: { blocks < 2 ^ 32 },
 }

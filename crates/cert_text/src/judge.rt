@@ -90,12 +90,16 @@ pub fn judge_scale(depth: usize, value: u64) -> Result<u32, CertKind>
     Ok(value as u32)
 }
 
-// Whether a row of the text is a master row.
+// Whether a row of the text is a master row or a link row.
 fn is_named(frame: &Frame, row: u64) -> bool
     ensures { result ≡ may_name (frame_of frame.now) 0 row }
 {
     let masters = frame.masters.as_slice();
-    row >= 1 && row <= masters.len() as u64 && masters[row as usize - 1]
+    let rows = masters.len() as u64;
+    if row > rows {
+        return row - rows <= u64::from(frame.links);
+    }
+    row >= 1 && masters[row as usize - 1]
 }
 
 // A leaf's row behind another one, as its number from 0.

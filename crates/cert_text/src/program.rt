@@ -1,9 +1,9 @@
 // Certificates read and written for a program in blocks.
-ghost use Rattle.std.specs.Prelude.{◌≡◌, IfOk, OnOk, map, is_none};
+ghost use Rattle.std.specs.Prelude.{◌≡◌, IfOk, OnOk};
 ghost use Rattle.block_form.specs.Blocked.{IsFormed};
 ghost use Rattle.cert_text.specs.Kept.{certificate_of};
 ghost use Rattle.cert_text.specs.Frames.{frame_of};
-ghost use Rattle.cert_text.specs.Programs.{frame_for, ReadsFor, GoesWith};
+ghost use Rattle.cert_text.specs.Programs.{masters_of, links_behind, frame_for, ReadsFor, GoesWith};
 
 use crate::cert::Cert;
 use crate::fault::CertFault;
@@ -34,21 +34,31 @@ pub fn program_frame(alloc: Global, b: &Blocked) -> Result<Frame, AllocError>
 {
     let variables = b.model().vars();
     let blocks = b.blocks();
-    let masters = master_rows(alloc, b.dec().places())?;
+    let masters = master_rows(alloc, b)?;
+    let links = link_rows(b);
     Ok(Frame {
         variables,
         masters,
+        links,
         blocks,
     })
 }
 
-// For each row, whether it is a master row.
-fn master_rows(alloc: Global, places: &[Option<u32>]) -> Result<Items<bool>, AllocError>
-    ensures { IfOk result (λ masters. masters ≡ map is_none places.now) }
+// For each row of the model, whether proofs may name it.
+fn master_rows(alloc: Global, b: &Blocked) -> Result<Items<bool>, AllocError>
+    ensures { IfOk result (λ masters. masters ≡ masters_of b.now) }
 {
-    let mut masters = Items::with_capacity(alloc, places.len())?;
-    for place in places {
-        masters.push(place.is_none())?;
+    let rows = b.model().rows();
+    let mut masters = Items::with_capacity(alloc, rows as usize)?;
+    for row in 0..rows {
+        masters.push(b.master_row(row).is_some())?;
     }
     Ok(masters)
+}
+
+// How many link rows there are: they come behind the model's rows.
+fn link_rows(b: &Blocked) -> u32
+    ensures { result ≡ links_behind b.now }
+{
+    b.named_rows() - b.model().rows()
 }

@@ -1,10 +1,9 @@
 -- Which replies are right.
-use Rattle.std.proofs.Common.{◌≡◌, ◌<◌, ◌^◌, ◌-◌, refl, sym, subst, ◌∙◌, ap, ℕ, List, Option, Some, None, Result, Ok, Err, IsSome, IfSome, IfOk, take, length, arith}
-use Rattle.std.proofs.lemmas.List.{take_all}
+use Rattle.std.proofs.Common.{◌≡◌, subst, ◌∙◌, ap, ℕ, Bool, IsTrue, List, Option, Some, None, Result, Ok, Err, IfOk}
 use Rattle.bp_theory.specs.Claims.{Certificate, IsTrueClaim}
 use Rattle.bp_theory.specs.Judgement.{HasItsPoint, named_value}
 use Rattle.bp_theory.specs.declared.Claim.{Claim}
-use Rattle.bp_shelf.specs.Shelf.{Files, AllShort}
+use Rattle.bp_shelf.specs.Shelf.{Files}
 use Rattle.block_form.specs.Blocked.{BlockedProgram}
 use Rattle.cert_text.specs.Fault.{IsCertText, IsFirstCertFault}
 use Rattle.cert_text.specs.Written.{cert_of}
@@ -15,11 +14,12 @@ use Rattle.cert_check.specs.Judging.{IsJudged, NoneUnpriced, IsJudgedWithin, IsT
 use Rattle.cert_check.specs.Visits.{IsFirstUnpriced}
 use Rattle.cert_check.specs.declared.judge.Judged.{Judged}
 use Rattle.cert_check.specs.declared.judge.Judged.TheVariants.{Accepted, Rejected, Unknown}
+use Rattle.cert_stream.specs.declared.checker.Checker.{Checker}
 use Rattle.bp_report.specs.Report.{accepted_report}
 use Rattle.bp_report.specs.Refusals.{cert_refusal}
 use Rattle.bp_front.specs.declared.ending.Reply.{Reply}
 use Rattle.cmd_check.specs.Checks.{ChecksBlocked, IsUnknownAt, faulty, accepted, rejected, unknown, known}
-use Rattle.cmd_check.specs.Replies.{IsReplyTo, TellsJudged, RepliesFrom}
+use Rattle.cmd_check.specs.Replies.{IsReplyTo, TellsJudged, RepliesFrom, StandsForFile}
 use Rattle.cmd_check.proofs.Certificates.{one_written}
 use Rattle.cmd_check.proofs.OneAnswer.{one_text, read_or_faulty}
 
@@ -72,16 +72,7 @@ fault_replies (Some most) b text line kind reply fault is told = λ files cert t
     known (λ k at. read_or_faulty b at.text text at.spelled line kind (one_text (files cert) at.text text at.there there) at.is_text fault)
     (faulty text line kind there fault is told)
 
--- the first bytes of a short file, one fewer than no file may have, are the file
-whole : (all front : List ℕ) → length all < 2 ^ 62 → front ≡ take (2 ^ 62 - 1) all → all ≡ front
-whole all front short is = sym (is ∙ take_all (2 ^ 62 - 1) all (omega (arith, short)))
-
--- the reply to the front of a file is the reply to the file
-pub front_replies : (visits : Option ℕ) (files : Files) (cert front : List ℕ) (b : BlockedProgram) (reply : Reply) → AllShort files → IsSome (files cert)
-    → IfSome (files cert) (λ all. front ≡ take (2 ^ 62 - 1) all) → IsReplyTo visits b front reply → RepliesFrom visits files cert b reply
-front_replies visits files cert front b reply short found is_front replies = by (files cert) refl found is_front
-  where
-    by : (file : Option (List ℕ)) → files cert ≡ file → IsSome file → IfSome file (λ all. front ≡ take (2 ^ 62 - 1) all) → RepliesFrom visits files cert b reply
-    by None is found is_front = let none : ⊥ = cc in absurd none
-    by (Some all) is found is_front =
-        replies files cert (is ∙ ap (λ (t : List ℕ). let o : Option (List ℕ) = Some t in o) (whole all front (short cert all is) is_front))
+-- the reply to the text that a checker was fed of a file is the reply to the file
+pub file_replies : (visits : Option ℕ) (told : Bool) (files : Files) (cert : List ℕ) (b : BlockedProgram) (checker : Checker) (reply : Reply) → IsTrue told
+    → (file : StandsForFile told (files cert) b visits checker) → IsReplyTo visits b file.text reply → RepliesFrom visits files cert b reply
+file_replies visits told files cert b checker reply is_told file replies = replies files cert (file.there is_told)

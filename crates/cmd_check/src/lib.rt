@@ -2,27 +2,33 @@
 //! as far as pricing takes no more. What it accepts is true.
 #![tactic(auto)]
 
-ghost use Rattle.std.specs.Prelude.{◌≡◌, ◌≢◌, ◌⊎◌, [], IfOk, IsErrOf, IsTrue, None};
+ghost use Rattle.std.specs.Prelude.{◌≡◌, ◌≢◌, ◌⊎◌, ◌+◌, ◌<◌, ◌≤◌, ℕ, List, [], length, vec_len, Option, None, IfOk, OnOk, IsOk, IsErrOf, IsSome, IsTrue};
 ghost use Rattle.std.specs.Option.{option_map};
-ghost use Rattle.bp_shelf.specs.Shelf.{CountsFailed};
+ghost use Rattle.bp_shelf.specs.Shelf.{CountsFailed, file_limit};
 ghost use Rattle.bp_shelf.specs.declared.shelf.ShelfFault.TheVariants.{Missing};
 ghost use Rattle.bp_front.specs.Answers.{AnswersBy, IsOnly, CutsOff, HasCauses, PutsReport, IsUnput};
 ghost use Rattle.cmd_check.specs.Checks.{AnswersCheck, ChecksVisiting};
-ghost use Rattle.cmd_check.specs.Replies.{IsCheckStatus, IsReplyTo, RepliesFrom, TellsJudged};
+ghost use Rattle.block_form.specs.Blocked.{BlockedProgram};
+ghost use Rattle.cert_stream.specs.Checks.{IsMadeFor, ChecksFor};
+ghost use Rattle.cmd_check.specs.Replies.{IsCheckStatus, IsReplyTo, RepliesFrom, StandsForFile, StandsForFront, TellsJudged};
 
 use block_form::Blocked;
-use bp_front::{Ended, Halt, Reply, load, print, read_front, stopped_by};
+use bp_front::{Ended, Halt, Reply, load, print, stopped_by};
 use bp_report::{cert_text, check_text};
 use bp_shelf::{Shelf, ShelfFault, Sink};
-use cert_check::{Judged, check as judge};
-use cert_text::{CertFault, read_cert};
+use cert_check::Judged;
+use cert_stream::{Checker, FeedFault};
 use std::alloc::{AllocError, Global};
 
-// A file is shorter than 2^62 bytes.
-const MAX_FILE: usize = (1 << 62) - 1;
+// How many bytes a read asks for.
+const BUFFER: usize = 65536;
+
+// What the length of a file in bytes stays below.
+const FILE_LIMIT: u64 = 1 << 62;
 
 /// Checks the certificate of a file against the model of another, and prints what is accepted or rejected, or the line of the
-/// first leaf that asks for more visits than are left, where a number of visits is given.
+/// first leaf that asks for more visits than are left, where a number of visits is given. The certificate is judged as it is
+/// read, a buffer at a time, and reading stops at its first fault that no further bytes can mend.
 pub fn check<F: Shelf, O: Sink>(
     alloc: Global,
     shelf: &mut F,
@@ -121,25 +127,110 @@ fn judged_file<F: Shelf>(
     ensures cause { CountsFailed (F.read_faults shelf.old) (F.read_faults shelf.new) result }
     ensures writes { F.write_faults shelf.new ≡ F.write_faults shelf.old }
 {
-    let text = read_front(alloc, shelf, cert, MAX_FILE)?;
-    Ok(judged(alloc, b, &text, visits)?)
+    let mut checker = Checker::make(alloc, b, visits)?;
+    let mut buffer = buffer_of(alloc, BUFFER)?;
+    feed_file(alloc, shelf, b, cert, &mut checker, &mut buffer)?;
+    Ok(reply_of(alloc, checker)?)
 }
 
-// Judges the text of a certificate.
-fn judged(alloc: Global, b: &Blocked, text: &[u8], visits: Option<u64>) -> Result<Reply, AllocError>
-    ensures right { IfOk result (IsReplyTo visits b.now text.now) }
+// A buffer of some bytes, of which only the length is told.
+fn buffer_of(alloc: Global, len: usize) -> Result<Vec<u8>, AllocError>
+    ensures { IfOk result (λ buffer. vec_len buffer ≡ len) }
+{
+    Vec::from_elem(alloc, 0u8, len)
+}
+
+// Feeds the bytes of a file as a buffer takes them, up to the file's end or to the first fault that no further bytes can mend.
+fn feed_file<F: Shelf>(
+    alloc: Global,
+    shelf: &mut F,
+    b: &Blocked,
+    cert: &str,
+    checker: &mut Checker,
+    buffer: &mut [u8],
+) -> Result<(), ShelfFault>
+    requires made_for { IsMadeFor b.now checker.old }
+    requires fresh { checker.old.fed ≡ 0 }
+    requires room { length buffer.old ≡ 65536 }
+    ensures made_for { IsMadeFor b.now checker.new }
+    ensures stands { OnOk result ((visits : Option ℕ) → ChecksFor b.now visits checker.old [] →
+        StandsForFile (F.tells shelf.old) (F.file shelf.old cert.now) b.now visits checker.new) }
+    ensures missing { IsTrue (F.tells shelf.old) → IsErrOf result ShelfFault.Missing →
+        F.file shelf.old cert.now ≡ None }
+    ensures files { F.file shelf.new ≡ F.file shelf.old }
+    ensures cause { CountsFailed (F.read_faults shelf.old) (F.read_faults shelf.new) result }
+    ensures writes { F.write_faults shelf.new ≡ F.write_faults shelf.old }
+{
+    let mut at = 0;
+    'reads: while at < FILE_LIMIT {
+        let count = feed_more(alloc, shelf, b, cert, at, checker, buffer)?;
+        if count == 0 {
+            return Ok(());
+        }
+        at += count as u64;
+    }
+    Ok(())
+}
+
+// Reads once, from a place on, and feeds what comes; gives how many bytes go on a text without such a fault: none where the file
+// ends, or with the fault.
+fn feed_more<F: Shelf>(
+    alloc: Global,
+    shelf: &mut F,
+    b: &Blocked,
+    cert: &str,
+    at: u64,
+    checker: &mut Checker,
+    buffer: &mut [u8],
+) -> Result<usize, ShelfFault>
+    requires made_for { IsMadeFor b.now checker.old }
+    requires fed { checker.old.fed ≤ at }
+    requires within { at < file_limit }
+    requires room { length buffer.old ≡ 65536 }
+    ensures made_for { IsMadeFor b.now checker.new }
+    ensures fed { IfOk result (λ count. 0 < count → checker.new.fed ≤ at + count) }
+    ensures count { IfOk result (λ count. count ≤ 65536) }
+    ensures front { IfOk result (λ count. 0 < count → (visits : Option ℕ) →
+        StandsForFront (F.tells shelf.old) (F.file shelf.old cert.now) b.now visits checker.old at →
+        StandsForFront (F.tells shelf.old) (F.file shelf.old cert.now) b.now visits checker.new
+        (at + count)) }
+    ensures end { IfOk result (λ count. count ≡ 0 → (visits : Option ℕ) →
+        StandsForFront (F.tells shelf.old) (F.file shelf.old cert.now) b.now visits checker.old at →
+        StandsForFile (F.tells shelf.old) (F.file shelf.old cert.now) b.now visits checker.new) }
+    ensures found { IsTrue (F.tells shelf.old) → IsOk result → IsSome (F.file shelf.old cert.now) }
+    ensures missing { IsTrue (F.tells shelf.old) → IsErrOf result ShelfFault.Missing →
+        F.file shelf.old cert.now ≡ None }
+    ensures told { F.tells shelf.new ≡ F.tells shelf.old }
+    ensures files { F.file shelf.new ≡ F.file shelf.old }
+    ensures cause { CountsFailed (F.read_faults shelf.old) (F.read_faults shelf.new) result }
+    ensures writes { F.write_faults shelf.new ≡ F.write_faults shelf.old }
+{
+    let count = shelf.read_at(cert, at, buffer)?;
+    if count == 0 {
+        return Ok(0);
+    }
+    match checker.feed(alloc, b, &buffer[..count]) {
+        Err(FeedFault::At { .. }) => Ok(0),
+        Err(FeedFault::NoMemory) => Err(ShelfFault::NoMemory),
+        Ok(()) => Ok(count),
+    }
+}
+
+// The reply to the certificate that a checker was fed.
+fn reply_of(alloc: Global, checker: Checker) -> Result<Reply, AllocError>
+    requires stands { (b : BlockedProgram) × (visits : Option ℕ) × (text : List ℕ) ×
+        IsMadeFor b checker × ChecksFor b visits checker text }
+    ensures right { (b : BlockedProgram) (visits : Option ℕ) (text : List ℕ) → IsMadeFor b checker →
+        ChecksFor b visits checker text → IfOk result (IsReplyTo visits b text) }
     ensures statuses { IfOk result (λ reply. IsCheckStatus reply.status) }
 {
-    match read_cert(alloc, text, b) {
-        Ok(cert) => {
-            let judged = judge(alloc, b, &cert, visits)?;
-            verdict(alloc, &judged)
-        }
-        Err(CertFault::At { line, kind }) => Ok(Reply {
+    match checker.finish(alloc) {
+        Ok(judged) => verdict(alloc, &judged),
+        Err(FeedFault::At { line, kind }) => Ok(Reply {
             status: 3,
             report: cert_text(alloc, line, kind)?,
         }),
-        Err(CertFault::NoMemory) => Err(AllocError),
+        Err(FeedFault::NoMemory) => Err(AllocError),
     }
 }
 

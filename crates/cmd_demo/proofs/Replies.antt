@@ -1,6 +1,6 @@
 -- Which replies are right.
 use Rattle.std.proofs.Common.{◌≡◌, ◌≢◌, ◌⊎◌, ◌∙◌, ◌++◌, refl, sym, ap, subst, ℕ, Bool, IsTrue, List, [], ◌∷◌, Option, Some, None, Result, Ok, Err, IfErr, IsErrAnd, take}
-use Rattle.bp_theory.specs.Claims.{Certificate, IsCertified}
+use Rattle.bp_theory.specs.Claims.{IsCertified}
 use Rattle.bp_shelf.specs.declared.shelf.ShelfFault.TheVariants.{NoMemory}
 use Rattle.block_form.specs.Blocked.{BlockedProgram}
 use Rattle.branch_tree.specs.declared.outcome.Outcome.{Outcome}
@@ -20,10 +20,10 @@ use Rattle.cmd_demo.specs.Demos.{made_files, MadeCome, DemosBlocked, AnswersDemo
 use Rattle.cmd_demo.proofs.Certified.{judged_accepted}
 
 -- the summary of an outcome whose certificate was judged
-pub demos : (seed size : ℕ) (b : BlockedProgram) (o : Outcome) (cert : Certificate) (judged : Judged) (status : ℕ) (report : List ℕ) → IsOutcome b (Some 2000) o
-    → cert ≡ outcome_certificate b.named.program o → IsJudged b cert judged → status ≡ outcome_status o → report ≡ demo_report seed size b.named o judged
+pub demos : (seed size : ℕ) (b : BlockedProgram) (o : Outcome) (judged : Judged) (status : ℕ) (report : List ℕ) → IsOutcome b (Some 2000) o
+    → IsJudged b (outcome_certificate b.named.program o) judged → status ≡ outcome_status o → report ≡ demo_report seed size b.named o judged
     → DemosBlocked seed size (Some o) b status report
-demos seed size b o cert judged status report is same judges ended told =
+demos seed size b o judged status report is judges ended told =
     let valid : IsCertified b.named.program b.dec (outcome_certificate b.named.program o) = outcome_certified b 2000 o is in record {
       outcome = o;
       is_kept = refl;
@@ -31,7 +31,7 @@ demos seed size b o cert judged status report is same judges ended told =
       valid = valid;
       has_status = ended;
       has_report = told ∙ ap (λ (j : Judged). demo_report seed size b.named o j)
-          (judged_accepted b cert (outcome_certificate b.named.program o) judged same valid judges);
+          (judged_accepted b (outcome_certificate b.named.program o) judged valid judges);
     }
 
 -- want of memory halts

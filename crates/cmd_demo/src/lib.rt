@@ -1,11 +1,11 @@
 //! The command `demo`: a made problem is solved in memory, and its certificate is checked.
 #![tactic(auto)]
 
-ghost use Rattle.std.specs.Prelude.{◌≡◌, ◌⊎◌, ◌≤◌, [], ℕ, IfOk, IfErr, IsTrue, None, Some};
+ghost use Rattle.std.specs.Prelude.{◌≡◌, ◌⊎◌, ◌<◌, ◌≤◌, ◌^◌, [], ℕ, IfOk, IfErr, IsTrue, None, Some, length};
 ghost use Rattle.bp_search.specs.Ends.{IsOutcome};
-ghost use Rattle.cert_text.specs.Kept.{certificate_of};
 ghost use Rattle.cert_text.specs.Outcomes.{IsWritable};
-ghost use Rattle.cert_text.specs.Programs.{GoesWith};
+ghost use Rattle.cert_check.specs.Judging.{IsJudged};
+ghost use Rattle.cert_stream.specs.Checks.{Finishes};
 ghost use Rattle.bp_front.specs.Answers.{AnswersBy, IsOnly, CutsOff, HasCauses, PutsReport, IsUnput};
 ghost use Rattle.cmd_solve.specs.Solves.{outcome_certificate};
 ghost use Rattle.cmd_demo.specs.Demos.{AnswersDemo, IsSummary, IsDemo, DemoHalts};
@@ -17,13 +17,20 @@ use bp_report::{DEMO_STEPS, demo_text};
 use bp_search::search;
 use bp_shelf::Sink;
 use branch_tree::Outcome;
-use cert_check::check;
-use cert_text::{Cert, read_cert, write_cert};
+use cert_check::Judged;
+use cert_stream::{Checker, FeedFault};
+use cert_text::write_cert;
 use cmd_solve::status_of;
 use std::alloc::{AllocError, Global};
 
-/// Makes the generator's texts for 1 to 1,024 jobs in memory, solves them within 2,000 steps, checks the certificate, and
-/// prints a summary. The certificate is always accepted.
+// How many bytes of a certificate's text are fed at once.
+const PIECE: usize = 4096;
+
+// A checker is fed fewer bytes in all.
+const TOO_LONG: usize = 1 << 63;
+
+/// Makes the generator's texts for 1 to 1,024 jobs in memory, solves them within 2,000 steps, checks the certificate, whose
+/// text is fed in pieces of 4,096 bytes, and prints a summary. The certificate is always accepted.
 pub fn demonstrate<O: Sink>(alloc: Global, out: &mut O, seed: u64, size: u32) -> Ended
     requires some { 1 ≤ size }
     requires few { size ≤ 1024 }
@@ -78,26 +85,41 @@ fn summary(
     requires writable { IsWritable b.now outcome.now }
     ensures { IfOk result (IsSummary seed size b.now outcome.now) }
 {
-    let cert = certificate(alloc, b, outcome)?;
-    let judged = check(alloc, b, &cert, None)?;
+    let judged = judge_outcome(alloc, b, outcome)?;
     let report = demo_text(alloc, seed, size, b, outcome, &judged)?;
     let status = status_of(outcome);
     Ok(Reply { status, report })
 }
 
-// The certificate of an outcome, as it is read from its text. The text has no fault, so that only memory can be wanting.
-fn certificate(alloc: Global, b: &Blocked, outcome: &Outcome) -> Result<Cert, AllocError>
+// What the certificate of an outcome is judged to be. Its text has no fault, so that only memory can be wanting.
+fn judge_outcome(alloc: Global, b: &Blocked, outcome: &Outcome) -> Result<Judged, AllocError>
     requires ends { IsOutcome b.now (Some 2000) outcome.now }
     requires writable { IsWritable b.now outcome.now }
-    ensures same { IfOk result (λ cert. certificate_of cert ≡
-        outcome_certificate b.now.named.program outcome.now) }
-    ensures goes_with { IfOk result (λ cert. GoesWith b.now (certificate_of cert)) }
+    ensures { IfOk result (IsJudged b.now
+        (outcome_certificate b.now.named.program outcome.now)) }
 {
-    // For the proof alone: `b` is formed.
-    let _ = b.blocks();
     let text = write_cert(alloc, b, outcome)?;
-    match read_cert(alloc, &text, b) {
-        Ok(cert) => Ok(cert),
+    if text.len() >= TOO_LONG {
+        return Err(AllocError);
+    }
+    match judge_text(alloc, b, &text) {
+        Ok(judged) => Ok(judged),
         Err(_) => Err(AllocError),
     }
+}
+
+// What a certificate is judged to be whose text is fed in pieces, or the text's first fault.
+fn judge_text(alloc: Global, b: &Blocked, text: &[u8]) -> Result<Judged, FeedFault>
+    requires { length text.now < 2 ^ 63 }
+    ensures { Finishes b.now None text.now result }
+{
+    let Ok(made) = Checker::make(alloc, b, None) else {
+        return Err(FeedFault::NoMemory);
+    };
+    let mut checker = made;
+    for piece in text.chunks(PIECE) {
+        // A fault is kept, and answered at the end.
+        let _ = checker.feed(alloc, b, piece);
+    }
+    checker.finish(alloc)
 }

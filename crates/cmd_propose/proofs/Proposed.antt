@@ -12,7 +12,7 @@ use Rattle.dec_guess.specs.Guess.{IsGuess}
 use Rattle.block_form.specs.Blocked.{BlockedProgram}
 use Rattle.block_form.specs.Checks.{HasBlockFault}
 use Rattle.block_form.specs.declared.fault.BlockFault.{BlockFault}
-use Rattle.block_form.specs.declared.fault.BlockFault.TheVariants.{Linking, VarPlace, NoMemory}
+use Rattle.block_form.specs.declared.fault.BlockFault.TheVariants.{VarPlace, Links, NoMemory}
 use Rattle.block_class.specs.Classes.{Grouping, AreSameClasses}
 use Rattle.bp_report.specs.Report.{proposed_report}
 use Rattle.bp_front.specs.Front.{BlocksCome, blocked}
@@ -24,17 +24,17 @@ use Rattle.cmd_propose.specs.Proposes.{IsReported, ModelProposes, proposed, Prop
 pub none_listed : (p : Program) (d : Decomposition) → IsGuess p d → HasListed p d
 none_listed p d guess = λ k e l. absurd (omega (arith, l, ap length guess.1.unlisted))
 
-no_linking : (v r s : ℕ) → ◌≡◌ {A = BlockFault} (Linking v r s) NoMemory → ⊥
-no_linking v r s e = cc
-
 no_place : (v : ℕ) → ◌≡◌ {A = BlockFault} (VarPlace v) NoMemory → ⊥
 no_place v e = cc
 
--- the blocks beside master rows are refused for no variable
+no_links : ◌≡◌ {A = BlockFault} Links NoMemory → ⊥
+no_links e = cc
+
+-- the blocks beside master rows are refused for no variable and no links
 pub never_refused : (m : NamedProgram) (d : Decomposition) (fault : BlockFault) → IsKept m → IsGuess m.program d → HasBlockFault m.program d fault
-    → ((v : ℕ) × (r : ℕ) × (s : ℕ) × (fault ≡ Linking v r s)) ⊎ ((v : ℕ) × (fault ≡ VarPlace v)) → ⊥
-never_refused m d fault kept guess h (inl is) = no_linking is.0 is.1 is.2 (sym is.3 ∙ found_accepted m guess.0 d fault kept guess.1 h)
-never_refused m d fault kept guess h (inr is) = no_place is.0 (sym is.1 ∙ found_accepted m guess.0 d fault kept guess.1 h)
+    → ((v : ℕ) × (fault ≡ VarPlace v)) ⊎ (fault ≡ Links) → ⊥
+never_refused m d fault kept guess h (inl is) = no_place is.0 (sym is.1 ∙ found_accepted m guess.0 d fault kept guess.1 h)
+never_refused m d fault kept guess h (inr is) = no_links (sym is ∙ found_accepted m guess.0 d fault kept guess.1 h)
 
 proposes_as : (m : NamedProgram) (r report x text : List ℕ) → report ≡ r → text ≡ x
     → ModelProposes m (record { status = 0; report = r; text = Some x }) → ModelProposes m (record { status = 0; report = report; text = Some text })

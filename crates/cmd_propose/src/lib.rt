@@ -150,7 +150,7 @@ fn in_blocks(alloc: Global, model: Model, dec: Dec) -> Result<Blocked, AllocErro
         Ok(b) => Ok(b),
         Err(refused) => match refused.fault {
             BlockFault::NoMemory => Err(AllocError),
-            BlockFault::Linking { .. } | BlockFault::VarPlace(_) => unreachable!(),
+            BlockFault::VarPlace(_) | BlockFault::Links => unreachable!(),
         },
     }
 }

@@ -1,5 +1,5 @@
 -- What `solve` prints and writes for an outcome.
-use Rattle.std.specs.Prelude.{◌≡◌, ℕ, ◌+◌, List, Option, Some, None}
+use Rattle.std.specs.Prelude.{◌≡◌, ℕ, ◌+◌, ◌⊎◌, List, ◌++◌, Option, Some, None}
 use Rattle.bp_shelf.specs.Shelf.{Files}
 use Rattle.block_form.specs.Blocked.{BlockedProgram}
 use Rattle.branch_tree.specs.declared.outcome.Outcome.{Outcome}
@@ -13,7 +13,7 @@ use Rattle.bp_report.specs.Report.{solve_report}
 use Rattle.bp_front.specs.Front.{FilesCome, blocked, ends}
 use Rattle.bp_front.specs.declared.ending.Reply.{Reply}
 use Rattle.cmd_solve.specs.Starts.{IsStartAt, RefusesStart}
-use Rattle.cmd_solve.specs.Solves.{IsSpelledOut, outcome_status}
+use Rattle.cmd_solve.specs.Solves.{IsSpelledOut, outcome_status, SolvesBy}
 
 -- what is kept of an outcome, and printed for it: its status, and the report that tells so many steps
 pub record TellsOf (b : BlockedProgram) (told : Option ℕ) (outcome : Outcome) (kept : Option Outcome) (status : ℕ) (report : List ℕ) : Type 0 where
@@ -76,3 +76,30 @@ LeavesBy before (Some name) leaf given cert now b = LeavesFrom before name leaf 
 pub data LeavesCertificate (before : Files) (lp : List ℕ) (dec : Option (List ℕ)) (given : Option ℕ) (cert from : Option (List ℕ)) (leaf : Option ℕ) (now : Files) : Type 0 where
   stopped : (status : ℕ) (report : List ℕ) → FilesCome before lp dec (ends status report) → now ≡ before → LeavesCertificate before lp dec given cert from leaf now
   searched : (b : BlockedProgram) → FilesCome before lp dec (blocked b) → LeavesBy before from leaf given cert now b → LeavesCertificate before lp dec given cert from leaf now
+
+-- statuses after which no file is changed
+abbrev pub IsUntouched : ℕ → Type 0
+IsUntouched status = (status ≡ 2) ⊎ (status ≡ 3) ⊎ (status ≡ 6) ⊎ (status ≡ 7) ⊎ (status ≡ 11)
+
+-- a file holds a beginning of the certificate of an outcome, which is valid as a whole
+abbrev pub IsPartOf : BlockedProgram → Outcome → Option (List ℕ) → Type 0
+IsPartOf b outcome file = (part : List ℕ) × (rest : List ℕ) × (file ≡ Some part) × IsSpelledOut b outcome (part ++ rest)
+
+-- a file holds a beginning of the certificate of an outcome that is a right answer
+pub record HoldsPart (Right : Option Outcome → ℕ → List ℕ → Type 0) (b : BlockedProgram) (file : Option (List ℕ)) : Type 0 where
+  pub outcome : Outcome
+  pub status : ℕ
+  pub report : List ℕ
+  pub right : Right (Some outcome) status report
+  pub part : IsPartOf b outcome file
+
+-- the file for a certificate, where one is named, is as before or holds this
+abbrev pub AsBeforeOr : (Part : Option (List ℕ) → Type 0) → Option (List ℕ) → (before now : Files) → Type 0
+AsBeforeOr Part None before now = Unit {0}
+AsBeforeOr Part (Some name) before now = (now name ≡ before name) ⊎ Part (now name)
+
+-- What stands where memory was wanting: the file for a certificate, where one is named, is as before, or holds a beginning of the
+-- certificate of an outcome of the program in blocks that the files come to.
+abbrev pub LeavesPart : (before : Files) → (lp : List ℕ) → (dec : Option (List ℕ)) → (given : Option ℕ) → (cert from : Option (List ℕ)) → (leaf : Option ℕ) → (now : Files) → Type 0
+LeavesPart before lp dec given cert from leaf now =
+    AsBeforeOr (λ file. (b : BlockedProgram) × FilesCome before lp dec (blocked b) × HoldsPart (λ kept. SolvesBy before from leaf given kept b) b file) cert before now

@@ -12,12 +12,12 @@ ghost use Rattle.std.specs.Option.{option_map};
 ghost use Rattle.branch_tree.specs.Loads.{IsLoaded};
 ghost use Rattle.cert_text.specs.Outcomes.{IsWritable};
 ghost use Rattle.bp_search.specs.Ends.{EndsWithin};
-ghost use Rattle.bp_shelf.specs.Shelf.{CountsFailed, OthersAsBefore, Writes};
-ghost use Rattle.bp_shelf.specs.declared.shelf.ShelfFault.TheVariants.{Missing, NoMemory};
-ghost use Rattle.bp_front.specs.Answers.{AnswersBy, IsOnly, CutsOff, HasCauses, PutsReport, FailsToWrite, FilesStand, IsUntouched};
+ghost use Rattle.cert_stream.specs.Streams.{CountsStop, Streams};
+ghost use Rattle.cert_stream.specs.declared.stream.StreamStop.TheVariants.{NoMemory};
+ghost use Rattle.bp_front.specs.Answers.{AnswersBy, IsOnly, CutsOff, HasCauses, PutsReport, FailsToWrite, FilesStand};
 ghost use Rattle.cmd_solve.specs.Solves.{AnswersSolve, SolvesBy, SolvesAt, outcome_status};
 ghost use Rattle.cmd_solve.specs.Crews.{HasEventsFrom, EventsBy, HasEvents};
-ghost use Rattle.cmd_solve.specs.Saves.{IsSolved, IsSaved, TellsOf, SavesBlocked, HasCertificate, LeavesAt, LeavesBy, LeavesCertificate};
+ghost use Rattle.cmd_solve.specs.Saves.{IsSolved, IsSaved, TellsOf, SavesBlocked, HasCertificate, LeavesAt, LeavesBy, LeavesCertificate, IsUntouched, IsPartOf, HoldsPart, AsBeforeOr, LeavesPart};
 
 use crate::crew::{CrewOrder, Searched, crew_ordered, kept_events, search_from};
 use crate::start::{Start, begin};
@@ -25,10 +25,10 @@ use block_form::Blocked;
 use bp_front::{Ended, Halt, Reply, load, print, stopped, stopped_by};
 use bp_report::solve_text;
 use bp_search::MAX_STEPS;
-use bp_shelf::{Shelf, ShelfFault, Sink};
+use bp_shelf::{Shelf, Sink};
 use bp_theory::Items;
 use branch_tree::{Loaded, Outcome};
-use cert_text::write_cert;
+use cert_stream::{StreamStop, write_stream};
 use search_laws::Side;
 use std::alloc::{AllocError, Global};
 
@@ -38,8 +38,8 @@ use std::alloc::{AllocError, Global};
 /// from 1 in the order of its lines, the search works at that leaf and below it alone: it ends when the steps are taken
 /// or no leaf there is live, the certificate and the report are those of the whole tree, and `budget` tells the steps
 /// that were taken. Where a number of workers or the seed of their order is given, a crew searches, whose events are
-/// handed out beside the outcome. What is written is written before the report: where only the report could not be put,
-/// it stands whole.
+/// handed out beside the outcome. The certificate is written line by line before the report: where only the report could
+/// not be put, it stands whole, and where memory was wanting, a beginning of it may stand.
 pub fn solve<F: Shelf, O: Sink>(
     alloc: Global,
     shelf: &mut F,
@@ -88,6 +88,10 @@ pub fn solve<F: Shelf, O: Sink>(
         (F.file shelf.new) }
     ensures untouched { IsTrue (F.tells shelf.old) → IsUntouched result.status →
         F.file shelf.new ≡ F.file shelf.old }
+    ensures part { IsTrue (F.tells shelf.old) → result.status ≡ 9 →
+        LeavesPart (F.file shelf.old) lp.now (option_map (λ name. name.now) dec.entry) steps
+        (option_map (λ name. name.now) cert.entry) (option_map (λ name. name.now) from.entry) leaf
+        (F.file shelf.new) }
     ensures silent { (result.status ≡ 7) ⊎ (result.status ≡ 9) ⊎ (result.status ≡ 11) →
         O.taken out.new ≡ O.taken out.old }
     ensures cut_off { IsTrue (F.tells shelf.old) → IsTrue (O.tells out.old) →
@@ -151,6 +155,10 @@ fn solve_blocks<F: Shelf, O: Sink>(
         (F.file shelf.new) }
     ensures untouched { IsTrue (F.tells shelf.old) → IsUntouched result.status →
         F.file shelf.new ≡ F.file shelf.old }
+    ensures part { IsTrue (F.tells shelf.old) → result.status ≡ 9 →
+        AsBeforeOr (HoldsPart (λ kept. SolvesBy (F.file shelf.old) (option_map (λ name. name.now)
+        from.entry) leaf steps kept b.now) b.now) (option_map (λ name. name.now) cert.entry)
+        (F.file shelf.old) (F.file shelf.new) }
     ensures silent { (result.status ≡ 7) ⊎ (result.status ≡ 9) ⊎ (result.status ≡ 11) →
         O.taken out.new ≡ O.taken out.old }
     ensures cut_off { IsTrue (F.tells shelf.old) → IsTrue (O.tells out.old) →
@@ -209,8 +217,9 @@ fn answer<F: Shelf, O: Sink>(
     ensures files { IsTrue (F.tells shelf.old) →
         FilesStand (option_map (λ name. name.now) cert.entry) (F.file shelf.old)
         (F.file shelf.new) }
-    ensures untouched { IsTrue (F.tells shelf.old) → result.status ≡ 9 →
-        F.file shelf.new ≡ F.file shelf.old }
+    ensures part { IsTrue (F.tells shelf.old) → result.status ≡ 9 →
+        AsBeforeOr (HoldsPart (λ kept. SolvesAt from below steps kept b.now) b.now)
+        (option_map (λ name. name.now) cert.entry) (F.file shelf.old) (F.file shelf.new) }
     ensures silent { result.status ≡ 9 → O.taken out.new ≡ O.taken out.old }
     ensures cut_off { IsTrue (O.tells out.old) →
         CutsOff (λ kept. SolvesAt from below steps kept b.now) result.status (O.taken out.old)
@@ -268,8 +277,9 @@ fn tell<F: Shelf, O: Sink>(
     ensures files { IsTrue (F.tells shelf.old) →
         FilesStand (option_map (λ name. name.now) cert.entry) (F.file shelf.old)
         (F.file shelf.new) }
-    ensures untouched { IsTrue (F.tells shelf.old) → result.status ≡ 9 →
-        F.file shelf.new ≡ F.file shelf.old }
+    ensures part { IsTrue (F.tells shelf.old) → result.status ≡ 9 →
+        AsBeforeOr (HoldsPart (TellsOf b.now told outcome) b.now)
+        (option_map (λ name. name.now) cert.entry) (F.file shelf.old) (F.file shelf.new) }
     ensures silent { result.status ≡ 9 → O.taken out.new ≡ O.taken out.old }
     ensures cut_off { IsTrue (O.tells out.old) →
         CutsOff (TellsOf b.now told outcome) result.status (O.taken out.old) (O.taken out.new) }
@@ -279,9 +289,8 @@ fn tell<F: Shelf, O: Sink>(
     };
     match save(alloc, shelf, b, &outcome, cert) {
         Ok(()) => print(alloc, out, &reply, Some(outcome)),
-        Err(ShelfFault::Failed) => stopped(alloc, 8),
-        Err(ShelfFault::NoMemory) => stopped(alloc, 9),
-        Err(ShelfFault::Missing) => stopped(alloc, 9),
+        Err(StreamStop::Failed) => stopped(alloc, 8),
+        Err(StreamStop::NoMemory) => stopped(alloc, 9),
     }
 }
 
@@ -311,14 +320,14 @@ pub fn status_of(outcome: &Outcome) -> u8
     }
 }
 
-// Writes the certificate of an outcome, where a file is named for it.
+// Writes the certificate of an outcome line by line, where a file is named for it.
 fn save<F: Shelf>(
     alloc: Global,
     shelf: &mut F,
     b: &Blocked,
     outcome: &Outcome,
     cert: Option<&str>,
-) -> Result<(), ShelfFault>
+) -> Result<(), StreamStop>
     requires ends { (most : ℕ) × EndsWithin b.now most outcome.now }
     requires writable { IsWritable b.now outcome.now }
     ensures saved { IsTrue (F.tells shelf.old) → IsOk result →
@@ -326,20 +335,15 @@ fn save<F: Shelf>(
     ensures files { IsTrue (F.tells shelf.old) →
         FilesStand (option_map (λ name. name.now) cert.entry) (F.file shelf.old)
         (F.file shelf.new) }
-    ensures untouched { IsTrue (F.tells shelf.old) → IsErrOf result ShelfFault.NoMemory →
-        F.file shelf.new ≡ F.file shelf.old }
-    ensures never_missing { IsErrOf result ShelfFault.Missing → ⊥ }
+    ensures part { IsTrue (F.tells shelf.old) → IsErrOf result StreamStop.NoMemory →
+        AsBeforeOr (IsPartOf b.now outcome.now) (option_map (λ name. name.now) cert.entry)
+        (F.file shelf.old) (F.file shelf.new) }
     ensures told { F.tells shelf.new ≡ F.tells shelf.old }
-    ensures cause { CountsFailed (F.write_faults shelf.old) (F.write_faults shelf.new) result }
+    ensures cause { CountsStop (F.write_faults shelf.old) (F.write_faults shelf.new) result }
     ensures reads { F.read_faults shelf.new ≡ F.read_faults shelf.old }
 {
     match cert {
         None => Ok(()),
-        Some(name) => {
-            // For the proof alone: `b` is formed.
-            let _ = b.blocks();
-            let text = write_cert(alloc, b, outcome)?;
-            shelf.replace(name, &text)
-        }
+        Some(name) => write_stream(alloc, b, outcome, shelf, name),
     }
 }

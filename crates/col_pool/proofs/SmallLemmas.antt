@@ -15,14 +15,15 @@ use Rattle.bp_theory.specs.Program.{Program, coefficient, reach, span_at, KeepsA
 use Rattle.bp_theory.specs.Blocking.{Copy, Block, Blocking, coef_in, Mirrors, StandsFor}
 use Rattle.bp_theory.specs.Bound.{spans_of}
 use Rattle.bp_theory.specs.Decomposition.{Decomposition, ProofRow, whole_row, link_row, no_row, proof_row, proof_rows, links_of, copy_coefficient, copy_of, at_first, is_in, is_first, is_block, members, rows_of, row_with_places, blocking_of, HasVariablesBelow}
+use Rattle.bp_theory.specs.Cuts.{cut_rows}
 use Rattle.bp_theory.specs.declared.Span.{Span}
 use Rattle.bp_theory.specs.declared.Term.{Term}
 use Rattle.bp_theory.specs.declared.Row.{Row}
 use Rattle.bp_theory.proofs.DecompositionProof.{coef_in-copy_of, kept_at, all_blocks, decomposition_lem}
+use Rattle.bp_theory.proofs.CutProof.{cuts_are_met_lem}
 use Rattle.bp_model.specs.Named.{NamedProgram, IsKept, HasSmallEnds}
 use Rattle.block_form.specs.Blocked.{BlockedProgram, IsFormed}
 use Rattle.block_form.proofs.GatherLemmas.{passing_few}
-use Rattle.block_form.proofs.PlainLemmas.{plain_blocking}
 use Rattle.pricing.specs.Form.{HasShortEnds, row_size, term_size, cost_size}
 use Rattle.col_pool.specs.Pools.{HasSmallSums, root_block, costs_of, coefs_of}
 
@@ -211,14 +212,21 @@ limited_links p d ends (v ∷ vs) =
     append_all (IsLimited p.spans) (links_of p d v) (flat_map (links_of p d) vs)
     (limited_links_of p.spans v ends (drop 1 (filter (is_in p d v) (range_with_len 0 d.blocks)))) (limited_links p d ends vs)
 
-limited_all : (m : NamedProgram) (d : Decomposition) → IsKept m → AllByRecursion (IsLimited m.program.spans) (proof_rows m.program d [])
-limited_all m d kept =
+limited_cuts : (p : Program) (cuts : List Row) → AllByRecursion (KeepsActivity p) cuts → AllByRecursion (IsLimited p.spans) (map whole_row cuts)
+unfolding IsLimited bounding
+limited_cuts p [] h = tt
+limited_cuts p (cut ∷ cuts) h = (omega (arith, h.0), limited_cuts p cuts h.1)
+
+limited_all : (m : NamedProgram) (d : Decomposition) (cuts : List Row) → IsKept m → AllByRecursion (KeepsActivity m.program) cuts
+    → AllByRecursion (IsLimited m.program.spans) (proof_rows m.program d cuts)
+limited_all m d cuts kept small =
     let p = m.program in
-    append_all (IsLimited p.spans) (map (λ (e : Row × Option ℕ). proof_row e.0 e.1) (zip p.rows d.places) ++ flat_map (links_of p d) (range_with_len 0 (length p.spans))) []
+    append_all (IsLimited p.spans) (map (λ (e : Row × Option ℕ). proof_row e.0 e.1) (zip p.rows d.places) ++ flat_map (links_of p d) (range_with_len 0 (length p.spans)))
+    (map whole_row cuts)
     (append_all (IsLimited p.spans) (map (λ (e : Row × Option ℕ). proof_row e.0 e.1) (zip p.rows d.places)) (flat_map (links_of p d) (range_with_len 0 (length p.spans)))
     (limited_rows p p.rows d.places (recursion_from_All (KeepsActivity p) p.rows kept.row_activity))
     (limited_links p d kept.ends (range_with_len 0 (length p.spans))))
-    tt
+    (limited_cuts p cuts small)
 
 -- ---- one block
 
@@ -230,13 +238,13 @@ record IsSmallBlock (spans : List Span) (block : Block) : Type 0 where
   acts : (row : ℕ) → cost_size (spans_of spans block) (coefs_of block row) < 2 ^ 62
 
 -- copies of different variables are small
-copies_small : (m : NamedProgram) (d : Decomposition) (k : ℕ) (first : ℕ → Bool) (vs : List ℕ) (rows : List Row) → IsKept m → Ascends 0 vs
-    → length vs ≤ 4096 → length rows ≤ 8192
-    → IsSmallBlock m.program.spans (record { copies = map (λ v. copy_of m.program (proof_rows m.program d []) (first v) v k) vs; rows = rows })
+copies_small : (m : NamedProgram) (d : Decomposition) (cuts : List Row) (k : ℕ) (first : ℕ → Bool) (vs : List ℕ) (rows : List Row) → IsKept m
+    → AllByRecursion (KeepsActivity m.program) cuts → Ascends 0 vs → length vs ≤ 4096 → length rows ≤ 8192
+    → IsSmallBlock m.program.spans (record { copies = map (λ v. copy_of m.program (proof_rows m.program d cuts) (first v) v k) vs; rows = rows })
 unfolding IsLimited bounding
-copies_small m d k first vs rows kept ascend few few_rows =
+copies_small m d cuts k first vs rows kept small ascend few few_rows =
     let p = m.program in
-    let pr : List ProofRow = proof_rows p d [] in
+    let pr : List ProofRow = proof_rows p d cuts in
     let f : ℕ → Copy = λ v. copy_of p pr (first v) v k in
     record {
       copies = omega (arith, few, length-map vs f);
@@ -249,7 +257,7 @@ copies_small m d k first vs rows kept ascend few few_rows =
       );
       acts = λ row.
           let r : ProofRow = get_or pr row no_row in
-          let limit : terms_size p.spans (bounding r) < 2 ^ 62 = kept_at (IsLimited p.spans) pr no_row (limited_all m d kept) nothing_limited row in
+          let limit : terms_size p.spans (bounding r) < 2 ^ 62 = kept_at (IsLimited p.spans) pr no_row (limited_all m d cuts kept small) nothing_limited row in
           omega (
             arith,
             copies_within p.spans (bounding r) f (λ (c : Copy). coef_in c row) (λ v. refl)
@@ -276,16 +284,17 @@ chosen_few q (row ∷ rows) (place ∷ places) = by (q (row, place)) (chosen_few
     by true rest = omega (arith, rest)
     by false rest = omega (arith, rest)
 
-blocks_small : (m : NamedProgram) (d : Decomposition) → IsKept m → All (IsSmallBlock m.program.spans) (blocking_of m.program d []).blocks
-blocks_small m d kept =
+blocks_small : (m : NamedProgram) (d : Decomposition) (cuts : List Row) → IsKept m → AllByRecursion (KeepsActivity m.program) cuts
+    → All (IsSmallBlock m.program.spans) (blocking_of m.program d cuts).blocks
+blocks_small m d cuts kept small =
     let p = m.program in
-    let pr : List ProofRow = proof_rows p d [] in
+    let pr : List ProofRow = proof_rows p d cuts in
     all_blocks p d pr (IsSmallBlock p.spans)
-    (λ k. copies_small m d k (λ v. is_first p d v k) (members p d k) (map (row_with_places (members p d k)) (rows_of p d k)) kept
+    (λ k. copies_small m d cuts k (λ v. is_first p d v k) (members p d k) (map (row_with_places (members p d k)) (rows_of p d k)) kept small
     (ascends_filter (λ v. is_in p d v k) 0 (length p.spans))
     (omega (arith, passing_few (λ v. is_in p d v k) (length p.spans), kept.variables))
     (omega (arith, length-map (rows_of p d k) (row_with_places (members p d k)), chosen_few (λ e. is_block k e.1) p.rows d.places, kept.rows)))
-    (λ v l. copies_small m d d.blocks (λ u. true) (v ∷ []) [] kept (omega arith, tt) (omega arith) (omega arith))
+    (λ v l. copies_small m d cuts d.blocks (λ u. true) (v ∷ []) [] kept small (omega arith, tt) (omega arith) (omega arith))
 
 -- ---- rows of blocks
 
@@ -354,8 +363,10 @@ pub root_small : (b : BlockedProgram) (k : ℕ) → IsFormed b → k < length b.
 root_small b k formed l =
     let m = b.named in
     let none : Block = record { copies = []; rows = [] } in
-    let faith = decomposition_lem.adds_up m.program b.dec [] formed.kept.closed (λ k d l. absurd (omega (arith, l))) in
-    subst (λ (bl : Blocking). HasSmallSums (record { block = get_or bl.blocks k none; spans = spans_of m.program.spans (get_or bl.blocks k none) })) (sym (plain_blocking formed))
-    (let there : k < length (blocking_of m.program b.dec []).blocks = subst (λ (bl : Blocking). k < length bl.blocks) (plain_blocking formed) l in
-    sums_small m (get_or (blocking_of m.program b.dec []).blocks k none) formed.kept (blocks_small m b.dec formed.kept k none there)
+    let cuts : List Row = cut_rows m.program b.dec [] b.cuts in
+    let small = recursion_from_All (KeepsActivity m.program) cuts formed.cuts_kept.bounded in
+    let faith = decomposition_lem.adds_up m.program b.dec cuts formed.kept.closed (cuts_are_met_lem.closed m.program b.dec b.cuts) in
+    subst (λ (bl : Blocking). HasSmallSums (record { block = get_or bl.blocks k none; spans = spans_of m.program.spans (get_or bl.blocks k none) })) (sym formed.blocking)
+    (let there : k < length (blocking_of m.program b.dec cuts).blocks = subst (λ (bl : Blocking). k < length bl.blocks) formed.blocking l in
+    sums_small m (get_or (blocking_of m.program b.dec cuts).blocks k none) formed.kept (blocks_small m b.dec cuts formed.kept small k none there)
     (faith.known k none there) (faith.mirrored k none there))

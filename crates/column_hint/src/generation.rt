@@ -79,7 +79,7 @@ enum Step {
 pub fn mean_mult(b: &Blocked, mults: &[i64]) -> f64 {
     let mut sum = 0.0;
     let mut many = 0.0;
-    for row in 0..b.model().rows() {
+    for row in 0..b.named_rows() {
         if b.master_row(row).is_some() {
             sum += nearest_i64_to_f64(at(mults, row as usize)).abs();
             many += 1.0;

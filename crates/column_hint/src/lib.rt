@@ -3,9 +3,11 @@
 //! leaf to leaf is promised: columns are points of their blocks.
 #![tactic(auto)]
 
+mod costs;
 mod dives;
 mod generation;
 mod lines;
+mod link_dives;
 mod master;
 mod partition;
 mod rest;

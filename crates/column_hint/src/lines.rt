@@ -1,4 +1,5 @@
-// The lines of a restricted master that stand for master rows: one for each side that a row's sum must keep.
+// The lines of a restricted master that stand for the rows that proofs may name, which are master rows, link rows and
+// cuts: one for each side that a row's sum must keep.
 use block_form::{Blocked, MAX_SCALE};
 use bp_theory::Sense;
 use column_lp::ColumnProgram;
@@ -53,13 +54,13 @@ fn ones(mult: i64) -> f64 {
 }
 
 impl Lines {
-    /// The lines of a program's master rows.
+    /// The lines of the rows of a program that proofs may name.
     pub fn of(alloc: Global, b: &Blocked) -> Result<Lines, AllocError> {
         let mut lines = Lines {
             lines: Vec::new(alloc),
             by_row: Vec::new(alloc),
         };
-        for row in 0..b.model().rows() {
+        for row in 0..b.named_rows() {
             let first = place_of(lines.lines.len());
             let mut many = 0u32;
             if let Some(named) = b.master_row(row) {
@@ -93,7 +94,7 @@ impl Lines {
         self.lines.len()
     }
 
-    /// Whether the program has no master row with a side to keep.
+    /// Whether the program has no such row with a side to keep.
     pub fn is_empty(&self) -> bool {
         self.lines.is_empty()
     }
@@ -189,7 +190,7 @@ impl Lines {
 
     /// Writes the multipliers by row at the greatest scale.
     pub fn write_mults(&self, b: &Blocked, program: &ColumnProgram, mults: &mut [i64]) {
-        for row in 0..b.model().rows() {
+        for row in 0..b.named_rows() {
             if let Some(named) = b.master_row(row) {
                 let units = saturating_f64_to_i64(at_scale(self.mult(program, row)));
                 let mult = signed(&named, clipped(i128::from(units)));

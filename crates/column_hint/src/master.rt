@@ -1,4 +1,4 @@
-// The restricted master of a zone: the master rows less what the blocks of one point take, the classes of the other
+// The restricted master of a zone: the master rows, link rows and cuts less what the blocks of one point take, the classes of the other
 // blocks, and columns of these. What a row misses costs a penalty, which keeps its multiplier in a range.
 use crate::lines::{Lines, at_scale, place_of};
 use block_class::Classes;
@@ -84,10 +84,10 @@ impl Drop for RestrictedMaster {
     }
 }
 
-/// Whether columns serve a zone: a block has rows of its own, and there are master rows.
+/// Whether columns serve a zone: a block has rows of its own, and there are rows that proofs may name.
 pub fn serves(b: &Blocked) -> bool {
     let mut has_master = false;
-    for row in 0..b.model().rows() {
+    for row in 0..b.named_rows() {
         if b.master_row(row).is_some() {
             has_master = true;
             break;
@@ -456,7 +456,7 @@ fn settle_blocks(
     zone: &Zone,
 ) -> Result<Settled, AllocError> {
     let mut settled = Settled {
-        sums: Vec::from_elem(alloc, 0i128, b.model().rows() as usize)?,
+        sums: Vec::from_elem(alloc, 0i128, b.named_rows() as usize)?,
         cost: i128::from(b.model().constant()),
         numbers: Vec::new(alloc),
         sizes: Vec::new(alloc),

@@ -7,6 +7,7 @@ ghost use Rattle.knap_price.specs.Kept as by_table;
 ghost use Rattle.pricing.specs.Form.{AreOf};
 ghost use Rattle.hint_pools.specs.Pools.{AreMadeFor};
 
+use crate::costs::reduced_costs;
 use crate::master::{RestrictedMaster, block_spans};
 use crate::several::gives_several;
 use block_class::Classes;
@@ -14,7 +15,7 @@ use block_form::{Block, Blocked, Zone};
 use bp_theory::{Proof, Sense, Span};
 use hint_pools::{Pools, alone};
 use knap_price::KnapPricer;
-use point_hint::{UNIT, at, narrow, product, sum_at};
+use point_hint::{at, narrow, product, sum_at};
 use pricing::{Cap, Priced, Pricer, is_form, is_priceable};
 use std::alloc::{AllocError, Global};
 
@@ -122,7 +123,7 @@ fn sides_of(
     master: &RestrictedMaster,
 ) -> Result<Vec<Side>, AllocError> {
     let mut sides = Vec::new(alloc);
-    for row in 0..b.model().rows() {
+    for row in 0..b.named_rows() {
         let (side, sense) = match b.master_row(row) {
             None => (0, Sense::In),
             Some(named) => match named.sense {
@@ -176,19 +177,6 @@ fn priced_blocks(
         &mut member,
         sides,
     )
-}
-
-// The reduced costs of a block's variables at multipliers by row, at the greatest scale.
-fn reduced_costs(alloc: Global, block: &Block, mults: &[i64]) -> Result<Vec<i128>, AllocError> {
-    let mut costs = Vec::new(alloc);
-    for place in 0..block.var_count() {
-        let mut cost = i128::from(block.costs()[place as usize]).saturating_mul(UNIT);
-        for entry in block.master(place) {
-            cost = cost.saturating_sub(product(&entry.1, &at(mults, entry.0 as usize)));
-        }
-        costs.push(cost)?;
-    }
-    Ok(costs)
 }
 
 // Prices blocks by a table, one after the other, each in what those before it leave, until nothing is left to take.

@@ -98,7 +98,7 @@ pub fn settle_rest(
 {
     let left = narrow(b, zone.copy(alloc)?, dive.spans.now.as_slice());
     let inner = Classes::of(alloc, b, &left)?;
-    let mut mults = Vec::from_elem(alloc, 0i64, b.model().rows() as usize)?;
+    let mut mults = Vec::from_elem(alloc, 0i64, b.named_rows() as usize)?;
     let mut point = Vec::from_elem(alloc, 0i64, b.model().vars() as usize)?;
     master.settle(alloc, PIVOTS)?;
     for _ in 0..rounds {

@@ -9,14 +9,15 @@ ghost use Rattle.bp_theory.specs.Trees.{IsZone};
 ghost use Rattle.block_class.specs.Classes.{AreSameClasses};
 ghost use Rattle.hint_pools.specs.Pools.{AreMadeFor};
 
+use crate::costs::reduced_cost;
 use block_class::Classes;
 use block_form::{Blocked, MAX_SCALE};
 use bp_theory::{MasterRow, Sense, Span};
 use branch_tree::Turn;
 use hint_pools::Pools;
 use point_hint::{
-    UNIT, at, clipped, dense_costs, feasible_cost, is_below, is_reached, meets, product, put,
-    quotient, reduced_costs, signed, slope, sum_at, write_sums,
+    UNIT, at, clipped, copy_count, copy_place, feasible_cost, is_below, is_reached, meets, product,
+    put, quotient, signed, slope, sum_at, write_sums,
 };
 use std::alloc::{AllocError, Global};
 
@@ -199,11 +200,11 @@ fn make(
     course: Course,
     pace: Pace,
 ) -> Result<Subgradient, AllocError> {
-    let rows = b.model().rows() as usize;
+    let rows = b.named_rows() as usize;
     let vars = b.model().vars() as usize;
     let mults = leaf_mults(alloc, b, turn)?;
-    let mut point = Vec::from_elem(alloc, 0i64, vars)?;
-    write_lows(point.as_mut_slice(), turn.zone.spans());
+    let mut point = Vec::from_elem(alloc, 0i64, copy_count(b))?;
+    write_lows(b, point.as_mut_slice(), turn.zone.spans());
     Ok(Subgradient {
         best: mults.as_slice().to_vec(alloc)?,
         value: i128::MIN,
@@ -226,7 +227,7 @@ fn make(
 
 /// The leaf's multipliers by row at the greatest scale.
 pub fn leaf_mults(alloc: Global, b: &Blocked, turn: &Turn) -> Result<Vec<i64>, AllocError> {
-    let mut mults = Vec::from_elem(alloc, 0i64, b.model().rows() as usize)?;
+    let mut mults = Vec::from_elem(alloc, 0i64, b.named_rows() as usize)?;
     for mult in turn.proof.mults.as_slice() {
         let full = at_full_scale(&mult.1, turn.proof.scale);
         put(mults.as_mut_slice(), mult.0 as usize, full);
@@ -234,11 +235,15 @@ pub fn leaf_mults(alloc: Global, b: &Blocked, turn: &Turn) -> Result<Vec<i64>, A
     Ok(mults)
 }
 
-// Writes the lower ends of spans.
-fn write_lows(point: &mut [i64], spans: &[Span]) {
-    let many = point.len().min(spans.len());
-    for i in 0..many {
-        point[i] = spans[i].lo;
+// Writes the lower ends of the copies' spans.
+fn write_lows(b: &Blocked, point: &mut [i64], spans: &[Span]) {
+    for number in 0..b.blocks() {
+        let block = b.block(number);
+        for place in 0..block.var_count() {
+            if let Some(span) = spans.get(block.vars()[place as usize] as usize) {
+                put(point, copy_place(b, number, block, place), span.lo);
+            }
+        }
     }
 }
 
@@ -289,35 +294,25 @@ fn priced(
     ensures made_for { AreMadeFor b.now pools.new }
 {
     if pools.budget.leaves_out() {
-        write_ends(alloc, b, turn.zone.spans(), steps)?;
+        write_ends(b, turn.zone.spans(), steps);
     }
     let mults = steps.mults.as_slice();
     let point = steps.point.as_mut_slice();
     pools.price(alloc, b, classes, &turn.zone, mults, point)
 }
 
-// Writes the cheaper ends of the spans at the multipliers.
-fn write_ends(
-    alloc: Global,
-    b: &Blocked,
-    spans: &[Span],
-    steps: &mut Subgradient,
-) -> Result<(), AllocError> {
-    let costs = dense_costs(alloc, b)?;
-    let reduced = reduced_costs(alloc, b, steps.mults.as_slice(), costs.as_slice())?;
-    write_cheap(steps.point.as_mut_slice(), reduced.as_slice(), spans);
-    Ok(())
-}
-
-// Writes the upper ends of spans where costs are negative, else the lower ones.
-fn write_cheap(point: &mut [i64], costs: &[i128], spans: &[Span]) {
-    let many = point.len().min(costs.len()).min(spans.len());
-    for i in 0..many {
-        point[i] = if costs[i] < 0 {
-            spans[i].hi
-        } else {
-            spans[i].lo
-        };
+// Writes the cheaper ends of the copies' spans at the multipliers: the upper ones where reduced costs are negative.
+fn write_ends(b: &Blocked, spans: &[Span], steps: &mut Subgradient) {
+    let point = steps.point.as_mut_slice();
+    for number in 0..b.blocks() {
+        let block = b.block(number);
+        for place in 0..block.var_count() {
+            if let Some(span) = spans.get(block.vars()[place as usize] as usize) {
+                let is_paid = reduced_cost(block, place, steps.mults.as_slice()) < 0;
+                let end = if is_paid { span.hi } else { span.lo };
+                put(point, copy_place(b, number, block, place), end);
+            }
+        }
     }
 }
 
@@ -355,7 +350,7 @@ fn step(b: &Blocked, steps: &mut Subgradient) -> bool {
         return false;
     }
     let want = steps.gain.saturating_add(steps.short);
-    for row in 0..b.model().rows() {
+    for row in 0..b.named_rows() {
         if let Some(named) = b.master_row(row) {
             let from = at(steps.from.as_slice(), row as usize);
             let open = slope(&named, &from, &sum_at(steps.along.as_slice(), row as usize));
@@ -389,7 +384,7 @@ fn keep(kept: &mut [i128], sums: &[i128]) {
 // The square of what is left open along the next step.
 fn norm_of(b: &Blocked, steps: &Subgradient) -> i128 {
     let mut norm: i128 = 0;
-    for row in 0..b.model().rows() {
+    for row in 0..b.named_rows() {
         if let Some(named) = b.master_row(row) {
             let from = at(steps.from.as_slice(), row as usize);
             let open = slope(&named, &from, &sum_at(steps.along.as_slice(), row as usize));
@@ -467,9 +462,9 @@ fn note(alloc: Global, b: &Blocked, steps: &mut Subgradient) -> Result<(), Alloc
     Ok(())
 }
 
-// Whether each master row is met.
+// Whether each row that proofs may name is met.
 fn all_meet(b: &Blocked, sums: &[i128]) -> bool {
-    for row in 0..b.model().rows() {
+    for row in 0..b.named_rows() {
         if let Some(named) = b.master_row(row) {
             if !meets(&named, &sum_at(sums, row as usize)) {
                 return false;
@@ -506,7 +501,7 @@ fn mixed(number: &i128, other: &i128, share: &i128) -> i128 {
 fn best_share(b: &Blocked, steps: &Subgradient) -> i128 {
     let mut along: i128 = 0;
     let mut norm: i128 = 0;
-    for row in 0..b.model().rows() {
+    for row in 0..b.named_rows() {
         if let Some(named) = b.master_row(row) {
             let best = at(steps.best.as_slice(), row as usize);
             let mean = sum_at(steps.along.as_slice(), row as usize);

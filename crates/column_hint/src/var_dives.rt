@@ -1,18 +1,19 @@
 // Dives for a point by variables, for classes of one block each, where a column is too coarse a step: all variables
 // that the master holds at a whole number above their lower end, and the most decided one between, go up, and the
 // master of the rest is settled again. A hint, which the model judges.
-ghost use Rattle.std.specs.Prelude.{◌≡◌};
+ghost use Rattle.std.specs.Prelude.{◌≡◌, ◌<◌, length};
 ghost use Rattle.bp_theory.specs.Trees.{IsZone};
 ghost use Rattle.hint_pools.specs.Pools.{AreMadeFor};
 
 use crate::dives::{Dive, drawn, lows};
+use crate::link_dives::fix_links;
 use crate::master::RestrictedMaster;
 use crate::rest::{settle_rest, switch_off_outside};
 use block_class::Classes;
-use block_form::{Block, Blocked, Zone};
+use block_form::{Blocked, Zone};
 use bp_theory::Span;
 use hint_pools::Pools;
-use point_hint::{Spans, forget, put, set, take_back, tighten};
+use point_hint::{Spans, at, forget, is_first_copy, linking_vars, put, set, take_back, tighten};
 use std::alloc::{AllocError, Global};
 use std::num::{nearest_i64_to_f64, saturating_f64_to_i64};
 
@@ -86,23 +87,51 @@ fn raise_all(
     if !tighten(b, known, &mut dive.spans)? {
         return Ok(None);
     }
+    let links = linking_vars(alloc, b)?;
     let mut seed = seed;
     for _ in 0..b.model().vars() {
         let found = means_of(alloc, b, classes, pools, master)?;
         if let Some(point) = whole_point(alloc, b, classes, pools, master, &found, dive)? {
             return Ok(Some(point));
         }
-        let rises = rises_of(alloc, b, classes, &found, &dive.spans, seed)?;
-        seed = next_seed(seed);
-        if !raise(b, rises.as_slice(), known, &mut dive.spans)? {
+        if !move_on(
+            alloc,
+            b,
+            classes,
+            &found,
+            links.as_slice(),
+            known,
+            seed,
+            dive,
+        )? {
             return Ok(None);
         }
+        seed = next_seed(seed);
         switch_off_outside(alloc, b, classes, pools, master, dive)?;
         if !settle_rest(alloc, b, classes, zone, pools, master, known, dive, ROUNDS)? {
             return Ok(None);
         }
     }
     Ok(None)
+}
+
+// Fixes linking variables, or raises others where no linking one is open; whether a point may be left.
+fn move_on(
+    alloc: Global,
+    b: &Blocked,
+    classes: &Classes,
+    found: &Means,
+    links: &[u32],
+    known: Option<i64>,
+    seed: Option<u64>,
+    dive: &mut Dive,
+) -> Result<bool, AllocError> {
+    let means = found.means.as_slice();
+    if let Some(is_left) = fix_links(alloc, b, links, means, known, &mut dive.spans)? {
+        return Ok(is_left);
+    }
+    let rises = rises_of(alloc, b, classes, found, &dive.spans, seed)?;
+    raise(b, rises.as_slice(), known, &mut dive.spans)
 }
 
 // The seed of the next step.
@@ -133,7 +162,7 @@ fn means_of(
                 if block < b.blocks() {
                     if let Some(point) = pools.column(column.place) {
                         let point = point.point.as_slice();
-                        add_weighted(b.block(block), point, weight, found.means.as_mut_slice());
+                        add_weighted(b, block, point, weight, found.means.as_mut_slice());
                     }
                 }
                 if weight > 1.0 - WHOLE {
@@ -147,16 +176,20 @@ fn means_of(
     Ok(found)
 }
 
-// Adds a part of a block's point to means.
-fn add_weighted(block: &Block, point: &[i64], weight: f64, means: &mut [f64]) {
-    for (var, number) in block.vars().iter().zip(point) {
-        if let Some(mean) = means.get_mut(*var as usize) {
-            *mean += weight * nearest_i64_to_f64(*number);
+// Adds a part of a block's point to means, which are those of first copies.
+fn add_weighted(b: &Blocked, number: u32, point: &[i64], weight: f64, means: &mut [f64])
+    requires { number < length b.now.blocking.blocks }
+{
+    for (var, value) in b.block(number).vars().iter().zip(point) {
+        if is_first_copy(b, number, *var) {
+            if let Some(mean) = means.get_mut(*var as usize) {
+                *mean += weight * nearest_i64_to_f64(*value);
+            }
         }
     }
 }
 
-// The point where each class that isn't settled has one column.
+// The point where each class that isn't settled has one column, and these agree.
 fn whole_point(
     alloc: Global,
     b: &Blocked,
@@ -175,21 +208,16 @@ fn whole_point(
     let mut point = lows(alloc, dive.spans.now.as_slice())?;
     for class in 0..classes.len() {
         if let Some(Some(number)) = found.wholes.get(class as usize) {
-            write_column(
-                b,
-                classes,
-                pools,
-                master,
-                class,
-                *number,
-                point.as_mut_slice(),
-            );
+            let point = point.as_mut_slice();
+            if !write_column(b, classes, pools, master, class, *number, point) {
+                return Ok(None);
+            }
         }
     }
     Ok(Some(point))
 }
 
-// Writes a column's numbers into the first block of its class.
+// Writes a column's numbers into the first block of its class; whether they agree with what first copies have already.
 fn write_column(
     b: &Blocked,
     classes: &Classes,
@@ -198,21 +226,26 @@ fn write_column(
     class: u32,
     number: usize,
     point: &mut [i64],
-) {
+) -> bool {
     if class >= classes.len() {
-        return;
+        return true;
     }
     let block = classes.first(class);
     if block >= b.blocks() {
-        return;
+        return true;
     }
     if let Some(column) = master.column(number) {
         if let Some(found) = pools.column(column.place) {
             for (var, value) in b.block(block).vars().iter().zip(found.point.as_slice()) {
-                put(point, *var as usize, *value);
+                if is_first_copy(b, block, *var) {
+                    put(point, *var as usize, *value);
+                } else if at(point, *var as usize) != *value {
+                    return false;
+                }
             }
         }
     }
+    true
 }
 
 // The variables that may go up, those at whole numbers first, and then those with the greatest part.
@@ -227,12 +260,12 @@ fn rises_of(
     let mut rises = Vec::new(alloc);
     let mut seed = seed;
     for class in 0..classes.len() {
-        let block = classes.first(class);
-        if block < b.blocks() {
-            let block = b.block(block);
+        let number = classes.first(class);
+        if number < b.blocks() {
+            let block = b.block(number);
             for place in 0..block.var_count() {
                 let var = block.vars()[place as usize];
-                if !block.master(place).is_empty() {
+                if !block.master(place).is_empty() && is_first_copy(b, number, var) {
                     if let Some(rise) = rise_of(var, found, spans, &mut seed) {
                         rises.push(rise)?;
                     }

@@ -12,8 +12,9 @@ use Rattle.bp_model.specs.Named.{NamedProgram, IsKept}
 use Rattle.block_form.specs.Stand.{StandsInRow}
 use Rattle.block_form.specs.Checks.{HasBlockFault}
 use Rattle.block_form.specs.declared.fault.BlockFault.{BlockFault}
-use Rattle.block_form.specs.declared.fault.BlockFault.TheVariants.{Linking, VarPlace, NoMemory}
+use Rattle.block_form.specs.declared.fault.BlockFault.TheVariants.{VarPlace, Links, NoMemory}
 use Rattle.block_form.proofs.FormLemmas.{in_from_stands, stands_from_in}
+use Rattle.block_form.proofs.LargeLemmas.{not_large}
 use Rattle.dec_find.specs.Joined.{HasVariable, SharesVariable, IsOutside, Joined, place_at, IsFound, HasMaster}
 use Rattle.dec_find.proofs.ChainLemmas.{joined_by, joined_keeps, has_stands, stands_has}
 use Rattle.dec_find.proofs.NumberLemmas.{no_some, one_some, some_there, none_past, any_place}
@@ -96,14 +97,9 @@ found_once p master d e hd he =
 stands_row : (m : NamedProgram) (d : Decomposition) (v r k : ℕ) → IsKept m → StandsInRow m.program.rows d.places v r k → HasVariable m.program r v
 stands_row m d v r k kept s = stands_has m r v kept s.there s.stands
 
-pub found_accepted : (m : NamedProgram) (master : List ℕ) (d : Decomposition) (fault : BlockFault) → IsKept m → IsFound m.program master d → HasBlockFault m.program d fault → fault ≡ NoMemory
-found_accepted m master d NoMemory kept h f = refl
-found_accepted m master d (VarPlace v) kept h f = absurd (
-    let none : f.1.place < length (let xs : List (ℕ × Option ℕ) = [] in xs) = subst (λ (xs : List (ℕ × Option ℕ)). f.1.place < length xs) h.unlisted f.1.there in
-    omega (arith, none)
-    )
-found_accepted m master d (Linking v row1 row2) kept h f = absurd (
-    let link = f.linking in
+-- rows of two blocks have no variable in common
+none_links : (m : NamedProgram) (master : List ℕ) (d : Decomposition) → IsKept m → IsFound m.program master d → (v : ℕ) → IsLinking m.program d v → ⊥
+none_links m master d kept h v link =
     let one = stands_from_in m.program d v link.first link.in_first in
     let two = stands_from_in m.program d v link.later link.in_later in
     let out1 = some_outside m.program master d one.0 link.first h.places h.master_rows one.1.place in
@@ -112,7 +108,14 @@ found_accepted m master d (Linking v row1 row2) kept h f = absurd (
     let alike = (h.blocks one.0 two.0 out1 out2).1 joined in
     let equal : link.first ≡ link.later = one_some link.first link.later (sym one.1.place ∙ alike ∙ two.1.place) in
     omega (arith, equal, link.apart)
+
+pub found_accepted : (m : NamedProgram) (master : List ℕ) (d : Decomposition) (fault : BlockFault) → IsKept m → IsFound m.program master d → HasBlockFault m.program d fault → fault ≡ NoMemory
+found_accepted m master d NoMemory kept h f = refl
+found_accepted m master d (VarPlace v) kept h f = absurd (
+    let none : f.place < length (let xs : List (ℕ × Option ℕ) = [] in xs) = subst (λ (xs : List (ℕ × Option ℕ)). f.place < length xs) h.unlisted f.there in
+    omega (arith, none)
     )
+found_accepted m master d Links kept h f = absurd (not_large m d kept (none_links m master d kept h) f.1)
 
 -- ---- other decompositions
 

@@ -1,4 +1,3 @@
 pub mod DealLemmas
-pub mod CopyLemmas
 pub mod WholeLemmas
 pub mod SpreadLemmas

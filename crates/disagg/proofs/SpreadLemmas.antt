@@ -9,17 +9,17 @@ use Rattle.std.proofs.lemmas.List.Elements.{All-from_recursion, recursion_from_A
 use Rattle.bp_theory.specs.Program.{IsWithin, value_at}
 use Rattle.bp_theory.specs.Blocking.{Copy, Block, Blocking, restriction}
 use Rattle.bp_theory.specs.Bound.{IsPoint, spans_of}
+use Rattle.bp_theory.specs.Cuts.{cut_rows}
 use Rattle.bp_theory.specs.declared.Span.{Span}
 use Rattle.bp_theory.proofs.ZipLaws.{AllZip-length}
 use Rattle.bp_theory.proofs.DecompositionProof.{decomposition_lem}
+use Rattle.bp_theory.proofs.CutProof.{cuts_are_met_lem}
 use Rattle.search_laws.specs.declared.UsedColumn.{UsedColumn}
 use Rattle.search_laws.specs.Spread.{block_at, class_at, class_blocks, AreClasses, IsUsed, times, IsWhole, class_points, rank, block_point, IsSpread}
 use Rattle.block_form.specs.Blocked.{BlockedProgram, IsFormed, HasCopyAt}
-use Rattle.block_form.proofs.PlainLemmas.{plain_blocking}
 use Rattle.block_class.specs.Classes.{Grouping}
-use Rattle.disagg.specs.Spreads.{IsSpreadable, point_at, points_at}
+use Rattle.disagg.specs.Spreads.{IsSpreadable, HaveNumbers, point_at, points_at}
 use Rattle.disagg.proofs.DealLemmas.{rank_below, sizes_agree}
-use Rattle.disagg.proofs.CopyLemmas.{one_copy}
 
 any_default : {X : Type 0} (xs : List X) (i : ℕ) (d e : X) → i < length xs → get_or xs i d ≡ get_or xs i e
 any_default [] i d e l = absurd (omega arith)
@@ -84,51 +84,72 @@ column_is g used decks columns j inside deck column =
     let there : r < length places = omega (arith, inside, ap (length {A = List ℤ}) deck, length-map places (point_at used)) in
     ap (point_at used) column ∙ sym (get_or-map (point_at used) places r 0 [] there) ∙ ap (λ (ys : List (List ℤ)). get_or ys r []) deck
 
--- dealt columns are a spread
-pub spread_is : (b : BlockedProgram) (zone : List Span) (g : Grouping) (used : List UsedColumn) (decks : List (List ℕ)) (columns : List ℕ) (x : List ℤ)
-    → IsFormed b → AreClasses zone b.blocking g.classes g.firsts → All (IsUsed zone b.blocking g.firsts) used → IsSpreadable g used
+-- each block got the column with its point
+columns_are : (zone : List Span) (b : Blocking) (g : Grouping) (used : List UsedColumn) (decks : List (List ℕ)) (columns : List ℕ) → AreClasses zone b g.classes g.firsts
+    → All (IsUsed zone b g.firsts) used → IsSpreadable g used → ((k : ℕ) → k < length g.firsts → points_at used (get_or decks k []) ≡ class_points used k)
+    → ((j : ℕ) → j < length b.blocks → get_or columns j 0 ≡ get_or (get_or decks (class_at g.classes j) []) (rank g.classes j) 0)
+    → (j : ℕ) → j < length b.blocks → point_at used (get_or columns j 0) ≡ block_point used g.classes j
+columns_are zone b g used decks columns are known fits deck column j l =
+    let there : j < length g.classes = omega (arith, l, are.each) in
+    column_is g used decks columns j (block_point_long zone b g used j are known fits l).0 (deck (class_at g.classes j) (are.known j 0 there)) (column j l)
+
+no_copy : Copy
+no_copy = record { var = 0; cost = pos 0; coefs = [] }
+
+-- dealt columns in which all copies of a variable have one number are a spread
+pub spread_is : (zone : List Span) (b : Blocking) (g : Grouping) (used : List UsedColumn) (decks : List (List ℕ)) (columns : List ℕ) (x : List ℤ)
+    → AreClasses zone b g.classes g.firsts → All (IsUsed zone b g.firsts) used → IsSpreadable g used
     → ((k : ℕ) → k < length g.firsts → points_at used (get_or decks k []) ≡ class_points used k)
-    → ((j : ℕ) → j < length b.blocking.blocks → get_or columns j 0 ≡ get_or (get_or decks (class_at g.classes j) []) (rank g.classes j) 0)
-    → ((v : ℕ) → v < length b.named.program.spans → (at : ℕ × ℕ) × HasCopyAt b.blocking.blocks v at
-    × (value_at x v ≡ value_at (point_at used (get_or columns at.0 0)) at.1))
-    → IsSpread b.blocking g.classes g.firsts used x
-spread_is b zone g used decks columns x formed are known fits deck column numbers = record {
+    → ((j : ℕ) → j < length b.blocks → get_or columns j 0 ≡ get_or (get_or decks (class_at g.classes j) []) (rank g.classes j) 0)
+    → HaveNumbers b used columns x → IsSpread b g.classes g.firsts used x
+spread_is zone b g used decks columns x are known fits deck column have = record {
   whole = fits.whole;
   sizes = fits.sizes;
   agrees = λ j l.
-      let block : Block = block_at b.blocking j in
-      let empty : Block = record { copies = []; rows = [] } in
-      let none : Copy = record { var = 0; cost = pos 0; coefs = [] } in
-      let long = block_point_long zone b.blocking g used j are known fits l in
-      let there : j < length g.classes = omega (arith, l, are.each) in
-      let own : point_at used (get_or columns j 0) ≡ block_point used g.classes j =
-      column_is g used decks columns j long.0 (deck (class_at g.classes j) (are.known j 0 there)) (column j l) in
+      let block : Block = block_at b j in
+      let long = block_point_long zone b g used j are known fits l in
+      let own : point_at used (get_or columns j 0) ≡ block_point used g.classes j = columns_are zone b g used decks columns are known fits deck column j l in
       let many : length (restriction x block) ≡ length block.copies = length-map block.copies (λ (c : Copy). value_at x c.var) in
       same_lists (restriction x block) (block_point used g.classes j) (many ∙ sym long.1)
       (λ i d m.
       let inside : i < length block.copies = omega (arith, m, many) in
-      let v : ℕ = (get_or block.copies i none).var in
-      let found = numbers v (vars_known j i l inside) in
-      let here : HasCopyAt b.blocking.blocks v (j, i) = record {
-        there = l;
-        within = λ e. subst (λ (k : Block). i < length k.copies) (any_default b.blocking.blocks j empty e l) inside;
-        var = λ e c.
-            subst (λ (k : Block). (get_or k.copies i c).var ≡ v) (any_default b.blocking.blocks j empty e l)
-            (ap (λ (c : Copy). c.var) (any_default block.copies i c none inside));
-      } in
-      let same = one_copy b v found.0 (j, i) formed found.1 here in
-      get_or-map (λ (c : Copy). value_at x c.var) block.copies i none d inside
-      ∙ found.2
-      ∙ ap (λ n. value_at (point_at used (get_or columns n 0)) found.0.1) same.0
-      ∙ ap (λ n. value_at (point_at used (get_or columns j 0)) n) same.1
+      get_or-map (λ (c : Copy). value_at x c.var) block.copies i no_copy d inside
+      ∙ sym (have j l i no_copy inside)
       ∙ ap (λ (y : List ℤ). value_at y i) own
       ∙ any_default (block_point used g.classes j) i (pos 0) d (omega (arith, inside, long.1)));
 }
+
+-- where there is a spread, the point of the first copies' numbers has those of all copies
+pub copies_have : (b : BlockedProgram) (zone : List Span) (g : Grouping) (used : List UsedColumn) (decks : List (List ℕ)) (columns : List ℕ) (x y : List ℤ)
+    → IsFormed b → AreClasses zone b.blocking g.classes g.firsts → All (IsUsed zone b.blocking g.firsts) used
+    → ((k : ℕ) → k < length g.firsts → points_at used (get_or decks k []) ≡ class_points used k)
+    → ((j : ℕ) → j < length b.blocking.blocks → get_or columns j 0 ≡ get_or (get_or decks (class_at g.classes j) []) (rank g.classes j) 0)
+    → ((v : ℕ) → v < length b.named.program.spans → (at : ℕ × ℕ) × HasCopyAt b.blocking.blocks v at
+    × (value_at x v ≡ value_at (point_at used (get_or columns at.0 0)) at.1))
+    → IsSpread b.blocking g.classes g.firsts used y → HaveNumbers b.blocking used columns x
+copies_have b zone g used decks columns x y formed are known deck column numbers spread = λ j l i d m.
+    let v : ℕ = (get_or (block_at b.blocking j).copies i d).var in
+    let found = numbers v (var_known j i d l m) in
+    let at : ℕ × ℕ = found.0 in
+    let empty : Block = record { copies = []; rows = [] } in
+    number_of j i d l m
+    ∙ sym (found.2 ∙ number_of at.0 at.1 d found.1.there (found.1.within empty) ∙ ap (value_at y) (found.1.var empty d))
   where
-    vars_known : (j i : ℕ) → j < length b.blocking.blocks → i < length (block_at b.blocking j).copies
-        → (get_or (block_at b.blocking j).copies i (record { var = 0; cost = pos 0; coefs = [] })).var < length b.named.program.spans
-    vars_known j i l m =
+    fits : IsSpreadable g used
+    fits = record { whole = spread.whole; sizes = spread.sizes }
+
+    -- the number of a copy in its block's column is that of its variable in the spread
+    number_of : (j i : ℕ) (d : Copy) → j < length b.blocking.blocks → i < length (block_at b.blocking j).copies
+        → value_at (point_at used (get_or columns j 0)) i ≡ value_at y (get_or (block_at b.blocking j).copies i d).var
+    number_of j i d l m =
+        ap (λ (z : List ℤ). value_at z i) (columns_are zone b.blocking g used decks columns are known fits deck column j l ∙ sym (spread.agrees j l))
+        ∙ get_or-map (λ (c : Copy). value_at y c.var) (block_at b.blocking j).copies i d (pos 0) m
+
+    var_known : (j i : ℕ) (d : Copy) → j < length b.blocking.blocks → i < length (block_at b.blocking j).copies
+        → (get_or (block_at b.blocking j).copies i d).var < length b.named.program.spans
+    var_known j i d l m =
         let all : All (λ (k : Block). All (λ (c : Copy). c.var < length b.named.program.spans) k.copies) b.blocking.blocks =
-        subst (λ (bl : Blocking). All (λ (k : Block). All (λ (c : Copy). c.var < length b.named.program.spans) k.copies) bl.blocks) (sym (plain_blocking formed))
-        (decomposition_lem.adds_up b.named.program b.dec [] formed.kept.closed (λ k d l. absurd (omega (arith, l)))).known in
-        all j (record { copies = []; rows = [] }) l i (record { var = 0; cost = pos 0; coefs = [] }) m
+        subst (λ (bl : Blocking). All (λ (k : Block). All (λ (c : Copy). c.var < length b.named.program.spans) k.copies) bl.blocks) (sym formed.blocking)
+        (decomposition_lem.adds_up b.named.program b.dec (cut_rows b.named.program b.dec [] b.cuts) formed.kept.closed
+        (cuts_are_met_lem.closed b.named.program b.dec b.cuts)).known in
+        all j (record { copies = []; rows = [] }) l i d m

@@ -2,11 +2,13 @@
 use Rattle.std.specs.Prelude.{◌≡◌, ℕ, ◌<◌, ◌^◌, List, [], map, length, ℤ, pos, ◌*ℤ◌, ◌≤ℤ◌, slice_index_or, MatchOption, All}
 use Rattle.bp_theory.specs.Limits.{greatest_weight}
 use Rattle.bp_theory.specs.Sums.{sum_at}
+use Rattle.bp_theory.specs.Program.{value_at}
+use Rattle.bp_theory.specs.Blocking.{Copy, Block, Blocking}
 use Rattle.bp_theory.specs.Trees.{IsSoundSplit}
 use Rattle.bp_theory.specs.declared.Span.{Span}
 use Rattle.search_laws.specs.declared.UsedColumn.{UsedColumn}
 use Rattle.search_laws.specs.Master.{one_weight}
-use Rattle.search_laws.specs.Spread.{class_blocks, IsWhole, IsSpread}
+use Rattle.search_laws.specs.Spread.{block_at, class_blocks, IsWhole, IsSpread}
 use Rattle.block_form.specs.Blocked.{BlockedProgram}
 use Rattle.block_class.specs.Classes.{Grouping}
 use Rattle.disagg.specs.declared.answer.Spread.{Spread}
@@ -33,7 +35,16 @@ point_at used i = (slice_index_or used i (record { class = 0; weight = pos 0; po
 abbrev pub points_at : List UsedColumn → List ℕ → List (List ℤ)
 points_at used places = map (point_at used) places
 
--- the point is there exactly where the weights are whole and add up, and the split exactly where a span has two numbers
+-- a block's copies have the numbers of a point over their places that another gives their variables
+abbrev pub HasNumbers : (x : List ℤ) (block : Block) (y : List ℤ) → Type 0
+HasNumbers x block y = (i : ℕ) (d : Copy) → i < length block.copies → value_at y i ≡ value_at x (slice_index_or block.copies i d).var
+
+-- each block has them in its column, so that all copies of a variable have one number
+abbrev pub HaveNumbers : Blocking → List UsedColumn → (columns : List ℕ) (x : List ℤ) → Type 0
+HaveNumbers b used columns x = (j : ℕ) → j < length b.blocks → HasNumbers x (block_at b j) (point_at used (slice_index_or columns j 0))
+
+-- the point is there exactly where there is a spread, and the split exactly where a span has two numbers
 pub record IsSpreadOut (b : BlockedProgram) (zone : List Span) (g : Grouping) (used : List UsedColumn) (s : Spread) : Type 0 where
-  pub point_is : MatchOption s.point (IsSpreadable g used → ⊥) (λ x. IsSpreadable g used × IsSpread b.blocking g.classes g.firsts used x × (length x ≡ length b.named.program.spans))
+  pub point_is : MatchOption s.point ((x : List ℤ) → IsSpread b.blocking g.classes g.firsts used x → ⊥)
+      (λ x. IsSpread b.blocking g.classes g.firsts used x × (length x ≡ length b.named.program.spans))
   pub split_is : MatchOption s.split (IsPointZone zone) (λ e. IsSoundSplit zone e.0 e.1)

@@ -2,6 +2,7 @@
 //! show where to split a zone.
 #![tactic(auto)]
 
+mod agree;
 mod answer;
 mod deal;
 mod mixed;

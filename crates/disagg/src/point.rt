@@ -8,7 +8,7 @@ use block_form::Blocked;
 use search_laws::UsedColumn;
 use std::alloc::{AllocError, Global};
 
-// The point in which each variable has the number of its copy in its block's column.
+// The point in which each variable has the number of its first copy in the column of the copy's block.
 pub fn dealt_point(
     alloc: Global,
     b: &Blocked,
@@ -31,7 +31,7 @@ pub fn dealt_point(
 }
 
 // A block's column, the first where it has none.
-fn column_of(columns: &[usize], block: u32) -> usize
+pub fn column_of(columns: &[usize], block: u32) -> usize
     ensures { result ≡ slice_index columns.now block }
 {
     match columns.get(block as usize) {
@@ -41,7 +41,7 @@ fn column_of(columns: &[usize], block: u32) -> usize
 }
 
 // The number of a column's point at a place, 0 where there is none.
-fn number_of(used: &[UsedColumn], column: usize, place: u32) -> i64
+pub fn number_of(used: &[UsedColumn], column: usize, place: u32) -> i64
     ensures { result ≡ value_at (point_at used.now column) place }
 {
     match used.get(column) {

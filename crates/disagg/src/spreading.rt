@@ -4,6 +4,7 @@ ghost use Rattle.bp_theory.specs.Trees.{IsZone};
 ghost use Rattle.search_laws.specs.Spread.{AreClasses, IsUsed};
 ghost use Rattle.disagg.specs.Spreads.{HasWeight, IsSpreadOut};
 
+use crate::agree::copies_agree;
 use crate::answer::Spread;
 use crate::deal::{columns_of_blocks, decks};
 use crate::mixed::most_mixed;
@@ -42,6 +43,9 @@ pub fn spread(
     let decks = decks(alloc, classes, used)?;
     let columns = columns_of_blocks(alloc, classes, blocks, &decks)?;
     let point = dealt_point(alloc, b, used, &columns)?;
+    if !copies_agree(b, used, &columns, &point) {
+        return Ok(Spread { point: None, split });
+    }
     Ok(Spread {
         point: Some(Items::from_vec(point)),
         split,

@@ -15,14 +15,16 @@ use Rattle.bp_theory.specs.Blocking.{Copy, Block, Blocking, all_copies}
 use Rattle.bp_theory.specs.Decomposition.{Decomposition, is_in, is_first, ProofRow, proof_rows, at_first, copy_of, blocking_of}
 use Rattle.bp_theory.specs.Bound.{reduced_cost, IsBound, AreParts}
 use Rattle.bp_theory.specs.Trees.{IsZone, IsSubspan}
+use Rattle.bp_theory.specs.Cuts.{cut_rows}
+use Rattle.bp_theory.specs.declared.Row.{Row}
 use Rattle.bp_theory.specs.declared.Span.{Span}
 use Rattle.bp_theory.specs.declared.Term.{Term}
 use Rattle.bp_theory.specs.declared.Proof.{Proof}
 use Rattle.bp_theory.proofs.SumLaws.{sum_of-same}
 use Rattle.bp_theory.proofs.ZipLaws.{AllZip_at, AllZip-length}
 use Rattle.bp_theory.proofs.DecompositionProof.{first_takes, copies_at, copies_past, coefficient_past, decomposition_lem}
+use Rattle.bp_theory.proofs.CutProof.{cuts_are_met_lem}
 use Rattle.block_form.specs.Blocked.{BlockedProgram, IsFormed}
-use Rattle.block_form.proofs.PlainLemmas.{plain_blocking}
 use Rattle.search_laws.specs.Verdicts.{every_block}
 use Rattle.lagr_bound.specs.Sizes.{block_size}
 use Rattle.lagr_bound.proofs.PartLemmas.{part_within}
@@ -34,17 +36,21 @@ abs_first : (t : Bool) (z : ℤ) → pos (unsigned_abs (at_first t z)) ≡ (if t
 abs_first true z = refl
 abs_first false z = refl
 
-copies_of : Program → Decomposition → List Copy
-copies_of p d = all_copies (blocking_of p d [])
+copies_of : Program → Decomposition → List Row → List Copy
+copies_of p d cuts = all_copies (blocking_of p d cuts)
 
-weights : (p : Program) (d : Decomposition) (w : Copy → ℤ) (terms : List Term) → AllByRecursion (λ (t : Term). t.var < length p.spans) terms
-    → ((first : Bool) (v k : ℕ) → w (copy_of p (proof_rows p d []) first v k) ≡ at_first first (coefficient terms v))
-    → (v : ℕ) → sum_at (λ (c : Copy). c.var) (λ c. pos (unsigned_abs (w c))) (copies_of p d) v ≡ pos (unsigned_abs (coefficient terms v))
+-- the rows of the program's cuts
+abbrev pub cuts_of : BlockedProgram → List Row
+cuts_of b = cut_rows b.named.program b.dec [] b.cuts
+
+weights : (p : Program) (d : Decomposition) (cuts : List Row) (w : Copy → ℤ) (terms : List Term) → AllByRecursion (λ (t : Term). t.var < length p.spans) terms
+    → ((first : Bool) (v k : ℕ) → w (copy_of p (proof_rows p d cuts) first v k) ≡ at_first first (coefficient terms v))
+    → (v : ℕ) → sum_at (λ (c : Copy). c.var) (λ c. pos (unsigned_abs (w c))) (copies_of p d cuts) v ≡ pos (unsigned_abs (coefficient terms v))
 unfolding copies_of
-weights p d w terms closed e v = ⊎_elim there past (cases_lt v (length p.spans))
+weights p d cuts w terms closed e v = ⊎_elim there past (cases_lt v (length p.spans))
   where
     rows : List ProofRow
-    rows = proof_rows p d []
+    rows = proof_rows p d cuts
 
     g : ℤ
     g = coefficient terms v
@@ -52,15 +58,15 @@ weights p d w terms closed e v = ⊎_elim there past (cases_lt v (length p.spans
     f : Copy → ℤ
     f c = pos (unsigned_abs (w c))
 
-    weight : (first : Bool) (k : ℕ) → pos (unsigned_abs (w (copy_of p (proof_rows p d []) first v k))) ≡ (if first then pos (unsigned_abs (coefficient terms v)) else pos 0)
+    weight : (first : Bool) (k : ℕ) → pos (unsigned_abs (w (copy_of p (proof_rows p d cuts) first v k))) ≡ (if first then pos (unsigned_abs (coefficient terms v)) else pos 0)
     weight first k = ap (λ z. pos (unsigned_abs z)) (e first v k) ∙ abs_first first (coefficient terms v)
 
-    there : v < length p.spans → sum_at (λ (c : Copy). c.var) (λ c. pos (unsigned_abs (w c))) (all_copies (blocking_of p d [])) v ≡ pos (unsigned_abs (coefficient terms v))
+    there : v < length p.spans → sum_at (λ (c : Copy). c.var) (λ c. pos (unsigned_abs (w c))) (all_copies (blocking_of p d cuts)) v ≡ pos (unsigned_abs (coefficient terms v))
     there l =
-        copies_at p d (proof_rows p d []) (λ c. pos (unsigned_abs (w c))) v l
-        ∙ ap (λ z. z +ℤ (if is_first p d v d.blocks then pos (unsigned_abs (w (copy_of p (proof_rows p d []) true v d.blocks))) else pos 0))
+        copies_at p d (proof_rows p d cuts) (λ c. pos (unsigned_abs (w c))) v l
+        ∙ ap (λ z. z +ℤ (if is_first p d v d.blocks then pos (unsigned_abs (w (copy_of p (proof_rows p d cuts) true v d.blocks))) else pos 0))
         (sum_of-same
-        (λ k. if is_in p d v k then pos (unsigned_abs (w (copy_of p (proof_rows p d []) (is_first p d v k) v k))) else pos 0)
+        (λ k. if is_in p d v k then pos (unsigned_abs (w (copy_of p (proof_rows p d cuts) (is_first p d v k) v k))) else pos 0)
         (λ k. if is_in p d v k then (if is_first p d v k then pos (unsigned_abs (coefficient terms v)) else pos 0) else pos 0)
         (λ k. ap (λ z. if is_in p d v k then z else pos 0) (weight (is_first p d v k) k))
         (range_with_len 0 d.blocks))
@@ -68,9 +74,9 @@ weights p d w terms closed e v = ⊎_elim there past (cases_lt v (length p.spans
         +ℤ (if is_first p d v d.blocks then z else pos 0)) (weight true d.blocks)
         ∙ first_takes (is_in p d v) (pos (unsigned_abs (coefficient terms v))) d.blocks
 
-    past : length p.spans ≤ v → sum_at (λ (c : Copy). c.var) (λ c. pos (unsigned_abs (w c))) (all_copies (blocking_of p d [])) v ≡ pos (unsigned_abs (coefficient terms v))
+    past : length p.spans ≤ v → sum_at (λ (c : Copy). c.var) (λ c. pos (unsigned_abs (w c))) (all_copies (blocking_of p d cuts)) v ≡ pos (unsigned_abs (coefficient terms v))
     past l =
-        copies_past p d (proof_rows p d []) (λ c. pos (unsigned_abs (w c))) v l
+        copies_past p d (proof_rows p d cuts) (λ c. pos (unsigned_abs (w c))) v l
         ∙ sym (ap (λ z. pos (unsigned_abs z)) (coefficient_past (length p.spans) v terms closed l))
 
 -- what holds of the copies of each block holds of all copies
@@ -82,25 +88,25 @@ all_of_blocks P (k ∷ ks) h = joined k.copies (recursion_from_All P k.copies h.
     joined [] g rest = rest
     joined (c ∷ cs) g rest = (g.0, joined cs g.1 rest)
 
-pub known : (b : BlockedProgram) → IsFormed b → All (λ (k : Block). All (λ (c : Copy). c.var < length b.named.program.spans) k.copies) (blocking_of b.named.program b.dec []).blocks
-known b formed = (decomposition_lem.adds_up b.named.program b.dec [] formed.kept.closed (λ k d l. absurd (omega arith))).known
+pub known : (b : BlockedProgram) → IsFormed b → All (λ (k : Block). All (λ (c : Copy). c.var < length b.named.program.spans) k.copies) (blocking_of b.named.program b.dec (cuts_of b)).blocks
+known b formed = (decomposition_lem.adds_up b.named.program b.dec (cuts_of b) formed.kept.closed (cuts_are_met_lem.closed b.named.program b.dec b.cuts)).known
 
-known_copies : (b : BlockedProgram) → IsFormed b → AllByRecursion (λ (c : Copy). c.var < length b.named.program.spans) (copies_of b.named.program b.dec)
+known_copies : (b : BlockedProgram) → IsFormed b → AllByRecursion (λ (c : Copy). c.var < length b.named.program.spans) (copies_of b.named.program b.dec (cuts_of b))
 unfolding copies_of
 known_copies b formed =
     let n : ℕ = length b.named.program.spans in
-    let bs : List Block = (blocking_of b.named.program b.dec []).blocks in
+    let bs : List Block = (blocking_of b.named.program b.dec (cuts_of b)).blocks in
     all_of_blocks (λ (c : Copy). c.var < n) bs (recursion_from_All (λ (k : Block). All (λ (c : Copy). c.var < n) k.copies) bs (known b formed))
 
 -- what all copies weigh in the costs
 costs_weigh : (b : BlockedProgram) → IsFormed b
-    → sum_by (λ (c : Copy). unsigned_abs c.cost * reach (span_at b.named.program.spans c.var)) (copies_of b.named.program b.dec)
+    → sum_by (λ (c : Copy). unsigned_abs c.cost * reach (span_at b.named.program.spans c.var)) (copies_of b.named.program b.dec (cuts_of b))
     ≤ sum_by (λ (t : Term). unsigned_abs t.coef * reach (span_at b.named.program.spans t.var)) b.named.program.costs
 costs_weigh b formed =
     let p : Program = b.named.program in
     let closed = recursion_from_All (λ (t : Term). t.var < length p.spans) p.costs formed.kept.closed.costs in
-    copies_within (λ (c : Copy). unsigned_abs c.cost) (λ v. reach (span_at p.spans v)) (length p.spans) (copies_of p b.dec) p.costs
-    (known_copies b formed) closed (weights p b.dec (λ (c : Copy). c.cost) p.costs closed (λ first v k. refl))
+    copies_within (λ (c : Copy). unsigned_abs c.cost) (λ v. reach (span_at p.spans v)) (length p.spans) (copies_of p b.dec (cuts_of b)) p.costs
+    (known_copies b formed) closed (weights p b.dec (cuts_of b) (λ (c : Copy). c.cost) p.costs closed (λ first v k. refl))
 
 -- ---- zones
 
@@ -162,9 +168,9 @@ pub every_small : (b : BlockedProgram) (zone : List Span) (v : ℤ) → IsFormed
 unfolding copies_of
 every_small b zone v formed in_root bound =
     let p : Program = b.named.program in
-    let bs : List Block = (blocking_of p b.dec []).blocks in
+    let bs : List Block = (blocking_of p b.dec (cuts_of b)).blocks in
     let f : Copy → ℕ = λ c. unsigned_abs c.cost * reach (span_at p.spans c.var) in
-    let formed_bound : IsBound (blocking_of p b.dec []) zone every_block v = subst (λ (k : Blocking). IsBound k zone every_block v) (plain_blocking formed) bound in
+    let formed_bound : IsBound (blocking_of p b.dec (cuts_of b)) zone every_block v = subst (λ (k : Blocking). IsBound k zone every_block v) formed.blocking bound in
     let parts = parts_within zone every_block 0 bs formed_bound.parts formed_bound.are_parts in
     let sizes = sum_by-le-sum_by (block_size zone every_block) (λ (k : Block). sum_by f k.copies) bs (size_within p.spans zone in_root) in
     let flat = sum_by-flat_map f (λ (k : Block). k.copies) bs in

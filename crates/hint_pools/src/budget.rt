@@ -6,7 +6,7 @@ use block_class::Classes;
 use block_form::{Block, Blocked, MAX_SCALE, Zone, fits};
 use bp_theory::{Items, Picked, Proof, Span};
 use lagr_bound::{Bounded, Work, bound};
-use point_hint::{clipped, product, put, quotient};
+use point_hint::{clipped, copy_place, product, put, quotient};
 use pricing::Cap;
 use std::alloc::{AllocError, Global};
 
@@ -90,8 +90,8 @@ impl PricingBudget {
         self.left == 0
     }
 
-    /// The bound of multipliers by row at the greatest scale in a zone, with a point that reaches it but for the blocks
-    /// that are left out, whose numbers stay. There is none where a block has no point, or no price is left.
+    /// The bound of multipliers by row at the greatest scale in a zone, with a point by copies that reaches it but for the
+    /// blocks that are left out, whose numbers stay. There is none where a block has no point, or no price is left.
     pub fn round(
         &mut self,
         alloc: Global,
@@ -345,12 +345,13 @@ pub fn is_settled(block: &Block, spans: &[Span]) -> bool {
 // Writes the numbers of the blocks of one point in the box of a zone.
 fn write_settled(b: &Blocked, zone: &Zone, point: &mut [i64]) {
     let spans = zone.spans();
-    for block in 0..b.blocks() {
-        let block = b.block(block);
+    for number in 0..b.blocks() {
+        let block = b.block(number);
         if is_settled(block, spans) {
-            for var in block.vars() {
-                if let Some(span) = spans.get(*var as usize) {
-                    put(point, *var as usize, span.lo);
+            for place in 0..block.var_count() {
+                let var = block.vars()[place as usize];
+                if let Some(span) = spans.get(var as usize) {
+                    put(point, copy_place(b, number, block, place), span.lo);
                 }
             }
         }
@@ -379,17 +380,17 @@ fn write_class(b: &Blocked, classes: &Classes, block: u32, numbers: &[i64], poin
 {
     for member in classes.members(classes.class_of(block)) {
         if *member < b.blocks() {
-            write_copies(b.block(*member), numbers, point);
+            write_copies(b, *member, b.block(*member), numbers, point);
         }
     }
 }
 
 // Writes the numbers of a block's copies.
-fn write_copies(block: &Block, numbers: &[i64], point: &mut [i64]) {
-    let vars = block.vars();
-    let many = vars.len().min(numbers.len());
-    for i in 0..many {
-        put(point, vars[i] as usize, numbers[i]);
+fn write_copies(b: &Blocked, number: u32, block: &Block, numbers: &[i64], point: &mut [i64]) {
+    for place in 0..block.var_count() {
+        if let Some(value) = numbers.get(place as usize) {
+            put(point, copy_place(b, number, block, place), *value);
+        }
     }
 }
 

@@ -93,8 +93,9 @@ impl Pools {
         Ok(self.leaves % 2 == 1)
     }
 
-    /// The bound of multipliers by row at the greatest scale in a zone, with a point that reaches it but for the blocks
-    /// that are left out, whose numbers stay. There is none where a block has no point, or the leaf's prices are spent.
+    /// The bound of multipliers by row at the greatest scale in a zone, with a point by copies that reaches it but for the
+    /// blocks that are left out, whose numbers stay. There is none where a block has no point, or the leaf's prices are
+    /// spent.
     pub fn price(
         &mut self,
         alloc: Global,

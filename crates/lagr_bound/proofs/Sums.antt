@@ -75,12 +75,12 @@ coefficient_within (t ∷ ts) v = ⊎_elim
     ))
     (eqb_tells t.var v)
 
--- copies whose magnitudes are a row's coefficients weigh no more than its terms
-pub copies_within : (f : Copy → ℕ) (r : ℕ → ℕ) (n : ℕ) (cs : List Copy) (terms : List Term)
+-- copies whose magnitudes are no more than those of terms weigh no more than these
+pub copies_below : (f : Copy → ℕ) (r : ℕ → ℕ) (n : ℕ) (cs : List Copy) (terms : List Term)
     → AllByRecursion (λ (c : Copy). c.var < n) cs → AllByRecursion (λ (t : Term). t.var < n) terms
-    → ((v : ℕ) → sum_at (λ (c : Copy). c.var) (λ c. pos (f c)) cs v ≡ pos (unsigned_abs (coefficient terms v)))
+    → ((v : ℕ) → sum_at (λ (c : Copy). c.var) (λ c. pos (f c)) cs v ≤ℤ sum_at (λ (t : Term). t.var) (λ t. pos (unsigned_abs t.coef)) terms v)
     → sum_by (λ c. f c * r c.var) cs ≤ sum_by (λ t. unsigned_abs t.coef * r t.var) terms
-copies_within f r n cs terms known closed same =
+copies_below f r n cs terms known closed below =
     let left = sum_of-by_key (λ (c : Copy). c.var) (λ c. pos (f c)) (λ v. pos (r v)) n cs known in
     let right = sum_of-by_key (λ (t : Term). t.var) (λ t. pos (unsigned_abs t.coef)) (λ v. pos (r v)) n terms closed in
     let less = sum_of-le
@@ -88,7 +88,7 @@ copies_within f r n cs terms known closed same =
     (λ v. sum_at (λ (t : Term). t.var) (λ t. pos (unsigned_abs t.coef)) terms v *ℤ pos (r v))
     (range_with_len 0 n)
     (every (λ v. (sum_at (λ (c : Copy). c.var) (λ c. pos (f c)) cs v *ℤ pos (r v)) ≤ℤ (sum_at (λ (t : Term). t.var) (λ t. pos (unsigned_abs t.coef)) terms v *ℤ pos (r v)))
-    (λ v. scaled _ _ (r v) (subst (λ z. z ≤ℤ sum_at (λ (t : Term). t.var) (λ t. pos (unsigned_abs t.coef)) terms v) (sym (same v)) (coefficient_within terms v)))
+    (λ v. scaled _ _ (r v) (below v))
     (range_with_len 0 n)) in
     omega (
       arith,
@@ -102,6 +102,15 @@ copies_within f r n cs terms known closed same =
   where
     scaled : (a b : ℤ) (n : ℕ) → a ≤ℤ b → (a *ℤ pos n) ≤ℤ (b *ℤ pos n)
     scaled a b n h = omega (arith, ints, le-mul_pos n a b h)
+
+-- copies whose magnitudes are a row's coefficients weigh no more than its terms
+pub copies_within : (f : Copy → ℕ) (r : ℕ → ℕ) (n : ℕ) (cs : List Copy) (terms : List Term)
+    → AllByRecursion (λ (c : Copy). c.var < n) cs → AllByRecursion (λ (t : Term). t.var < n) terms
+    → ((v : ℕ) → sum_at (λ (c : Copy). c.var) (λ c. pos (f c)) cs v ≡ pos (unsigned_abs (coefficient terms v)))
+    → sum_by (λ c. f c * r c.var) cs ≤ sum_by (λ t. unsigned_abs t.coef * r t.var) terms
+copies_within f r n cs terms known closed same =
+    copies_below f r n cs terms known closed
+    (λ v. subst (λ z. z ≤ℤ sum_at (λ (t : Term). t.var) (λ t. pos (unsigned_abs t.coef)) terms v) (sym (same v)) (coefficient_within terms v))
 
 -- ---- boxes of two functions of one list
 

@@ -1,6 +1,6 @@
 -- How large the sums of a bound can be.
 use Rattle.std.specs.Prelude.{ℕ, ◌+◌, ◌<◌, ◌≤◌, unsigned_abs, sum_by, List, map, length, ℤ, pos, ◌*ℤ◌, All}
-use Rattle.bp_theory.specs.Limits.{greatest_multiplier, greatest_scale, most_rows, most_variables, number_limit, price_limit}
+use Rattle.bp_theory.specs.Limits.{greatest_multiplier, greatest_scale, most_cuts, most_rows, most_variables, number_limit, price_limit}
 use Rattle.std.specs.List.Sorted.{IsStrictlyIncreasing}
 use Rattle.bp_theory.specs.Blocking.{Copy, Block, Blocking, row_at}
 use Rattle.bp_theory.specs.Bound.{spans_of, reduced_cost, side_at, end_cost, box_least}
@@ -9,17 +9,21 @@ use Rattle.bp_theory.specs.declared.Span.{Span}
 use Rattle.bp_theory.specs.declared.Proof.{Proof}
 use Rattle.pricing.specs.Form.{cost_size}
 
--- a copy has a cost and coefficients of numbers of a model, and no more of them than a model has rows
+-- the most rows that proofs may name: a model's with the link rows, and cuts
+abbrev pub most_named_rows : ℕ
+most_named_rows = most_rows + most_cuts
+
+-- a copy has a cost and coefficients of numbers of a model, and no more of them than rows that proofs may name
 pub record IsSmallCopy (c : Copy) : Type 0 where
   pub cost : unsigned_abs c.cost < number_limit
-  pub few : length c.coefs ≤ most_rows
+  pub few : length c.coefs ≤ most_named_rows
   pub coefs : All (λ e. unsigned_abs e.1 < number_limit) c.coefs
 
--- a proof's scale and multipliers keep their limits, there are no more of them than a model has rows, and their rows ascend
+-- a proof's scale and multipliers keep their limits, there are no more of them than rows that proofs may name, and their rows ascend
 pub record IsSmallProof (proof : Proof) : Type 0 where
   pub scale : proof.scale ≤ greatest_scale
   pub sizes : All (λ m. unsigned_abs m.1 ≤ greatest_multiplier) proof.mults
-  pub few : length proof.mults ≤ most_rows
+  pub few : length proof.mults ≤ most_named_rows
   pub ascend : IsStrictlyIncreasing (map (λ m. m.0) proof.mults)
 
 -- the reduced costs of a block's copies

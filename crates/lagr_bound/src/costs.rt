@@ -1,11 +1,11 @@
 // What a proof gives before the blocks, and the reduced costs of copies.
 ghost use Rattle.std.specs.Prelude.{◌≡◌, ◌^◌, ◌<◌, ◌≤◌, ◌*ℤ◌, ℤ, pos, map, length, All, unsigned_abs, slice_index_or};
 ghost use Rattle.std.specs.List.Sorted.{IsStrictlyIncreasing};
-ghost use Rattle.bp_theory.specs.Limits.{greatest_multiplier, most_rows, number_limit, price_limit};
+ghost use Rattle.bp_theory.specs.Limits.{greatest_multiplier, number_limit, price_limit};
 ghost use Rattle.bp_theory.specs.Sums.{sum_of, sum_at};
 ghost use Rattle.bp_theory.specs.Blocking.{Copy, row_at};
 ghost use Rattle.bp_theory.specs.Bound.{base, reduced_cost, side_at, side};
-ghost use Rattle.lagr_bound.specs.Sizes.{IsSmallCopy, IsSmallProof, base_size};
+ghost use Rattle.lagr_bound.specs.Sizes.{IsSmallCopy, IsSmallProof, base_size, most_named_rows};
 
 use block_form::{Block, Blocked};
 use bp_theory::{MasterRow, Proof};
@@ -65,11 +65,11 @@ fn side(row: &MasterRow, mult: &i64) -> i64
 fn payment(mults: &[(u32, i64)], coefs: &[(u32, i64)]) -> i128
     requires sizes { All (λ m. unsigned_abs m.1 ≤ greatest_multiplier) mults.now }
     requires ascend { IsStrictlyIncreasing (map (λ m. m.0) mults.now) }
-    requires few { length coefs.now ≤ most_rows }
+    requires few { length coefs.now ≤ most_named_rows }
     requires coefs { All (λ e. unsigned_abs e.1 < number_limit) coefs.now }
     ensures value { result ≡ sum_of (λ m. m.1 *ℤ sum_at (λ e. e.0) (λ e. e.1) coefs.now m.0)
         mults.now }
-    ensures size { unsigned_abs result ≤ 2 ^ 115 }
+    ensures size { unsigned_abs result ≤ 2 ^ 116 }
 {
     let mut sum = 0;
     for coef in coefs {

@@ -14,6 +14,7 @@ use Rattle.bp_theory.specs.Decomposition.{Decomposition, ProofRow, whole_row, no
 use Rattle.bp_theory.specs.Bound.{spans_of, IsPoint, reduced_cost, AreParts, side, side_at, base, IsBound, SignFits, SignFitsSense, plain_proof}
 use Rattle.bp_theory.specs.Trees.{IsProper, zone_of}
 use Rattle.bp_theory.specs.Claims.{Holds}
+use Rattle.bp_theory.specs.Cuts.{cut_rows}
 use Rattle.bp_theory.specs.declared.Span.{Span}
 use Rattle.bp_theory.specs.declared.Sense.{Sense}
 use Rattle.bp_theory.specs.declared.Sense.TheVariants.{Le, Ge, Eq, In}
@@ -26,8 +27,8 @@ use Rattle.bp_theory.proofs.DualityProof.{reduced_costs_at}
 use Rattle.bp_theory.proofs.ShrinkProof.{one_bound_lem}
 use Rattle.bp_theory.proofs.FaithProof.{activity_of_places}
 use Rattle.bp_theory.proofs.DecompositionProof.{decomposition_lem, get_or-map_past, mirrored_row, eqb_itself}
+use Rattle.bp_theory.proofs.CutProof.{cuts_are_met_lem}
 use Rattle.block_form.specs.Blocked.{BlockedProgram, IsFormed}
-use Rattle.block_form.proofs.PlainLemmas.{plain_blocking}
 use Rattle.node_eval.specs.Shown.{ShutsOff, IsMissed, row_proof, block_proof, closing_sign}
 
 -- ---- the zone of one point
@@ -281,19 +282,20 @@ pub master_shuts : (b : BlockedProgram) (x : List ℤ) (i : ℕ) (m : ℤ) → I
 master_shuts b x i m formed missed e sign =
     let p : Program = b.named.program in
     let d : Decomposition = b.dec in
-    let adds = decomposition_lem.adds_up p d [] formed.kept.closed (λ k d l. absurd (omega arith)) in
+    let cuts : List Row = cut_rows p d [] b.cuts in
+    let adds = decomposition_lem.adds_up p d cuts formed.kept.closed (cuts_are_met_lem.closed p d b.cuts) in
     let r : Row = record { sense = Eq; low = pos 0; rhs = pos 0; terms = [] } in
     let own : List ProofRow = map (λ e. proof_row e.0 e.1) (zip p.rows d.places) in
     let links : List ProofRow = flat_map (links_of p d) (range_with_len 0 (length p.spans)) in
     let long : length own ≡ length p.rows = long_enough p.rows d.places formed.places.each in
-    let kind : get_or (proof_rows p d []) i no_row ≡ whole_row (get_or p.rows i r) =
-    get_or_append_left (own ++ links) (map whole_row []) no_row i (omega (arith, missed.there, long, length-append own links))
+    let kind : get_or (proof_rows p d cuts) i no_row ≡ whole_row (get_or p.rows i r) =
+    get_or_append_left (own ++ links) (map whole_row cuts) no_row i (omega (arith, missed.there, long, length-append own links))
     ∙ get_or_append_left own links no_row i (omega (arith, missed.there, long))
     ∙ row_in_proofs p.rows d.places i r missed.there formed.places.each
     ∙ ap (proof_row (get_or p.rows i r)) e in
-    subst (λ (bs : Blocking). ShutsOff bs (zone_of x) (row_proof i m)) (sym (plain_blocking formed))
-    (row_shuts p (map full_row (proof_rows p d [])) (blocking_of p d []) x i (get_or p.rows i r) m adds
-    (get_or-map_past full_row (proof_rows p d []) i no_row ∙ ap full_row kind) (missed.missed r) (sign r))
+    subst (λ (bs : Blocking). ShutsOff bs (zone_of x) (row_proof i m)) (sym formed.blocking)
+    (row_shuts p (map full_row (proof_rows p d cuts)) (blocking_of p d cuts) x i (get_or p.rows i r) m adds
+    (get_or-map_past full_row (proof_rows p d cuts) i no_row ∙ ap full_row kind) (missed.missed r) (sign r))
 
 -- a missed row of a block
 pub own_shuts : (b : BlockedProgram) (x : List ℤ) (i k : ℕ) → IsFormed b → IsMissed b.named.program x i → get_or b.dec.places i None ≡ Some k
@@ -304,8 +306,8 @@ own_shuts b x i k formed missed e =
     let r : Row = record { sense = Eq; low = pos 0; rhs = pos 0; terms = [] } in
     let found = row_in_block k p.rows d.places i r missed.there formed.places.each e in
     let there : k < d.blocks = subst (IsPlace d.blocks) e (formed.places.known i None (omega (arith, missed.there, formed.places.each))) in
-    subst (λ (bs : Blocking). ShutsOff bs (zone_of x) (block_proof k)) (sym (plain_blocking formed))
-    (block_shuts p d [] x k found.0 r formed.kept.closed there found.1
+    subst (λ (bs : Blocking). ShutsOff bs (zone_of x) (block_proof k)) (sym formed.blocking)
+    (block_shuts p d (cut_rows p d [] b.cuts) x k found.0 r formed.kept.closed there found.1
     (subst (λ (row : Row). HasVariablesBelow (length p.spans) row.terms) (sym found.2) (formed.kept.closed.rows i r missed.there))
     (λ h. missed.missed r (subst (MeetsRow x) found.2 h)))
 
@@ -313,6 +315,7 @@ own_shuts b x i k formed missed e =
 pub point_holds : (b : BlockedProgram) (x : List ℤ) → IsFormed b → Holds b.blocking (zone_of x) plain_proof (cost b.named.program x)
 point_holds b x formed =
     let p : Program = b.named.program in
-    subst (λ (bs : Blocking). Holds bs (zone_of x) plain_proof (cost p x)) (sym (plain_blocking formed))
-    (plain_holds p (map full_row (proof_rows p b.dec [])) (blocking_of p b.dec []) x
-    (decomposition_lem.adds_up p b.dec [] formed.kept.closed (λ k d l. absurd (omega arith))))
+    let cuts : List Row = cut_rows p b.dec [] b.cuts in
+    subst (λ (bs : Blocking). Holds bs (zone_of x) plain_proof (cost p x)) (sym formed.blocking)
+    (plain_holds p (map full_row (proof_rows p b.dec cuts)) (blocking_of p b.dec cuts) x
+    (decomposition_lem.adds_up p b.dec cuts formed.kept.closed (cuts_are_met_lem.closed p b.dec b.cuts)))

@@ -5,6 +5,7 @@ ghost use Rattle.block_class.specs.Classes.{AreSameClasses};
 ghost use Rattle.hint_pools.specs.Pools.{AreMadeFor};
 ghost use Rattle.search_laws.specs.declared.UsedColumn.{UsedColumn as AUsed};
 
+use crate::links::split_of_links;
 use crate::points::{find_points, point_by_mean};
 use block_class::Classes;
 use block_form::Blocked;
@@ -37,7 +38,8 @@ pub struct Hint {
 }
 
 /// Multipliers with a great bound in a leaf's zone, a point that is cheaper than the best cost, where one was found,
-/// and a split of the variable that the columns, or else the mean of the priced points, leave farthest from whole.
+/// and a split of the linking variable on which the columns agree least, or else of the variable that the columns, or
+/// the mean of the priced points, leave farthest from whole.
 /// Dives keep columns without numbers for last at every other leaf.
 pub fn hinted(
     alloc: Global,
@@ -214,7 +216,11 @@ fn search_columns(
         incumbent,
         is_even,
     )?;
-    split_of_used(alloc, b, classes, pools, used.as_slice())
+    let used = used.as_slice();
+    if let Some(split) = split_of_links(alloc, b, classes, pools, used)? {
+        return Ok(Some(split));
+    }
+    split_of_used(alloc, b, classes, pools, used)
 }
 
 // The split of the variable that is farthest from whole where weighted columns are dealt out to blocks.

@@ -5,6 +5,7 @@
 #![tactic(auto)]
 
 mod hint;
+mod links;
 mod lone;
 mod points;
 

@@ -13,7 +13,8 @@ use column_hint::{
     dive_by_variables, drawn, mean_mult, round_up,
 };
 use point_hint::{
-    Alike, Incumbent, Moves, guide_of, is_reached, pack, product, search_point, whole,
+    Alike, Incumbent, Moves, guide_of, is_first_copy, is_reached, pack, product, search_point,
+    whole,
 };
 use std::alloc::{AllocError, Global};
 use std::num::saturating_f64_to_i64;
@@ -78,16 +79,23 @@ fn deal_out(b: &Blocked, classes: &Classes, pools: &Pools, column: &Weighted, me
     let part = column.weight / i64::from(classes.size(class)).max(1);
     for block in classes.members(class) {
         if *block < b.blocks() {
-            deal(b.block(*block), found.point.as_slice(), part, mean);
+            deal(
+                b,
+                *block,
+                b.block(*block),
+                found.point.as_slice(),
+                part,
+                mean,
+            );
         }
     }
 }
 
-// Adds a part of a block's point to a mean.
-fn deal(block: &Block, point: &[i64], part: i64, mean: &mut [i128]) {
+// Adds a part of a block's point to a mean, which is that of first copies.
+fn deal(b: &Blocked, home: u32, block: &Block, point: &[i64], part: i64, mean: &mut [i128]) {
     for (var, number) in block.vars().iter().zip(point) {
         let place = *var as usize;
-        if place < mean.len() {
+        if place < mean.len() && is_first_copy(b, home, *var) {
             mean[place] = mean[place].saturating_add(product(&part, number));
         }
     }

@@ -4,6 +4,7 @@
 #![tactic(auto)]
 
 mod bins;
+mod copies;
 mod entries;
 mod exchanges;
 mod guide;
@@ -15,6 +16,7 @@ mod reach;
 mod residuals;
 mod spans;
 
+pub use copies::{copy_count, copy_place, has_further_rows, is_first_copy, linking_vars};
 pub use entries::Entries;
 pub use exchanges::improve_point;
 pub use guide::{Guide, Order, dense_costs, guide_of, plain_guide, reduced_costs};

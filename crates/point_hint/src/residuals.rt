@@ -1,6 +1,7 @@
-// What points leave open of master rows: hints, which exact bounds judge.
+// What points leave open of the rows that proofs may name: hints, which exact bounds judge.
 ghost use Rattle.std.specs.Prelude.{◌<◌, length};
 
+use crate::copies::{copy_place, has_further_rows};
 use crate::reach::{at, product};
 use block_form::{Blocked, MAX_SCALE};
 use bp_theory::{MasterRow, Sense};
@@ -8,13 +9,42 @@ use bp_theory::{MasterRow, Sense};
 /// How many units make one in the mean of points.
 pub const UNIT: i128 = MAX_SCALE as i128;
 
-/// Writes the sums of the rows at a point, in units.
+/// Writes the sums of the rows at a point by copies, in units.
 pub fn write_sums(b: &Blocked, point: &[i64], sums: &mut [i128]) {
     for row in 0..b.model().rows() {
         let sum = row_sum(b, row, point).saturating_mul(UNIT);
         let place = row as usize;
         if place < sums.len() {
             sums[place] = sum;
+        }
+    }
+    if has_further_rows(b) {
+        write_further_sums(b, point, sums);
+    }
+}
+
+// Writes the sums of link rows and cuts at a point by copies, in units.
+fn write_further_sums(b: &Blocked, point: &[i64], sums: &mut [i128]) {
+    let rows = b.model().rows();
+    for row in rows as usize..sums.len() {
+        sums[row] = 0;
+    }
+    for number in 0..b.blocks() {
+        let block = b.block(number);
+        for place in 0..block.var_count() {
+            let value = at(point, copy_place(b, number, block, place));
+            add_further(block.master(place), rows, &value, sums);
+        }
+    }
+}
+
+// Adds what a copy's number is in link rows and cuts, in units.
+fn add_further(entries: &[(u32, i64)], rows: u32, value: &i64, sums: &mut [i128]) {
+    for entry in entries {
+        let place = entry.0 as usize;
+        if entry.0 >= rows && place < sums.len() {
+            let more = product(&entry.1, value).saturating_mul(UNIT);
+            sums[place] = sums[place].saturating_add(more);
         }
     }
 }

@@ -12,14 +12,15 @@ use Rattle.bp_theory.specs.Program.{Program, span_at, reach, KeepsActivity}
 use Rattle.bp_theory.specs.Blocking.{Copy, Block, StandsFor, Mirrors, AddsUp}
 use Rattle.bp_theory.specs.Bound.{spans_of}
 use Rattle.bp_theory.specs.Decomposition.{Decomposition, ProofRow, rows_of, members, is_in, is_first, is_block, copy_of, block_of, lone_block, proof_rows, full_row, row_with_places, HasVariablesBelow, blocking_of}
+use Rattle.bp_theory.specs.Cuts.{cut_rows}
 use Rattle.bp_theory.specs.declared.Span.{Span}
 use Rattle.bp_theory.specs.declared.Term.{Term}
 use Rattle.bp_theory.specs.declared.Row.{Row}
 use Rattle.bp_theory.proofs.ZipLaws.{AllZip_at, AllZip-length}
 use Rattle.bp_theory.proofs.DecompositionProof.{decomposition_lem, all_blocks}
+use Rattle.bp_theory.proofs.CutProof.{cuts_are_met_lem}
 use Rattle.bp_model.specs.Named.{HasSmallEnds}
 use Rattle.block_form.specs.Blocked.{BlockedProgram, IsFormed}
-use Rattle.block_form.proofs.PlainLemmas.{plain_blocking}
 use Rattle.pricing.specs.Form.{term_size, HasShortEnds, IsForm}
 use Rattle.pricing.specs.Laws.{BlocksHaveForm}
 
@@ -60,8 +61,8 @@ few_parts p d rows k =
       ),
     )
 
-few_blocks : (p : Program) (d : Decomposition) → All (IsFew p) (blocking_of p d []).blocks
-few_blocks p d = all_blocks p d (proof_rows p d []) (IsFew p) (few_parts p d (proof_rows p d [])) (λ v l. (omega arith, omega arith))
+few_blocks : (p : Program) (d : Decomposition) (cuts : List Row) → All (IsFew p) (blocking_of p d cuts).blocks
+few_blocks p d cuts = all_blocks p d (proof_rows p d cuts) (IsFew p) (few_parts p d (proof_rows p d cuts)) (λ v l. (omega arith, omega arith))
 
 -- ---- its spans are the program's
 
@@ -129,9 +130,10 @@ form_of p k vars many ends small few mirrored =
 pub blocks_have_form_lem : BlocksHaveForm
 blocks_have_form_lem b formed =
     let p : Program = b.named.program in
-    subst (λ (blocks : List Block). All (λ k. IsForm k.rows (spans_of p.spans k)) blocks) (sym (ap (λ c. c.blocks) (plain_blocking formed)))
+    let cuts : List Row = cut_rows p b.dec [] b.cuts in
+    subst (λ (blocks : List Block). All (λ k. IsForm k.rows (spans_of p.spans k)) blocks) (sym (ap (λ c. c.blocks) formed.blocking))
     (λ i k l.
-    let adds : AddsUp p (map full_row (proof_rows p b.dec [])) (blocking_of p b.dec []) =
-    decomposition_lem.adds_up p b.dec [] formed.kept.closed (λ j r m. absurd (omega arith)) in
-    form_of p (get_or (blocking_of p b.dec []).blocks i k) formed.kept.variables formed.kept.rows formed.kept.ends formed.kept.row_activity
-    (few_blocks p b.dec i k l) (adds.mirrored i k l))
+    let adds : AddsUp p (map full_row (proof_rows p b.dec cuts)) (blocking_of p b.dec cuts) =
+    decomposition_lem.adds_up p b.dec cuts formed.kept.closed (cuts_are_met_lem.closed p b.dec b.cuts) in
+    form_of p (get_or (blocking_of p b.dec cuts).blocks i k) formed.kept.variables formed.kept.rows formed.kept.ends formed.kept.row_activity
+    (few_blocks p b.dec cuts i k l) (adds.mirrored i k l))

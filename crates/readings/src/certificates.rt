@@ -16,6 +16,21 @@ fn two_rows(alloc: Global) -> Result<Frame, AllocError> {
     Ok(Frame {
         variables: 2,
         masters,
+        links: 0,
+        blocks: 2,
+    })
+}
+
+// Three variables, two blocks with a row each, a master row between these rows, and two link rows.
+fn two_links(alloc: Global) -> Result<Frame, AllocError> {
+    let mut masters = Items::new(alloc);
+    masters.push(false)?;
+    masters.push(true)?;
+    masters.push(false)?;
+    Ok(Frame {
+        variables: 3,
+        masters,
+        links: 2,
         blocks: 2,
     })
 }
@@ -289,6 +304,36 @@ fn each_line_has_its_faults(rt: HostRuntime) -> Result<(), Fail> {
     let (wrong, count) = wrong(alloc, &frame, FAULTS)?;
     assert_eq!(rt; wrong.as_str(), "");
     assert_eq!(rt; count, 25);
+    Ok(())
+}
+
+// The same where there are link rows: they are rows 4 and 5.
+const LINKED: &str = "\
+read @ bpcert 1|claim infeasible|leaf 0 rows 3 2 -1 4 1 5 -7 priced all|end|
+read @ bpcert 2|claim infeasible|split 1 0|leaf 0 change 1 4 1 priced all|leaf 0 change 2 4 0 5 1 priced all|end|
+3 Number @ bpcert 1|claim infeasible|leaf 0 rows 1 1 1 priced all|end|
+3 Number @ bpcert 1|claim infeasible|leaf 0 rows 1 3 1 priced all|end|
+3 Number @ bpcert 1|claim infeasible|leaf 0 rows 1 6 1 priced all|end|
+3 Number @ bpcert 1|claim infeasible|leaf 0 rows 2 5 1 4 1 priced all|end|
+3 Number @ bpcert 1|claim infeasible|leaf 0 rows 1 4 0 priced all|end|
+3 TooLarge @ bpcert 1|claim infeasible|leaf 0 rows 1 5 1099511627777 priced all|end|
+3 Number @ bpcert 1|claim infeasible|leaf 0 rows 1 99999999999999999999 1 priced all|end|
+4 Number @ bpcert 2|claim infeasible|split 1 0|leaf 0 change 1 3 1 priced all|leaf 0 change 0 priced all|end|
+5 Number @ bpcert 2|claim infeasible|split 1 0|leaf 0 change 1 4 1 priced all|leaf 0 change 1 4 1 priced all|end|
+";
+
+#[test]
+fn link_rows_are_named_behind_the_models_rows(rt: HostRuntime) -> Result<(), Fail> {
+    let alloc = rt.alloc();
+    let frame = two_links(alloc)?;
+    let (wrong, count) = wrong(alloc, &frame, LINKED)?;
+    assert_eq!(rt; wrong.as_str(), "");
+    assert_eq!(rt; count, 11);
+    let text = "bpcert 1\nclaim infeasible\nleaf 0 rows 3 2 -1 4 1 5 -7 priced all\nend\n";
+    assert_eq!(rt;
+        again(alloc, &frame, text.as_bytes())?.as_slice(),
+        text.as_bytes()
+    );
     Ok(())
 }
 

@@ -19,6 +19,8 @@ const TEXTS: &str = "\
 5 Unassigned @ NBLOCKS 1|CONSDEFAULTMASTER 0|BLOCK 1|cap1|
 3 UnknownVar @ NBLOCKS 1|BLOCKVARS 1|x99
 3 UnknownVar @ NBLOCKS 1|LINKINGVARS|x99
+2 blocks; - - - 0 1; @ NBLOCKS 2|BLOCK 1|cap1|BLOCK 2|cap2|LINKINGVARS|x11 x12|x13 block
+2 blocks; - - - 0 1; 0:1 @ NBLOCKS 2|BLOCK 1|cap1|BLOCK 2|cap2|LINKINGVARS|x11|BLOCKVARS 2|x11
 1 Presolved @ PRESOLVED 1|NBLOCKS 0
 # Keywords stand at the front of a line.
 2 UnknownRow @ NBLOCKS 1|BLOCK 1 cap1 BLOCK 1
@@ -160,7 +162,7 @@ fn wrong(alloc: Global) -> Result<(String, usize), AllocError> {
 fn each_text_means_its_decomposition_or_has_its_first_fault(rt: HostRuntime) -> Result<(), Fail> {
     let (wrong, count) = wrong(rt.alloc())?;
     assert_eq!(rt; wrong.as_str(), "");
-    assert_eq!(rt; count, 39);
+    assert_eq!(rt; count, 41);
     Ok(())
 }
 

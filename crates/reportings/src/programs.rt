@@ -1,4 +1,6 @@
-// A model of two variables and two rows, and its program in blocks.
+// A model of two variables and two rows, and its programs in blocks.
+ghost use Rattle.std.specs.Prelude.{◌≤◌};
+
 use block_form::{Blocked, check_blocks};
 use bp_model::{Dec, Items, Model, Names, Parts, Row, Sense, Span, Term};
 use std::alloc::{AllocError, Global};
@@ -77,11 +79,23 @@ pub fn maximised(alloc: Global) -> Result<Model, Fail> {
 
 /// The same with c1 in a block, and c2 a master row.
 pub fn in_one_block(alloc: Global) -> Result<Blocked, Fail> {
+    in_blocks(alloc, 1, None)
+}
+
+/// The same with c1 in a block and c2 in another: both variables link the two.
+pub fn in_two_blocks(alloc: Global) -> Result<Blocked, Fail> {
+    in_blocks(alloc, 2, Some(1))
+}
+
+// The same in so many blocks, with c1 in the first and c2 in this place.
+fn in_blocks(alloc: Global, count: u32, second: Option<u32>) -> Result<Blocked, Fail>
+    requires { count ≤ 4096 }
+{
     let model = maximised(alloc)?;
     let mut places = Items::new(alloc);
     places.push(Some(0))?;
-    places.push(None)?;
-    let dec = Dec::make(1, places, Items::new(alloc));
+    places.push(second)?;
+    let dec = Dec::make(count, places, Items::new(alloc));
     if !dec.goes_with(&model) {
         return Err(Fail::new("no decomposition of the model"));
     }

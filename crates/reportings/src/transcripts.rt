@@ -2,7 +2,7 @@
 ghost use Rattle.std.specs.Prelude.{IfOk};
 ghost use Rattle.block_class.specs.Classes.{AreSameClasses};
 
-use crate::programs::{in_one_block, maximised};
+use crate::programs::{in_one_block, in_two_blocks, maximised};
 use block_class::Classes;
 use block_form::{BlockFault, Blocked, Zone};
 use bp_model::Model;
@@ -50,24 +50,19 @@ fn refused(alloc: Global) -> Result<Vec<u8>, AllocError> {
 }
 
 const UNBLOCKED: &str = "\
-refused blocks linking x c1 c2
+refused blocks links
 refused blocks var-place x11
 refused blocks var-place x11
 ";
 
 // Decompositions of a model that are refused.
 fn unblocked(alloc: Global, m: &Model) -> Result<Vec<u8>, Fail> {
-    if m.vars() < 2 || m.rows() < 2 {
-        return Err(Fail::new("no second variable or row"));
+    if m.vars() < 2 {
+        return Err(Fail::new("no second variable"));
     }
-    let linking = BlockFault::Linking {
-        var: 0,
-        row1: 0,
-        row2: 1,
-    };
     let misplaced = Refusal::Blocks(BlockFault::VarPlace(1));
     let mut all = Vec::new(alloc);
-    add(&mut all, blocks_text(alloc, m, &linking))?;
+    add(&mut all, blocks_text(alloc, m, &BlockFault::Links))?;
     add(&mut all, blocks_text(alloc, m, &BlockFault::VarPlace(1)))?;
     add(&mut all, refusal_text(alloc, Some(m), &misplaced))?;
     Ok(all)
@@ -166,6 +161,20 @@ class 1 first 1 size 1 variables 2 rows 1
 block 1 rows 1 c1 variables 2 x x11
 ";
 
+const LINKED: &str = "\
+proposed blocks 2 classes 2 master 0
+variables 2
+rows 2
+master 0
+blocks 2
+links 2
+classes 2
+class 1 first 1 size 1 variables 2 rows 1
+class 2 first 2 size 1 variables 2 rows 1
+block 1 rows 1 c1 variables 2 x x11
+block 2 rows 1 c2 variables 2 x x11
+";
+
 // The classes of a program in blocks at the root.
 fn root_classes(alloc: Global, b: &Blocked) -> Result<Classes, AllocError>
     ensures { IfOk result (AreSameClasses b.now.named.program.spans b.now.blocking) }
@@ -227,5 +236,14 @@ fn sizes_and_blocks_are_told(rt: HostRuntime) -> Result<(), Fail> {
     let root = root_classes(rt.alloc(), &b)?;
     let told = shown(rt.alloc(), &b, &root)?;
     assert_eq!(rt; told.as_slice(), SHOWN.as_bytes());
+    Ok(())
+}
+
+#[test]
+fn links_are_told_behind_the_blocks(rt: HostRuntime) -> Result<(), Fail> {
+    let b = in_two_blocks(rt.alloc())?;
+    let root = root_classes(rt.alloc(), &b)?;
+    let told = shown(rt.alloc(), &b, &root)?;
+    assert_eq!(rt; told.as_slice(), LINKED.as_bytes());
     Ok(())
 }

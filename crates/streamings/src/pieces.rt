@@ -24,6 +24,12 @@ const MODEL: &str =
 
 const BLOCKS: &str = "NBLOCKS 1\nBLOCK 1\n c1\nMASTERCONSS\n c2\n";
 
+// Two blocks that have a copy of the first variable, so that row 3 is a link row.
+const LINKED_MODEL: &str =
+    "Maximize\n obj: 3 x + 2 y + 2 z\nSubject To\n c1: x + y <= 1\n c2: x + z <= 1\nBinaries\n x y z\nEnd\n";
+
+const LINKED_BLOCKS: &str = "NBLOCKS 2\nBLOCK 1\n c1\nBLOCK 2\n c2\nLINKINGVARS\n x\n";
+
 // What an answer comes to.
 #[derive(Clone, Copy, PartialEq, Eq, Debug)]
 enum Answer {
@@ -115,9 +121,9 @@ fn by_bytes(alloc: Global, b: &Blocked, text: &[u8], visits: Option<u64>) -> Ans
     }
 }
 
-// The program in blocks of the model, with this decomposition or the plain one.
-fn program(alloc: Global, dec: Option<&str>) -> Option<Blocked> {
-    let Ok(model) = read_lp(alloc, MODEL.as_bytes()) else {
+// The program in blocks of a model, with this decomposition or the plain one.
+fn program(alloc: Global, model: &str, dec: Option<&str>) -> Option<Blocked> {
+    let Ok(model) = read_lp(alloc, model.as_bytes()) else {
         return None;
     };
     let Some(dec) = dec_of(alloc, &model, dec) else {
@@ -165,6 +171,14 @@ const TEXTS: [&str; 16] = [
     "bpcert 1\nclaim bound 4611686018427387904\nleaf 1 rows 0 priced 1 1\nend\n",
 ];
 
+const LINKED_TEXTS: [&str; 5] = [
+    "bpcert 2\nclaim optimal 4\npoint 0 1 1\nleaf 1 change 1 3 -1 priced all\nend\n",
+    "bpcert 2\nclaim optimal 4\npoint 0 1 1\nsplit 1 0\nleaf 1 change 1 3 1 priced all\nleaf 1 change 1 3 0 priced all\nend\n",
+    "bpcert 2\nclaim optimal 4\npoint 0 1 1\nleaf 1 change 0 priced all\nend\n",
+    "bpcert 1\nclaim optimal 4\npoint 0 1 1\nleaf 1 rows 1 2 -1 priced all\nend\n",
+    "bpcert 1\nclaim optimal 4\npoint 0 1 1\nleaf 1 rows 1 4 -1 priced all\nend\n",
+];
+
 // The first place in a text where pieces are judged otherwise than the whole: the text in two parts, or its beginning byte
 // by byte.
 fn other_place(alloc: Global, b: &Blocked, text: &[u8], visits: Option<u64>) -> Option<usize> {
@@ -189,12 +203,18 @@ fn other_place(alloc: Global, b: &Blocked, text: &[u8], visits: Option<u64>) -> 
 }
 
 // The first text of which pieces are judged otherwise than the whole, and the place.
-fn first_other(alloc: Global, dec: Option<&str>, visits: Option<u64>) -> Option<(usize, usize)> {
-    let Some(b) = program(alloc, dec) else {
+fn first_other(
+    alloc: Global,
+    model: &str,
+    dec: Option<&str>,
+    texts: &[&str],
+    visits: Option<u64>,
+) -> Option<(usize, usize)> {
+    let Some(b) = program(alloc, model, dec) else {
         return Some((0, 0));
     };
-    for number in 0..TEXTS.len() {
-        if let Some(place) = other_place(alloc, &b, TEXTS[number].as_bytes(), visits) {
+    for number in 0..texts.len() {
+        if let Some(place) = other_place(alloc, &b, texts[number].as_bytes(), visits) {
             return Some((number, place));
         }
     }
@@ -203,26 +223,61 @@ fn first_other(alloc: Global, dec: Option<&str>, visits: Option<u64>) -> Option<
 
 #[test]
 fn pieces_are_judged_as_the_whole(rt: HostRuntime) -> Result<(), Fail> {
-    assert_eq!(rt; first_other(rt.alloc(), None, None), None);
+    assert_eq!(rt; first_other(rt.alloc(), MODEL, None, &TEXTS, None), None);
     Ok(())
 }
 
 #[test]
 fn pieces_are_judged_in_blocks(rt: HostRuntime) -> Result<(), Fail> {
-    assert_eq!(rt; first_other(rt.alloc(), Some(BLOCKS), None), None);
+    assert_eq!(rt;
+        first_other(rt.alloc(), MODEL, Some(BLOCKS), &TEXTS, None),
+        None
+    );
+    Ok(())
+}
+
+#[test]
+fn pieces_are_judged_with_link_rows(rt: HostRuntime) -> Result<(), Fail> {
+    let alloc = rt.alloc();
+    let blocks = Some(LINKED_BLOCKS);
+    assert_eq!(rt;
+        first_other(alloc, LINKED_MODEL, blocks, &LINKED_TEXTS, None),
+        None
+    );
+    assert_eq!(rt;
+        first_other(alloc, LINKED_MODEL, blocks, &LINKED_TEXTS, Some(6)),
+        None
+    );
     Ok(())
 }
 
 #[test]
 fn pieces_are_judged_within_visits(rt: HostRuntime) -> Result<(), Fail> {
-    assert_eq!(rt; first_other(rt.alloc(), Some(BLOCKS), Some(3)), None);
-    assert_eq!(rt; first_other(rt.alloc(), Some(BLOCKS), Some(0)), None);
+    assert_eq!(rt;
+        first_other(rt.alloc(), MODEL, Some(BLOCKS), &TEXTS, Some(3)),
+        None
+    );
+    assert_eq!(rt;
+        first_other(rt.alloc(), MODEL, Some(BLOCKS), &TEXTS, Some(0)),
+        None
+    );
     Ok(())
 }
 
 // What a text comes to that is fed byte by byte.
 fn answer_of(alloc: Global, text: &str, visits: Option<u64>) -> Option<Answer> {
-    let Some(b) = program(alloc, Some(BLOCKS)) else {
+    answer_in(alloc, MODEL, BLOCKS, text, visits)
+}
+
+// The same for a model and a decomposition.
+fn answer_in(
+    alloc: Global,
+    model: &str,
+    dec: &str,
+    text: &str,
+    visits: Option<u64>,
+) -> Option<Answer> {
+    let Some(b) = program(alloc, model, Some(dec)) else {
         return None;
     };
     let bytes = text.as_bytes();
@@ -278,5 +333,31 @@ fn lines_are_judged_in_their_zones(rt: HostRuntime) -> Result<(), Fail> {
         ),
         Some(Answer::Accepted)
     );
+    Ok(())
+}
+
+// The link row's multiplier gives the further copy what it takes from the first one. Without it the copies have different numbers.
+#[test]
+fn a_link_row_may_be_named(rt: HostRuntime) -> Result<(), Fail> {
+    let alloc = rt.alloc();
+    let answers = [
+        Answer::Accepted,
+        Answer::Accepted,
+        Answer::Rejected(4, kind_number(CheckKind::Weak)),
+        Answer::Fault(4, CertKind::Number),
+        Answer::Fault(4, CertKind::Number),
+    ];
+    for number in 0..LINKED_TEXTS.len() {
+        assert_eq!(rt;
+            answer_in(
+                alloc,
+                LINKED_MODEL,
+                LINKED_BLOCKS,
+                LINKED_TEXTS[number],
+                None
+            ),
+            Some(answers[number])
+        );
+    }
     Ok(())
 }

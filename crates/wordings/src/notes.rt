@@ -1,5 +1,6 @@
 // Notes on runs, written by hand.
-use bp_reason::{Files, explain};
+use bp_reason::explain;
+use bp_watch::Files;
 use std::alloc::{AllocError, Global};
 use std::test::Fail;
 
@@ -53,7 +54,7 @@ solve m.lp @ 3 refused lp 4 activity @ Max| x|st| c7: 2305843009213693951 x <= 2
 solve m.lp --dec o @ 3 refused dec 1 syntax @ Max| x|st| cap1: x <= 3|End @ NBLOCKS two @ o:1:9: syntax: 'two' can't stand here: a number stands behind this keyword|
 solve m.lp --dec o @ 3 refused dec 3 unknown-row @ Max| x|st| cap1: x <= 3|End @ NBLOCKS 1|BLOCK 1| cap1 cap9 @ o:3:7: unknown-row: no row of the model has the name 'cap9' here; an unnamed row is called c and its place, as c3|
 solve m.lp --dec o @ 3 refused dec 4 row-twice @ Max| x|st| cap1: x <= 3|End @ NBLOCKS 1|BLOCK 1| cap1|MASTERCONSS cap1 @ o:4:13: row-twice: the row 'cap1' is listed a second time; keep one of the two places|
-solve m.lp --dec o @ 3 refused blocks linking x r1 r2 @ Max @ NBLOCKS 2 @ o: linking: the variable 'x' stands in rows of two blocks, 'r1' and 'r2'; put one of the two rows under MASTERCONSS, or both in one block|
+solve m.lp --dec o @ 3 refused blocks links @ Max @ NBLOCKS 2 @ o: links: a variable in rows of several blocks is linked by a row for each block but the first; these and the model's rows are more than 8192*
 solve m.lp --dec o @ 3 refused blocks var-place x @ Max| x|st| cap1: x <= 3|Binaries| x|End @ NBLOCKS 2|BLOCK 1| cap1|BLOCKVARS 2 x @ o: var-place: the variable 'x' stands in a row of a block, and is listed with another block or with the master; list it with the block in whose rows it stands, or in no list|
 show m.lp --dec o @ 3 refused blocks var-place x @ Max| x|st| cap1: x <= 3| job1: x <= 2|Binaries| x|End @ NBLOCKS 1|BLOCK 1| cap1|MASTERCONSS job1|MASTERVARS x @ o: var-place: the variable 'x' stands in a row of a block, and is listed with another block or with the master; list it with the block in whose rows it stands, or in no list|
 detect m.lp o d @ 3 refused rows 2 unknown-row @ Max| x|st| x <= 3|End @ c1|c2 @ o:2:1: unknown-row: no row of the model has the name 'c2' here; an unnamed row is called c and its place, as c3|

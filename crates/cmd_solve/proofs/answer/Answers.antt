@@ -5,6 +5,7 @@ use Rattle.cmd_solve.specs.Crews.{HasEventsFrom}
 use Rattle.std.specs.Option.{option_map}
 use Rattle.cmd_solve.proofs.CrewEvents.{kept_with}
 use Rattle.cmd_solve.proofs.Told.{within_at, answers_at, cut_at, only_at, leaves_at}
+use Rattle.cmd_solve.proofs.Parts.{part_at}
 use Rattle.cmd_solve.proofs.answer.Goals as goal
 
 pub tell-status-requires-clause-ends : goal.tell-status-requires-clause-ends
@@ -40,3 +41,8 @@ returns-clause-events g c =
     subst (λ (events : List Event). HasEventsFrom c.args.b.now c.args.from c.args.steps c.args.crew c.tell-status.result.kept events) (sym c.kept_events-events.ensures)
     (kept_with c.args.b.now c.args.from c.args.steps c.args.crew c.in-Ok.searched.outcome c.tell-status.result.kept c.in-Ok.searched.events.items c.in-Ok.ensures.events
     c.tell-status.ensures.outcome)
+
+pub returns-clause-part : goal.returns-clause-part
+returns-clause-part g c = λ told want.
+    part_at c.args.b.now c.args.from c.args.below c.args.steps c.in-Ok.searched.outcome c.in-Ok.searched.told (option_map (λ name. name.now) c.args.cert)
+    (g.F.Shelf.file c.args.shelf.now) (g.F.Shelf.file c.tell-status.new.shelf) c.in-Ok.ensures.ends (c.tell-status.ensures.part told want)

@@ -5,13 +5,14 @@ use Rattle.branch_tree.specs.declared.outcome.Outcome.{Outcome}
 use Rattle.bp_front.specs.Answers.{stopped, AnswersBy, IsOnly, CutsOff}
 use Rattle.bp_front.proofs.Faults.{fails_as}
 use Rattle.bp_front.proofs.Lifts.{lift_answers, lift_only, lift_cut, stop_only, fault_only, printed_status}
-use Rattle.cmd_solve.specs.Saves.{LeavesBy, searched}
+use Rattle.cmd_solve.specs.Saves.{LeavesBy, searched, HoldsPart, AsBeforeOr}
 use Rattle.cmd_solve.specs.Saves as leaves
 use Rattle.cmd_solve.specs.Solves.{SolvesBy}
 use Rattle.cmd_solve.specs.declared.crew.CrewOrder.{CrewOrder}
 use Rattle.cmd_solve.specs.Crews.{ordered_crew, EventsBy}
 use Rattle.cmd_solve.proofs.Outcomes.{lift_saved}
 use Rattle.cmd_solve.proofs.CrewEvents.{lift_events, none_of, printed_none}
+use Rattle.cmd_solve.proofs.Parts.{lift_part, untouched_part}
 use Rattle.cmd_solve.proofs.solve.Goals as goal
 
 pub returns-in-Ok-clause-answered : goal.returns-in-Ok-clause-answered
@@ -116,3 +117,24 @@ returns-in-Ok-clause-saved g c = λ told.
     let still : IsTrue (g.F.Shelf.tells c.load.new.shelf) = subst (λ (t : Bool). IsTrue t) (sym c.in-Ok.ensures.told) told in
     lift_saved (g.F.Shelf.file c.args.shelf.now) c.args.lp.now (option_map (λ name. name.now) c.args.dec) (option_map (λ name. name.now) c.args.cert)
     (g.F.Shelf.file c.solve_blocks.new.shelf) c.in-Ok.b c.solve_blocks.result.kept (c.in-Ok.ensures.blocked told) (c.solve_blocks.ensures.saved still)
+
+pub returns-in-Ok-clause-part : goal.returns-in-Ok-clause-part
+returns-in-Ok-clause-part g c = λ told want.
+    let files = g.F.Shelf.file c.args.shelf.now in
+    let from : Option (List ℕ) = option_map (λ name. name.now) c.args.from in
+    let cert : Option (List ℕ) = option_map (λ name. name.now) c.args.cert in
+    let still : IsTrue (g.F.Shelf.tells c.load.new.shelf) = subst (λ (t : Bool). IsTrue t) (sym c.in-Ok.ensures.told) told in
+    lift_part files c.args.lp.now (option_map (λ name. name.now) c.args.dec) c.args.steps cert from c.args.leaf (g.F.Shelf.file c.solve_blocks.new.shelf) c.in-Ok.b
+    (c.in-Ok.ensures.blocked told)
+    (subst (λ (fs : Files). AsBeforeOr (HoldsPart (λ (kept : Option Outcome). SolvesBy fs from c.args.leaf c.args.steps kept c.in-Ok.b) c.in-Ok.b) cert fs (g.F.Shelf.file c.solve_blocks.new.shelf))
+    c.in-Ok.ensures.files (c.solve_blocks.ensures.part still want))
+
+pub returns-in-Err-Stopped-clause-part : goal.returns-in-Err-Stopped-clause-part
+returns-in-Err-Stopped-clause-part g c = λ told want.
+    untouched_part (g.F.Shelf.file c.args.shelf.now) c.args.lp.now (option_map (λ name. name.now) c.args.dec) c.args.steps (option_map (λ name. name.now) c.args.cert)
+    (option_map (λ name. name.now) c.args.from) c.args.leaf (g.F.Shelf.file c.load.new.shelf) c.in-Err-Stopped.ensures.files
+
+pub returns-in-Err-Refused-clause-part : goal.returns-in-Err-Refused-clause-part
+returns-in-Err-Refused-clause-part g c = λ told want.
+    untouched_part (g.F.Shelf.file c.args.shelf.now) c.args.lp.now (option_map (λ name. name.now) c.args.dec) c.args.steps (option_map (λ name. name.now) c.args.cert)
+    (option_map (λ name. name.now) c.args.from) c.args.leaf (g.F.Shelf.file c.load.new.shelf) c.in-Err-Refused.ensures.files

@@ -1,13 +1,15 @@
-use Rattle.std.proofs.Common.{◌∙◌, inr, refl, sym, ap, subst, Option, List, ℕ, Err}
+use Rattle.std.proofs.Common.{None, ◌∙◌, inr, refl, sym, ap, subst, Option, List, ℕ, Err}
 use Rattle.std.specs.Option.{option_map}
+use Rattle.bp_shelf.specs.Shelf.{Files}
 use Rattle.bp_shelf.specs.declared.shelf.ShelfFault.{ShelfFault}
 use Rattle.branch_tree.specs.declared.outcome.Outcome.{Outcome}
 use Rattle.bp_front.specs.Answers.{AnswersBy, IsOnly, CutsOff}
 use Rattle.bp_front.proofs.Faults.{fails_as}
 use Rattle.cmd_solve.specs.Solves.{SolvesBy}
-use Rattle.cmd_solve.specs.Saves.{LeavesBy}
+use Rattle.cmd_solve.specs.Saves.{LeavesBy, HoldsPart, AsBeforeOr}
 use Rattle.cmd_solve.proofs.Starting.{can_begin, alone_at, fresh_from, ready_from, refused_from, ready_answers, ready_only, ready_cut, ready_leaves, refused_answers, refusal_only, refused_cut, refused_leaves, fault_answers, fault_only}
 use Rattle.cmd_solve.proofs.CrewEvents.{fresh_events, ready_events, none_by, printed_none, refused_apart}
+use Rattle.cmd_solve.proofs.Parts.{nothing_left, ready_part}
 use Rattle.cmd_solve.proofs.solve_blocks.Goals as goal
 
 -- ---- from the start
@@ -179,3 +181,40 @@ returns-in-Ok-Refused-clause-events g c = λ told.
     (printed_none c.print.result.status c.in-Ok-Refused.reply.status c.print.result.kept c.print.ensures.status c.print.ensures.kept c.print.ensures.none_kept
     (refused_apart c.in-Ok-Refused.reply.status (rw c.in-Ok-Refused.field-0-is at usable)))
     c.print.ensures.events
+
+-- ---- what stands where memory was wanting
+
+pub returns-in-Ok-Fresh-clause-part : goal.returns-in-Ok-Fresh-clause-part
+returns-in-Ok-Fresh-clause-part g c = λ told want.
+    let files = g.F.Shelf.file c.args.shelf.now in
+    let from : Option (List ℕ) = option_map (λ name. name.now) c.args.from in
+    let cert : Option (List ℕ) = option_map (λ name. name.now) c.args.cert in
+    let start = c.in-Ok-Fresh.ensures.start told in
+    subst (λ (f : Option (List ℕ)). AsBeforeOr (HoldsPart (λ (kept : Option Outcome). SolvesBy files f c.args.leaf c.args.steps kept c.args.b.now) c.args.b.now) cert files (g.F.Shelf.file c.answer.new.shelf))
+    (sym (fresh_from files from c.args.leaf c.args.b.now (rw c.in-Ok-Fresh.field-0-is at start)))
+    (subst (λ (fs : Files). AsBeforeOr (HoldsPart (λ (kept : Option Outcome). SolvesBy files None c.args.leaf c.args.steps kept c.args.b.now) c.args.b.now) cert fs (g.F.Shelf.file c.answer.new.shelf))
+    c.in-Ok-Fresh.ensures.files (c.answer.ensures.part (c.in-Ok-Fresh.ensures.told ∙ told) want))
+
+pub returns-in-Ok-Ready-clause-part : goal.returns-in-Ok-Ready-clause-part
+returns-in-Ok-Ready-clause-part g c = λ told want.
+    let files = g.F.Shelf.file c.args.shelf.now in
+    let from : Option (List ℕ) = option_map (λ name. name.now) c.args.from in
+    let cert : Option (List ℕ) = option_map (λ name. name.now) c.args.cert in
+    let start = c.in-Ok-Ready.ensures.start told in
+    subst (λ (fs : Files). AsBeforeOr (HoldsPart (λ (kept : Option Outcome). SolvesBy files from c.args.leaf c.args.steps kept c.args.b.now) c.args.b.now) cert fs (g.F.Shelf.file c.answer-in-Ok-Ready.new.shelf))
+    c.in-Ok-Ready.ensures.files
+    (ready_part files from c.args.leaf c.args.steps c.args.b.now c.in-Ok-Ready.from c.in-Ok-Ready.below cert (g.F.Shelf.file c.begin.new.shelf) (g.F.Shelf.file c.answer-in-Ok-Ready.new.shelf)
+    (ready_from files from c.args.leaf c.args.b.now c.in-Ok-Ready.from c.in-Ok-Ready.below (rw c.in-Ok-Ready.field-0-is at start))
+    (c.answer-in-Ok-Ready.ensures.part (c.in-Ok-Ready.ensures.told ∙ told) want))
+
+pub returns-in-Err-clause-part : goal.returns-in-Err-clause-part
+returns-in-Err-clause-part g c = λ told want.
+    nothing_left
+    (HoldsPart (λ (kept : Option Outcome). SolvesBy (g.F.Shelf.file c.args.shelf.now) (option_map (λ name. name.now) c.args.from) c.args.leaf c.args.steps kept c.args.b.now) c.args.b.now)
+    (option_map (λ name. name.now) c.args.cert) (g.F.Shelf.file c.args.shelf.now) (g.F.Shelf.file c.begin.new.shelf) c.in-Err.ensures.files
+
+pub returns-in-Ok-Refused-clause-part : goal.returns-in-Ok-Refused-clause-part
+returns-in-Ok-Refused-clause-part g c = λ told want.
+    nothing_left
+    (HoldsPart (λ (kept : Option Outcome). SolvesBy (g.F.Shelf.file c.args.shelf.now) (option_map (λ name. name.now) c.args.from) c.args.leaf c.args.steps kept c.args.b.now) c.args.b.now)
+    (option_map (λ name. name.now) c.args.cert) (g.F.Shelf.file c.args.shelf.now) (g.F.Shelf.file c.begin.new.shelf) c.in-Ok-Refused.ensures.files

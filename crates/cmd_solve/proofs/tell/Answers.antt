@@ -1,5 +1,8 @@
-use Rattle.std.proofs.Common.{sym, Some, append-nil}
+use Rattle.std.proofs.Common.{sym, ap, Some, List, Err, append-nil}
+use Rattle.std.specs.Option.{option_map}
+use Rattle.cert_stream.specs.declared.stream.StreamStop.{StreamStop}
 use Rattle.cmd_solve.proofs.Outcomes.{tells}
+use Rattle.cmd_solve.proofs.Parts.{part_told}
 use Rattle.cmd_solve.proofs.tell.Goals as goal
 
 pub returns-in-Ok-save-clause-cut_off : goal.returns-in-Ok-save-clause-cut_off
@@ -22,3 +25,8 @@ returns-in-Err-Failed-clause-cut_off g c = λ heard is_fault. (
   tells c.args.b.now c.args.told c.args.outcome c.in-Ok.reply c.in-Ok.ensures,
   sym (append-nil (g.O.Sink.taken c.args.out.now)),
 )
+
+pub returns-clause-part : goal.returns-clause-part
+returns-clause-part g c = λ told want.
+    part_told c.args.b.now c.args.told c.args.outcome c.in-Ok.reply (option_map (λ name. name.now) c.args.cert) (g.F.Shelf.file c.args.shelf.now) (g.F.Shelf.file c.save.new.shelf)
+    c.in-Ok.ensures (c.in-Err-NoMemory.ensures.part told (ap (λ (stop : StreamStop). Err stop) c.in-Err-NoMemory.field-0-is))

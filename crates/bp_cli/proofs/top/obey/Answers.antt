@@ -147,6 +147,13 @@ returns-in-Gen-clause-written g c = λ told.
     (as_gen c.args.order.now c.in-Gen.seed c.in-Gen.size c.as_str-in-Gen.result.now c.in-Gen.lp c.as_str-in-Gen-2.result.now
     c.in-Gen.dec c.in-Gen.is c.as_str-in-Gen.ensures c.as_str-in-Gen-2.ensures) (c.generate.ensures.leaves told)
 
+pub returns-in-Solve-clause-written : goal.returns-in-Solve-clause-written
+returns-in-Solve-clause-written g c = λ told.
+    subst (λ (o : Order). HasWritten o (g.F.Shelf.file c.args.shelf.now) (g.F.Shelf.file c.solve.new.shelf) c.solve.result.kept c.solve.result.status)
+    (as_solve c.args.order.now c.in-Solve.given c.as_str.result.now (option_map (λ name. name.now) c.named.result)
+    (option_map (λ name. name.now) c.named-in-Solve.result) (option_map (λ name. name.now) c.named-in-Solve-2.result) c.in-Solve.is c.as_str.ensures c.named.ensures c.named-in-Solve.ensures c.named-in-Solve-2.ensures)
+    (c.solve.ensures.saved told, c.solve.ensures.files told, c.solve.ensures.untouched told, c.solve.ensures.part told)
+
 pub returns-in-Solve-clause-failed : goal.returns-in-Solve-clause-failed
 returns-in-Solve-clause-failed g c = λ is_fault.
     fails_as (g.F.Shelf.write_faults c.args.shelf.now) (g.F.Shelf.write_faults c.args.shelf.now) (g.F.Shelf.write_faults c.solve.new.shelf)

@@ -1,6 +1,8 @@
-use Rattle.std.proofs.Common.{◌≡◌, take, map}
-use Rattle.std.specs.Prelude.{is_none}
+use Rattle.std.proofs.Common.{◌≡◌, map}
+use Rattle.std.specs.Prelude.{is_some}
+use Rattle.std.specs.List.{range_with_len}
+use Rattle.bp_theory.specs.Blocking.{row_at}
 use Rattle.cert_text.proofs.program.master_rows.Given as goal
 
-abbrev pub invariant-loop-place : goal.invariant-loop-place
-invariant-loop-place l = l.masters ≡ map is_none (take l.place-index l.places)
+abbrev pub invariant-loop-row : goal.invariant-loop-row
+invariant-loop-row l = l.masters ≡ map (λ row. is_some (row_at l.b.blocking row)) (range_with_len 0 l.row)

@@ -4,14 +4,13 @@ use Rattle.bp_theory.specs.Trees.{IsSubspan}
 use Rattle.bp_theory.proofs.ZipLaws.{AllZip-length}
 use Rattle.hint_pools.proofs.EveryBlock.{known}
 use Rattle.hint_pools.proofs.wide.has_many_beginnings.Goals as goal
-use Rattle.block_form.proofs.PlainLemmas.{plain_blocking}
 
 pub fill_spans-requires-clause-there : goal.fill_spans-requires-clause-there
 fill_spans-requires-clause-there c =
     let n : ℕ = length c.args.b.now.named.program.spans in
     let none : Block = record { copies = []; rows = [] } in
     let all : All (λ (k : Block). All (λ (e : Copy). e.var < n) k.copies) c.args.b.now.blocking.blocks =
-    subst (λ (bl : Blocking). All (λ (k : Block). All (λ (e : Copy). e.var < n) k.copies) bl.blocks) (sym (plain_blocking c.blocks-2.ensures.formed))
+    subst (λ (bl : Blocking). All (λ (k : Block). All (λ (e : Copy). e.var < n) k.copies) bl.blocks) (sym c.blocks-2.ensures.formed.blocking)
     (known c.args.b.now c.blocks-2.ensures.formed) in
     let here : All (λ (e : Copy). e.var < n) c.block-block.result.now.block.copies =
     subst (λ (k : Block). All (λ (e : Copy). e.var < n) k.copies) (sym (c.block-block.ensures.block none)) (all c.args.number none c.requires.there) in

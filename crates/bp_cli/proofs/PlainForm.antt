@@ -1,0 +1,54 @@
+-- The decomposition without a text is never refused: it has no blocks, so that nothing is misplaced and no variable links.
+use Rattle.std.proofs.Common.{◌≡◌, ◌≢◌, refl, ap, ⊎_elim, ℕ, ◌≤◌, List, [], ◌∷◌, length, arith}
+use Rattle.std.specs.List.{range_with_len, flat_map}
+use Rattle.std.proofs.lemmas.List.{length-map}
+use Rattle.bp_theory.specs.Program.{Program}
+use Rattle.bp_theory.proofs.ZipLaws.{AllZip-length}
+use Rattle.bp_theory.specs.Decomposition.{ProofRow, links_of, link_count, HasLargeLinks}
+use Rattle.bp_model.specs.Named.{NamedProgram}
+use Rattle.bp_model.specs.Dec.{plain_of}
+use Rattle.lp_read.specs.Tree.{SyntaxTree}
+use Rattle.lp_read.specs.Roles.{row_names, variables}
+use Rattle.lp_read.specs.Meaning.{TextModel, model_of, model_row, row_meaning, tokens_of}
+use Rattle.lp_read.specs.Model.{Means, IsRowOf}
+use Rattle.lp_read.proofs.FineProof.{within_limits}
+use Rattle.lp_read.proofs.RowLemmas.{length-row_names}
+use Rattle.block_form.specs.Checks.{HasBlockFault}
+use Rattle.block_form.specs.declared.fault.BlockFault.{BlockFault}
+use Rattle.block_form.specs.declared.fault.BlockFault.TheVariants.{VarPlace, Links, NoMemory}
+
+tree_rows : (t : SyntaxTree) → length (model_of t).rows ≡ length t.rows
+unfolding model_of
+tree_rows t = length-map t.rows (λ r. model_row (variables (tokens_of t)) (row_meaning r))
+
+-- the program that a text means has no more rows than may be
+few_rows : (text : List ℕ) (m : NamedProgram) → Means text m → length m.program.rows ≤ 8192
+few_rows text m means =
+    let reads = means.1 in
+    let limits : (length (variables (tokens_of reads.tree)) ≤ 4096) × (length (row_names (tokens_of reads.tree)) ≤ 8192) × _ = within_limits (tokens_of reads.tree) reads.text_of.roles in
+    omega (
+      arith,
+      limits.1,
+      length-row_names reads.tree,
+      tree_rows reads.tree,
+      ap (λ (meant : TextModel). length meant.rows) reads.means,
+      AllZip-length IsRowOf means.0.rows m.program.rows means.2.rows,
+    )
+
+no_links : (p : Program) (vs : List ℕ) → flat_map (links_of p (plain_of p)) vs ≡ []
+no_links p [] = refl
+no_links p (v ∷ vs) = no_links p vs
+
+not_large : (p : Program) → length p.rows ≤ 8192 → HasLargeLinks p (plain_of p) → ⊥
+not_large p few large =
+    ⊎_elim
+    (λ many.
+    let none : link_count p (plain_of p) ≡ 0 = ap (λ (rows : List ProofRow). length rows) (no_links p (range_with_len 0 (length p.spans))) in
+    let no : ⊥ = omega (arith, many, none, few) in no)
+    (λ wide. let there = wide.2.there in let no : ⊥ = omega (arith, there) in no)
+    large
+
+pub plain_fault : (text : List ℕ) (m : NamedProgram) (fault : BlockFault) → Means text m → fault ≢ NoMemory → HasBlockFault m.program (plain_of m.program) fault → ⊥
+plain_fault text m (VarPlace v) means known has = let there = has.there in omega arith
+plain_fault text m Links means known has = not_large m.program (few_rows text m means) has.1
+plain_fault text m NoMemory means known has = known refl

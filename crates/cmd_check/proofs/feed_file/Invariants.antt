@@ -1,0 +1,23 @@
+use Rattle.std.proofs.Common.{◌≡◌, ◌≤◌, ◌+◌, ◌-◌, ◌^◌, ◌<◌, ℕ, [], Option, length, IsTrue, IsSome}
+use Rattle.cert_stream.specs.Checks.{IsMadeFor, ChecksFor}
+use Rattle.cmd_check.specs.Replies.{StandsForFront}
+use Rattle.cmd_check.proofs.feed_file.Given as goal
+
+-- the files and the counts are as at first, and the checker stands for the file's first bytes
+abbrev pub invariant-reads : goal.invariant-reads
+invariant-reads g l = record {
+  told : g.F.Shelf.tells l.shelf ≡ g.F.Shelf.tells l.fn.shelf;
+  files : g.F.Shelf.file l.shelf ≡ g.F.Shelf.file l.fn.shelf;
+  reads : g.F.Shelf.read_faults l.shelf ≡ g.F.Shelf.read_faults l.fn.shelf;
+  writes : g.F.Shelf.write_faults l.shelf ≡ g.F.Shelf.write_faults l.fn.shelf;
+  made_for : IsMadeFor l.b l.checker;
+  fed : l.checker.fed ≤ l.at;
+  front : (visits : Option ℕ) → ChecksFor l.b visits l.fn.checker [] → StandsForFront (g.F.Shelf.tells l.fn.shelf) (g.F.Shelf.file l.fn.shelf l.cert) l.b visits l.checker l.at;
+  room : length l.buffer ≡ 65536;
+  near : l.at < 2 ^ 62 + 65536;
+  found : 0 < l.at → IsTrue (g.F.Shelf.tells l.fn.shelf) → IsSome (g.F.Shelf.file l.fn.shelf l.cert);
+}
+
+-- each read but the last gives a byte
+abbrev pub decreases-reads : goal.decreases-reads
+decreases-reads g l = 2 ^ 62 - l.at
