@@ -9,11 +9,13 @@ use Rattle.std.proofs.lemmas.List.FromFn.{length-range_with_len}
 use Rattle.bp_theory.specs.Program.{Program, KeepsActivity}
 use Rattle.bp_theory.specs.Blocking.{Block, Blocking, sides_of}
 use Rattle.bp_theory.specs.Decomposition.{Decomposition, ProofRow, whole_row, link_row, links_of, full_row, proof_row, members, lone_variables, lone_block, blocking_of, rows_of, row_with_places, is_block, is_in, is_first, IsPlace, HasPlaces, HasLargeLinks, IsMisplaced, IsFirstMisplaced, link_count, copy_of, HasVariablesBelow, IsTidyFrom}
+use Rattle.bp_theory.specs.Cuts.{cut_rows}
+use Rattle.bp_theory.specs.declared.Cut.{Cut}
 use Rattle.bp_theory.specs.declared.Row.{Row}
 use Rattle.bp_theory.specs.declared.MasterRow.{MasterRow}
 use Rattle.bp_model.specs.Named.{NamedProgram, IsKept}
 use Rattle.bp_model.specs.Dec.{HasListed}
-use Rattle.block_form.specs.Blocked.{RootBlock, HaveRootSpans, AreMade, AreParts}
+use Rattle.block_form.specs.Blocked.{RootBlock, BlockedProgram, HaveRootSpans, IsFormed, AreMade, AreParts}
 use Rattle.block_form.specs.Cuts.{KeepsCuts, IsSmallCut, AreCutRows}
 use Rattle.block_form.specs.Gather.{all_sides, link_sides, named_sides, IsElsewhere, IsFirstElsewhere}
 use Rattle.block_form.specs.Homes.{AreHomes, further}
@@ -190,7 +192,21 @@ parts_bare m d blocks rows kept places moderate made = record {
     moderate = moderate;
     cuts_kept = no_cuts m.program d;
     blocking = made.blocking;
-    uncut = refl;
+  };
+  spans = made.spans;
+}
+
+-- and so is what is made with other cuts
+pub parts_cut : (b : BlockedProgram) (cuts : List Cut) (blocks : List RootBlock) (rows : List (Option MasterRow)) → IsFormed b → KeepsCuts b.named.program b.dec cuts
+    → AreMade b.named b.dec (cut_rows b.named.program b.dec [] cuts) blocks rows → AreParts b.named b.dec cuts blocks rows
+parts_cut b cuts blocks rows formed kept made = record {
+  formed = record {
+    kept = formed.kept;
+    places = formed.places;
+    count = omega (arith, made.count, length-map blocks (λ (k : RootBlock). k.block));
+    moderate = formed.moderate;
+    cuts_kept = kept;
+    blocking = made.blocking;
   };
   spans = made.spans;
 }

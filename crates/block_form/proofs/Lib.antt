@@ -14,3 +14,4 @@ pub mod SumLemmas
 pub mod LargeLemmas
 mod NamedRows
 pub mod PlainLemmas
+pub mod CutLemmas

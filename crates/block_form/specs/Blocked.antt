@@ -25,7 +25,7 @@ pub record BlockedProgram : Type 0 where
   pub blocking : Blocking
 
 -- what a program in blocks keeps: its limits, at most so many blocks as may be, a place for each row, few and small link rows and cuts, and the blocking
--- that the decomposition and the cuts give the program; and for now no cuts
+-- that the decomposition and the cuts give the program
 pub record IsFormed (b : BlockedProgram) : Type 0 where
   pub kept : IsKept b.named
   pub places : HasPlaces b.named.program b.dec
@@ -33,7 +33,6 @@ pub record IsFormed (b : BlockedProgram) : Type 0 where
   pub moderate : HasLargeLinks b.named.program b.dec → ⊥
   pub cuts_kept : KeepsCuts b.named.program b.dec b.cuts
   pub blocking : b.blocking ≡ blocking_of b.named.program b.dec (cut_rows b.named.program b.dec [] b.cuts)
-  pub uncut : b.cuts ≡ []
 
 -- copies from their variables, costs and coefficients
 abbrev pub copies_from : List ℕ → List ℤ → List (List (ℕ × ℤ)) → List Copy

@@ -3,6 +3,7 @@ use crate::block::Block;
 use crate::places::place_at;
 use bp_model::{Dec, Model};
 use bp_theory::{Cut, Items, MasterRow};
+use std::alloc::AllocError;
 use std::rc::Rc;
 
 /// What programs in blocks share that differ by their cuts alone.
@@ -57,7 +58,7 @@ impl std::marker::Model for Blocked {
 }
 
 impl Blocked {
-    ghost use Rattle.std.specs.Prelude.{◌≡◌, ◌<◌, length, map, slice_get, slice_index_or, Some, None};
+    ghost use Rattle.std.specs.Prelude.{◌≡◌, ◌<◌, length, IfOk, map, slice_get, slice_index_or, Some, None};
     ghost use Rattle.bp_theory.specs.Blocking.{row_at};
     ghost use Rattle.bp_theory.specs.Blocking as theory;
     ghost use Rattle.bp_theory.specs.Bound.{spans_of};
@@ -86,6 +87,14 @@ impl Blocked {
             rows,
             places,
         }
+    }
+
+    // The model and the decomposition, shared.
+    pub(crate) fn shared_base(&self) -> Result<Rc<Base>, AllocError>
+        ensures model { IfOk result (λ base. base.value.model ≡ self.now.named) }
+        ensures dec { IfOk result (λ base. base.value.dec ≡ self.now.dec) }
+    {
+        self.base.clone()
     }
 
     /// The model.

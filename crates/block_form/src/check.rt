@@ -1,12 +1,13 @@
-// The blocks that a decomposition gives a model, or what it is refused for.
+// The blocks that a decomposition gives a model, or what it is refused for; and the same with cuts.
 ghost use Rattle.std.specs.Prelude.{◌≡◌, [], length, All, IfOk, IfErr, OnOk};
+ghost use Rattle.bp_theory.specs.Cuts.{cut_rows};
 ghost use Rattle.bp_theory.specs.Decomposition.{HasPlaces, IsMisplaced};
 ghost use Rattle.bp_model.specs.Dec.{HasListed};
 ghost use Rattle.block_form.specs.Blocked.{AreMade, AreParts, IsFormed};
 ghost use Rattle.block_form.specs.declared.fault.BlockFault.TheVariants.{NoMemory};
 ghost use Rattle.block_form.specs.Checks.{HasBlockFault};
 ghost use Rattle.block_form.specs.Columns.{AreColumns};
-ghost use Rattle.block_form.specs.Cuts.{AreCutRows};
+ghost use Rattle.block_form.specs.Cuts.{AreCutRows, KeepsCuts};
 ghost use Rattle.block_form.specs.Homes.{AreHomes};
 ghost use Rattle.block_form.specs.Source.{IsSource};
 
@@ -20,7 +21,7 @@ use crate::links::are_large;
 use crate::places::var_places;
 use crate::source::Source;
 use bp_model::{Dec, Model};
-use bp_theory::{Items, MasterRow};
+use bp_theory::{Cut, Items, MasterRow, Row};
 use std::alloc::{AllocError, Global};
 use std::rc::Rc;
 
@@ -32,6 +33,7 @@ pub fn check_blocks(alloc: Global, model: Model, dec: Dec) -> Result<Blocked, Un
     requires listed { HasListed model.program dec }
     ensures model { IfOk result (λ b. b.named ≡ model) }
     ensures dec { IfOk result (λ b. b.dec ≡ dec) }
+    ensures cuts { IfOk result (λ b. b.cuts ≡ []) }
     ensures formed { IfOk result IsFormed }
     ensures placed { OnOk result (All (λ e. IsMisplaced model.program dec e → ⊥) dec.listed) }
     ensures fault { IfErr result (λ refused. HasBlockFault model.program dec refused.fault) }
@@ -41,6 +43,44 @@ pub fn check_blocks(alloc: Global, model: Model, dec: Dec) -> Result<Blocked, Un
         Err(fault) => Err(Unblocked { fault, model }),
         Ok((blocks, rows)) => placed(alloc, model, dec, blocks, rows),
     }
+}
+
+/// The program in blocks of the same model and decomposition that has these cuts in place of its own; `rows` are the rows
+/// of the cuts. The model and the decomposition are shared and not copied.
+pub fn recut(
+    alloc: Global,
+    b: &Blocked,
+    cuts: Items<Cut>,
+    rows: &[Row],
+) -> Result<Blocked, AllocError>
+    requires kept { KeepsCuts b.now.named.program b.now.dec cuts }
+    requires rows { rows.now ≡ cut_rows b.now.named.program b.now.dec [] cuts }
+    ensures model { IfOk result (λ other. other.named ≡ b.now.named) }
+    ensures dec { IfOk result (λ other. other.dec ≡ b.now.dec) }
+    ensures cuts { IfOk result (λ other. other.cuts ≡ cuts) }
+    ensures formed { IfOk result IsFormed }
+{
+    let (blocks, named) = parts_with(alloc, b, rows)?;
+    let places = var_places(alloc, b.model().vars(), blocks.as_slice())?;
+    let base = b.shared_base()?;
+    Ok(Blocked::make(base, cuts, blocks, named, Items::from_vec(places)))
+}
+
+// The blocks and the named rows of a program's model and decomposition with these rows of cuts.
+fn parts_with(
+    alloc: Global,
+    b: &Blocked,
+    rows: &[Row],
+) -> Result<(Items<Block>, Items<Option<MasterRow>>), AllocError>
+    requires { AreCutRows b.now.named.program rows.now }
+    ensures { IfOk result (λ parts. AreMade b.now.named b.now.dec rows.now parts.0 parts.1) }
+{
+    let model = b.model();
+    let dec = b.dec();
+    let columns = columns_of(alloc, model.vars(), 0, model.all_rows())?;
+    let homes = homes_of(alloc, dec.blocks(), columns.as_slice(), dec.places())?;
+    let source = Source::make(alloc, model, dec, rows, columns, homes)?;
+    made_parts(alloc, &source)
 }
 
 // The program in blocks of these parts, with an index of the variables' first copies.
@@ -54,6 +94,7 @@ fn placed(
     requires { AreParts model dec [] blocks rows }
     ensures model { IfOk result (λ b. b.named ≡ model) }
     ensures dec { IfOk result (λ b. b.dec ≡ dec) }
+    ensures cuts { IfOk result (λ b. b.cuts ≡ []) }
     ensures formed { IfOk result IsFormed }
     ensures fault { IfErr result (λ refused. refused.fault ≡ NoMemory) }
     ensures handed_back { IfErr result (λ refused. refused.model ≡ model) }

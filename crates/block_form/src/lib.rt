@@ -19,7 +19,7 @@ mod zone;
 
 pub use block::Block;
 pub use blocked::Blocked;
-pub use check::check_blocks;
+pub use check::{check_blocks, recut};
 pub use fault::{BlockFault, Unblocked};
 pub use fitting::{MAX_MULTIPLIER, MAX_SCALE, fits, signs_fit};
 pub use zone::Zone;

@@ -1,0 +1,8 @@
+use Rattle.std.proofs.Common.{take}
+use Rattle.std.specs.Prelude.{All}
+use Rattle.round_cut.specs.Cutting.{IsWhole}
+use Rattle.round_cut.specs.Rows.{row_in}
+use Rattle.round_cut.proofs.rules.are_whole.Given as goal
+
+abbrev pub invariant-loop-mult : goal.invariant-loop-mult
+invariant-loop-mult l = All (λ m. IsWhole (row_in l.rows m.0)) (take l.mult-index l.mults)
