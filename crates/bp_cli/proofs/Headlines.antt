@@ -16,7 +16,7 @@ use Rattle.bp_cli.specs.Running.{Answers, refused, ordered, AnswersOrder, OfOrde
 use Rattle.bp_cli.specs.Headline.{SolvesTruly, SolvesAccepted, ChecksTruly, IsOutcomeStatus}
 use Rattle.bp_cli.specs.Promises.{SolvesDecomposed, WritesCertificate}
 use Rattle.bp_cli.proofs.OneOrder.{one_order, not_both}
-use Rattle.bp_cli.proofs.Truth.{solves_truly, solves_accepted, solves_decomposed, writes_certificate, checks_truly, kept_outcome}
+use Rattle.bp_cli.proofs.Truth.{solves_truly, solves_accepted, solves_decomposed, writes_certificate, checks_truly}
 
 -- what words are answered is what their order is answered
 of_words : (words : List (List ℕ)) (order : Order) (files : Files) (kept : Option Outcome) (status : ℕ) (tells : Bool) (before now : List ℕ) → IsOrderOf words order
@@ -77,39 +77,27 @@ decomposes words files kept status tells before now known answers = λ order is.
     by (Merge given) right = tt
     by (Migrate lp cert new dec) right = tt
 
--- a kept outcome has one of its statuses
-its_status : (o : Outcome) (status : ℕ) → ((let x : Option Outcome = Some o in x) ≡ None) ⊎ IsOutcomeStatus status → IsOutcomeStatus status
-its_status o status (inl none) = absurd (cc)
-its_status o status (inr is) = is
-
-pub certifies : (words : List (List ℕ)) (files left : Files) (kept : Option Outcome) (status : ℕ) (tells : Bool) (before now : List ℕ) → (kept ≡ None) ⊎ IsOutcomeStatus status
-    → AnswersBy (Answers words files kept) status tells before now → OfOrder words (λ order. HasWritten order files left kept status)
+pub certifies : (words : List (List ℕ)) (files left : Files) (kept : Option Outcome) (status : ℕ) → OfOrder words (λ order. HasWritten order files left kept status)
     → OfOrder words (λ order. WritesCertificate order left kept)
-certifies words files left kept status tells before now known answers written = λ order is.
-    by order kept known (of_words words order files kept status tells before now is answers) (written order is)
+certifies words files left kept status written = λ order is. by order kept (written order is)
   where
-    saved : (given : SolveOrder) (cert : Option (List ℕ)) (k : Option Outcome) → (k ≡ None) ⊎ IsOutcomeStatus status
-        → AnswersBy (AnswersSolve files given.lp given.dec given.steps given.from given.leaf k) status tells before now
-        → HasCertificate files given.lp given.dec cert left k → FilesStand cert files left
+    saved : (given : SolveOrder) (cert : Option (List ℕ)) (k : Option Outcome) → HasCertificate files given.lp given.dec cert given.from left k → FilesStand cert files left
         → IfSome cert (λ name. IfSome k (λ outcome.
         name ≢ given.lp → given.dec ≢ Some name → (claim : Claim) × AnswersCheck left given.lp name given.dec None 0 (accepted_report claim)))
-    saved given (Some cert) (Some o) shown right has stands =
-        writes_certificate files left given.lp cert given.dec o has stands
-        (kept_outcome files given.lp given.dec given.steps given.from given.leaf o status tells before now right (its_status o status shown))
-    saved given (Some cert) None shown right has stands = tt
-    saved given None k shown right has stands = tt
+    saved given (Some cert) (Some o) has stands = writes_certificate files left given.lp cert given.dec given.from o has stands
+    saved given (Some cert) None has stands = tt
+    saved given None k has stands = tt
 
-    by : (order : Order) (k : Option Outcome) → (k ≡ None) ⊎ IsOutcomeStatus status → AnswersBy (AnswersOrder order files k) status tells before now → HasWritten order files left k status
-        → WritesCertificate order left k
-    by (Solve given) k shown right has = saved given given.cert k shown right has.0 has.1
-    by (Check given) k shown right has = tt
-    by (Show lp dec blocks) k shown right has = tt
-    by (Gen seed size lp dec) k shown right has = tt
-    by (Demo seed size) k shown right has = tt
-    by (Detect lp list dec) k shown right has = tt
-    by (Propose lp dec) k shown right has = tt
-    by (Merge given) k shown right has = tt
-    by (Migrate lp cert new dec) k shown right has = tt
+    by : (order : Order) (k : Option Outcome) → HasWritten order files left k status → WritesCertificate order left k
+    by (Solve given) k has = saved given given.cert k has.0 has.1
+    by (Check given) k has = tt
+    by (Show lp dec blocks) k has = tt
+    by (Gen seed size lp dec) k has = tt
+    by (Demo seed size) k has = tt
+    by (Detect lp list dec) k has = tt
+    by (Propose lp dec) k has = tt
+    by (Merge given) k has = tt
+    by (Migrate lp cert new dec) k has = tt
 
 pub checked : (words : List (List ℕ)) (files : Files) (kept : Option Outcome) (status : ℕ) (tells : Bool) (before now : List ℕ)
     → AnswersBy (Answers words files kept) status tells before now → IsTrue tells → OfOrder words (λ order. ChecksTruly order files status before now)

@@ -1,13 +1,15 @@
 -- What each command answers makes the headline true.
-use Rattle.std.proofs.Common.{◌≡◌, ◌≢◌, ◌∙◌, refl, sym, ap, subst, inl, inr, ◌⊎◌, ℕ, Bool, true, false, List, ◌++◌, Option, Some, None, IfSome, ◌≤◌, arith}
+use Rattle.std.proofs.Common.{◌≡◌, ◌≢◌, ◌∙◌, refl, sym, ap, subst, inl, inr, ◌⊎◌, ℕ, Bool, true, false, List, [], ◌++◌, Option, Some, None, IfSome, ◌≤◌, arith}
 use Rattle.std.proofs.Math.IntN.{ℤ}
 use Rattle.std.specs.Prelude.{IsTrue, is_none, ◌≤ℤ◌}
 use Rattle.std.specs.Option.{option_map}
 use Rattle.std.proofs.lemmas.List.{append-nil}
 use Rattle.bp_theory.specs.Program.{IsFeasible, in_sense, cost}
-use Rattle.bp_theory.specs.Claims.{NoneBetter, IsTrueClaim}
+use Rattle.bp_theory.specs.Claims.{NoneBetter}
 use Rattle.bp_theory.specs.declared.Claim.{Claim}
 use Rattle.bp_theory.proofs.TruthProof.{in_sense_twice}
+use Rattle.bp_theory.proofs.CutProof.{certified_is_true_lem}
+use Rattle.bp_theory.specs.declared.Cut.{Cut}
 use Rattle.bp_theory.specs.Decomposition.{Decomposition}
 use Rattle.bp_model.specs.Named.{NamedProgram}
 use Rattle.bp_model.specs.Dec.{plain_of}
@@ -18,7 +20,14 @@ use Rattle.search_laws.specs.declared.Side.{Side}
 use Rattle.search_laws.specs.Grove.{GrowingTree}
 use Rattle.lp_read.specs.Reading as lp_text
 use Rattle.lp_read.proofs.Readings as lp_laws
-use Rattle.block_form.specs.Blocked.{BlockedProgram}
+use Rattle.block_form.specs.Blocked.{BlockedProgram, IsFormed}
+use Rattle.cert_text.specs.Cert.{Frame}
+use Rattle.cert_text.specs.Fault.{IsCertText}
+use Rattle.cert_text.specs.Written.{cert_of}
+use Rattle.cert_text.specs.Programs.{frame_for}
+use Rattle.cert_load.specs.Recut.{with_cuts}
+use Rattle.cert_load.proofs.CutPrograms.{uncut_is}
+use Rattle.cert_load.proofs.Frames.{same_frame}
 use Rattle.branch_tree.specs.declared.outcome.Outcome.{Outcome}
 use Rattle.branch_tree.specs.declared.outcome.Outcome.TheVariants.{Optimal, Infeasible, Budget}
 use Rattle.bp_search.specs.Ends.{EndsWithin, given_steps, last_step}
@@ -26,15 +35,15 @@ use Rattle.bp_search.specs.Below.{steps_in}
 use Rattle.bp_report.specs.Report.{solve_report, accepted_report}
 use Rattle.bp_front.specs.Front.{Front, blocked, ends, BlocksCome, formed, refused, DecComes, plain, missing, faulty, read, FilesCome, missing_lp, faulty_lp, read_lp}
 use Rattle.bp_front.specs.Answers.{AnswersBy, stopped, went_on, IsStatus}
-use Rattle.bp_front.proofs.OneFront.{one_front}
+use Rattle.bp_front.proofs.OneFront.{one_front, plain_front}
 use Rattle.cmd_check.specs.Checks as checks
 use Rattle.cmd_check.specs.Checks.{ChecksBlocked, ChecksWithin, ChecksVisiting, AnswersCheck}
 use Rattle.cmd_solve.specs.Starts as starts
-use Rattle.cmd_solve.specs.Starts.{RefusesStart, IsStartAt}
+use Rattle.cmd_solve.specs.Starts.{RefusesStart, IsStartAt, SearchesOver}
 use Rattle.cmd_solve.specs.Leaves.{IsWorkedOn}
 use Rattle.cmd_solve.specs.Solves as solves
-use Rattle.cmd_solve.specs.Solves.{SolvesBlocked, SolvesBelow, SolvesOn, SolvesBy, AnswersSolve, outcome_status, outcome_certificate}
-use Rattle.cmd_solve.specs.Saves.{HasCertificate}
+use Rattle.cmd_solve.specs.Solves.{SolvesBlocked, SolvesBelow, SolvesOn, SolvesBy, AnswersSolve, outcome_status, outcome_certificate, IsSpelledOut}
+use Rattle.cmd_solve.specs.Saves.{HasCertificate, IsSaved}
 use Rattle.bp_cli.proofs.PlainForm.{plain_fault}
 use Rattle.bp_cli.specs.Headline.{IsTrueReport, optimal, infeasible, budget, HasProgram, IsCount, IsStoppedAfter, IsOutcomeStatus, WasStopped, TellsTruly, AcceptsTruly}
 
@@ -49,7 +58,7 @@ abbrev IsRefusal : ℕ → Type 0
 IsRefusal status = (status ≡ 3) ⊎ (status ≡ 11)
 
 blocks_come : (m : NamedProgram) (d : Decomposition) (f : Front) → BlocksCome m d f → EndsOrHas IsRefusal (λ b. b.named ≡ m) f
-blocks_come m d f (formed b named decs is placed) = named
+blocks_come m d f (formed b named decs uncut is placed) = named
 blocks_come m d f (refused fault known has) = inl refl
 
 dec_comes : (files : Files) (m : NamedProgram) (name : Option (List ℕ)) (f : Front) → DecComes files m name f → EndsOrHas IsRefusal (λ b. b.named ≡ m) f
@@ -87,7 +96,7 @@ abbrev NoEnd : Front → Type 0
 NoEnd f = EndsOrHas (λ status. ⊥) (λ b. Unit {0}) f
 
 plain_blocks : (text : List ℕ) (m : NamedProgram) (f : Front) → Means text m → BlocksCome m (plain_of m.program) f → NoEnd f
-plain_blocks text m f means (formed b named decs is placed) = tt
+plain_blocks text m f means (formed b named decs uncut is placed) = tt
 plain_blocks text m f means (refused fault known has) = absurd (plain_fault text m fault means known has)
 
 plain_dec : (files : Files) (text : List ℕ) (m : NamedProgram) (f : Front) → Means text m → DecComes files m None f → NoEnd f
@@ -216,14 +225,18 @@ solves_told files lp steps (Some name) leaf kept b status report before now has 
     absurd (not_outcome status is (inr (inr eleven)))
 solves_told files lp steps (Some name) leaf kept b status report before now has (solves.refused text there none refuses) is printed =
     absurd (not_outcome status is (refuses_status b leaf text status report refuses))
-solves_told files lp steps (Some name) leaf kept b status report before now has (solves.went_on text from below there start right) is printed = on below start right
+solves_told files lp steps (Some name) leaf kept b status report before now has (solves.went_on text from below c there start over right) is printed = on below start right
   where
-    on : (below : Option (List Side)) → IsStartAt b leaf text from below → SolvesOn from.grove.tree below steps kept b status report
+    -- the program with cuts is of the same model
+    same : HasProgram (files lp) c.named
+    same = subst (λ (x : BlockedProgram). HasProgram (files lp) x.named) (sym over) has
+
+    on : (below : Option (List Side)) → IsStartAt b leaf text from below → SolvesOn from.grove.tree below steps kept c status report
         → TellsTruly (files lp) leaf (given_steps steps) false kept status before now
     on None start right =
-        tells_true files lp leaf b (last_step from.grove steps) steps false kept status report before now has right (λ begun. absurd (cc)) printed
+        tells_true files lp leaf c (last_step from.grove steps) steps false kept status report before now same right (λ begun. absurd (cc)) printed
     on (Some path) start right =
-        tells_below files lp leaf b from.grove.tree path steps kept status report before now has right
+        tells_below files lp leaf c from.grove.tree path steps kept status report before now same right
         (λ told few. count_below start.start.cert.tree leaf path (given_steps steps) told start.worked_on few) printed
 
 pub solves_truly : (files : Files) (lp : List ℕ) (dec : Option (List ℕ)) (steps : Option ℕ) (from : Option (List ℕ)) (leaf : Option ℕ) (kept : Option Outcome) (status : ℕ) (tells : Bool) (before now : List ℕ)
@@ -285,27 +298,30 @@ solves_decomposed files lp dec steps leaf kept status tells before now known ans
 
 -- ---- the certificate that is written is accepted
 
--- what the certificate of an outcome claims is true
-outcome_true : (b : BlockedProgram) (most : ℕ) (o : Outcome) → EndsWithin b most o → IsTrueClaim b.named.program (outcome_certificate b.named.program o).claim
-outcome_true b most (Optimal g point value) is = (point, is.best, ap (in_sense b.named.program.maximises) (sym is.is_cost))
-outcome_true b most (Infeasible g) is = is.none_feasible
-outcome_true b most (Budget g None bound) is = λ x feasible.
-    subst (λ (z : ℤ). z ≤ℤ cost b.named.program x) (sym (in_sense_twice b.named.program.maximises bound)) (is.none_below x feasible)
-outcome_true b most (Budget g (Some k) bound) is = (
-  (λ x feasible. subst (λ (z : ℤ). z ≤ℤ cost b.named.program x) (sym (in_sense_twice b.named.program.maximises bound)) (is.none_below x feasible)),
-  (k.0, record { feasible = is.kept.0; has_value = ap (in_sense b.named.program.maximises) (sym is.kept.1) }),
-)
+-- a search is over the program in blocks that the files come to, with cuts
+over_cuts : (files : Files) (from : Option (List ℕ)) (b c : BlockedProgram) → IsFormed b → b.cuts ≡ [] → SearchesOver files from b c → (cuts : List Cut) × (c ≡ with_cuts b cuts)
+over_cuts files None b c made uncut over = ([], over.1.1 ∙ uncut_is b made uncut)
+over_cuts files (Some name) b c made uncut over = (over.1.3.cert.cuts, over.1.4)
 
-pub writes_certificate : (before now : Files) (lp cert : List ℕ) (dec : Option (List ℕ)) (o : Outcome) → HasCertificate before lp dec (Some cert) now (Some o)
-    → OthersAsBefore cert before now → ((b : BlockedProgram) → FilesCome before lp dec (blocked b) → (most : ℕ) × EndsWithin b most o) → cert ≢ lp → dec ≢ Some cert
-    → (claim : Claim) × AnswersCheck now lp cert dec None 0 (accepted_report claim)
-writes_certificate before now lp cert dec o has others ended apart away =
+-- the text of a valid certificate of a program with cuts is one of the program without them
+spelled_over : (b : BlockedProgram) (cuts : List Cut) (o : Outcome) (text : List ℕ) → IsFormed b → IsSpelledOut (with_cuts b cuts) o text
+    → IsCertText (frame_for b) (cert_of (outcome_certificate (with_cuts b cuts) o)) text
+spelled_over b cuts o text made out =
+    subst (λ (frame : Frame). IsCertText frame (cert_of (outcome_certificate (with_cuts b cuts) o)) text) (same_frame b cuts made) (_, out.spelled)
+
+pub writes_certificate : (before now : Files) (lp cert : List ℕ) (dec from : Option (List ℕ)) (o : Outcome) → HasCertificate before lp dec (Some cert) from now (Some o)
+    → OthersAsBefore cert before now → cert ≢ lp → dec ≢ Some cert → (claim : Claim) × AnswersCheck now lp cert dec None 0 (accepted_report claim)
+writes_certificate before now lp cert dec from o has others apart away =
     let b = has.0 in
-    let c = outcome_certificate b.named.program o in
-    let end = ended b has.1 in (
-      c.claim,
+    let plain = plain_front before lp dec (blocked b) has.1 in
+    let over = over_cuts before from b has.2.0 plain.0 plain.1 has.2.1 in
+    let c : BlockedProgram = with_cuts b over.0 in
+    let saved : IsSaved c o (Some cert) now = subst (λ (x : BlockedProgram). IsSaved x o (Some cert) now) over.1 has.2.2 in
+    let written = outcome_certificate c o in (
+      written.claim,
       went_on b (files_move before now lp dec (blocked b) (others lp (λ e. apart (sym e))) (λ name is. others name (λ e. away (is ∙ ap (λ (t : List ℕ). Some t) e))) has.1)
-          (checks.accepted has.2.0 c has.2.1 (_, has.2.2.spelled) has.2.2.valid (outcome_true b end.0 o end.1) refl refl),
+          (checks.accepted saved.0 written saved.1 (spelled_over b over.0 o saved.0 plain.0 saved.2) saved.2.valid
+          (certified_is_true_lem b.named.program b.dec written plain.0.kept.closed saved.2.valid) refl refl),
     )
 
 -- ---- what `check` accepts
@@ -336,41 +352,3 @@ checks_truly files lp cert dec visits status tells before now answers told zero 
     by report (stopped come stops) printed =
         absurd (not_outcome status (inl zero) (as_refusal status (files_come files lp dec (ends status report) come)))
     by report (went_on b come right) printed = visiting b visits report (files_come files lp dec (blocked b) come) right printed
-
--- the outcome that is kept is one of a search of the program in blocks that the files come to
-pub kept_outcome : (files : Files) (lp : List ℕ) (dec : Option (List ℕ)) (steps : Option ℕ) (from : Option (List ℕ)) (leaf : Option ℕ) (o : Outcome) (status : ℕ) (tells : Bool) (before now : List ℕ)
-    → AnswersBy (AnswersSolve files lp dec steps from leaf (Some o)) status tells before now → IsOutcomeStatus status
-    → (b : BlockedProgram) → FilesCome files lp dec (blocked b) → (most : ℕ) × EndsWithin b most o
-kept_outcome files lp dec steps from leaf o status tells before now answers is b come =
-    let through = went_through status is in
-    let answer = answers through.0 through.1 through.2 in
-    by answer.0 answer.1
-  where
-    one : (p q : Outcome) → (let x : Option Outcome = Some p in x) ≡ Some q → p ≡ q
-    one p q e = cc
-
-    ends_so : (c : BlockedProgram) (most : ℕ) (report : List ℕ) → c ≡ b → SolvesBlocked most steps (Some o) c status report → (n : ℕ) × EndsWithin b n o
-    ends_so c most report same right =
-        (most, subst (λ (d : BlockedProgram). EndsWithin d most o) same (subst (λ (p : Outcome). EndsWithin c most p) (sym (one o right.outcome right.is_kept)) right.is_outcome))
-
-    ends_below : (c : BlockedProgram) (start : GrowingTree) (path : List Side) (report : List ℕ) → c ≡ b → SolvesBelow start path steps (Some o) c status report → (n : ℕ) × EndsWithin b n o
-    ends_below c start path report same right = (
-      steps_in right.outcome,
-      subst (λ (d : BlockedProgram). EndsWithin d (steps_in right.outcome) o) same
-          (subst (λ (p : Outcome). EndsWithin c (steps_in right.outcome) p) (sym (one o right.outcome right.is_kept)) right.is_outcome.ends),
-    )
-
-    goes_on : (c : BlockedProgram) (start : GrowingTree) (below : Option (List Side)) (report : List ℕ) → c ≡ b → SolvesOn start below steps (Some o) c status report
-        → (n : ℕ) × EndsWithin b n o
-    goes_on c start None report same right = ends_so c _ report same right
-    goes_on c start (Some path) report same right = ends_below c start path report same right
-
-    begun : (f : Option (List ℕ)) (c : BlockedProgram) (report : List ℕ) → c ≡ b → SolvesBy files f leaf steps (Some o) c status report → (n : ℕ) × EndsWithin b n o
-    begun None c report same right = ends_so c (given_steps steps) report same right
-    begun (Some name) c report same (solves.missing gone none eleven empty) = absurd (not_outcome status is (inr (inr eleven)))
-    begun (Some name) c report same (solves.refused text there none refuses) = absurd (not_outcome status is (refuses_status c leaf text status report refuses))
-    begun (Some name) c report same (solves.went_on text start below there loaded right) = goes_on c start.grove.tree below report same right
-
-    by : (report : List ℕ) → AnswersSolve files lp dec steps from leaf (Some o) status report → (n : ℕ) × EndsWithin b n o
-    by report (stopped other stops) = absurd (not_outcome status is (as_refusal status (files_come files lp dec (ends status report) other)))
-    by report (went_on c other right) = begun from c report (one_front files lp dec (blocked c) (blocked b) other come) right

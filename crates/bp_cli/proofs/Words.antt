@@ -77,7 +77,7 @@ nothing_written files (Demo seed size) = refl
 nothing_written files (Detect lp list dec) = detected.untouched refl (inr refl)
 nothing_written files (Propose lp dec) = proposed.untouched refl (inr refl)
 nothing_written files (Merge given) = merged.untouched refl (inr refl)
-nothing_written files (Migrate lp cert new dec) = migrated.untouched refl (inr refl)
+nothing_written files (Migrate lp cert new dec) = migrated.stands (migrated.untouched refl (inr refl))
 
 -- want of memory is right for `demo` too
 pub not_demonstrated : (order : Order) (tells : Bool) (before now : List ℕ) → Demonstrates order None 9 tells before now

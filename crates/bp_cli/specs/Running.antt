@@ -47,7 +47,7 @@ pub data Answers (words : List (List ℕ)) (files : Files) (kept : Option Outcom
 -- every other order changes no file.
 abbrev pub HasWritten : Order → (before now : Files) → Option Outcome → (status : ℕ) → Type 0
 HasWritten (Solve given) before now kept status =
-    HasCertificate before given.lp given.dec given.cert now kept × FilesStand given.cert before now × (IsUntouched status → now ≡ before)
+    HasCertificate before given.lp given.dec given.cert given.from now kept × FilesStand given.cert before now × (IsUntouched status → now ≡ before)
     × (status ≡ 9 → LeavesPart before given.lp given.dec given.steps given.cert given.from given.leaf now)
 HasWritten (Check given) before now kept status = now ≡ before
 HasWritten (Show lp dec blocks) before now kept status = now ≡ before

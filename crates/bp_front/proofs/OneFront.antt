@@ -31,12 +31,12 @@ blocked_parts : (a b : NamedProgram) (c d : Decomposition) (i j : List Cut) (e f
     → (let x : BlockedProgram = record { named = a; dec = c; cuts = i; blocking = e } in x) ≡ (let x : BlockedProgram = record { named = b; dec = d; cuts = j; blocking = f } in x)
 blocked_parts a b c d i j e f p q o r = rw (p, q, o, r) refl
 
--- a program in blocks is told by its program and its decomposition
-one_blocked : (b c : BlockedProgram) → IsFormed b → IsFormed c → b.named ≡ c.named → b.dec ≡ c.dec → b ≡ c
-one_blocked b c f g named decs =
+-- a program in blocks without cuts is told by its program and its decomposition
+one_blocked : (b c : BlockedProgram) → IsFormed b → IsFormed c → b.named ≡ c.named → b.dec ≡ c.dec → b.cuts ≡ [] → c.cuts ≡ [] → b ≡ c
+one_blocked b c f g named decs uncut also =
     let blockings : blocking_of b.named.program b.dec [] ≡ blocking_of c.named.program c.dec [] =
     ap (λ (m : NamedProgram). blocking_of m.program b.dec []) named ∙ ap (λ (d : Decomposition). blocking_of c.named.program d []) decs in
-    blocked_parts b.named c.named b.dec c.dec b.cuts c.cuts b.blocking c.blocking named decs (f.uncut ∙ sym g.uncut) (plain_blocking f ∙ blockings ∙ sym (plain_blocking g))
+    blocked_parts b.named c.named b.dec c.dec b.cuts c.cuts b.blocking c.blocking named decs (uncut ∙ sym also) (plain_blocking f uncut ∙ blockings ∙ sym (plain_blocking g also))
 
 -- what has blocks is not refused
 not_refused : (m : NamedProgram) (d : Decomposition) (b : BlockedProgram) (fault : BlockFault) → b.named ≡ m → b.dec ≡ d → IsFormed b
@@ -50,9 +50,9 @@ not_refused m d b Links named decs f placed known has =
 not_refused m d b NoMemory named decs f placed known has = known refl
 
 one_in_blocks : (m : NamedProgram) (d : Decomposition) (f g : Front) → BlocksCome m d f → BlocksCome m d g → SameFront f g
-one_in_blocks m d f g (formed b n e is placed) (formed c n' e' is' placed') = one_blocked b c is is' (n ∙ sym n') (e ∙ sym e')
-one_in_blocks m d f g (formed b n e is placed) (refused fault known has) = not_refused m d b fault n e is placed known has
-one_in_blocks m d f g (refused fault known has) (formed b n e is placed) = not_refused m d b fault n e is placed known has
+one_in_blocks m d f g (formed b n e uncut is placed) (formed c n' e' also is' placed') = one_blocked b c is is' (n ∙ sym n') (e ∙ sym e') uncut also
+one_in_blocks m d f g (formed b n e uncut is placed) (refused fault known has) = not_refused m d b fault n e is placed known has
+one_in_blocks m d f g (refused fault known has) (formed b n e uncut is placed) = not_refused m d b fault n e is placed known has
 one_in_blocks m d f g (refused fault known has) (refused fault' known' has') = refl
 
 -- a file holds one text
@@ -104,3 +104,23 @@ one_front files name d f g (read_lp text m _ a means come) (read_lp text' n _ b 
     let same : text' ≡ text = one_text (files name) text' text b a in
     let programs : n ≡ m = one_program text n m (subst (λ (t : List ℕ). Means t n) same means') means in
     one_dec files m d f g come (subst (λ (p : NamedProgram). DecComes files p d g) programs come')
+
+-- a program in blocks that files come to is formed and has no cuts
+abbrev pub IsPlainFront : Front → Type 0
+IsPlainFront (blocked b) = IsFormed b × (b.cuts ≡ [])
+IsPlainFront (ends status report) = Unit {0}
+
+blocks_plain : (m : NamedProgram) (d : Decomposition) (f : Front) → BlocksCome m d f → IsPlainFront f
+blocks_plain m d f (formed b n e uncut is placed) = (is, uncut)
+blocks_plain m d f (refused fault known has) = tt
+
+dec_plain : (files : Files) (m : NamedProgram) (name : Option (List ℕ)) (f : Front) → DecComes files m name f → IsPlainFront f
+dec_plain files m name f (plain _ come) = blocks_plain m _ f come
+dec_plain files m name f (missing n x) = tt
+dec_plain files m name f (faulty n text line kind x fault) = tt
+dec_plain files m name f (read n text d _ x reads come) = blocks_plain m d f come
+
+pub plain_front : (files : Files) (lp : List ℕ) (dec : Option (List ℕ)) (f : Front) → FilesCome files lp dec f → IsPlainFront f
+plain_front files lp dec f (missing_lp x) = tt
+plain_front files lp dec f (faulty_lp text line kind x fault) = tt
+plain_front files lp dec f (read_lp text m _ x means come) = dec_plain files m dec f come

@@ -20,9 +20,9 @@ pub data Front : Type 0 where
   blocked : BlockedProgram → Front
   ends : (status : ℕ) (report : List ℕ) → Front
 
--- what a decomposition of a program comes to: its blocks, or what it is refused for
+-- what a decomposition of a program comes to: its blocks, without cuts, or what it is refused for
 pub data BlocksCome (m : NamedProgram) (d : Decomposition) : Front → Type 0 where
-  formed : (b : BlockedProgram) → b.named ≡ m → b.dec ≡ d → IsFormed b
+  formed : (b : BlockedProgram) → b.named ≡ m → b.dec ≡ d → b.cuts ≡ [] → IsFormed b
       → All (λ e. IsMisplaced m.program d e → ⊥) d.listed → BlocksCome m d (blocked b)
   refused : (fault : BlockFault) → fault ≢ NoMemory → HasBlockFault m.program d fault
       → BlocksCome m d (ends 3 (blocks_refusal m fault))

@@ -1,5 +1,5 @@
 // The program in blocks that the files of a model and of its decomposition come to.
-ghost use Rattle.std.specs.Prelude.{All, ◌≡◌, ◌≢◌, IfOk, IfErr, IsTrue, Some, None};
+ghost use Rattle.std.specs.Prelude.{All, ◌≡◌, ◌≢◌, [], IfOk, IfErr, IsTrue, Some, None};
 ghost use Rattle.std.specs.Option.{option_map};
 ghost use Rattle.bp_theory.specs.Decomposition.{HasPlaces};
 ghost use Rattle.bp_model.specs.Dec.{HasListed};
@@ -48,7 +48,7 @@ impl From<ShelfFault> for Halt {
 
 /// The program in blocks that a model's file and the file of its decomposition come to, or what a run ends with: the
 /// first file that isn't there or can't be read, the first fault of the first text that is refused, or what the
-/// decomposition is refused for. Without a decomposition every row is a master row.
+/// decomposition is refused for. Without a decomposition every row is a master row. The program has no cuts.
 pub fn load<F: Shelf>(
     alloc: Global,
     shelf: &mut F,
@@ -61,6 +61,7 @@ pub fn load<F: Shelf>(
     ensures halted { IsTrue (F.tells shelf.old) →
         IfErr result (ComesToHalt (F.file shelf.old) lp.now (option_map
         (λ name. name.now) dec.entry)) }
+    ensures uncut { IfOk result (λ b. b.cuts ≡ []) }
     ensures told { F.tells shelf.new ≡ F.tells shelf.old }
     ensures files { F.file shelf.new ≡ F.file shelf.old }
     ensures cause { CountsHalted (F.read_faults shelf.old) (F.read_faults shelf.new) result }
@@ -72,10 +73,11 @@ pub fn load<F: Shelf>(
 }
 
 /// The program in blocks that an LP text and the text of a decomposition come to, or what they are refused for: what files
-/// with these texts come to, whatever their names.
+/// with these texts come to, whatever their names. The program has no cuts.
 pub fn blocks_of(alloc: Global, lp: &[u8], dec: &[u8]) -> Result<Blocked, Halt>
     ensures blocked { IfOk result (λ b. TextsCome lp.now dec.now (blocked b)) }
     ensures halted { IfErr result (TextsHalt lp.now dec.now) }
+    ensures uncut { IfOk result (λ b. b.cuts ≡ []) }
 {
     let model = model_of(alloc, lp)?;
     let parts = dec_of(alloc, dec, &model)?;
@@ -164,6 +166,7 @@ fn in_blocks(alloc: Global, model: Model, dec: Dec) -> Result<Blocked, Halt>
     requires listed { HasListed model.program dec }
     ensures blocked { IfOk result (λ b. BlocksCome model dec (blocked b)) }
     ensures halted { IfErr result (IsBlocksHalt model dec) }
+    ensures uncut { IfOk result (λ b. b.cuts ≡ []) }
 {
     match check_blocks(alloc, model, dec) {
         Ok(b) => Ok(b),

@@ -4,16 +4,17 @@ use Rattle.std.specs.Prelude.{option_to_list, ◌≤ℤ◌, int_lt, if◌then◌
 use Rattle.std.specs.Option.{unwrap_or}
 use Rattle.std.specs.Int.{int_min}
 use Rattle.std.proofs.lemmas.Int.{ints}
-use Rattle.std.proofs.lemmas.List.Elements.{All-nil, All-append, Contains-push, Contains-append_left}
-use Rattle.bp_theory.specs.Program.{Program, MeetsRow, KeepsActivity}
+use Rattle.std.proofs.lemmas.List.Elements.{All-append, Contains-push, Contains-append_left}
+use Rattle.bp_theory.specs.Program.{Program}
 use Rattle.bp_theory.specs.Blocking.{IsFaithful}
-use Rattle.bp_theory.specs.Decomposition.{Decomposition, HasVariablesBelow, blocking_of, proof_rows, full_row}
+use Rattle.bp_theory.specs.Decomposition.{blocking_of, proof_rows, full_row}
+use Rattle.bp_theory.specs.Cuts.{cut_rows}
 use Rattle.bp_theory.specs.Trees.{steps}
 use Rattle.bp_theory.specs.declared.Row.{Row}
+use Rattle.bp_theory.proofs.CutProof.{cuts_are_met_lem}
 use Rattle.bp_theory.proofs.DecompositionProof.{decomposition_lem}
 use Rattle.bp_theory.proofs.FaithProof.{adding_up_lem}
 use Rattle.block_form.specs.Blocked.{BlockedProgram, IsFormed}
-use Rattle.block_form.proofs.PlainLemmas.{plain_blocking}
 use Rattle.search_laws.specs.Grove.{GrowingTree, live_count, live_bounds, certificate_tree}
 use Rattle.search_laws.specs.GroveFacts.{IsSearch, IsLeastOf, IsRemainingBound, best_cost}
 use Rattle.search_laws.specs.Outcomes.{CutsFit, final_claim, stopped_claim}
@@ -30,17 +31,18 @@ use Rattle.bp_search.proofs.Running.{given_is}
 faithful : (b : BlockedProgram) → IsFormed b → IsFaithful b.named.program b.blocking
 faithful b formed =
     let p : Program = b.named.program in
-    subst (IsFaithful p) (sym (plain_blocking formed))
-    (adding_up_lem p (map full_row (proof_rows p b.dec [])) (blocking_of p b.dec [])
-    (decomposition_lem.implied p b.dec [] (λ x feasible. All-nil (MeetsRow x)))
-    (decomposition_lem.adds_up p b.dec [] formed.kept.closed (All-nil (λ (cut : Row). HasVariablesBelow (length p.spans) cut.terms))))
+    let rows : List Row = cut_rows p b.dec [] b.cuts in
+    subst (IsFaithful p) (sym formed.blocking)
+    (adding_up_lem p (map full_row (proof_rows p b.dec rows)) (blocking_of p b.dec rows)
+    (decomposition_lem.implied p b.dec rows (λ x feasible. cuts_are_met_lem.met p b.dec b.cuts x formed.kept.closed formed.cuts_kept.fitting feasible))
+    (decomposition_lem.adds_up p b.dec rows formed.kept.closed (cuts_are_met_lem.closed p b.dec b.cuts)))
 
-no_cuts : (p : Program) (d : Decomposition) → CutsFit p d []
-no_cuts p d = record { fitting = tt; bounded = All-nil (KeepsActivity p) }
+cuts_fit : (b : BlockedProgram) → IsFormed b → CutsFit b.named.program b.dec b.cuts
+cuts_fit b formed = record { fitting = formed.cuts_kept.fitting; bounded = formed.cuts_kept.bounded }
 
 with_cuts : (b : BlockedProgram) (t : GrowingTree) (best : Option (List ℤ)) → IsFormed b → IsSearch b.named.program b.blocking t best
-    → IsSearch b.named.program (blocking_of b.named.program b.dec []) t best
-with_cuts b t best formed search = subst (λ k. IsSearch b.named.program k t best) (plain_blocking formed) search
+    → IsSearch b.named.program (blocking_of b.named.program b.dec (cut_rows b.named.program b.dec [] b.cuts)) t best
+with_cuts b t best formed search = subst (λ k. IsSearch b.named.program k t best) formed.blocking search
 
 searched_end : (b : BlockedProgram) (most : ℕ) (g : GroveState) (best : Option Kept) → IsFormed b → IsRunning b g best → live_count g.tree ≡ 0
     → steps (certificate_tree g.tree) ≤ most → IsSearched b most g (kept_point best) (final_claim b.named.program (kept_point best))
@@ -49,7 +51,7 @@ searched_end b most g best formed run none few = record {
   root = run.root;
   search = run.search;
   few = few;
-  certified = read_off_is_certified_lem.ended b.named.program b.dec [] g.tree (kept_point best) (no_cuts b.named.program b.dec)
+  certified = read_off_is_certified_lem.ended b.named.program b.dec b.cuts g.tree (kept_point best) (cuts_fit b formed)
       (with_cuts b g.tree (kept_point best) formed run.search) none;
 }
 
@@ -81,7 +83,7 @@ searched_stop b most g best v formed run remaining few = record {
   root = run.root;
   search = run.search;
   few = few;
-  certified = read_off_is_certified_lem.stopped b.named.program b.dec [] g.tree (kept_point best) v (no_cuts b.named.program b.dec)
+  certified = read_off_is_certified_lem.stopped b.named.program b.dec b.cuts g.tree (kept_point best) v (cuts_fit b formed)
       (with_cuts b g.tree (kept_point best) formed run.search) remaining;
 }
 

@@ -21,13 +21,13 @@ given_steps None = untold_steps
 given_steps (Some n) = n
 
 -- a tree that was searched for no more than so many steps: its depth is within the limit, its shut leaves are settled against the
--- best point's cost, and the certificate of a claim that is read off it is valid
+-- best point's cost, and the certificate of a claim that is read off it, with the program's cuts, is valid
 pub record IsSearched (b : BlockedProgram) (most : ℕ) (g : GroveState) (best : Option (List ℤ)) (claim : Claim) : Type 0 where
   pub standing : IsStanding g
   pub root : g.root ≡ b.named.program.spans
   pub search : IsSearch b.named.program b.blocking g.tree best
   pub few : steps (certificate_tree g.tree) ≤ most
-  pub certified : IsCertified b.named.program b.dec (read_off claim best [] g.tree)
+  pub certified : IsCertified b.named.program b.dec (read_off claim best b.cuts g.tree)
 
 -- no leaf is live and the kept point is best
 pub record IsOptimal (b : BlockedProgram) (most : ℕ) (g : GroveState) (point : List ℤ) (value : ℤ) : Type 0 where

@@ -19,7 +19,7 @@ use crate::steps::take_steps;
 pub use below::resume_below;
 use block_form::Blocked;
 use branch_tree::{Loaded, Outcome};
-pub use cert_load::{LoadFault, load};
+pub use cert_load::{LoadFault, load, with_cuts_of};
 pub use ends::conclude;
 pub use growth::grow;
 pub use kept::{Kept, cost_of, keep, kept_from};

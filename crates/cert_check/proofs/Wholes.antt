@@ -1,102 +1,225 @@
 -- A whole certificate, from the judgement of its lines.
-use Rattle.std.proofs.Common.{◌≡◌, refl, sym, ap, subst, ◌∙◌, ℕ, ◌+◌, ◌<◌, ◌^◌, List, [], ◌∷◌, ◌++◌, length, Option, Some, None, Result, Ok, Err, arith, inl, inr, ⊎_elim, append_assoc, length-append}
+use Rattle.std.proofs.Common.{◌≡◌, refl, sym, ap, subst, ◌∙◌, ℕ, ◌+◌, ◌<◌, ◌^◌, List, [], ◌∷◌, ◌++◌, length, get_or, Option, Some, None, Result, Ok, Err, arith, inl, inr, ⊎_elim, append_assoc, length-append}
 use Rattle.std.proofs.Math.IntN.{ℤ}
-use Rattle.std.specs.Prelude.{◌⊎◌}
+use Rattle.std.specs.Prelude.{◌⊎◌, ◌==◌, true, IfOk}
 use Rattle.std.specs.List.{AllByRecursion}
 use Rattle.std.specs.Option.{option_map}
-use Rattle.std.proofs.lemmas.List.Elements.{recursion_from_All, All-from_recursion}
+use Rattle.std.proofs.lemmas.Bool.{eqb-true}
+use Rattle.std.proofs.lemmas.List.{nil_from_length}
+use Rattle.std.proofs.lemmas.List.Elements.{recursion_from_All, All-from_recursion, All-weaker}
 use Rattle.bp_theory.specs.Program.{Program}
 use Rattle.bp_theory.specs.Blocking.{Blocking}
 use Rattle.bp_theory.specs.Bound.{Fits, SignsFit}
-use Rattle.bp_theory.specs.Decomposition.{blocking_of}
+use Rattle.bp_theory.specs.Decomposition.{Decomposition, ProofRow, whole_row, link_row, no_row, proof_rows, blocking_of}
+use Rattle.bp_theory.specs.Cuts.{cut_row, cut_rows}
 use Rattle.bp_theory.specs.Trees.{Tree, Leaf, leaves}
 use Rattle.bp_theory.specs.Claims.{Certificate, IsTrueClaim, IsCertified}
-use Rattle.bp_theory.specs.Judgement.{Line, leaf_line, Passes, HasFault, outside, missed, other_value, cut_sign, large_cut, unsound, leaf_sign, weak, open_there, named_value, point_lines, tree_lines, judged_lines, HasItsPoint, IsFirstFault}
+use Rattle.bp_theory.specs.Judgement.{Line, point_line, leaf_line, cut_lines, Passes, HasFault, outside, missed, other_value, cut_sign, large_cut, unsound, leaf_sign, weak, open_there, named_value, point_lines, tree_lines, judged_lines, HasItsPoint, IsFirstFault}
 use Rattle.bp_theory.specs.declared.Span.{Span}
 use Rattle.bp_theory.specs.declared.Claim.{Claim}
 use Rattle.bp_theory.specs.declared.CheckKind.{CheckKind}
+use Rattle.bp_theory.specs.declared.Cut.{Cut}
+use Rattle.bp_theory.specs.declared.Row.{Row}
 use Rattle.bp_theory.proofs.JudgeProof.{judged_lem}
 use Rattle.bp_theory.proofs.CutProof.{certified_is_true_lem}
 use Rattle.block_form.specs.Blocked.{BlockedProgram, IsFormed}
-use Rattle.block_form.proofs.PlainLemmas.{plain_blocking}
+use Rattle.block_form.specs.Cuts.{KeepsCuts}
+use Rattle.bp_model.specs.Named.{NamedProgram}
 use Rattle.cert_text.specs.Written.{certificate}
-use Rattle.cert_text.specs.Programs.{GoesWith}
+use Rattle.cert_text.specs.Programs as texts
+use Rattle.cert_text.specs.Programs.{AreOver, GoesWith}
+use Rattle.round_cut.specs.Cutting.{IsWhole}
+use Rattle.round_cut.specs.Several.{AreCutsOver, AreRowsOfCuts}
 use Rattle.cert_check.specs.declared.judge.Judged.{Judged}
 use Rattle.cert_check.specs.declared.judge.Judged.TheVariants.{Accepted, Rejected, Unknown}
 use Rattle.cert_check.specs.Visits.{AreZoneVisits, IsLineVisits, AreLineVisits}
 use Rattle.cert_check.specs.Judging.{ProofsFit, IsFirstBad, IsLeft, IsAfforded, Exceeds, IsEnd, JudgesLines, JudgesPoint, IsJudged, NoneUnpriced, IsJudgedWithin, IsTrueIfAccepted, stopped_at, verdict_of}
+use Rattle.cert_check.specs.Cutting.{AlwaysPass, JudgesCuts, blocking_over, HasCuts}
 use Rattle.cert_check.specs.declared.place.NodePlace.{NodePlace}
+use Rattle.cert_check.specs.declared.place.Rejection.{Rejection}
 use Rattle.cert_check.specs.declared.place.Stop.{Stop}
 use Rattle.cert_check.proofs.Lines.{both_all, second_all, proofs_fit}
+use Rattle.cert_check.proofs.CutLines.{rows_many, lines_many, kept_pass, cuts_left}
 use Rattle.cert_check.proofs.LineVisits.{zone_once, lines_once, split_visits, both_left, points_left, two_parts}
-
-nothing_behind : {X : Type 0} (xs : List X) → xs ++ [] ≡ xs
-nothing_behind [] = refl
-nothing_behind (x ∷ xs) = ap (λ ys. x ∷ ys) (nothing_behind xs)
 
 -- the lines of a point
 abbrev pub points_of : Claim → List ℤ → List Line
 points_of claim zs = point_lines (named_value claim) (option_map (λ _. zs) (named_value claim))
 
--- a certificate's lines without cuts
-lines_are : (b : BlockedProgram) (claim : Claim) (zs : List ℤ) (t : Tree)
-    → judged_lines b.named.program b.dec (certificate claim zs t) ≡ points_of claim zs ++ tree_lines t b.named.program.spans
-lines_are b claim zs t = ap (λ (xs : List Line). xs ++ tree_lines t b.named.program.spans) (nothing_behind (points_of claim zs))
+-- the lines in front of a certificate's tree
+abbrev pub heads_of : BlockedProgram → Claim → List ℤ → List Cut → List Line
+heads_of b claim zs cuts = points_of claim zs ++ cut_lines b.named.program b.dec [] cuts
 
--- lines that pass over one blocking pass over the same one
-other_blocking : (b : BlockedProgram) → IsFormed b → (claim : Claim) (lines : List Line) → AllByRecursion (Passes b.named.program b.blocking claim) lines
-    → AllByRecursion (Passes b.named.program (blocking_of b.named.program b.dec []) claim) lines
-other_blocking b formed claim lines h = subst (λ (x : Blocking). AllByRecursion (Passes b.named.program x claim) lines) (plain_blocking formed) h
+-- a certificate's lines
+lines_are : (b : BlockedProgram) (claim : Claim) (zs : List ℤ) (cuts : List Cut) (t : Tree)
+    → judged_lines b.named.program b.dec (certificate claim zs cuts t) ≡ heads_of b claim zs cuts ++ tree_lines t b.named.program.spans
+lines_are b claim zs cuts t = refl
 
--- a line of the tree ends the walk over all lines, where the point's line passes
-behind_points : (b : BlockedProgram) (claim : Claim) (zs : List ℤ) (t : Tree) (zone : List Span) (left : Option ℕ) (first number : ℕ) (fault : Option CheckKind)
-    → zone ≡ b.named.program.spans → first ≡ 3 + length (points_of claim zs) → AllByRecursion (Passes b.named.program b.blocking claim) (points_of claim zs)
-    → IsEnd b.named.program b.blocking claim (tree_lines t zone) left first number fault
-    → IsEnd b.named.program b.blocking claim (points_of claim zs ++ tree_lines t b.named.program.spans) left 3 number fault
-behind_points b claim zs t zone left first number fault root line passed found =
-    let points : List Line = points_of claim zs in
+-- ---- programs with cuts
+
+-- a program without cuts is itself with none
+pub without_cuts : (b : BlockedProgram) (cuts : List Cut) → IsFormed b → b.cuts ≡ [] → cuts ≡ [] → HasCuts b cuts b
+without_cuts b cuts formed uncut none = record { formed = formed; named = refl; dec = refl; cuts = uncut ∙ sym none }
+
+-- the blocking of a program that has a certificate's cuts is the one that the certificate is judged over
+pub same_blocking : (b : BlockedProgram) (cuts : List Cut) (other : BlockedProgram) → HasCuts b cuts other → other.blocking ≡ blocking_over b cuts
+same_blocking b cuts other h =
+    let P : NamedProgram → Type 0 = λ n. other.blocking ≡ blocking_of n.program other.dec (cut_rows n.program other.dec [] other.cuts) in
+    let Q : Decomposition → Type 0 = λ d. other.blocking ≡ blocking_of b.named.program d (cut_rows b.named.program d [] other.cuts) in
+    subst (λ (cs : List Cut). other.blocking ≡ blocking_over b cs) h.cuts (subst Q h.dec (subst P h.named h.formed.blocking))
+
+-- where no cut has a row there are none
+pub no_cuts : (p : Program) (d : Decomposition) (cuts : List Cut) (rows : List Row) → AreRowsOfCuts p d cuts rows → (length rows == 0) ≡ true → cuts ≡ []
+no_cuts p d cuts rows h none = nil_from_length cuts (omega (arith, rows_many p d cuts rows h, eqb-true (length rows) 0 none))
+
+-- what is judged over such a program
+pub judged_there : (b : BlockedProgram) (cuts : List Cut) (other : BlockedProgram) (claim : Claim) (t : Tree) (line : ℕ) (left : Option ℕ) (r : Result NodePlace Stop)
+    → HasCuts b cuts other
+    → JudgesLines other.named.program other.blocking claim (tree_lines t other.named.program.spans) (record { zone = other.named.program.spans; line = line; left = left }) r
+    → JudgesLines b.named.program (blocking_over b cuts) claim (tree_lines t b.named.program.spans) (record { zone = b.named.program.spans; line = line; left = left }) r
+judged_there b cuts other claim t line left r h judged =
+    let P : NamedProgram → Type 0 = λ n. JudgesLines n.program other.blocking claim (tree_lines t n.program.spans) (record { zone = n.program.spans; line = line; left = left }) r in
+    let Q : Blocking → Type 0 = λ k. JudgesLines b.named.program k claim (tree_lines t b.named.program.spans) (record { zone = b.named.program.spans; line = line; left = left }) r in
+    subst Q (same_blocking b cuts other h) (subst P h.named judged)
+
+-- the same of what may want memory
+pub judged_there_too : {E : Type 0} (b : BlockedProgram) (cuts : List Cut) (other : BlockedProgram) (claim : Claim) (t : Tree) (line : ℕ) (left : Option ℕ) (r : Result (Result NodePlace Stop) E)
+    → HasCuts b cuts other
+    → IfOk r (λ x. JudgesLines other.named.program other.blocking claim (tree_lines t other.named.program.spans) (record { zone = other.named.program.spans; line = line; left = left }) x)
+    → IfOk r (λ x. JudgesLines b.named.program (blocking_over b cuts) claim (tree_lines t b.named.program.spans) (record { zone = b.named.program.spans; line = line; left = left }) x)
+judged_there_too b cuts other claim t line left (Ok x) h judged = judged_there b cuts other claim t line left x h judged
+judged_there_too b cuts other claim t line left (Err e) h judged = tt
+
+-- ---- the lines in front of a tree
+
+-- a point's line passes over each blocking alike
+pub points_pass : (p : Program) (k l : Blocking) (claim : Claim) (named : Option ℤ) (zs : List ℤ) → AllByRecursion (Passes p k claim) (point_lines named (option_map (λ _. zs) named))
+    → AllByRecursion (Passes p l claim) (point_lines named (option_map (λ _. zs) named))
+points_pass p k l claim None zs h = tt
+points_pass p k l claim (Some v) zs h = h
+
+-- and is at fault alike
+pub line_fails : (p : Program) (k l : Blocking) (claim : Claim) (v : ℤ) (zs : List ℤ) (kind : CheckKind) → HasFault p k claim (point_line v zs) kind → HasFault p l claim (point_line v zs) kind
+line_fails p k l claim v zs kind (outside w x n) = outside w x n
+line_fails p k l claim v zs kind (missed w x inside n) = missed w x inside n
+line_fails p k l claim v zs kind (other_value w x feasible n) = other_value w x feasible n
+
+nothing_there : {X : Type 0} (before : List X) (x : X) (after : List X) → [] ≡ before ++ x ∷ after → ⊥
+nothing_there [] x after e = cc
+nothing_there (y ∷ before) x after e = cc
+
+points_fail : (p : Program) (k l : Blocking) (claim : Claim) (named : Option ℤ) (zs : List ℤ) (number : ℕ) (kind : CheckKind)
+    → IsFirstBad p k claim (point_lines named (option_map (λ _. zs) named)) 3 number kind → IsFirstBad p l claim (point_lines named (option_map (λ _. zs) named)) 3 number kind
+points_fail p k l claim None zs number kind bad = absurd (nothing_there bad.before bad.line bad.after bad.parts)
+points_fail p k l claim (Some v) zs number kind bad = by bad.before bad.parts bad.numbered
+  where
+    by : (before : List Line) → point_line v zs ∷ [] ≡ before ++ bad.line ∷ bad.after → number ≡ 3 + length before → IsFirstBad p l claim (point_line v zs ∷ []) 3 number kind
+    by [] parts numbered =
+        let same : point_line v zs ≡ bad.line = cc in
+        record {
+          before = [];
+          line = point_line v zs;
+          after = [];
+          parts = refl;
+          passed = tt;
+          has_fault = line_fails p k l claim v zs kind (subst (λ (x : Line). HasFault p k claim x kind) (sym same) bad.has_fault);
+          numbered = numbered;
+        }
+    by (x ∷ before) parts numbered = let rest : [] ≡ before ++ bad.line ∷ bad.after = cc in absurd (nothing_there before bad.line bad.after rest)
+
+-- the lines of a point and of cuts pass together
+pub heads_pass : (b : BlockedProgram) (k : Blocking) (claim : Claim) (zs : List ℤ) (cuts : List Cut) → AllByRecursion (Passes b.named.program k claim) (points_of claim zs)
+    → AlwaysPass b.named.program (cut_lines b.named.program b.dec [] cuts) → AllByRecursion (Passes b.named.program (blocking_over b cuts) claim) (heads_of b claim zs cuts)
+heads_pass b k claim zs cuts points passed =
+    both_all (Passes b.named.program (blocking_over b cuts) claim) (points_of claim zs) (cut_lines b.named.program b.dec [] cuts)
+    (points_pass b.named.program k (blocking_over b cuts) claim (named_value claim) zs points) (passed (blocking_over b cuts) claim)
+
+-- they take no visits
+pub heads_left : (b : BlockedProgram) (k : Blocking) (claim : Claim) (zs : List ℤ) (cuts : List Cut) (left : Option ℕ) → IsLeft b.named.program.spans k (heads_of b claim zs cuts) left left
+heads_left b k claim zs cuts left =
+    both_left b.named.program.spans k (points_of claim zs) (cut_lines b.named.program b.dec [] cuts) left left left
+    (points_left b.named.program.spans k (named_value claim) zs left) (cuts_left b.named.program.spans k b.named.program b.dec cuts left)
+
+-- one of them is at fault
+bad_points : (b : BlockedProgram) (k : Blocking) (claim : Claim) (zs : List ℤ) (cuts : List Cut) (number : ℕ) (kind : CheckKind)
+    → IsFirstBad b.named.program k claim (points_of claim zs) 3 number kind → IsFirstBad b.named.program (blocking_over b cuts) claim (heads_of b claim zs cuts) 3 number kind
+bad_points b k claim zs cuts number kind bad =
+    let found = points_fail b.named.program k (blocking_over b cuts) claim (named_value claim) zs number kind bad in
+    let more : List Line = cut_lines b.named.program b.dec [] cuts in
     record {
-      before = points ++ found.before;
+      before = found.before;
       line = found.line;
-      after = found.after;
-      parts = ap (λ (ss : List Span). points ++ tree_lines t ss) (sym root) ∙ ap (λ (xs : List Line). points ++ xs) found.parts
-          ∙ sym (append_assoc points found.before (found.line ∷ found.after));
-      passed = both_all (Passes b.named.program b.blocking claim) points found.before passed found.passed;
-      now = found.now;
-      is_left = both_left b.named.program.spans b.blocking points found.before left left found.now (points_left b.named.program.spans b.blocking (named_value claim) zs left) found.is_left;
-      ends = found.ends;
-      numbered = omega (arith, found.numbered, line, length-append points found.before);
+      after = found.after ++ more;
+      parts = ap (λ (xs : List Line). xs ++ more) found.parts ∙ append_assoc found.before (found.line ∷ found.after) more;
+      passed = found.passed;
+      has_fault = found.has_fault;
+      numbered = found.numbered;
     }
 
--- the point's line ends it, which takes no visits
-record HasFreeLine (b : BlockedProgram) (before : List Line) (line : Line) (left : Option ℕ) : Type 0 where
-  is_left : IsLeft b.named.program.spans b.blocking before left left
-  is_free : (leaf : Leaf) → line ≡ leaf_line leaf → IsAfforded b.named.program.spans b.blocking leaf.zone leaf.proof.picked left
-
-free_line : (b : BlockedProgram) (claim : Claim) (zs : List ℤ) (before : List Line) (line : Line) (after : List Line) (left : Option ℕ)
-    → points_of claim zs ≡ before ++ line ∷ after → HasFreeLine b before line left
-free_line b claim zs before line after None parts = record { is_left = refl; is_free = λ leaf e. tt }
-free_line b claim zs before line after (Some most) parts =
-    let root : List Span = b.named.program.spans in
-    let points = points_left root b.blocking (named_value claim) zs (Some most) in
-    let same : Some most ≡ Some points.1 = points.3 in
-    let equal : most ≡ points.1 = cc in
-    let cut = split_visits root b.blocking before (line ∷ after) points.0 (subst (λ (xs : List Line). AreLineVisits root b.blocking xs points.0) parts points.2) in
+bad_cuts : (b : BlockedProgram) (k : Blocking) (claim : Claim) (zs : List ℤ) (cuts : List Cut) (first number : ℕ) (kind : CheckKind) → first ≡ 3 + length (points_of claim zs)
+    → AllByRecursion (Passes b.named.program k claim) (points_of claim zs) → IsFirstBad b.named.program (blocking_over b cuts) claim (cut_lines b.named.program b.dec [] cuts) first number kind
+    → IsFirstBad b.named.program (blocking_over b cuts) claim (heads_of b claim zs cuts) 3 number kind
+bad_cuts b k claim zs cuts first number kind place points bad =
+    let front : List Line = points_of claim zs in
+    let P : Line → Type 0 = Passes b.named.program (blocking_over b cuts) claim in
     record {
-      is_left = (cut.0, most, cut.2, refl, omega (arith, points.4, equal, cut.4));
+      before = front ++ bad.before;
+      line = bad.line;
+      after = bad.after;
+      parts = ap (λ (xs : List Line). front ++ xs) bad.parts ∙ sym (append_assoc front bad.before (bad.line ∷ bad.after));
+      passed = both_all P front bad.before (points_pass b.named.program k (blocking_over b cuts) claim (named_value claim) zs points) bad.passed;
+      has_fault = bad.has_fault;
+      numbered = omega (arith, bad.numbered, place, length-append front bad.before);
+    }
+
+-- a line of the tree ends the walk over all lines, where those in front of it pass
+behind_heads : (b : BlockedProgram) (claim : Claim) (zs : List ℤ) (cuts : List Cut) (t : Tree) (left : Option ℕ) (first number : ℕ) (fault : Option CheckKind)
+    → first ≡ 3 + length (heads_of b claim zs cuts) → AllByRecursion (Passes b.named.program (blocking_over b cuts) claim) (heads_of b claim zs cuts)
+    → IsEnd b.named.program (blocking_over b cuts) claim (tree_lines t b.named.program.spans) left first number fault
+    → IsEnd b.named.program (blocking_over b cuts) claim (heads_of b claim zs cuts ++ tree_lines t b.named.program.spans) left 3 number fault
+behind_heads b claim zs cuts t left first number fault line passed found =
+    let heads : List Line = heads_of b claim zs cuts in
+    record {
+      before = heads ++ found.before;
+      line = found.line;
+      after = found.after;
+      parts = ap (λ (xs : List Line). heads ++ xs) found.parts ∙ sym (append_assoc heads found.before (found.line ∷ found.after));
+      passed = both_all (Passes b.named.program (blocking_over b cuts) claim) heads found.before passed found.passed;
+      now = found.now;
+      is_left = both_left b.named.program.spans (blocking_over b cuts) heads found.before left left found.now (heads_left b (blocking_over b cuts) claim zs cuts left) found.is_left;
+      ends = found.ends;
+      numbered = omega (arith, found.numbered, line, length-append heads found.before);
+    }
+
+-- a line in front of it ends it, which takes no visits
+record HasFreeLine (b : BlockedProgram) (k : Blocking) (before : List Line) (line : Line) (left : Option ℕ) : Type 0 where
+  is_left : IsLeft b.named.program.spans k before left left
+  is_free : (leaf : Leaf) → line ≡ leaf_line leaf → IsAfforded b.named.program.spans k leaf.zone leaf.proof.picked left
+
+free_line : (b : BlockedProgram) (k : Blocking) (claim : Claim) (zs : List ℤ) (cuts : List Cut) (before : List Line) (line : Line) (after : List Line) (left : Option ℕ)
+    → heads_of b claim zs cuts ≡ before ++ line ∷ after → HasFreeLine b k before line left
+free_line b k claim zs cuts before line after None parts = record { is_left = refl; is_free = λ leaf e. tt }
+free_line b k claim zs cuts before line after (Some most) parts =
+    let root : List Span = b.named.program.spans in
+    let heads = heads_left b k claim zs cuts (Some most) in
+    let same : Some most ≡ Some heads.1 = heads.3 in
+    let equal : most ≡ heads.1 = cc in
+    let cut = split_visits root k before (line ∷ after) heads.0 (subst (λ (xs : List Line). AreLineVisits root k xs heads.0) parts heads.2) in
+    record {
+      is_left = (cut.0, most, cut.2, refl, omega (arith, heads.4, equal, cut.4));
       is_free = λ leaf e. (
         cut.3.0,
-        subst (λ (l : Line). IsLineVisits root b.blocking l cut.3.0) e cut.3.2,
-        omega (arith, points.4, equal, cut.4, cut.3.4),
+        subst (λ (l : Line). IsLineVisits root k l cut.3.0) e cut.3.2,
+        omega (arith, heads.4, equal, cut.4, cut.3.4),
       );
     }
 
-pub point_ends : (b : BlockedProgram) (claim : Claim) (zs : List ℤ) (t : Tree) (left : Option ℕ) (number : ℕ) (kind : CheckKind)
-    → IsFirstBad b.named.program b.blocking claim (points_of claim zs) 3 number kind
-    → IsEnd b.named.program b.blocking claim (points_of claim zs ++ tree_lines t b.named.program.spans) left 3 number (Some kind)
-point_ends b claim zs t left number kind found =
+head_ends : (b : BlockedProgram) (claim : Claim) (zs : List ℤ) (cuts : List Cut) (t : Tree) (left : Option ℕ) (number : ℕ) (kind : CheckKind)
+    → IsFirstBad b.named.program (blocking_over b cuts) claim (heads_of b claim zs cuts) 3 number kind
+    → IsEnd b.named.program (blocking_over b cuts) claim (heads_of b claim zs cuts ++ tree_lines t b.named.program.spans) left 3 number (Some kind)
+head_ends b claim zs cuts t left number kind found =
     let nodes : List Line = tree_lines t b.named.program.spans in
-    let free = free_line b claim zs found.before found.line found.after left found.parts in
+    let free = free_line b (blocking_over b cuts) claim zs cuts found.before found.line found.after left found.parts in
     record {
       before = found.before;
       line = found.line;
@@ -126,56 +249,71 @@ has_point None zs = tt
 has_point (Some v) zs = tt
 
 -- all lines pass
-pub all_pass : (b : BlockedProgram) → IsFormed b → (claim : Claim) (zs : List ℤ) (t : Tree) (zone : List Span) → zone ≡ b.named.program.spans
-    → AllByRecursion (Passes b.named.program b.blocking claim) (points_of claim zs) → AllByRecursion (Passes b.named.program b.blocking claim) (tree_lines t zone)
-    → IsCertified b.named.program b.dec (certificate claim zs t)
-all_pass b formed claim zs t zone root points nodes =
-    by (judged_lem.total b.named.program b.dec (certificate claim zs t) formed.kept.proper (has_point (named_value claim) zs))
+pub all_pass : (b : BlockedProgram) → IsFormed b → (claim : Claim) (zs : List ℤ) (cuts : List Cut) (t : Tree)
+    → AllByRecursion (Passes b.named.program (blocking_over b cuts) claim) (heads_of b claim zs cuts ++ tree_lines t b.named.program.spans)
+    → IsCertified b.named.program b.dec (certificate claim zs cuts t)
+all_pass b formed claim zs cuts t passed =
+    by (judged_lem.total b.named.program b.dec (certificate claim zs cuts t) formed.kept.proper (has_point (named_value claim) zs))
   where
-    p : Program
-    p = b.named.program
-
     P : Line → Type 0
-    P = Passes b.named.program (blocking_of b.named.program b.dec []) claim
+    P = Passes b.named.program (blocking_over b cuts) claim
 
-    all : AllByRecursion (Passes b.named.program (blocking_of b.named.program b.dec []) claim) (judged_lines b.named.program b.dec (certificate claim zs t))
-    all =
-        subst (λ (xs : List Line). AllByRecursion (Passes b.named.program (blocking_of b.named.program b.dec []) claim) xs) (sym (lines_are b claim zs t))
-        (other_blocking b formed claim (points_of claim zs ++ tree_lines t b.named.program.spans)
-        (both_all (Passes b.named.program b.blocking claim) (points_of claim zs) (tree_lines t b.named.program.spans) points
-        (subst (λ (ss : List Span). AllByRecursion (Passes b.named.program b.blocking claim) (tree_lines t ss)) root nodes)))
+    all : AllByRecursion P (judged_lines b.named.program b.dec (certificate claim zs cuts t))
+    all = subst (λ (xs : List Line). AllByRecursion P xs) (sym (lines_are b claim zs cuts t)) passed
 
-    by : IsCertified b.named.program b.dec (certificate claim zs t) ⊎ ((number : ℕ) × (kind : CheckKind) × IsFirstFault b.named.program b.dec (certificate claim zs t) number kind)
-        → IsCertified b.named.program b.dec (certificate claim zs t)
+    by : IsCertified b.named.program b.dec (certificate claim zs cuts t) ⊎ ((number : ℕ) × (kind : CheckKind) × IsFirstFault b.named.program b.dec (certificate claim zs cuts t) number kind)
+        → IsCertified b.named.program b.dec (certificate claim zs cuts t)
     by (inl valid) = valid
     by (inr found) =
         let f = found.2 in
-        let here = second_all (Passes b.named.program (blocking_of b.named.program b.dec []) claim) f.before (f.line ∷ f.after)
-        (subst (λ (xs : List Line). AllByRecursion (Passes b.named.program (blocking_of b.named.program b.dec []) claim) xs) f.lines all) in
-        absurd (fault_fails b.named.program (blocking_of b.named.program b.dec []) claim f.line found.1 f.has_fault here.0)
+        let here = second_all P f.before (f.line ∷ f.after) (subst (λ (xs : List Line). AllByRecursion P xs) f.lines all) in
+        absurd (fault_fails b.named.program (blocking_over b cuts) claim f.line found.1 f.has_fault here.0)
 
 -- what is accepted is true
-pub accepted_true : (b : BlockedProgram) → IsFormed b → (claim : Claim) (zs : List ℤ) (t : Tree) → IsCertified b.named.program b.dec (certificate claim zs t)
+pub accepted_true : (b : BlockedProgram) → IsFormed b → (claim : Claim) (zs : List ℤ) (cuts : List Cut) (t : Tree) → IsCertified b.named.program b.dec (certificate claim zs cuts t)
     → IsTrueClaim b.named.program claim
-accepted_true b formed claim zs t valid = certified_is_true_lem b.named.program b.dec (certificate claim zs t) formed.kept.closed valid
+accepted_true b formed claim zs cuts t valid = certified_is_true_lem b.named.program b.dec (certificate claim zs cuts t) formed.kept.closed valid
 
 -- the lines of a certificate's tree can be counted
-pub few_lines : (b : BlockedProgram) (claim : Claim) (zs : List ℤ) (t : Tree) (zone : List Span) (first : ℕ) → GoesWith b (certificate claim zs t)
-    → zone ≡ b.named.program.spans → first ≡ 3 + length (points_of claim zs) → first + length (tree_lines t zone) < 2 ^ 64
-few_lines b claim zs t zone first goes root line =
+pub few_lines : (b : BlockedProgram) (claim : Claim) (zs : List ℤ) (cuts : List Cut) (t : Tree) (first : ℕ) → GoesWith b (certificate claim zs cuts t)
+    → first ≡ 3 + length (heads_of b claim zs cuts) → first + length (tree_lines t b.named.program.spans) < 2 ^ 64
+few_lines b claim zs cuts t first goes line =
     omega (
       arith,
       goes.lines,
       line,
-      ap (λ (xs : List Line). length xs) (lines_are b claim zs t),
-      ap (λ (ss : List Span). length (tree_lines t ss)) root,
-      length-append (points_of claim zs) (tree_lines t b.named.program.spans),
+      ap (λ (xs : List Line). length xs) (lines_are b claim zs cuts t),
+      length-append (heads_of b claim zs cuts) (tree_lines t b.named.program.spans),
     )
 
-pub goes_fit : (b : BlockedProgram) (claim : Claim) (zs : List ℤ) (t : Tree) → GoesWith b (certificate claim zs t) → ProofsFit b.blocking t
-goes_fit b claim zs t goes =
-    proofs_fit b.blocking t b.named.program.spans
-    (recursion_from_All (λ (leaf : Leaf). Fits b.blocking leaf.proof) (leaves t b.named.program.spans) goes.fits)
+-- the number of the line behind those in front of a tree
+pub heads_end : (b : BlockedProgram) (claim : Claim) (zs : List ℤ) (cuts : List Cut) (first : ℕ) → first ≡ 3 + length (points_of claim zs)
+    → first + length cuts ≡ 3 + length (heads_of b claim zs cuts)
+heads_end b claim zs cuts first place =
+    omega (arith, place, length-append (points_of claim zs) (cut_lines b.named.program b.dec [] cuts), lines_many b.named.program b.dec [] cuts)
+
+whole_row_too : (row : ProofRow) → texts.IsWhole row → IsWhole row
+whole_row_too (whole_row row) h = tt
+whole_row_too (link_row v k) h = h
+whole_row_too no_row h = h
+
+-- the cuts of a certificate are over the rows before them
+pub cuts_over : (p : Program) (d : Decomposition) (earlier : List Row) (cuts : List Cut) → AreOver p d earlier cuts → AreCutsOver p d earlier cuts
+cuts_over p d earlier [] h = tt
+cuts_over p d earlier (cut ∷ cuts) h = (
+  record {
+    divides = h.0.divides;
+    small = h.0.small;
+    whole = All-weaker (λ (m : ℕ × ℤ). texts.IsWhole (get_or (proof_rows p d earlier) m.0 no_row)) (λ (m : ℕ × ℤ). IsWhole (get_or (proof_rows p d earlier) m.0 no_row))
+        (λ m whole. whole_row_too (get_or (proof_rows p d earlier) m.0 no_row) whole) cut.rows h.0.whole;
+  },
+  cuts_over p d (earlier ++ cut_row p (proof_rows p d earlier) cut ∷ []) cuts h.1,
+)
+
+pub goes_fit : (b : BlockedProgram) (claim : Claim) (zs : List ℤ) (cuts : List Cut) (t : Tree) → GoesWith b (certificate claim zs cuts t) → ProofsFit (blocking_over b cuts) t
+goes_fit b claim zs cuts t goes =
+    proofs_fit (blocking_over b cuts) t b.named.program.spans
+    (recursion_from_All (λ (leaf : Leaf). Fits (blocking_over b cuts) leaf.proof) (leaves t b.named.program.spans) goes.fits)
 
 -- ---- what the line that ends the walk says of a certificate
 
@@ -226,50 +364,47 @@ judged_within b cert (Some most) (Accepted claim) is none = (none most refl, is)
 judged_within b cert (Some most) (Rejected line kind) is none = (none most refl, is)
 judged_within b cert (Some most) (Unknown line) is none = absurd is
 
--- the blocking that a certificate without cuts is judged over
-abbrev over : BlockedProgram → Blocking
-over b = blocking_of b.named.program b.dec []
-
 -- the line that ends the walk is at fault
-at_fault : (b : BlockedProgram) (claim : Claim) (zs : List ℤ) (t : Tree) (left : Option ℕ) (number : ℕ) (kind : CheckKind)
-    → IsEnd b.named.program (over b) claim (judged_lines b.named.program b.dec (certificate claim zs t)) left 3 number (Some kind)
-    → IsJudgedWithin b (certificate claim zs t) left (Rejected number kind)
-at_fault b claim zs t left number kind end =
-    let cert : Certificate = certificate claim zs t in
+at_fault : (b : BlockedProgram) (claim : Claim) (zs : List ℤ) (cuts : List Cut) (t : Tree) (left : Option ℕ) (number : ℕ) (kind : CheckKind)
+    → IsEnd b.named.program (blocking_over b cuts) claim (judged_lines b.named.program b.dec (certificate claim zs cuts t)) left 3 number (Some kind)
+    → IsJudgedWithin b (certificate claim zs cuts t) left (Rejected number kind)
+at_fault b claim zs cuts t left number kind end =
+    let cert : Certificate = certificate claim zs cuts t in
     let p : Program = b.named.program in
+    let k : Blocking = blocking_over b cuts in
     let fault : IsFirstFault p b.dec cert number kind = record {
       before = end.before;
       line = end.line;
       after = end.after;
       lines = end.parts;
-      passed = All-from_recursion (Passes p (over b) claim) end.before end.passed;
+      passed = All-from_recursion (Passes p k claim) end.before end.passed;
       has_fault = end.ends.0;
       numbered = end.numbered;
     } in
     judged_within b cert left (Rejected number kind) (fault, λ valid. judged_lem.not_both p b.dec cert number kind valid fault)
     (λ most is other f.
-    no_other p (over b) claim (judged_lines p b.dec cert) most number kind
-    (subst (λ (o : Option ℕ). IsEnd p (over b) claim (judged_lines p b.dec cert) o 3 number (Some kind)) is end)
-    f.before f.leaf f.after f.lines (recursion_from_All (Passes p (over b) claim) f.before f.passed) f.signs f.spent f.own f.are_spent f.are_own f.exceeds)
+    no_other p k claim (judged_lines p b.dec cert) most number kind
+    (subst (λ (o : Option ℕ). IsEnd p k claim (judged_lines p b.dec cert) o 3 number (Some kind)) is end)
+    f.before f.leaf f.after f.lines (recursion_from_All (Passes p k claim) f.before f.passed) f.signs f.spent f.own f.are_spent f.are_own f.exceeds)
 
 -- the line that ends the walk asks for more visits than are left
-at_unpriced : (b : BlockedProgram) (claim : Claim) (zs : List ℤ) (t : Tree) (left : Option ℕ) (number : ℕ)
-    → IsEnd b.named.program (over b) claim (judged_lines b.named.program b.dec (certificate claim zs t)) left 3 number None
-    → IsJudgedWithin b (certificate claim zs t) left (Unknown number)
-at_unpriced b claim zs t None number end =
-    absurd (subst (λ (o : Option ℕ). Exceeds b.named.program.spans (over b) end.ends.0.zone end.ends.0.proof.picked o) end.is_left end.ends.3)
-at_unpriced b claim zs t (Some most) number end =
-    let cert : Certificate = certificate claim zs t in
+at_unpriced : (b : BlockedProgram) (claim : Claim) (zs : List ℤ) (cuts : List Cut) (t : Tree) (left : Option ℕ) (number : ℕ)
+    → IsEnd b.named.program (blocking_over b cuts) claim (judged_lines b.named.program b.dec (certificate claim zs cuts t)) left 3 number None
+    → IsJudgedWithin b (certificate claim zs cuts t) left (Unknown number)
+at_unpriced b claim zs cuts t None number end =
+    absurd (subst (λ (o : Option ℕ). Exceeds b.named.program.spans (blocking_over b cuts) end.ends.0.zone end.ends.0.proof.picked o) end.is_left end.ends.3)
+at_unpriced b claim zs cuts t (Some most) number end =
     let p : Program = b.named.program in
+    let k : Blocking = blocking_over b cuts in
     let leaf : Leaf = end.ends.0 in
-    let more : Exceeds p.spans (over b) leaf.zone leaf.proof.picked (Some end.is_left.1) =
-    subst (λ (o : Option ℕ). Exceeds p.spans (over b) leaf.zone leaf.proof.picked o) end.is_left.3 end.ends.3 in
+    let more : Exceeds p.spans k leaf.zone leaf.proof.picked (Some end.is_left.1) =
+    subst (λ (o : Option ℕ). Exceeds p.spans k leaf.zone leaf.proof.picked o) end.is_left.3 end.ends.3 in
     record {
       before = end.before;
       leaf = leaf;
       after = end.after;
       lines = end.parts ∙ ap (λ (l : Line). end.before ++ l ∷ end.after) end.ends.1;
-      passed = All-from_recursion (Passes p (over b) claim) end.before end.passed;
+      passed = All-from_recursion (Passes p k claim) end.before end.passed;
       signs = end.ends.2;
       spent = end.is_left.0;
       are_spent = end.is_left.2;
@@ -286,53 +421,74 @@ never_accepted p line None = tt
 never_accepted p line (Some kind) = tt
 
 -- a certificate by the line that ends the walk over its lines
-pub ended : (b : BlockedProgram) → IsFormed b → (claim : Claim) (zs : List ℤ) (t : Tree) (left : Option ℕ) (number : ℕ) (fault : Option CheckKind)
-    → IsEnd b.named.program b.blocking claim (points_of claim zs ++ tree_lines t b.named.program.spans) left 3 number fault
-    → IsJudgedWithin b (certificate claim zs t) left (stopped_at number fault)
-ended b formed claim zs t left number fault end = by fault here
+pub ended : (b : BlockedProgram) (claim : Claim) (zs : List ℤ) (cuts : List Cut) (t : Tree) (left : Option ℕ) (number : ℕ) (fault : Option CheckKind)
+    → IsEnd b.named.program (blocking_over b cuts) claim (heads_of b claim zs cuts ++ tree_lines t b.named.program.spans) left 3 number fault
+    → IsJudgedWithin b (certificate claim zs cuts t) left (stopped_at number fault)
+ended b claim zs cuts t left number fault end = by fault here
   where
-    here : IsEnd b.named.program (over b) claim (judged_lines b.named.program b.dec (certificate claim zs t)) left 3 number fault
-    here =
-        subst (λ (xs : List Line). IsEnd b.named.program (over b) claim xs left 3 number fault) (sym (lines_are b claim zs t))
-        (subst (λ (x : Blocking). IsEnd b.named.program x claim (points_of claim zs ++ tree_lines t b.named.program.spans) left 3 number fault) (plain_blocking formed) end)
+    here : IsEnd b.named.program (blocking_over b cuts) claim (judged_lines b.named.program b.dec (certificate claim zs cuts t)) left 3 number fault
+    here = subst (λ (xs : List Line). IsEnd b.named.program (blocking_over b cuts) claim xs left 3 number fault) (sym (lines_are b claim zs cuts t)) end
 
-    by : (fault : Option CheckKind) → IsEnd b.named.program (over b) claim (judged_lines b.named.program b.dec (certificate claim zs t)) left 3 number fault
-        → IsJudgedWithin b (certificate claim zs t) left (stopped_at number fault)
-    by None end = at_unpriced b claim zs t left number end
-    by (Some kind) end = at_fault b claim zs t left number kind end
+    by : (fault : Option CheckKind) → IsEnd b.named.program (blocking_over b cuts) claim (judged_lines b.named.program b.dec (certificate claim zs cuts t)) left 3 number fault
+        → IsJudgedWithin b (certificate claim zs cuts t) left (stopped_at number fault)
+    by None end = at_unpriced b claim zs cuts t left number end
+    by (Some kind) end = at_fault b claim zs cuts t left number kind end
 
--- a certificate whose point's line is at fault
-pub rejected_is : (b : BlockedProgram) → IsFormed b → (claim : Claim) (zs : List ℤ) (t : Tree) (visits : Option ℕ) (number : ℕ) (kind : CheckKind) (j : Judged) → j ≡ Rejected number kind
+-- a certificate one of whose lines in front of the tree is at fault
+rejected_by : (b : BlockedProgram) (claim : Claim) (zs : List ℤ) (cuts : List Cut) (t : Tree) (visits : Option ℕ) (number : ℕ) (kind : CheckKind) (j : Judged) → j ≡ Rejected number kind
+    → IsFirstBad b.named.program (blocking_over b cuts) claim (heads_of b claim zs cuts) 3 number kind
+    → IsJudgedWithin b (certificate claim zs cuts t) visits j × IsTrueIfAccepted b.named.program j
+rejected_by b claim zs cuts t visits number kind j is bad =
+    subst (λ (x : Judged). IsJudgedWithin b (certificate claim zs cuts t) visits x × IsTrueIfAccepted b.named.program x) (sym is)
+    (ended b claim zs cuts t visits number (Some kind) (head_ends b claim zs cuts t visits number kind bad), tt)
+
+-- the line of its point
+pub point_rejected : (b : BlockedProgram) (claim : Claim) (zs : List ℤ) (cuts : List Cut) (t : Tree) (visits : Option ℕ) (number : ℕ) (kind : CheckKind) (j : Judged) → j ≡ Rejected number kind
     → IsFirstBad b.named.program b.blocking claim (points_of claim zs) 3 number kind
-    → IsJudgedWithin b (certificate claim zs t) visits j × IsTrueIfAccepted b.named.program j
-rejected_is b formed claim zs t visits number kind j is bad =
-    subst (λ (x : Judged). IsJudgedWithin b (certificate claim zs t) visits x × IsTrueIfAccepted b.named.program x) (sym is)
-    (ended b formed claim zs t visits number (Some kind) (point_ends b claim zs t visits number kind bad), tt)
+    → IsJudgedWithin b (certificate claim zs cuts t) visits j × IsTrueIfAccepted b.named.program j
+point_rejected b claim zs cuts t visits number kind j is bad =
+    rejected_by b claim zs cuts t visits number kind j is (bad_points b b.blocking claim zs cuts number kind bad)
+
+-- the line of a cut
+pub cut_rejected : (b : BlockedProgram) (claim : Claim) (zs : List ℤ) (cuts : List Cut) (t : Tree) (visits : Option ℕ) (first : ℕ) (found : Rejection) (j : Judged)
+    → j ≡ Rejected found.line found.kind → JudgesPoint b.named.program b.blocking claim (points_of claim zs) (Ok first) → JudgesCuts b.named.program b.dec cuts first (Err found)
+    → IsJudgedWithin b (certificate claim zs cuts t) visits j × IsTrueIfAccepted b.named.program j
+cut_rejected b claim zs cuts t visits first found j is point bad =
+    rejected_by b claim zs cuts t visits found.line found.kind j is
+    (bad_cuts b b.blocking claim zs cuts first found.line found.kind point.0 point.1 (bad (blocking_over b cuts) claim))
 
 -- all visits of a certificate that passes are there
-all_there : (b : BlockedProgram) → IsFormed b → (claim : Claim) (zs : List ℤ) (t : Tree) (left now : Option ℕ)
-    → IsLeft b.named.program.spans b.blocking (tree_lines t b.named.program.spans) left now → (most : ℕ) → left ≡ Some most → NoneUnpriced b (certificate claim zs t) most
-all_there b formed claim zs t left now spent most is = λ number f.
-    no_unpriced b.named.program.spans (over b) (judged_lines b.named.program b.dec (certificate claim zs t)) most now
-    (subst (λ (xs : List Line). IsLeft b.named.program.spans (over b) xs (Some most) now) (sym (lines_are b claim zs t))
-    (subst (λ (x : Blocking). IsLeft b.named.program.spans x (points_of claim zs ++ tree_lines t b.named.program.spans) (Some most) now) (plain_blocking formed)
-    (subst (λ (o : Option ℕ). IsLeft b.named.program.spans b.blocking (points_of claim zs ++ tree_lines t b.named.program.spans) o now) is
-    (both_left b.named.program.spans b.blocking (points_of claim zs) (tree_lines t b.named.program.spans) left left now
-    (points_left b.named.program.spans b.blocking (named_value claim) zs left) spent))))
+all_there : (b : BlockedProgram) (claim : Claim) (zs : List ℤ) (cuts : List Cut) (t : Tree) (left now : Option ℕ)
+    → IsLeft b.named.program.spans (blocking_over b cuts) (tree_lines t b.named.program.spans) left now → (most : ℕ) → left ≡ Some most
+    → NoneUnpriced b (certificate claim zs cuts t) most
+all_there b claim zs cuts t left now spent most is = λ number f.
+    no_unpriced b.named.program.spans (blocking_over b cuts) (judged_lines b.named.program b.dec (certificate claim zs cuts t)) most now
+    (subst (λ (xs : List Line). IsLeft b.named.program.spans (blocking_over b cuts) xs (Some most) now) (sym (lines_are b claim zs cuts t))
+    (subst (λ (o : Option ℕ). IsLeft b.named.program.spans (blocking_over b cuts) (heads_of b claim zs cuts ++ tree_lines t b.named.program.spans) o now) is
+    (both_left b.named.program.spans (blocking_over b cuts) (heads_of b claim zs cuts) (tree_lines t b.named.program.spans) left left now
+    (heads_left b (blocking_over b cuts) claim zs cuts left) spent)))
     f.before f.leaf f.after f.lines f.spent f.own f.are_spent f.are_own f.exceeds
 
--- by the lines of the tree, where the point's line passes
-pub judged_by : (b : BlockedProgram) → IsFormed b → (claim : Claim) (zs : List ℤ) (t : Tree) (place : NodePlace) (r : Result NodePlace Stop) → place.zone ≡ b.named.program.spans
-    → JudgesPoint b.named.program b.blocking claim (points_of claim zs) (Ok place.line) → JudgesLines b.named.program b.blocking claim (tree_lines t place.zone) place r
-    → IsJudgedWithin b (certificate claim zs t) place.left (verdict_of claim r) × IsTrueIfAccepted b.named.program (verdict_of claim r)
-judged_by b formed claim zs t place (Ok now) root point judged =
-    let valid = all_pass b formed claim zs t place.zone root point.1 judged.2 in
-    let spent = subst (λ (ss : List Span). IsLeft b.named.program.spans b.blocking (tree_lines t ss) place.left now.left) root judged.3 in (
-      judged_within b (certificate claim zs t) place.left (Accepted claim) (refl, valid) (all_there b formed claim zs t place.left now.left spent),
-      accepted_true b formed claim zs t valid,
+-- by the lines of the tree, where those in front of it pass
+pub judged_by : (b : BlockedProgram) → IsFormed b → (claim : Claim) (zs : List ℤ) (cuts : List Cut) (t : Tree) (line : ℕ) (left : Option ℕ) (r : Result NodePlace Stop)
+    → line ≡ 3 + length (heads_of b claim zs cuts) → AllByRecursion (Passes b.named.program (blocking_over b cuts) claim) (heads_of b claim zs cuts)
+    → JudgesLines b.named.program (blocking_over b cuts) claim (tree_lines t b.named.program.spans) (record { zone = b.named.program.spans; line = line; left = left }) r
+    → IsJudgedWithin b (certificate claim zs cuts t) left (verdict_of claim r) × IsTrueIfAccepted b.named.program (verdict_of claim r)
+judged_by b formed claim zs cuts t line left (Ok now) place passed judged =
+    let valid = all_pass b formed claim zs cuts t
+    (both_all (Passes b.named.program (blocking_over b cuts) claim) (heads_of b claim zs cuts) (tree_lines t b.named.program.spans) passed judged.2) in (
+      judged_within b (certificate claim zs cuts t) left (Accepted claim) (refl, valid) (all_there b claim zs cuts t left now.left judged.3),
+      accepted_true b formed claim zs cuts t valid,
     )
-judged_by b formed claim zs t place (Err found) root point judged = (
-  ended b formed claim zs t place.left found.line found.fault
-      (behind_points b claim zs t place.zone place.left place.line found.line found.fault root point.0 point.1 judged),
+judged_by b formed claim zs cuts t line left (Err found) place passed judged = (
+  ended b claim zs cuts t left found.line found.fault (behind_heads b claim zs cuts t left line found.line found.fault place passed judged),
   never_accepted b.named.program found.line found.fault,
 )
+
+-- by the point's line, the cuts' lines and the tree's
+pub judged_so : (b : BlockedProgram) → IsFormed b → (claim : Claim) (zs : List ℤ) (cuts : List Cut) (t : Tree) (first line : ℕ) (left : Option ℕ) (r : Result NodePlace Stop)
+    → JudgesPoint b.named.program b.blocking claim (points_of claim zs) (Ok first) → line ≡ first + length cuts → KeepsCuts b.named.program b.dec cuts
+    → JudgesLines b.named.program (blocking_over b cuts) claim (tree_lines t b.named.program.spans) (record { zone = b.named.program.spans; line = line; left = left }) r
+    → IsJudgedWithin b (certificate claim zs cuts t) left (verdict_of claim r) × IsTrueIfAccepted b.named.program (verdict_of claim r)
+judged_so b formed claim zs cuts t first line left r point behind kept judged =
+    judged_by b formed claim zs cuts t line left r (behind ∙ heads_end b claim zs cuts first point.0) (heads_pass b b.blocking claim zs cuts point.1 (kept_pass b.named.program b.dec cuts kept)) judged

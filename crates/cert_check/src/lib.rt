@@ -2,6 +2,7 @@
 //! program, whoever wrote the certificate.
 #![tactic(auto)]
 
+mod cuts;
 mod judge;
 mod leaf;
 mod place;
@@ -10,6 +11,7 @@ mod price;
 mod tree;
 mod visits;
 
+pub use cuts::{judge_cut, judge_cuts};
 pub use judge::{Judged, check};
 pub use leaf::judge_leaf;
 pub use place::{NodePlace, Rejection, Stop};

@@ -1,3 +1,7 @@
 pub mod Finding
 pub mod Descent
 pub mod Reaching
+pub mod CutPrograms
+pub mod Frames
+pub mod Cutting
+pub mod Carried

@@ -9,17 +9,19 @@ use Rattle.std.proofs.lemmas.List.{get_or_append_left, get_or-append-add, length
 use Rattle.std.proofs.lemmas.List.Elements.{All-from_recursion, recursion_from_All}
 use Rattle.bp_theory.specs.Program.{Program, IsFeasible, cost, in_sense}
 use Rattle.bp_theory.specs.Blocking.{Blocking}
-use Rattle.bp_theory.specs.Decomposition.{blocking_of}
+use Rattle.bp_theory.specs.Decomposition.{Decomposition, blocking_of, proof_rows}
+use Rattle.bp_theory.specs.Cuts.{cut_row, cut_rows}
 use Rattle.bp_theory.specs.Bound.{Fits}
 use Rattle.bp_theory.specs.Trees.{Tree, shut_leaf, open_leaf, split, Leaf, leaves, low_part, high_part, depth, steps, HasSoundSplits, IsSoundSplit, IsZone}
 use Rattle.bp_theory.specs.Claims.{Holds, Certificate, Shows, PointFits, IsValid, IsCertified}
-use Rattle.bp_theory.specs.Judgement.{judged_lines, tree_lines, point_lines, named_value}
+use Rattle.bp_theory.specs.Judgement.{Line, tree_lines, point_lines, cut_lines, named_value, blocking_with}
 use Rattle.bp_theory.specs.declared.Span.{Span}
+use Rattle.bp_theory.specs.declared.Row.{Row}
+use Rattle.bp_theory.specs.declared.Cut.{Cut}
 use Rattle.bp_theory.specs.declared.Proof.{Proof}
 use Rattle.bp_theory.specs.declared.Claim.{Claim}
 use Rattle.bp_theory.specs.declared.Claim.TheVariants.{Optimal, Infeasible, Bound}
 use Rattle.block_form.specs.Blocked.{BlockedProgram, IsFormed}
-use Rattle.block_form.proofs.PlainLemmas.{plain_blocking}
 use Rattle.search_laws.specs.declared.Side.{Side}
 use Rattle.search_laws.specs.declared.Side.TheVariants.{Low, High}
 use Rattle.search_laws.specs.Grove.{GrowingTree, live, shut, fork, leaves_below, growing_leaves, certificate_tree}
@@ -32,7 +34,6 @@ use Rattle.branch_tree.specs.Groves.{GroveState, IsStanding, IsGroveOf, made}
 use Rattle.branch_tree.specs.Adopted.{IsAdopted, point_in, IsSearchState}
 use Rattle.branch_tree.specs.declared.loaded.Loaded.{Loaded}
 use Rattle.cert_text.specs.Programs.{GoesWith, IsSmallClaim}
-use Rattle.cert_text.specs.Written.{certificate}
 use Rattle.cert_load.specs.Rooms.{rooms, IsFirstDeep, FindsDeep, FindsBehind, root_line, node_count, CanLoadLeaf, CanLoad}
 use Rattle.cert_load.specs.Loadings.{IsLoadedTree, IsLoadedOf, IsTooDeep, MayLoad, IsLoadedNode}
 use Rattle.cert_load.specs.declared.walk.Walk.{Walk}
@@ -108,8 +109,8 @@ pub loaded_is_low : (b : BlockedProgram) (cert : Certificate) (from : Loaded) (l
 loaded_is_low b cert from line loaded deep =
     let same : deep.tree ≡ from.grove.tree =
     load_keeps_lem.one b.named.program b.blocking cert.tree (best_cost b.named.program cert.point) deep.tree loaded.tree deep.loads loaded.loads ∙ sym loaded.adopted.tree in
-    let first : IsFirstDeep (rooms from.grove.tree 0 b.named.program.spans) (root_line cert.point) line =
-    subst (λ (t : GrowingTree). IsFirstDeep (rooms t 0 b.named.program.spans) (root_line cert.point) line) same deep.first in
+    let first : IsFirstDeep (rooms from.grove.tree 0 b.named.program.spans) (root_line cert.point cert.cuts) line =
+    subst (λ (t : GrowingTree). IsFirstDeep (rooms t 0 b.named.program.spans) (root_line cert.point cert.cuts) line) same deep.first in
     let low : get_or (rooms from.grove.tree 0 b.named.program.spans) first.place 0 ≤ 8256 =
     rooms_low from.grove.tree [] b.named.program.spans (recursion_from_All IsShallow (growing_leaves from.grove.tree b.named.program.spans) loaded.loaded.search.shallow) first.place in
     let high : 8256 < get_or (rooms from.grove.tree 0 b.named.program.spans) first.place 0 = first.deep in
@@ -117,10 +118,21 @@ loaded_is_low b cert from line loaded deep =
 
 -- ---- a certificate that was read and is valid
 
--- it is valid for the program's blocks, since it has no cuts
-valid_here : (b : BlockedProgram) (claim : Claim) (zs : List ℤ) (tree : Tree) → IsFormed b → IsCertified b.named.program b.dec (certificate claim zs tree)
-    → IsValid b.named.program b.blocking (certificate claim zs tree)
-valid_here b claim zs tree formed valid = subst (λ (k : Blocking). IsValid b.named.program k (certificate claim zs tree)) (sym (plain_blocking formed)) valid.valid
+-- the program's blocking is the one that its leaves are judged over, since its cuts are the program's
+blocking_is : (b : BlockedProgram) (cert : Certificate) → IsFormed b → b.cuts ≡ cert.cuts → b.blocking ≡ blocking_with b.named.program b.dec cert
+blocking_is b cert formed cuts =
+    formed.blocking ∙ ap (λ (all : List Cut). blocking_of b.named.program b.dec (cut_rows b.named.program b.dec [] all)) cuts
+
+-- it is valid for the program's blocks
+valid_here : (b : BlockedProgram) (cert : Certificate) → IsFormed b → b.cuts ≡ cert.cuts → IsCertified b.named.program b.dec cert
+    → IsValid b.named.program b.blocking cert
+valid_here b cert formed cuts valid = subst (λ (k : Blocking). IsValid b.named.program k cert) (sym (blocking_is b cert formed cuts)) valid.valid
+
+-- the proofs of its leaves fit them
+fits_here : (b : BlockedProgram) (cert : Certificate) → IsFormed b → b.cuts ≡ cert.cuts → GoesWith b cert
+    → All (λ (leaf : Leaf). Fits b.blocking leaf.proof) (leaves cert.tree b.named.program.spans)
+fits_here b cert formed cuts goes =
+    subst (λ (k : Blocking). All (λ (leaf : Leaf). Fits k leaf.proof) (leaves cert.tree b.named.program.spans)) (sym (blocking_is b cert formed cuts)) goes.fits
 
 small_bound : (claim : Claim) → IsSmallClaim claim → HasSmallBound claim
 small_bound (Optimal v) h = tt
@@ -128,8 +140,8 @@ small_bound Infeasible h = tt
 small_bound (Bound bound None) h = h
 small_bound (Bound bound (Some v)) h = h.0
 
-readable : (b : BlockedProgram) (cert : Certificate) → GoesWith b cert → IsReadable b.named.program b.blocking cert
-readable b cert goes = record { fits = goes.fits; bound = small_bound cert.claim goes.claim }
+readable : (b : BlockedProgram) (cert : Certificate) → IsFormed b → b.cuts ≡ cert.cuts → GoesWith b cert → IsReadable b.named.program b.blocking cert
+readable b cert formed cuts goes = record { fits = fits_here b cert formed cuts goes; bound = small_bound cert.claim goes.claim }
 
 -- a small number that a leaf shows, where its zone isn't settled
 small_sense : (m : Bool) (z : ℤ) → unsigned_abs z < 2 ^ 62 → unsigned_abs (in_sense m z) < 2 ^ 62
@@ -152,51 +164,55 @@ can_below b best zone (split v at low high) sound can =
     let parts = recursion_parts (λ (leaf : Leaf). CanLoadLeaf b best leaf.zone leaf.proof) (leaves low (low_part zone v at)) (leaves high (high_part zone v at)) can in
     (sound.0, can_below b best (low_part zone v at) low sound.1 parts.0, can_below b best (high_part zone v at) high sound.2 parts.1)
 
--- how many lines a tree has
+-- how many lines a tree has, and cuts
 lines_of : (tree : Tree) (zone : List Span) → length (tree_lines tree zone) ≡ node_count tree
 lines_of (shut_leaf p) zone = refl
 lines_of (open_leaf p) zone = refl
 lines_of (split v at low high) zone =
     omega (arith, length-append (tree_lines low (low_part zone v at)) (tree_lines high (high_part zone v at)), lines_of low (low_part zone v at), lines_of high (high_part zone v at))
 
-few_nodes : (b : BlockedProgram) (claim : Claim) (zs : List ℤ) (tree : Tree) → GoesWith b (certificate claim zs tree) → 3 + node_count tree ≤ 2 ^ 62
-few_nodes b claim zs tree goes =
-    let points = point_lines (named_value claim) (option_map (λ _. zs) (named_value claim)) in
-    let nodes = tree_lines tree b.named.program.spans in
-    let first : length (points ++ []) ≡ length points + 0 = length-append points [] in
-    let all : length ((points ++ []) ++ nodes) ≡ length (points ++ []) + length nodes = length-append (points ++ []) nodes in
-    let most : 3 + length ((points ++ []) ++ nodes) ≤ 2 ^ 62 = goes.lines in
-    omega (arith, first, all, most, lines_of tree b.named.program.spans)
+lines_of_cuts : (p : Program) (d : Decomposition) (earlier : List Row) (cuts : List Cut) → length (cut_lines p d earlier cuts) ≡ length cuts
+lines_of_cuts p d earlier [] = refl
+lines_of_cuts p d earlier (cut ∷ cuts) = omega (arith, lines_of_cuts p d (earlier ++ cut_row p (proof_rows p d earlier) cut ∷ []) cuts)
 
-root_small : (point : Option (List ℤ)) → root_line point ≤ 4
-root_small None = omega arith
-root_small (Some x) = omega arith
+few_nodes : (b : BlockedProgram) (cert : Certificate) → GoesWith b cert → 3 + length cert.cuts + node_count cert.tree ≤ 2 ^ 62
+few_nodes b cert goes =
+    let points : List Line = point_lines (named_value cert.claim) cert.point in
+    let cuts : List Line = cut_lines b.named.program b.dec [] cert.cuts in
+    let nodes : List Line = tree_lines cert.tree b.named.program.spans in
+    let first : length (points ++ cuts) ≡ length points + length cuts = length-append points cuts in
+    let all : length ((points ++ cuts) ++ nodes) ≡ length (points ++ cuts) + length nodes = length-append (points ++ cuts) nodes in
+    let most : 3 + length ((points ++ cuts) ++ nodes) ≤ 2 ^ 62 = goes.lines in
+    omega (arith, first, all, most, lines_of cert.tree b.named.program.spans, lines_of_cuts b.named.program b.dec [] cert.cuts)
+
+root_small : (point : Option (List ℤ)) (cuts : List Cut) → root_line point cuts ≤ 4 + length cuts
+root_small None cuts = omega arith
+root_small (Some x) cuts = omega arith
 
 -- its root may be loaded
-pub may_root : (b : BlockedProgram) (claim : Claim) (zs : List ℤ) (tree : Tree) (best : Option ℤ) (at : Walk) → IsFormed b → GoesWith b (certificate claim zs tree)
-    → IsCertified b.named.program b.dec (certificate claim zs tree) → best ≡ best_cost b.named.program (certificate claim zs tree).point
-    → at.zone ≡ b.named.program.spans → IsZone b.named.program.spans at.zone → at.depth ≡ 0 → at.line ≡ root_line (certificate claim zs tree).point
-    → MayLoad b best at tree
-may_root b claim zs tree best at formed goes valid best_is zone_is zone depth_is line_is =
+pub may_root : (b : BlockedProgram) (cert : Certificate) (best : Option ℤ) (at : Walk) → IsFormed b → b.cuts ≡ cert.cuts → GoesWith b cert
+    → IsCertified b.named.program b.dec cert → best ≡ best_cost b.named.program cert.point
+    → at.zone ≡ b.named.program.spans → IsZone b.named.program.spans at.zone → at.depth ≡ 0 → at.line ≡ root_line cert.point cert.cuts
+    → MayLoad b best at cert.tree
+may_root b cert best at formed cuts goes valid best_is zone_is zone depth_is line_is =
     let p : Program = b.named.program in
-    let cert : Certificate = certificate claim zs tree in
-    let here : IsValid p b.blocking cert = valid_here b claim zs tree formed valid in
-    let all : All (λ (leaf : Leaf). CanLoadLeaf b.blocking (best_cost p cert.point) leaf.zone leaf.proof) (leaves tree p.spans) =
-    λ k d l. can_by p b.blocking claim cert.point _ goes.claim here.point (goes.fits k d l) (here.shown k d l) in
-    let can : CanLoad b.blocking (best_cost p cert.point) p.spans tree =
-    can_below b.blocking (best_cost p cert.point) p.spans tree here.splits
-    (recursion_from_All (λ (leaf : Leaf). CanLoadLeaf b.blocking (best_cost p cert.point) leaf.zone leaf.proof) (leaves tree p.spans) all) in
+    let here : IsValid p b.blocking cert = valid_here b cert formed cuts valid in
+    let fits = fits_here b cert formed cuts goes in
+    let all : All (λ (leaf : Leaf). CanLoadLeaf b.blocking (best_cost p cert.point) leaf.zone leaf.proof) (leaves cert.tree p.spans) =
+    λ k d l. can_by p b.blocking cert.claim cert.point _ goes.claim here.point (fits k d l) (here.shown k d l) in
+    let can : CanLoad b.blocking (best_cost p cert.point) p.spans cert.tree =
+    can_below b.blocking (best_cost p cert.point) p.spans cert.tree here.splits
+    (recursion_from_All (λ (leaf : Leaf). CanLoadLeaf b.blocking (best_cost p cert.point) leaf.zone leaf.proof) (leaves cert.tree p.spans) all) in
     record {
       zone = zone;
-      can = subst (λ (o : Option ℤ). CanLoad b.blocking o at.zone tree) (sym best_is) (subst (λ (z : List Span). CanLoad b.blocking (best_cost p cert.point) z tree) (sym zone_is) can);
+      can = subst (λ (o : Option ℤ). CanLoad b.blocking o at.zone cert.tree) (sym best_is) (subst (λ (z : List Span). CanLoad b.blocking (best_cost p cert.point) z cert.tree) (sym zone_is) can);
       shallow = omega (arith, depth_is, goes.shallow);
-      few = omega (arith, line_is, root_small cert.point, few_nodes b claim zs tree goes);
+      few = omega (arith, line_is, root_small cert.point cert.cuts, few_nodes b cert goes);
     }
 
 -- its point is feasible
-pub feasible_point : (b : BlockedProgram) (claim : Claim) (zs : List ℤ) (tree : Tree) → IsFormed b → IsCertified b.named.program b.dec (certificate claim zs tree)
-    → IfSome (certificate claim zs tree).point (IsFeasible b.named.program)
-feasible_point b claim zs tree formed valid = by claim (certificate claim zs tree).point (valid_here b claim zs tree formed valid).point
+pub feasible_point : (b : BlockedProgram) (cert : Certificate) → IsCertified b.named.program b.dec cert → IfSome cert.point (IsFeasible b.named.program)
+feasible_point b cert valid = by cert.claim cert.point valid.valid.point
   where
     by : (claim : Claim) (point : Option (List ℤ)) → PointFits b.named.program claim point → IfSome point (IsFeasible b.named.program)
     by claim None fits = tt
@@ -212,36 +228,29 @@ same_cost b None point is costs = ap (best_cost b.named.program) is
 same_cost b (Some k) point is costs = ap (λ (z : ℤ). Some z) costs ∙ ap (best_cost b.named.program) is
 
 -- the facts of a search of what is loaded, where no leaf is too deep
-pub searched_of : (b : BlockedProgram) (claim : Claim) (zs : List ℤ) (tree : Tree) (t : GrowingTree) → IsFormed b → GoesWith b (certificate claim zs tree)
-    → IsCertified b.named.program b.dec (certificate claim zs tree) → IsLoadedTree b (certificate claim zs tree) t
-    → FindsDeep (rooms t 0 b.named.program.spans) (root_line (certificate claim zs tree).point) None
-    → IsSearch b.named.program b.blocking t (certificate claim zs tree).point
-searched_of b claim zs tree t formed goes valid loads low =
-    let cert : Certificate = certificate claim zs tree in
-    let depth_is = leaf_depth b.blocking (best_cost b.named.program cert.point) b.named.program.spans tree t loads in
-    load_keeps_lem.search b.named.program b.blocking cert t (valid_here b claim zs tree formed valid) (readable b cert goes) loads
+pub searched_of : (b : BlockedProgram) (cert : Certificate) (t : GrowingTree) → IsFormed b → b.cuts ≡ cert.cuts → GoesWith b cert
+    → IsCertified b.named.program b.dec cert → IsLoadedTree b cert t
+    → FindsDeep (rooms t 0 b.named.program.spans) (root_line cert.point cert.cuts) None
+    → IsSearch b.named.program b.blocking t cert.point
+searched_of b cert t formed cuts goes valid loads low =
+    let depth_is = leaf_depth b.blocking (best_cost b.named.program cert.point) b.named.program.spans cert.tree t loads in
+    load_keeps_lem.search b.named.program b.blocking cert t (valid_here b cert formed cuts valid) (readable b cert formed cuts goes) loads
     (All-from_recursion IsShallow (growing_leaves t b.named.program.spans) (shallow_by t [] b.named.program.spans low (omega (arith, depth_is, goes.shallow))))
 
-pub few_made : (b : BlockedProgram) (claim : Claim) (zs : List ℤ) (tree : Tree) (t : GrowingTree) → GoesWith b (certificate claim zs tree)
-    → IsLoadedTree b (certificate claim zs tree) t → made t < 2 ^ 62
-few_made b claim zs tree t goes loads =
-    omega (
-      arith,
-      made_of b.blocking (best_cost b.named.program (certificate claim zs tree).point) b.named.program.spans tree t loads,
-      few_nodes b claim zs tree goes,
-    )
+pub few_made : (b : BlockedProgram) (cert : Certificate) (t : GrowingTree) → GoesWith b cert → IsLoadedTree b cert t → made t < 2 ^ 62
+few_made b cert t goes loads =
+    omega (arith, made_of b.blocking (best_cost b.named.program cert.point) b.named.program.spans cert.tree t loads, few_nodes b cert goes)
 
-pub depth_low : (b : BlockedProgram) (claim : Claim) (zs : List ℤ) (tree : Tree) (t : GrowingTree) → GoesWith b (certificate claim zs tree)
-    → IsLoadedTree b (certificate claim zs tree) t → depth (certificate_tree t) ≤ 8256
-depth_low b claim zs tree t goes loads =
-    omega (arith, leaf_depth b.blocking (best_cost b.named.program (certificate claim zs tree).point) b.named.program.spans tree t loads, goes.shallow)
+pub depth_low : (b : BlockedProgram) (cert : Certificate) (t : GrowingTree) → GoesWith b cert → IsLoadedTree b cert t → depth (certificate_tree t) ≤ 8256
+depth_low b cert t goes loads =
+    omega (arith, leaf_depth b.blocking (best_cost b.named.program cert.point) b.named.program.spans cert.tree t loads, goes.shallow)
 
 -- what is loaded
-pub loaded_of : (b : BlockedProgram) (claim : Claim) (zs : List ℤ) (tree : Tree) (t : GrowingTree) (from : Loaded)
-    → IsLoadedTree b (certificate claim zs tree) t → IsSearch b.named.program b.blocking t (certificate claim zs tree).point
-    → IsAdopted b t from.grove → IsStanding from.grove → point_in from.best ≡ (certificate claim zs tree).point
-    → IfSome from.best (λ k. k.1 ≡ cost b.named.program k.0) → IsLoadedOf b (certificate claim zs tree) from
-loaded_of b claim zs tree t from loads search adopted standing point costs = record {
+pub loaded_of : (b : BlockedProgram) (cert : Certificate) (t : GrowingTree) (from : Loaded)
+    → IsLoadedTree b cert t → IsSearch b.named.program b.blocking t cert.point
+    → IsAdopted b t from.grove → IsStanding from.grove → point_in from.best ≡ cert.point
+    → IfSome from.best (λ k. k.1 ≡ cost b.named.program k.0) → IsLoadedOf b cert from
+loaded_of b cert t from loads search adopted standing point costs = record {
   tree = t;
   loads = loads;
   adopted = adopted;
@@ -262,10 +271,10 @@ few_steps b t g few adopted = subst (λ (u : GrowingTree). steps (certificate_tr
 -- what a walk from the root finds
 pub record IsLoadedRoot (b : BlockedProgram) (cert : Certificate) (t : GrowingTree) (deep : Option ℕ) : Type 0 where
   pub loads : IsLoadedTree b cert t
-  pub found : FindsDeep (rooms t 0 b.named.program.spans) (root_line cert.point) deep
+  pub found : FindsDeep (rooms t 0 b.named.program.spans) (root_line cert.point cert.cuts) deep
 
 pub root_loaded : (b : BlockedProgram) (cert : Certificate) (best : Option ℤ) (at end : Walk) (tree : Tree) (t : GrowingTree)
-    → best ≡ best_cost b.named.program cert.point → at.zone ≡ b.named.program.spans → at.depth ≡ 0 → at.line ≡ root_line cert.point → at.deep ≡ None
+    → best ≡ best_cost b.named.program cert.point → at.zone ≡ b.named.program.spans → at.depth ≡ 0 → at.line ≡ root_line cert.point cert.cuts → at.deep ≡ None
     → tree ≡ cert.tree → IsLoadedNode b.blocking best at tree t end → IsLoadedRoot b cert t end.deep
 root_loaded b cert best at end tree t best_is zone_is depth_is line_is deep_is tree_is node = record {
   loads =

@@ -1,3 +1,4 @@
 -- Other crates cite all of these.
 pub mod Rooms
 pub mod Loadings
+pub mod Recut

@@ -8,6 +8,7 @@ use Rattle.bp_theory.specs.Claims.{Holds}
 use Rattle.bp_theory.specs.Digits.{zone_bits}
 use Rattle.bp_theory.specs.declared.Span.{Span}
 use Rattle.bp_theory.specs.declared.Proof.{Proof}
+use Rattle.bp_theory.specs.declared.Cut.{Cut}
 use Rattle.search_laws.specs.Grove.{GrowingTree, live, shut, fork}
 use Rattle.search_laws.specs.GroveFacts.{Settles}
 
@@ -25,10 +26,11 @@ pub record IsFirstDeep (sizes : List ℕ) (first line : ℕ) : Type 0 where
   pub earlier : (k : ℕ) → k < place → slice_index_or sizes k 0 ≤ greatest_depth
   pub numbered : line ≡ first + place
 
--- the line of a tree's root in the text of a certificate: it stands behind two lines, or three where there is a point
-abbrev pub root_line : Option (List ℤ) → ℕ
-root_line None = 3
-root_line (Some x) = 4
+-- the line of a tree's root in the text of a certificate: it stands behind two lines, or three where there is a point, and behind
+-- a line for each cut
+abbrev pub root_line : Option (List ℤ) → List Cut → ℕ
+root_line None cuts = 3 + length cuts
+root_line (Some x) cuts = 4 + length cuts
 
 -- a tree is a leaf
 abbrev pub IsLeaf : GrowingTree → Type 0

@@ -5,7 +5,9 @@
 mod fault;
 mod leaf;
 mod loading;
+mod recut;
 mod walk;
 
 pub use crate::fault::LoadFault;
 pub use crate::loading::load;
+pub use crate::recut::with_cuts_of;

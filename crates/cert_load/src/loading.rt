@@ -1,8 +1,9 @@
 // A certificate as a tree from which a search goes on.
-ghost use Rattle.std.specs.Prelude.{◌≡◌, ◌+◌, ◌<◌, ◌^◌, Some, IfOk, IfSome};
+ghost use Rattle.std.specs.Prelude.{◌≡◌, ◌+◌, ◌<◌, ◌≤◌, ◌^◌, length, Some, IfOk, IfSome};
 ghost use Rattle.std.specs.Option.{option_map};
 ghost use Rattle.bp_theory.specs.Program.{IsFeasible, cost};
 ghost use Rattle.bp_theory.specs.Claims.{IsCertified};
+ghost use Rattle.bp_theory.specs.Limits.{most_cuts};
 ghost use Rattle.bp_theory.specs.Trees as trees;
 ghost use Rattle.lagr_bound.specs.Forms.{forms_in};
 ghost use Rattle.lagr_bound.specs.Works.{forms_of};
@@ -29,8 +30,10 @@ use std::alloc::{AllocError, Global};
 /// The tree and the best point of a valid certificate, from which a search goes on. A leaf, open or not, is shut exactly
 /// where its proof shows that its zone has no point cheaper than the certificate's or, where the certificate has none, no
 /// point at all; every other leaf is live, with the bound of its proof rounded up. `Deep` comes exactly where a live leaf's
-/// depth and the bits of its zone are together above 8,256, with the first such line.
+/// depth and the bits of its zone are together above 8,256, with the first such line. The program has the certificate's
+/// cuts.
 pub fn load(alloc: Global, b: &Blocked, cert: &Cert) -> Result<Loaded, LoadFault>
+    requires cuts { b.now.cuts ≡ (certificate_of cert.now).cuts }
     requires goes_with { GoesWith b.now (certificate_of cert.now) }
     requires valid { IsCertified b.now.named.program b.now.dec (certificate_of cert.now) }
     ensures { LoadsCert b.now (certificate_of cert.now) result }
@@ -76,12 +79,14 @@ fn cost_in(best: &Option<(Items<i64>, i64)>) -> Option<i64>
 
 // The line of the root of a certificate's tree.
 fn root_line(cert: &Cert) -> u64
-    ensures { result ≡ root_line (certificate_of cert.now).point }
+    requires { length (certificate_of cert.now).cuts ≤ most_cuts }
+    ensures { result ≡ root_line (certificate_of cert.now).point (certificate_of cert.now).cuts }
 {
-    match cert.point() {
+    let first = match cert.point() {
         None => 3,
         Some(_) => 4,
-    }
+    };
+    first + cert.cuts().len() as u64
 }
 
 // The tree that a certificate's is loaded as, and the line of the first live leaf that is too deep, where there is one.
@@ -91,12 +96,13 @@ fn load_nodes(
     cert: &Cert,
     best: &Option<i64>,
 ) -> Result<(Tree, Option<u64>), AllocError>
+    requires cuts { b.now.cuts ≡ (certificate_of cert.now).cuts }
     requires goes_with { GoesWith b.now (certificate_of cert.now) }
     requires valid { IsCertified b.now.named.program b.now.dec (certificate_of cert.now) }
     requires best { best.now ≡ best_cost b.now.named.program (certificate_of cert.now).point }
     ensures loads { IfOk result (λ r. IsLoadedTree b.now (certificate_of cert.now) (tree_of r.0)) }
     ensures deep { IfOk result (λ r. FindsDeep (rooms (tree_of r.0) 0 b.now.named.program.spans)
-        (root_line (certificate_of cert.now).point) r.1) }
+        (root_line (certificate_of cert.now).point (certificate_of cert.now).cuts) r.1) }
 {
     // For the proof alone: `b` is formed.
     let _ = b.blocks();

@@ -15,26 +15,26 @@ use Rattle.cert_check.specs.Judging.{ProofsFit, IsLeft, IsEnd}
 use Rattle.cert_check.proofs.Lines.{both_all}
 use Rattle.cert_check.proofs.LineVisits.{both_left}
 use Rattle.cert_stream.specs.Turns.{Turn, to_low, to_high, zone_of, lines_before, turns_behind, root_behind}
-use Rattle.cert_stream.specs.Walks.{below, whole, points_of, lines_to, TurnsFit, leaf_with}
+use Rattle.cert_stream.specs.Walks.{below, whole, Front, heads_of, lines_to, TurnsFit, leaf_with}
 use Rattle.cert_stream.proofs.Coming.{lines_come, roots_come}
 
 -- ---- which lines come
 
-pub split_comes : (p : Program) (claim : Claim) (zs : List ℤ) (v : ℕ) (at : ℤ) (ts : List Turn)
-    → lines_to p claim zs (below (to_low v at ∷ ts)) ≡ lines_to p claim zs (below ts) ++ split_line (zone_of p.spans ts) v at ∷ []
-split_comes p claim zs v at ts = sym (append_assoc (points_of claim zs) (lines_before p.spans ts) (split_line (zone_of p.spans ts) v at ∷ []))
+pub split_comes : (p : Program) (claim : Claim) (front : Front) (v : ℕ) (at : ℤ) (ts : List Turn)
+    → lines_to p claim front (below (to_low v at ∷ ts)) ≡ lines_to p claim front (below ts) ++ split_line (zone_of p.spans ts) v at ∷ []
+split_comes p claim front v at ts = sym (append_assoc (heads_of p claim front) (lines_before p.spans ts) (split_line (zone_of p.spans ts) v at ∷ []))
 
-pub node_comes : (p : Program) (claim : Claim) (zs : List ℤ) (ts : List Turn) (t : Tree) → root_behind ts t ≡ None
-    → lines_to p claim zs (below (turns_behind ts t)) ≡ lines_to p claim zs (below ts) ++ tree_lines t (zone_of p.spans ts)
-node_comes p claim zs ts t none =
-    ap (λ (xs : List Line). points_of claim zs ++ xs) (lines_come p.spans ts t none)
-    ∙ sym (append_assoc (points_of claim zs) (lines_before p.spans ts) (tree_lines t (zone_of p.spans ts)))
+pub node_comes : (p : Program) (claim : Claim) (front : Front) (ts : List Turn) (t : Tree) → root_behind ts t ≡ None
+    → lines_to p claim front (below (turns_behind ts t)) ≡ lines_to p claim front (below ts) ++ tree_lines t (zone_of p.spans ts)
+node_comes p claim front ts t none =
+    ap (λ (xs : List Line). heads_of p claim front ++ xs) (lines_come p.spans ts t none)
+    ∙ sym (append_assoc (heads_of p claim front) (lines_before p.spans ts) (tree_lines t (zone_of p.spans ts)))
 
-pub root_comes : (p : Program) (claim : Claim) (zs : List ℤ) (ts : List Turn) (t root : Tree) → root_behind ts t ≡ Some root
-    → lines_to p claim zs (whole root) ≡ lines_to p claim zs (below ts) ++ tree_lines t (zone_of p.spans ts)
-root_comes p claim zs ts t root is =
-    ap (λ (xs : List Line). points_of claim zs ++ xs) (sym (roots_come p.spans ts t root is))
-    ∙ sym (append_assoc (points_of claim zs) (lines_before p.spans ts) (tree_lines t (zone_of p.spans ts)))
+pub root_comes : (p : Program) (claim : Claim) (front : Front) (ts : List Turn) (t root : Tree) → root_behind ts t ≡ Some root
+    → lines_to p claim front (whole root) ≡ lines_to p claim front (below ts) ++ tree_lines t (zone_of p.spans ts)
+root_comes p claim front ts t root is =
+    ap (λ (xs : List Line). heads_of p claim front ++ xs) (sym (roots_come p.spans ts t root is))
+    ∙ sym (append_assoc (heads_of p claim front) (lines_before p.spans ts) (tree_lines t (zone_of p.spans ts)))
 
 -- ---- what is judged behind lines that pass
 

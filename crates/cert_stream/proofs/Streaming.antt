@@ -1,20 +1,30 @@
 -- Lines that are written one behind another.
-use Rattle.std.proofs.Common.{◌≡◌, ◌+◌, refl, sym, ap, subst, ◌∙◌, ℕ, List, [], ◌++◌, Some, Result, Ok, Err, inl, inr, append_assoc}
+use Rattle.std.proofs.Common.{◌≡◌, ◌+◌, refl, sym, ap, subst, ◌∙◌, ℕ, List, [], ◌++◌, Some, None, Result, Ok, Err, inl, inr, append_assoc}
 use Rattle.std.specs.Prelude.{codes, unwrap_or}
 use Rattle.std.proofs.Math.IntN.{ℤ}
 use Rattle.bp_theory.specs.Trees.{Tree, split}
 use Rattle.bp_theory.specs.declared.Claim.{Claim}
+use Rattle.bp_theory.specs.declared.Claim.TheVariants as claims
+use Rattle.bp_theory.specs.declared.Cut.{Cut}
 use Rattle.search_laws.specs.Grove.{certificate_tree}
 use Rattle.branch_tree.specs.Groves.{IsStanding}
 use Rattle.cert_text.specs.Outcomes.{grove_of, claim_of, point_of, IsWritable}
 use Rattle.cert_text.proofs.OutcomeText.{outcome_text}
-use Rattle.cert_text.specs.Text.{Two, numeral, signed_numeral}
-use Rattle.cert_text.specs.Plain.{version_text, claim_text, tree_text, plain_text}
+use Rattle.cert_text.proofs.ChangeText.{rewritten}
+use Rattle.cert_text.proofs.CutTexts.{whole_text, written_text}
+use Rattle.cert_text.specs.Cert.{Frame}
+use Rattle.cert_text.specs.Fault.{IsText}
+use Rattle.cert_text.specs.Kept.{certificate_of, kept_cert}
+use Rattle.cert_text.specs.Sketch.{tree_of as sketched}
+use Rattle.cert_text.specs.Text.{Version, Two, numeral, signed_numeral}
+use Rattle.cert_text.specs.Written.{certificate}
+use Rattle.cert_text.specs.declared.cert.Cert.{Cert}
+use Rattle.cert_text.specs.Plain.{version_with, head_text, tree_text, plain_text}
 use Rattle.cert_text.specs.Changes.{changing_nodes, last_mults}
 use Rattle.bp_shelf.specs.Shelf.{Files, OthersAsBefore}
 use Rattle.branch_tree.specs.declared.outcome.Outcome.{Outcome}
 use Rattle.block_form.specs.Blocked.{BlockedProgram, IsFormed}
-use Rattle.cert_stream.specs.Streams.{Adds, Appends, Heads, IsTextOf, HoldsCertificate, Streams}
+use Rattle.cert_stream.specs.Streams.{Adds, Appends, Heads, HoldsText, IsTextOf, Rewrites, Streams, StreamsText}
 use Rattle.cert_stream.specs.declared.stream.StreamStop.{StreamStop}
 use Rattle.cert_stream.specs.declared.stream.StreamStop.TheVariants.{Failed, NoMemory}
 
@@ -87,41 +97,67 @@ fork_added {X} {Y} {Z} name had last t v at low high before mid there now x y re
 -- ---- a whole certificate
 
 -- no line was written
-pub head_failed : (b : BlockedProgram) (o : Outcome) (name text : List ℕ) (before now : Files) (stop : StreamStop) → Heads name text before now (Err stop)
-    → Streams b o name before now (Err stop)
-head_failed b o name text before now Failed h = record { holds = tt; others = h.others }
-head_failed b o name text before now NoMemory h = record { holds = inl h.holds; others = h.others }
+pub head_failed : (Spells : List ℕ → Type 0) (name text : List ℕ) (before now : Files) (stop : StreamStop) → Heads name text before now (Err stop)
+    → StreamsText Spells name before now (Err stop)
+head_failed Spells name text before now Failed h = record { holds = tt; others = h.others }
+head_failed Spells name text before now NoMemory h = record { holds = inl h.holds; others = h.others }
 
 -- the lines behind the head
-pub whole_put : (b : BlockedProgram) (o : Outcome) (name head text all : List ℕ) (before mid now : Files) (result : Result (Unit {0}) StreamStop) → Heads name head before mid (Ok tt)
-    → Appends name text mid now result → IsTextOf b o all → all ≡ head ++ text → Streams b o name before now result
-whole_put b o name head text all before mid now result h g spells is = record { holds = by result g.adds; others = others_on name before mid now h.others g.others }
+pub whole_put : (Spells : List ℕ → Type 0) (name head text all : List ℕ) (before mid now : Files) (result : Result (Unit {0}) StreamStop) → Heads name head before mid (Ok tt)
+    → Appends name text mid now result → Spells all → all ≡ head ++ text → StreamsText Spells name before now result
+whole_put Spells name head text all before mid now result h g spells is = record { holds = by result g.adds; others = others_on name before mid now h.others g.others }
   where
-    there : IsTextOf b o (head ++ text)
-    there = subst (IsTextOf b o) is spells
+    there : Spells (head ++ text)
+    there = subst Spells is spells
 
-    by : (r : Result (Unit {0}) StreamStop) → Adds name text mid now r → HoldsCertificate b o name before now r
+    by : (r : Result (Unit {0}) StreamStop) → Adds name text mid now r → HoldsText Spells name before now r
     by (Ok y) adds = (head ++ text, there, adds head h.holds)
     by (Err Failed) adds = tt
     by (Err NoMemory) adds =
         let part = adds head h.holds in
         let parts : head ++ text ≡ (head ++ part.0) ++ part.1 = ap (λ (xs : List ℕ). head ++ xs) part.2 ∙ sym (append_assoc head part.0 part.1) in
-        inr (head ++ part.0, part.1, subst (IsTextOf b o) parts there, part.3)
+        inr (head ++ part.0, part.1, subst Spells parts there, part.3)
+
+-- a whole text from the parts that are written
+parts_of : (claim : Claim) (zs : List ℤ) (cuts : List Cut) (t : Tree)
+    → plain_text (version_with cuts) claim zs cuts t ≡ head_text (version_with cuts) claim zs cuts ++ (tree_text Two t ++ codes "end\n")
+parts_of claim zs cuts t =
+    let head = head_text (version_with cuts) claim zs cuts in
+    sym (whole_text claim zs cuts t [] head (head ++ tree_text Two t) ((head ++ tree_text Two t) ++ codes "end\n") refl refl refl)
+    ∙ append_assoc head (tree_text Two t) (codes "end\n")
 
 -- its lines are those of an outcome
-pub put_whole : (b : BlockedProgram) → IsFormed b → (o : Outcome) (name : List ℕ) (k : Claim) (zs : List ℤ) (t : Tree) (before mid now : Files) (result : Result (Unit {0}) StreamStop)
-    → IsWritable b o → IsStanding (grove_of o) → k ≡ claim_of b.named.program.maximises o → zs ≡ unwrap_or (point_of o) [] → t ≡ certificate_tree (grove_of o).tree
-    → Heads name (version_text Two ++ claim_text k zs) before mid (Ok tt) → Appends name (tree_text Two (changing_nodes [] t) ++ codes "end\n") mid now result
+pub put_whole : (b : BlockedProgram) → IsFormed b → (o : Outcome) (name : List ℕ) (k : Claim) (zs : List ℤ) (cuts : List Cut) (t : Tree) (before mid now : Files) (result : Result (Unit {0}) StreamStop)
+    → IsWritable b o → IsStanding (grove_of o) → k ≡ claim_of b.named.program.maximises o → zs ≡ unwrap_or (point_of o) [] → cuts ≡ b.cuts → t ≡ certificate_tree (grove_of o).tree
+    → Heads name (head_text (version_with cuts) k zs cuts) before mid (Ok tt) → Appends name (tree_text Two (changing_nodes [] t) ++ codes "end\n") mid now result
     → Streams b o name before now result
-put_whole b formed o name k zs t before mid now result writable standing claim point tree h g =
-    let m = claim_of b.named.program.maximises o in
-    let ys = unwrap_or (point_of o) [] in
-    let u = certificate_tree (grove_of o).tree in
-    let P : Claim → Type 0 = λ x. IsTextOf b o (plain_text Two x ys (changing_nodes [] u)) in
-    let Q : List ℤ → Type 0 = λ xs. IsTextOf b o (plain_text Two k xs (changing_nodes [] u)) in
-    let R : Tree → Type 0 = λ x. IsTextOf b o (plain_text Two k zs (changing_nodes [] x)) in
-    let first : P m = outcome_text b formed o (plain_text Two m ys (changing_nodes [] u)) writable standing refl in
-    let spells : R t = subst R (sym tree) (subst Q (sym point) (subst P (sym claim) first)) in
-    let head = version_text Two ++ claim_text k zs in
-    let nodes = tree_text Two (changing_nodes [] t) in
-    whole_put b o name head (nodes ++ codes "end\n") (plain_text Two k zs (changing_nodes [] t)) before mid now result h g spells (append_assoc head nodes (codes "end\n"))
+put_whole b formed o name k zs cuts t before mid now result writable standing claim point same tree h g =
+    let text = plain_text (version_with cuts) k zs cuts (changing_nodes [] t) in
+    let whole = written_text k (claim_of b.named.program.maximises o) zs (unwrap_or (point_of o) []) cuts b.cuts (changing_nodes [] t) (changing_nodes [] (certificate_tree (grove_of o).tree))
+    [] text refl claim point same (ap (changing_nodes []) tree) refl in
+    whole_put (IsTextOf b o) name (head_text (version_with cuts) k zs cuts) (tree_text Two (changing_nodes [] t) ++ codes "end\n") text before mid now result h g
+    (outcome_text b formed o text writable standing whole) (parts_of k zs cuts (changing_nodes [] t))
+
+-- its lines are those of a certificate that some text was read of
+pub put_anew : (frame : Frame) (version : Version) (old : List ℕ) (cert : Cert) (name : List ℕ) (k : Claim) (zs : List ℤ) (cuts : List Cut) (t : Tree) (before mid now : Files) (result : Result (Unit {0}) StreamStop)
+    → IsText frame version (kept_cert cert) old → k ≡ (certificate_of cert).claim → zs ≡ unwrap_or (certificate_of cert).point [] → cuts ≡ (certificate_of cert).cuts
+    → t ≡ (certificate_of cert).tree → Heads name (head_text (version_with cuts) k zs cuts) before mid (Ok tt)
+    → Appends name (tree_text Two (changing_nodes [] t) ++ codes "end\n") mid now result → Rewrites frame cert name before now result
+put_anew frame version old cert name k zs cuts t before mid now result spelled claim point same tree h g =
+    let S : List ℕ → Type 0 = λ text. IsText frame (version_with cert.cuts) (kept_cert cert) text in
+    let ys = unwrap_or (certificate_of cert).point [] in
+    let u = sketched cert.tree in
+    let text = plain_text (version_with cuts) k zs cuts (changing_nodes [] t) in
+    let whole = written_text k cert.claim zs ys cuts cert.cuts (changing_nodes [] t) (changing_nodes [] u) [] text refl claim point same (ap (changing_nodes []) tree) refl in
+    let spells : S text =
+    subst S (sym (whole ∙ sym (same_plain cert.claim cert.point cert.cuts (changing_nodes [] u)))) (rewritten frame version cert.claim cert.point cert.cuts u old spelled) in
+    whole_put S name (head_text (version_with cuts) k zs cuts) (tree_text Two (changing_nodes [] t) ++ codes "end\n") text before mid now result h g spells
+    (parts_of k zs cuts (changing_nodes [] t))
+  where
+    -- a claim that names no value has no point in its text
+    same_plain : (x : Claim) (ys : List ℤ) (cs : List Cut) (u : Tree)
+        → plain_text (version_with cs) x ys cs u ≡ plain_text (version_with cs) x (unwrap_or (certificate x ys cs u).point []) cs u
+    same_plain (claims.Optimal v) ys cs u = refl
+    same_plain claims.Infeasible ys cs u = refl
+    same_plain (claims.Bound b None) ys cs u = refl
+    same_plain (claims.Bound b (Some v)) ys cs u = refl

@@ -10,13 +10,12 @@ use Rattle.cert_text.specs.Fault.{AreClean, Begins, EndIsSeen, HasFaultyToken, H
 use Rattle.cert_text.specs.Frames.{frame_of}
 use Rattle.cert_text.specs.Programs.{frame_for}
 use Rattle.cert_text.specs.Words.{word_text}
-use Rattle.cert_text.specs.Stages.{Wait, plain_of, at_bpcert, at_version, at_first_end, at_claim, at_kind, at_optimal, infeasible_end, at_bound, after_bound, at_value, claim_end, at_point, at_values, at_coordinate, at_node, at_scale, at_rows, at_count, at_pairs, at_row, row_gap, at_multiplier, at_priced, at_blocks, at_block, leaf_end, at_variable, variable_gap, at_place, split_end, at_end, last_end, over}
-use Rattle.cert_text.specs.Stages.{Stage, sort, IsOfSort, is_deep_stage, number_fault, behind_number, IsOf, Follows}
+use Rattle.cert_text.specs.Stages.{Wait, whole_of, at_bpcert, at_version, at_first_end, at_claim, at_kind, at_optimal, infeasible_end, at_bound, after_bound, at_value, claim_end, at_point, at_values, at_coordinate, at_first_cut, at_cuts, at_node, at_scale, at_rows, at_count, at_pairs, at_row, row_gap, at_multiplier, at_priced, at_blocks, at_block, leaf_end, at_variable, variable_gap, at_place, split_end, at_end, last_end, over}
+use Rattle.cert_text.specs.Stages.{Stage, sort, IsOfSort, is_deep_stage, number_fault, deep_kind, behind_number, IsOf, Follows}
 use Rattle.cert_text.specs.Standing.{MayStand, Reached, IsInWord, IsInNumber, IsBehindMinus, IsBehindDeepMinus, IsPart, StandsFor}
 use Rattle.cert_text.specs.Readers.{stage_of}
 use Rattle.cert_text.specs.Signed.{signed}
-use Rattle.cert_text.specs.Written.{written_tree}
-use Rattle.cert_text.specs.declared.fault.CertKind.TheVariants.{Depth}
+use Rattle.cert_text.specs.Written.{written_cut, written_tree}
 use Rattle.cert_text.specs.declared.frame.Frame.{Frame}
 use Rattle.cert_text.specs.declared.lines.Lines.{Lines}
 use Rattle.cert_text.specs.declared.lines.Part.{Part}
@@ -61,7 +60,7 @@ begins_unseen frame text line kind begins no_token no_deep seen =
     ⊎_elim
     (λ faulty. no_token line kind faulty.0)
     (λ other. ⊎_elim
-    (λ deep. no_deep line deep.1)
+    (λ deep. no_deep line kind deep)
     (λ leaves. let at = leaves.3.0 in still_begins frame text at.before at.rest begins at.bytes at.leaves leaves.3.1)
     other)
     seen
@@ -91,6 +90,8 @@ over_cases frame (claim_end v k) = inl (λ d is. is)
 over_cases frame (at_point v k) = inl (λ d is. is)
 over_cases frame (at_values v k zs) = inl (λ d is. is)
 over_cases frame (at_coordinate v k zs) = inl (λ d is. is)
+over_cases frame (at_first_cut a ws) = inl (λ d is. is)
+over_cases frame (at_cuts a ws) = inl (λ d is. is)
 over_cases frame (at_node a ws) = inl (λ d is. is)
 over_cases frame (at_scale a ws o) = inl (λ d is. is)
 over_cases frame (at_rows a ws o s) = inl (λ d is. is)
@@ -109,7 +110,7 @@ over_cases frame (at_place a ws i) = inl (λ d is. is)
 over_cases frame (split_end a ws i z) = inl (λ d is. is)
 over_cases frame (at_end a t) = inl (λ d is. is)
 over_cases frame (last_end a t) = inl (λ d is. is)
-over_cases frame (over a t) = inr (plain_of a.claim t, (refl, refl))
+over_cases frame (over a t) = inr (whole_of a t, (refl, refl))
 
 -- a whole text has no fault
 whole_unseen : (frame : texts.Frame) (stage : Stage) (number : Bool) (text : List ℕ) (line : ℕ) (kind : Kind) (c : Cert) → Reached frame stage number text → Follows frame c stage []
@@ -132,7 +133,7 @@ reached_unseen frame stage number text line kind r seen =
     ⊎_elim
     (λ going.
     let at_end : LeavesAt frame (text ++ []) (line_behind text) [] [] =
-    leaves_fresh frame stage number text [] [] r (nothing number) (λ e. e) (λ v here. tt) (λ z of_sort. (tt, λ m is. tt)) (λ d is none. going d is) (λ first begins. begins) in
+    leaves_fresh frame stage number text [] [] r (nothing number) (λ e. e) (λ v here. tt) (λ z of_sort. (tt, λ m is. tt)) (λ d is none. going d is) (λ k excess first begins. begins) in
     cut_unseen frame text (line_behind text) line kind (subst (λ (t : List ℕ). LeavesAt frame t (line_behind text) [] []) (append-nil text) at_end) seen)
     (λ whole. whole_unseen frame stage number text line kind whole.0 r whole.1 seen)
     (over_cases frame stage)
@@ -190,11 +191,11 @@ last_unseen frame text place line own kind z fault a b is none seen =
 number_unseen : (frame : texts.Frame) (stage : Stage) (done : List ℕ) (z : ℤ) (line : ℕ) (kind : Kind) → Reached frame stage false done → IsOfSort (sort stage) z → is_deep_stage stage ≡ false
     → IsSeenFault frame (done ++ signed_numeral z) line kind → ⊥
 number_unseen frame stage done z line kind r of_sort shallow seen = by (number_fault frame stage z) refl where
-  deep_none : (own : Kind) → number_fault frame stage z ≡ Some own → HasDeepNumber frame (done ++ signed_numeral z) line → ⊥
+  deep_none : (own : Kind) → number_fault frame stage z ≡ Some own → HasDeepNumber frame (done ++ signed_numeral z) line kind → ⊥
   deep_none own is deep =
       let there = faulty_there frame stage done z own r of_sort is in
-      let depth : own ≡ Depth = (deep_faulty frame (done ++ signed_numeral z) line (line_behind done) own deep there.0).1 in
-      let wrong : true ≡ false = sym (number_deep frame stage z (is ∙ ap Some depth)).0 ∙ shallow in cc
+      let same : own ≡ kind = (deep_faulty frame (done ++ signed_numeral z) line (line_behind done) kind own deep there.0).1 in
+      let wrong : true ≡ false = sym (number_deep frame stage z kind deep.excess (is ∙ ap Some same)).deep ∙ shallow in cc
 
   by : (fault : Option Kind) → number_fault frame stage z ≡ fault → ⊥
   by None none = reached_unseen frame (behind_number stage z) true (done ++ signed_numeral z) line kind (number_reached frame stage done z r of_sort none) seen
@@ -202,7 +203,7 @@ number_unseen frame stage done z line kind r of_sort shallow seen = by (number_f
       let there = faulty_there frame stage done z own r of_sort is in
       ⊎_elim
       (λ faulty. last_unseen frame (done ++ signed_numeral z) (line_behind done) line own kind z (number_fault frame stage z) there.0 faulty.0 there.1 there.2 faulty.1)
-      (λ other. ⊎_elim (λ deep. deep_none own is deep.1) (λ leaves. leaves.1 (line_behind done) own there.0) other)
+      (λ other. ⊎_elim (λ deep. deep_none own is deep) (λ leaves. leaves.1 (line_behind done) own there.0) other)
       seen
 
 -- ---- a text for which a reader stands
@@ -226,21 +227,21 @@ minus_unseen frame stage text line kind part seen =
     leaves_minus frame stage part.done [] [] part.reached (subst S (sym part.of_sort) tt) tt (λ e. e) in
     cut_unseen frame text place line kind (subst (λ (t : List ℕ). LeavesAt frame t place [] []) (sym part.bytes) at_end) seen
 
--- behind a minus a digit may make it the number of a node that is too deep
-deep_minus_unseen : (above : List Wait) (root : texts.Tree) (frame : Frame) (r : Lines) (text : List ℕ) (line : ℕ) (kind : Kind) (stands : StandsFor above root frame r text)
-    → IsBehindDeepMinus (frame_of frame) (stage_of above root r stands.count) text → IsSeenFault (frame_of frame) text line kind → ⊥
-deep_minus_unseen above root frame r text line kind stands part seen =
-    let stage = stage_of above root r stands.count in
+-- behind a minus a digit may make it the number of a node that is too deep, or of a cut that is one too many
+deep_minus_unseen : (above : List Wait) (root : texts.Tree) (cuts : List texts.Cut) (frame : Frame) (r : Lines) (text : List ℕ) (line : ℕ) (kind : Kind)
+    (stands : StandsFor above root cuts frame r text) → IsBehindDeepMinus (frame_of frame) (stage_of above root cuts r stands.count) text → IsSeenFault (frame_of frame) text line kind → ⊥
+deep_minus_unseen above root cuts frame r text line kind stands part seen =
+    let stage = stage_of above root cuts r stands.count in
     let front : List ℕ = part.done ++ 45 ∷ [] in
-    let at_end : LeavesAt (frame_of frame) front (line_behind part.done) (45 ∷ []) [] = deep_minus_leaves above root frame r text stands part [] [] (λ digit. digit) in
+    let at_end : LeavesAt (frame_of frame) front (line_behind part.done) (45 ∷ []) [] = deep_minus_leaves above root cuts frame r text stands part [] [] (λ digit. digit) in
     let no_deep : HasNoDeepNumber (frame_of frame) front = subst (λ (t : List ℕ). HasNoDeepNumber (frame_of frame) t) (append-nil front) at_end.2 in
     let digit : (48 ≤ 48) × (48 ≤ 57) = (omega arith, omega arith) in
-    let one_more : HasDeepNumber (frame_of frame) (front ++ 48 ∷ []) (line_behind part.done) =
-    subst (λ (t : List ℕ). HasDeepNumber (frame_of frame) t (line_behind part.done)) (sym (append_assoc part.done (45 ∷ []) (48 ∷ [])))
+    let one_more : HasDeepNumber (frame_of frame) (front ++ 48 ∷ []) (line_behind part.done) (deep_kind stage) =
+    subst (λ (t : List ℕ). HasDeepNumber (frame_of frame) t (line_behind part.done) (deep_kind stage)) (sym (append_assoc part.done (45 ∷ []) (48 ∷ [])))
     (deep_there (frame_of frame) stage part.done (45 ∷ 48 ∷ []) (line_behind part.done) part.reached part.deep (inr (refl, digit)) refl) in
     ⊎_elim
     (λ faulty. at_end.0 line kind faulty.0)
-    (λ other. ⊎_elim (λ deep. no_deep line deep.1) (λ leaves. leaves.2 (48 ∷ []) (line_behind part.done) one_more) other)
+    (λ other. ⊎_elim (λ deep. no_deep line kind deep) (λ leaves. leaves.2 (48 ∷ []) (line_behind part.done) (deep_kind stage) one_more) other)
     (subst (λ (t : List ℕ). IsSeenFault (frame_of frame) t line kind) part.bytes seen)
 
 digits_unseen : (frame : texts.Frame) (stage : Stage) (negative : Bool) (value : ℕ) (text : List ℕ) (line : ℕ) (kind : Kind) → IsInNumber frame stage negative value text
@@ -249,13 +250,13 @@ digits_unseen frame stage negative value text line kind part seen =
     number_unseen frame stage part.done (signed negative part.number) line kind part.reached part.of_sort part.shallow
     (subst (λ (t : List ℕ). IsSeenFault frame t line kind) part.bytes seen)
 
-part_unseen : (above : List Wait) (root : texts.Tree) (frame : Frame) (r : Lines) (text : List ℕ) (line : ℕ) (kind : Kind) (stands : StandsFor above root frame r text) (part : Part)
-    → IsPart (frame_of frame) (stage_of above root r stands.count) part text → IsSeenFault (frame_of frame) text line kind → ⊥
-part_unseen above root frame r text line kind stands Fresh p = reached_unseen (frame_of frame) (stage_of above root r stands.count) false text line kind p
-part_unseen above root frame r text line kind stands (InWord word count) p = word_unseen (frame_of frame) (stage_of above root r stands.count) word count text line kind p.0 p.1
-part_unseen above root frame r text line kind stands Minus p = minus_unseen (frame_of frame) (stage_of above root r stands.count) text line kind p
-part_unseen above root frame r text line kind stands DeepMinus p = deep_minus_unseen above root frame r text line kind stands p
-part_unseen above root frame r text line kind stands (Digits negative value) p = digits_unseen (frame_of frame) (stage_of above root r stands.count) negative value text line kind p
+part_unseen : (above : List Wait) (root : texts.Tree) (cuts : List texts.Cut) (frame : Frame) (r : Lines) (text : List ℕ) (line : ℕ) (kind : Kind) (stands : StandsFor above root cuts frame r text) (part : Part)
+    → IsPart (frame_of frame) (stage_of above root cuts r stands.count) part text → IsSeenFault (frame_of frame) text line kind → ⊥
+part_unseen above root cuts frame r text line kind stands Fresh p = reached_unseen (frame_of frame) (stage_of above root cuts r stands.count) false text line kind p
+part_unseen above root cuts frame r text line kind stands (InWord word count) p = word_unseen (frame_of frame) (stage_of above root cuts r stands.count) word count text line kind p.0 p.1
+part_unseen above root cuts frame r text line kind stands Minus p = minus_unseen (frame_of frame) (stage_of above root cuts r stands.count) text line kind p
+part_unseen above root cuts frame r text line kind stands DeepMinus p = deep_minus_unseen above root cuts frame r text line kind stands p
+part_unseen above root cuts frame r text line kind stands (Digits negative value) p = digits_unseen (frame_of frame) (stage_of above root cuts r stands.count) negative value text line kind p
 
 -- ---- a text for which a checker stands
 
@@ -263,8 +264,8 @@ told_by : (b : BlockedProgram) (visits : Option ℕ) (c : Checker) (text : List 
     → TellsSeen b text (answer_by fault)
 told_by b visits c text None none made h = λ line kind seen.
     let so = judged_so b visits c text none h in
-    let reads = so.2.reads in
-    part_unseen (map wait_of so.0) (written_tree so.1) c.frame c.lines text line kind reads c.lines.part reads.part
+    let reads = so.3.reads in
+    part_unseen (map wait_of so.0) (written_tree so.1) (map written_cut so.2) c.frame c.lines text line kind reads c.lines.part reads.part
     (subst (λ (x : texts.Frame). IsSeenFault x text line kind) (sym made.frame) seen)
 told_by b visits c text (Some f.NoMemory) is made h = tt
 told_by b visits c text (Some (f.At line kind)) is made h = subst (StandsBy b visits c text) is h

@@ -4,6 +4,7 @@ pub mod Turns
 pub mod Laws
 pub mod Paths
 pub mod Walks
+pub mod Cuttings
 pub mod Checks
 pub mod Seen
 pub mod Wholes

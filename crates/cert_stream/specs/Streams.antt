@@ -1,15 +1,18 @@
 -- What writing a certificate line by line does to the files of a shelf.
-use Rattle.std.specs.Prelude.{◌≡◌, ℕ, ◌≤◌, ◌⊎◌, List, [], ◌++◌, Some, Result, Ok, Err}
+use Rattle.std.specs.Prelude.{◌≡◌, ℕ, ◌≤◌, ◌⊎◌, List, ◌++◌, Some, Result, Ok, Err}
 use Rattle.bp_shelf.specs.Shelf.{Files, OthersAsBefore, Rose}
 use Rattle.bp_shelf.specs.declared.shelf.ShelfFault.{ShelfFault}
 use Rattle.bp_shelf.specs.declared.shelf.ShelfFault.TheVariants as faults
 use Rattle.search_laws.specs.Outcomes.{read_off}
 use Rattle.block_form.specs.Blocked.{BlockedProgram}
 use Rattle.branch_tree.specs.declared.outcome.Outcome.{Outcome}
+use Rattle.cert_text.specs.Cert.{Frame}
 use Rattle.cert_text.specs.Fault.{IsText}
 use Rattle.cert_text.specs.Outcomes.{grove_of, claim_of, point_of}
 use Rattle.cert_text.specs.Programs.{frame_for}
-use Rattle.cert_text.specs.Text.{Two}
+use Rattle.cert_text.specs.Kept.{kept_cert}
+use Rattle.cert_text.specs.Plain.{version_with}
+use Rattle.cert_text.specs.declared.cert.Cert.{Cert}
 use Rattle.cert_text.specs.Written.{cert_of}
 use Rattle.cert_stream.specs.declared.stream.StreamStop.{StreamStop}
 use Rattle.cert_stream.specs.declared.stream.StreamStop.TheVariants.{Failed, NoMemory}
@@ -48,18 +51,30 @@ CountsStop before now (Ok _) = now ≡ before
 CountsStop before now (Err Failed) = (before ≤ now) × Rose before now
 CountsStop before now (Err NoMemory) = now ≡ before
 
--- a text is that of an outcome's certificate in version 2
+-- a text is that of an outcome's certificate, with the program's cuts, in version 3 where there are some and else in version 2
 abbrev pub IsTextOf : BlockedProgram → Outcome → List ℕ → Type 0
-IsTextOf b o text = IsText (frame_for b) Two (cert_of (read_off (claim_of b.named.program.maximises o) (point_of o) [] (grove_of o).tree)) text
+IsTextOf b o text =
+    IsText (frame_for b) (version_with b.cuts) (cert_of (read_off (claim_of b.named.program.maximises o) (point_of o) b.cuts (grove_of o).tree)) text
 
--- the named file holds an outcome's certificate; or, for want of memory, a beginning of it, or what it held
-abbrev pub HoldsCertificate : BlockedProgram → Outcome → (name : List ℕ) → (before now : Files) → Result (Unit {0}) StreamStop → Type 0
-HoldsCertificate b o name before now (Ok _) = (text : List ℕ) × IsTextOf b o text × (now name ≡ Some text)
-HoldsCertificate b o name before now (Err NoMemory) =
-    (now name ≡ before name) ⊎ ((part : List ℕ) × (rest : List ℕ) × IsTextOf b o (part ++ rest) × (now name ≡ Some part))
-HoldsCertificate b o name before now (Err Failed) = Unit {0}
+-- the named file holds a text that spells what was to be written; or, for want of memory, a beginning of such a text, or what it held
+abbrev pub HoldsText : (Spells : List ℕ → Type 0) → (name : List ℕ) → (before now : Files) → Result (Unit {0}) StreamStop → Type 0
+HoldsText Spells name before now (Ok _) = (text : List ℕ) × Spells text × (now name ≡ Some text)
+HoldsText Spells name before now (Err NoMemory) =
+    (now name ≡ before name) ⊎ ((part : List ℕ) × (rest : List ℕ) × Spells (part ++ rest) × (now name ≡ Some part))
+HoldsText Spells name before now (Err Failed) = Unit {0}
 
 -- and all other files are as before
-pub record Streams (b : BlockedProgram) (o : Outcome) (name : List ℕ) (before now : Files) (result : Result (Unit {0}) StreamStop) : Type 0 where
-  pub holds : HoldsCertificate b o name before now result
+pub record StreamsText (Spells : List ℕ → Type 0) (name : List ℕ) (before now : Files) (result : Result (Unit {0}) StreamStop) : Type 0 where
+  pub holds : HoldsText Spells name before now result
   pub others : OthersAsBefore name before now
+
+-- an outcome's certificate is written so
+abbrev pub HoldsCertificate : BlockedProgram → Outcome → (name : List ℕ) → (before now : Files) → Result (Unit {0}) StreamStop → Type 0
+HoldsCertificate b o name before now result = HoldsText (IsTextOf b o) name before now result
+
+abbrev pub Streams : BlockedProgram → Outcome → (name : List ℕ) → (before now : Files) → Result (Unit {0}) StreamStop → Type 0
+Streams b o name before now result = StreamsText (IsTextOf b o) name before now result
+
+-- a certificate that was read is written so, in version 3 where it has cuts and else in version 2
+abbrev pub Rewrites : Frame → Cert → (name : List ℕ) → (before now : Files) → Result (Unit {0}) StreamStop → Type 0
+Rewrites frame cert name before now result = StreamsText (λ text. IsText frame (version_with cert.cuts) (kept_cert cert) text) name before now result

@@ -1,31 +1,38 @@
 // A certificate that is judged as its text is fed.
-ghost use Rattle.std.specs.Prelude.{◌≡◌, ℕ, ◌+◌, ◌≤◌, ◌<◌, ◌^◌, List, [], ◌∷◌, ◌++◌, length, Option, None, Some, Result, Err, IfOk, IfSome, OnOk};
+ghost use Rattle.std.specs.Prelude.{◌≡◌, ℕ, ◌+◌, ◌≤◌, ◌<◌, ◌^◌, List, [], ◌∷◌, ◌++◌, length, Option, None, Some, Result, Err, IfOk, IfSome, OnOk, IsErrOf};
 ghost use Rattle.bp_theory.specs.Limits.{greatest_depth};
-ghost use Rattle.block_form.specs.Blocked.{BlockedProgram};
+ghost use Rattle.bp_theory.specs.declared.Span.{Span};
+ghost use Rattle.block_form.specs.Blocked.{BlockedProgram, IsFormed};
+ghost use Rattle.cert_text.specs.declared.lines.Event.TheVariants as e;
 ghost use Rattle.lagr_bound.specs.Forms.{forms_in};
 ghost use Rattle.lagr_bound.specs.Works.{forms_of};
 ghost use Rattle.cert_check.specs.Judging.{stopped_at};
-ghost use Rattle.cert_stream.specs.Walks.{IsWalkIn, IsWithin};
-ghost use Rattle.cert_stream.specs.Checks.{IsMadeFor, TakesEvent, held_after, ChecksFor, answer_by, Finishes};
+ghost use Rattle.cert_stream.specs.Cuttings.{IsCutting, IsClosed, cuts_in, program_by};
+ghost use Rattle.cert_stream.specs.Walks.{IsOn, IsWalkIn, IsWithin};
+ghost use Rattle.cert_stream.specs.Checks.{Keeps, IsMadeFor, TakesEvent, held_after, ChecksFor, answer_by, Finishes};
 ghost use Rattle.cert_stream.specs.Seen.{TellsSeen};
 ghost use Rattle.cert_stream.specs.declared.fault.FeedFault as faults;
 
+use crate::cutting::Cutting;
 use crate::fault::{FeedFault, feed_fault};
 use crate::path::Path;
-use crate::walk::{Walk, begin, enter, leave};
+use crate::walk::{Walk, begin, enter, goes_on, leave};
 use block_form::{Blocked, Zone};
+use bp_theory::{Cut, Proof};
 use cert_check::{Judged, NodePlace, Stop};
-use cert_text::{Event, Frame, Lines, program_frame};
+use cert_text::{Event, Frame, Lines, SplitPlace, program_frame};
 use lagr_bound::Work;
 use std::alloc::{AllocError, Global};
 use std::mem;
 
 /// A judge of a certificate whose text is fed in pieces. It keeps neither the text nor the tree: of the nodes that came only
-/// the splits above the one that comes next. All its calls are to be given the program in blocks that it was made for.
+/// the splits above the one that comes next, and the program with the cuts that came. All its calls are to be given the
+/// program in blocks that it was made for.
 #[derive(Drop)]
 pub struct Checker {
     frame: Frame,
     lines: Lines,
+    cuts: Cutting,
     walk: Walk,
     work: Option<Work>,
     held: u64,
@@ -34,9 +41,10 @@ pub struct Checker {
 }
 
 impl Checker {
-    /// A checker that was fed nothing. Where a number of visits is given, the searches for the picked blocks of the leaves may
-    /// look at so many beginnings of assignments together, as in `cert_check::check`.
+    /// A checker that was fed nothing, for a program without cuts. Where a number of visits is given, the searches for the
+    /// picked blocks of the leaves may look at so many beginnings of assignments together, as in `cert_check::check`.
     pub fn make(alloc: Global, b: &Blocked, visits: Option<u64>) -> Result<Checker, AllocError>
+        requires uncut { b.now.cuts ≡ [] }
         ensures made_for { IfOk result (IsMadeFor b.now) }
         ensures stands { IfOk result (λ checker. ChecksFor b.now visits checker []) }
         ensures fed { IfOk result (λ checker. checker.fed ≡ 0) }
@@ -47,6 +55,7 @@ impl Checker {
         Ok(Checker {
             frame,
             lines: Lines::new(alloc),
+            cuts: Cutting::new(alloc),
             walk: Walk::At(Path {
                 place: NodePlace {
                     zone,
@@ -125,58 +134,166 @@ impl Checker {
 
     // What a line says is judged.
     fn take(&mut self, alloc: Global, b: &Blocked, event: Event) -> Result<(), AllocError>
-        requires made_for { IfSome self.old.work (λ made. forms_of made ≡ forms_in b.now) }
-        requires inside { IsWalkIn b.now.named.program.spans self.old.walk }
+        requires formed { IsFormed b.now }
+        requires uncut { b.now.cuts ≡ [] }
+        requires keeps { Keeps b.now self.old.cuts self.old.work self.old.walk }
         requires few { IsWithin (2 ^ 63 + 2) self.old.walk }
         ensures rest { self.new ≡ record self.old {
+          cuts = self.new.cuts;
           walk = self.new.walk;
           work = self.new.work;
           held = self.new.held;
         } }
-        ensures made_for { IfSome self.new.work (λ made. forms_of made ≡ forms_in b.now) }
-        ensures inside { IsWalkIn b.now.named.program.spans self.new.walk }
+        ensures keeps { Keeps b.now self.new.cuts self.new.work self.new.walk }
         ensures line { (most : ℕ) → 3 ≤ most → IsWithin most self.old.walk →
             IsWithin (most + 1) self.new.walk }
         ensures held { OnOk result (self.new.held ≡ held_after self.old.held event) }
         ensures judged { OnOk result (TakesEvent b.now self.old.lines.claim self.old.lines.point
-            self.old.walk self.new.walk event) }
+            self.old.cuts self.new.cuts self.old.walk self.new.walk event) }
     {
-        let walk = mem::replace(&mut self.walk, Walk::Misfit);
-        let claim = self.lines.claim();
         match event {
             Event::Claim => {
-                self.walk = begin(walk, b, &claim, self.lines.point());
-                self.held = 0;
+                self.take_claim(b);
                 Ok(())
             }
-            Event::Split(split) => {
-                self.walk = enter(walk, split)?;
-                self.held = self.held.saturating_add(1);
-                Ok(())
-            }
-            Event::Leaf { is_open, proof } => {
-                self.walk = leave(walk, alloc, b, &claim, &mut self.work, &proof, is_open)?;
-                self.held = self.held.saturating_sub(1);
-                Ok(())
-            }
+            Event::Cut(cut) => self.take_cut(alloc, b, cut),
+            Event::Split(split) => self.take_split(split),
+            Event::Leaf { is_open, proof } => self.take_leaf(alloc, b, &proof, is_open),
         }
     }
 
-    /// What the certificate is judged to be, where its text ends here, or the first fault of the text.
-    pub fn finish(self, alloc: Global) -> Result<Judged, FeedFault>
+    // The line of a claim, or of its point where it names a value.
+    fn take_claim(&mut self, b: &Blocked)
+        requires keeps { Keeps b.now self.old.cuts self.old.work self.old.walk }
+        ensures rest { self.new ≡ record self.old { walk = self.new.walk; held = 0 } }
+        ensures keeps { Keeps b.now self.new.cuts self.new.work self.new.walk }
+        ensures line { (most : ℕ) → 3 ≤ most → IsWithin most self.old.walk →
+            IsWithin (most + 1) self.new.walk }
+        ensures judged { TakesEvent b.now self.old.lines.claim self.old.lines.point
+            self.old.cuts self.new.cuts self.old.walk self.new.walk e.Claim }
+    {
+        let walk = mem::replace(&mut self.walk, Walk::Misfit);
+        self.walk = begin(walk, b, &self.lines.claim(), self.lines.point());
+        self.held = 0;
+    }
+
+    // The line of a cut.
+    fn take_cut(&mut self, alloc: Global, b: &Blocked, cut: Cut) -> Result<(), AllocError>
+        requires uncut { b.now.cuts ≡ [] }
+        requires keeps { Keeps b.now self.old.cuts self.old.work self.old.walk }
+        requires few { IsWithin (2 ^ 63 + 2) self.old.walk }
+        ensures rest { self.new ≡ record self.old {
+          cuts = self.new.cuts;
+          walk = self.new.walk;
+          work = self.new.work;
+        } }
+        ensures keeps { Keeps b.now self.new.cuts self.new.work self.new.walk }
+        ensures line { (most : ℕ) → IsWithin most self.old.walk →
+            IsWithin (most + 1) self.new.walk }
+        ensures judged { OnOk result (TakesEvent b.now self.old.lines.claim self.old.lines.point
+            self.old.cuts self.new.cuts self.old.walk self.new.walk (e.Cut cut)) }
+    {
+        let walk = mem::replace(&mut self.walk, Walk::Misfit);
+        let cuts = mem::replace(&mut self.cuts, Cutting::new(alloc));
+        // No leaf has been judged yet.
+        self.work = None;
+        let (cuts, walk) = cuts.add(alloc, b, walk, cut)?;
+        self.cuts = cuts;
+        self.walk = walk;
+        Ok(())
+    }
+
+    // The line of a split.
+    fn take_split(&mut self, split: SplitPlace) -> Result<(), AllocError>
+        requires few { IsWithin (2 ^ 63 + 2) self.old.walk }
+        ensures rest { self.new ≡ record self.old { walk = self.new.walk; held = self.new.held } }
+        ensures inside { (root : List Span) → IsWalkIn root self.old.walk →
+            IsWalkIn root self.new.walk }
+        ensures line { (most : ℕ) → IsWithin most self.old.walk →
+            IsWithin (most + 1) self.new.walk }
+        ensures held { OnOk result (self.new.held ≡ held_after self.old.held (e.Split split)) }
+        ensures judged { (b : BlockedProgram) → OnOk result (TakesEvent b self.old.lines.claim
+            self.old.lines.point self.old.cuts self.new.cuts self.old.walk self.new.walk
+            (e.Split split)) }
+    {
+        let walk = mem::replace(&mut self.walk, Walk::Misfit);
+        self.walk = enter(walk, split)?;
+        self.held = self.held.saturating_add(1);
+        Ok(())
+    }
+
+    // The line of a leaf.
+    fn take_leaf(
+        &mut self,
+        alloc: Global,
+        b: &Blocked,
+        proof: &Proof,
+        is_open: bool,
+    ) -> Result<(), AllocError>
+        requires formed { IsFormed b.now }
+        requires uncut { b.now.cuts ≡ [] }
+        requires keeps { Keeps b.now self.old.cuts self.old.work self.old.walk }
+        requires few { IsWithin (2 ^ 63 + 2) self.old.walk }
+        ensures rest { self.new ≡ record self.old {
+          cuts = self.new.cuts;
+          walk = self.new.walk;
+          work = self.new.work;
+          held = self.new.held;
+        } }
+        ensures keeps { Keeps b.now self.new.cuts self.new.work self.new.walk }
+        ensures line { (most : ℕ) → IsWithin most self.old.walk →
+            IsWithin (most + 1) self.new.walk }
+        ensures held { OnOk result (self.new.held ≡
+            held_after self.old.held (e.Leaf is_open proof.now)) }
+        ensures judged { OnOk result (TakesEvent b.now self.old.lines.claim self.old.lines.point
+            self.old.cuts self.new.cuts self.old.walk self.new.walk (e.Leaf is_open proof.now)) }
+    {
+        let walk = mem::replace(&mut self.walk, Walk::Misfit);
+        self.close_cuts(alloc, b, &walk)?;
+        let claim = self.lines.claim();
+        let program = self.cuts.program(b);
+        self.walk = leave(walk, alloc, program, &claim, &mut self.work, proof, is_open)?;
+        self.held = self.held.saturating_sub(1);
+        Ok(())
+    }
+
+    // Makes the program with the cuts where there are some, it isn't made, and a walk goes on.
+    fn close_cuts(&mut self, alloc: Global, b: &Blocked, walk: &Walk) -> Result<(), AllocError>
+        requires cuts { IsCutting b.now self.old.cuts }
+        requires work { IfSome self.old.work (λ made. forms_of made ≡
+            forms_in (program_by b.now self.old.cuts.program)) }
+        ensures rest { self.new ≡ record self.old { cuts = self.new.cuts; work = self.new.work } }
+        ensures cuts { IsCutting b.now self.new.cuts }
+        ensures work { IfSome self.new.work (λ made. forms_of made ≡
+            forms_in (program_by b.now self.new.cuts.program)) }
+        ensures same { OnOk result (cuts_in self.new.cuts ≡ cuts_in self.old.cuts) }
+        ensures closed { OnOk result (IsOn walk.now → IsClosed self.new.cuts) }
+    {
+        if !goes_on(walk) || self.cuts.is_closed() {
+            return Ok(());
+        }
+        let cuts = mem::replace(&mut self.cuts, Cutting::new(alloc));
+        self.work = None;
+        self.cuts = cuts.close(alloc, b)?;
+        Ok(())
+    }
+
+    /// What the certificate is judged to be, where its text ends here, or the first fault of the text. This takes no memory.
+    pub fn finish(self) -> Result<Judged, FeedFault>
         requires stands { (b : BlockedProgram) × (visits : Option ℕ) × (text : List ℕ) ×
             IsMadeFor b self × ChecksFor b visits self text }
         ensures finishes { (b : BlockedProgram) (visits : Option ℕ) (text : List ℕ) →
             IsMadeFor b self → ChecksFor b visits self text → Finishes b visits text result }
         ensures kept { (fault : faults.FeedFault) → self.fault ≡ Some fault →
             result ≡ Err fault }
+        ensures no_memory { IsErrOf result FeedFault.NoMemory → self.fault ≡ Some FeedFault.NoMemory }
     {
         match self.fault {
             Some(fault) => return Err(fault),
             None => {}
         }
-        let mut lines = self.lines;
-        match lines.end(alloc, &self.frame) {
+        let lines = self.lines;
+        match lines.end(&self.frame) {
             Err(fault) => Err(feed_fault(&fault)),
             Ok(()) => match self.walk {
                 Walk::At(_) => Ok(Judged::Accepted(lines.claim())),

@@ -1,21 +1,26 @@
 // A certificate that is written line by line.
-ghost use Rattle.std.specs.Prelude.{◌≡◌, ◌+◌, ◌++◌, [], codes, unwrap_or, IsTrue, IfOk, Some};
+ghost use Rattle.std.specs.Prelude.{◌≡◌, ℕ, ◌+◌, ◌++◌, List, [], codes, unwrap_or, IsTrue, IfOk, Some};
 ghost use Rattle.bp_theory.specs.declared.Claim as claims;
 ghost use Rattle.bp_shelf.specs.Shelf.{OthersAsBefore};
 ghost use Rattle.search_laws.specs.Grove.{certificate_tree};
 ghost use Rattle.branch_tree.specs.Trees.{tree_of};
+ghost use Rattle.cert_text.specs.Fault.{IsCertText};
+ghost use Rattle.cert_text.specs.Kept.{certificate_of, kept_cert};
+ghost use Rattle.cert_text.specs.Sketch.{tree_of as sketched};
 ghost use Rattle.cert_text.specs.Text.{Two, numeral, signed_numeral};
-ghost use Rattle.cert_text.specs.Plain.{version_text, claim_text, proof_text, tree_text};
+ghost use Rattle.cert_text.specs.Plain.{version_with, head_text, proof_text, tree_text};
 ghost use Rattle.cert_text.specs.Changes.{changing_proof, changing_nodes, last_mults};
 ghost use Rattle.cert_text.specs.Outcomes.{IsWritable};
-ghost use Rattle.cert_stream.specs.Streams.{Appends, CountsStop, Heads, Streams, stop_of};
+ghost use Rattle.cert_text.specs.Programs.{frame_for};
+ghost use Rattle.cert_stream.specs.Streams.{Appends, CountsStop, Heads, Rewrites, Streams, stop_of};
 
 use block_form::Blocked;
 use bp_shelf::{Shelf, ShelfFault};
-use bp_theory::{Claim, Proof};
+use bp_theory::{Claim, Cut, Proof};
 use branch_tree::{Outcome, Tree};
 use cert_text::{
-    outcome_claim, outcome_grove, outcome_point, put_changed_leaf, put_claim, put_split,
+    Cert, Sketch, outcome_claim, outcome_grove, outcome_point, put_changed_leaf, put_head,
+    put_split,
 };
 use std::alloc::{AllocError, Global};
 
@@ -28,8 +33,8 @@ pub enum StreamStop {
     NoMemory,
 }
 
-/// Writes the certificate of a search's outcome into a named file: the lines in front of the tree at once, then each
-/// further line by itself. After Ok the file holds the bytes of `cert_text::write_cert`.
+/// Writes the certificate of a search's outcome, with the cuts of the program, into a named file: the lines in front of the
+/// tree at once, then each further line by itself. After Ok the file holds the bytes of `cert_text::write_cert`.
 pub fn write_stream<F: Shelf>(
     alloc: Global,
     b: &Blocked,
@@ -44,7 +49,7 @@ pub fn write_stream<F: Shelf>(
     ensures reads { F.read_faults shelf.new ≡ F.read_faults shelf.old }
 {
     let claim = outcome_claim(b.model().maximises(), outcome);
-    match put_head(alloc, shelf, name, &claim, outcome_point(outcome)) {
+    match put_heads(alloc, shelf, name, &claim, outcome_point(outcome), b.cuts()) {
         Err(stop) => return Err(stop),
         Ok(()) => {}
     }
@@ -52,23 +57,61 @@ pub fn write_stream<F: Shelf>(
         Err(stop) => return Err(stop),
         Ok(_) => {}
     }
-    put_line(shelf, name, b"end\n")
+    put_end(shelf, name)
+}
+
+/// Writes a certificate that some text was read of, for a program in blocks, into a named file, in version 3 where it has
+/// cuts and else in version 2: the lines in front of the tree at once, then each further line by itself. After Ok the file
+/// holds the bytes of `cert_text::rewrite`.
+pub fn rewrite_stream<F: Shelf>(
+    alloc: Global,
+    _b: &Blocked,
+    cert: &Cert,
+    shelf: &mut F,
+    name: &str,
+) -> Result<(), StreamStop>
+    ensures files { IsTrue (F.tells shelf.old) → (old : List ℕ) → IsCertText (frame_for _b.now) (kept_cert cert.now) old → Rewrites (frame_for _b.now) cert.now name.now (F.file shelf.old) (F.file shelf.new) result }
+    ensures told { F.tells shelf.new ≡ F.tells shelf.old }
+    ensures cause { CountsStop (F.write_faults shelf.old) (F.write_faults shelf.new) result }
+    ensures reads { F.read_faults shelf.new ≡ F.read_faults shelf.old }
+{
+    let claim = cert.claim();
+    match put_heads(alloc, shelf, name, &claim, named_point(cert), cert.cuts()) {
+        Err(stop) => return Err(stop),
+        Ok(()) => {}
+    }
+    match put_sketch(alloc, shelf, name, cert.tree(), &[]) {
+        Err(stop) => return Err(stop),
+        Ok(_) => {}
+    }
+    put_end(shelf, name)
+}
+
+// The point of a certificate; none has no values.
+fn named_point(cert: &Cert) -> &[i64]
+    ensures { result.now ≡ unwrap_or (certificate_of cert.now).point [] }
+{
+    match cert.point() {
+        None => &[],
+        Some(point) => point,
+    }
 }
 
 // The lines in front of a tree.
-fn put_head<F: Shelf>(
+fn put_heads<F: Shelf>(
     alloc: Global,
     shelf: &mut F,
     name: &str,
     claim: &Claim,
     point: &[i64],
+    cuts: &[Cut],
 ) -> Result<(), StreamStop>
-    ensures files { IsTrue (F.tells shelf.old) → Heads name.now (version_text Two ++ claim_text claim.now point.now) (F.file shelf.old) (F.file shelf.new) result }
+    ensures files { IsTrue (F.tells shelf.old) → Heads name.now (head_text (version_with cuts.now) claim.now point.now cuts.now) (F.file shelf.old) (F.file shelf.new) result }
     ensures told { F.tells shelf.new ≡ F.tells shelf.old }
     ensures cause { CountsStop (F.write_faults shelf.old) (F.write_faults shelf.new) result }
     ensures reads { F.read_faults shelf.new ≡ F.read_faults shelf.old }
 {
-    let head = match head_text(alloc, claim, point) {
+    let head = match heads_text(alloc, claim, point, cuts) {
         Err(_) => return Err(StreamStop::NoMemory),
         Ok(head) => head,
     };
@@ -79,13 +122,17 @@ fn put_head<F: Shelf>(
 }
 
 // The text of the lines in front of a tree.
-fn head_text(alloc: Global, claim: &Claim, point: &[i64]) -> Result<Vec<u8>, AllocError>
+fn heads_text(
+    alloc: Global,
+    claim: &Claim,
+    point: &[i64],
+    cuts: &[Cut],
+) -> Result<Vec<u8>, AllocError>
     ensures { IfOk result (λ head. head.items ≡
-        version_text Two ++ claim_text claim.now point.now) }
+        head_text (version_with cuts.now) claim.now point.now cuts.now) }
 {
     let mut head = Vec::new(alloc);
-    head.extend_from_slice(b"bpcert 2\n")?;
-    put_claim(&mut head, claim, point)?;
+    put_head(&mut head, claim, point, cuts)?;
     Ok(head)
 }
 
@@ -115,6 +162,36 @@ fn put_nodes<'a, F: Shelf>(
             match put_nodes(alloc, shelf, name, low, had) {
                 Err(stop) => Err(stop),
                 Ok(last) => put_nodes(alloc, shelf, name, high, last),
+            }
+        }
+    }
+}
+
+// The lines of a tree that was read, behind a leaf that has these multipliers; gives those of its last leaf.
+fn put_sketch<'a, F: Shelf>(
+    alloc: Global,
+    shelf: &mut F,
+    name: &str,
+    tree: &'a Sketch,
+    had: &'a [(u32, i64)],
+) -> Result<&'a [(u32, i64)], StreamStop>
+    ensures files { IsTrue (F.tells shelf.old) → Appends name.now (tree_text Two (changing_nodes had.now (sketched tree.now))) (F.file shelf.old) (F.file shelf.new) result }
+    ensures told { F.tells shelf.new ≡ F.tells shelf.old }
+    ensures cause { CountsStop (F.write_faults shelf.old) (F.write_faults shelf.new) result }
+    ensures reads { F.read_faults shelf.new ≡ F.read_faults shelf.old }
+    ensures last { IfOk result (λ last. last.now ≡ last_mults (sketched tree.now)) }
+{
+    match tree {
+        Sketch::Leaf(proof) => put_leaf(alloc, shelf, name, b"leaf ", had, proof),
+        Sketch::Open(proof) => put_leaf(alloc, shelf, name, b"open ", had, proof),
+        Sketch::Fork { var, at, low, high } => {
+            match put_fork(alloc, shelf, name, *var, at) {
+                Err(stop) => return Err(stop),
+                Ok(()) => {}
+            }
+            match put_sketch(alloc, shelf, name, low, had) {
+                Err(stop) => Err(stop),
+                Ok(last) => put_sketch(alloc, shelf, name, high, last),
             }
         }
     }
@@ -163,6 +240,16 @@ fn put_fork<F: Shelf>(
         Err(_) => Err(StreamStop::NoMemory),
         Ok(()) => put_line(shelf, name, line.as_slice()),
     }
+}
+
+// The last line.
+fn put_end<F: Shelf>(shelf: &mut F, name: &str) -> Result<(), StreamStop>
+    ensures files { IsTrue (F.tells shelf.old) → Appends name.now (codes "end\n") (F.file shelf.old) (F.file shelf.new) result }
+    ensures told { F.tells shelf.new ≡ F.tells shelf.old }
+    ensures cause { CountsStop (F.write_faults shelf.old) (F.write_faults shelf.new) result }
+    ensures reads { F.read_faults shelf.new ≡ F.read_faults shelf.old }
+{
+    put_line(shelf, name, b"end\n")
 }
 
 // A line at the end of the named file.

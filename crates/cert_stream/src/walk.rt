@@ -1,5 +1,5 @@
 // What has been judged of a certificate's lines.
-ghost use Rattle.std.specs.Prelude.{◌≡◌, ◌↔◌, ℕ, ℤ, ◌+◌, ◌≤◌, ◌<◌, ◌^◌, List, [], ◌∷◌, Option, IsTrue, IfOk, IfSome};
+ghost use Rattle.std.specs.Prelude.{◌≡◌, ◌↔◌, ℕ, ◌+◌, ◌≤◌, ◌<◌, ◌^◌, List, [], ◌∷◌, Option, IsTrue, IfOk, IfSome};
 ghost use Rattle.bp_theory.specs.Program.{Program};
 ghost use Rattle.bp_theory.specs.Blocking.{Blocking};
 ghost use Rattle.bp_theory.specs.Bound.{Fits};
@@ -10,7 +10,7 @@ ghost use Rattle.lagr_bound.specs.Forms.{forms_in};
 ghost use Rattle.lagr_bound.specs.Works.{forms_of};
 ghost use Rattle.cert_stream.specs.Turns.{Turn, to_low};
 ghost use Rattle.cert_stream.specs.Paths.{IsPathIn};
-ghost use Rattle.cert_stream.specs.Walks.{WalksBelow, WalksBehind, IsFresh, IsWalkIn, IsWithin, leaf_with};
+ghost use Rattle.cert_stream.specs.Walks.{Front, WalksBelow, WalksBehind, IsFresh, IsOn, GoesOver, IsWalkIn, IsWithin, leaf_with};
 ghost use Rattle.cert_stream.specs.declared.walk.Walk.TheVariants.{At};
 
 use crate::path::{Fork, Path, go_on};
@@ -23,7 +23,7 @@ use lagr_bound::Work;
 use std::alloc::{AllocError, Global};
 
 // What has been judged of the lines that came: all of them pass, and the next one stands here; or one ended the judgement; or
-// the claim or a proof is none that can be judged, so that the text that follows will show a fault.
+// the claim, a cut or a proof is none that can be judged, so that the text that follows will show a fault.
 #[derive(Drop)]
 pub enum Walk {
     At(Path),
@@ -33,8 +33,9 @@ pub enum Walk {
 
 // The walk behind the line of a claim's point, where the claim names a value.
 pub fn begin(walk: Walk, b: &Blocked, claim: &Claim, point: &[i64]) -> Walk
-    ensures judged { (visits : Option ℕ) → IsFresh b.now.named.program.spans visits walk →
-        WalksBelow b.now.named.program b.now.blocking claim.now point.now visits [] result }
+    ensures judged { (visits : Option ℕ) (k : Blocking) →
+        IsFresh b.now.named.program.spans visits walk → WalksBelow b.now.named.program k claim.now
+        (record { point = point.now; dec = b.now.dec; cuts = [] }) visits [] result }
     ensures inside { IsWalkIn b.now.named.program.spans walk →
         IsWalkIn b.now.named.program.spans result }
     ensures line { (most : ℕ) → 3 ≤ most → IsWithin most walk → IsWithin (most + 1) result }
@@ -62,11 +63,12 @@ pub fn begin(walk: Walk, b: &Blocked, claim: &Claim, point: &[i64]) -> Walk
 // The walk behind the line of a split.
 pub fn enter(walk: Walk, split: SplitPlace) -> Result<Walk, AllocError>
     requires few { IsWithin (2 ^ 63 + 2) walk }
-    ensures judged { (p : Program) (b : Blocking) (claim : claims.Claim) (zs : List ℤ)
-        (visits : Option ℕ) (ts : List Turn) → WalksBelow p b claim zs visits ts walk →
-        IfOk result (WalksBelow p b claim zs visits (to_low split.var split.at ∷ ts)) }
+    ensures judged { (p : Program) (b : Blocking) (claim : claims.Claim) (front : Front)
+        (visits : Option ℕ) (ts : List Turn) → WalksBelow p b claim front visits ts walk →
+        IfOk result (WalksBelow p b claim front visits (to_low split.var split.at ∷ ts)) }
     ensures inside { (root : List Span) → IsWalkIn root walk → IfOk result (IsWalkIn root) }
     ensures line { (most : ℕ) → IsWithin most walk → IfOk result (IsWithin (most + 1)) }
+    ensures on { IfOk result (λ now. IsOn now → IsOn walk) }
 {
     match walk {
         Walk::At(path) => enter_from(path, split),
@@ -78,9 +80,9 @@ pub fn enter(walk: Walk, split: SplitPlace) -> Result<Walk, AllocError>
 // The same from a place.
 fn enter_from(path: Path, split: SplitPlace) -> Result<Walk, AllocError>
     requires few { path.place.line ≤ 2 ^ 63 + 2 }
-    ensures judged { (p : Program) (b : Blocking) (claim : claims.Claim) (zs : List ℤ)
-        (visits : Option ℕ) (ts : List Turn) → WalksBelow p b claim zs visits ts (At path) →
-        IfOk result (WalksBelow p b claim zs visits (to_low split.var split.at ∷ ts)) }
+    ensures judged { (p : Program) (b : Blocking) (claim : claims.Claim) (front : Front)
+        (visits : Option ℕ) (ts : List Turn) → WalksBelow p b claim front visits ts (At path) →
+        IfOk result (WalksBelow p b claim front visits (to_low split.var split.at ∷ ts)) }
     ensures inside { (root : List Span) → IsPathIn root path → IfOk result (IsWalkIn root) }
     ensures line { (most : ℕ) → path.place.line ≤ most → IfOk result (IsWithin (most + 1)) }
 {
@@ -119,12 +121,12 @@ pub fn leave(
     requires inside { IsWalkIn b.now.named.program.spans walk }
     requires few { IsWithin (2 ^ 63 + 2) walk }
     ensures made_for { IfSome work.new (λ made. forms_of made ≡ forms_in b.now) }
-    ensures judged { (zs : List ℤ) (visits : Option ℕ) (ts : List Turn) →
-        WalksBelow b.now.named.program b.now.blocking claim.now zs visits ts walk →
-        IfOk result (WalksBehind b.now.named.program b.now.blocking claim.now zs visits ts
-        (leaf_with is_open proof.now)) }
+    ensures judged { (p : Program) (k : Blocking) (front : Front) (visits : Option ℕ)
+        (ts : List Turn) → GoesOver b.now p k walk → WalksBelow p k claim.now front visits ts walk →
+        IfOk result (WalksBehind p k claim.now front visits ts (leaf_with is_open proof.now)) }
     ensures inside { IfOk result (IsWalkIn b.now.named.program.spans) }
     ensures line { (most : ℕ) → IsWithin most walk → IfOk result (IsWithin (most + 1)) }
+    ensures on { IfOk result (λ now. IsOn now → IsOn walk) }
 {
     match walk {
         Walk::At(path) => {
@@ -155,9 +157,9 @@ fn leave_from(
     requires inside { IsPathIn b.now.named.program.spans path }
     requires few { path.place.line ≤ 2 ^ 63 + 2 }
     ensures made_for { IfSome work.new (λ made. forms_of made ≡ forms_in b.now) }
-    ensures judged { (zs : List ℤ) (visits : Option ℕ) (ts : List Turn) →
-        WalksBelow b.now.named.program b.now.blocking claim.now zs visits ts (At path) →
-        IfOk result (WalksBehind b.now.named.program b.now.blocking claim.now zs visits ts
+    ensures judged { (front : Front) (visits : Option ℕ) (ts : List Turn) →
+        WalksBelow b.now.named.program b.now.blocking claim.now front visits ts (At path) →
+        IfOk result (WalksBehind b.now.named.program b.now.blocking claim.now front visits ts
         (leaf_with is_open proof.now)) }
     ensures inside { IfOk result (IsWalkIn b.now.named.program.spans) }
     ensures line { IfOk result (IsWithin (path.place.line + 1)) }
@@ -194,4 +196,14 @@ fn is_small(number: &i64) -> bool
     ensures { IsTrue result ↔ IsSmall number.now }
 {
     number.unsigned_abs() <= MAX_NUMBER as u64
+}
+
+// Whether a walk goes on.
+pub fn goes_on(walk: &Walk) -> bool
+    ensures { IsTrue result ↔ IsOn walk.now }
+{
+    match walk {
+        Walk::At(_) => true,
+        Walk::Ended(_) | Walk::Misfit => false,
+    }
 }

@@ -1,4 +1,4 @@
--- The bytes of a certificate's text of version 2.
+-- The bytes of a certificate's text of versions 2 and 3.
 use Rattle.std.proofs.Common.{◌≡◌, ℕ, ◌+◌, ◌<◌, ◌≤◌, List, [], ◌∷◌, map, ℤ, pos, refl, sym, ap, ◌∙◌, subst, ⊎_elim, arith, if◌then◌else◌}
 use Rattle.std.specs.Prelude.{unwrap_or, Bool, true, false}
 use Rattle.std.specs.Option.{option_map}
@@ -7,19 +7,19 @@ use Rattle.std.proofs.lemmas.Bool.{lt-ltb, le-ltb, eq-eqb, ne_eqb, cases_order}
 use Rattle.bp_theory.specs.Trees as theory
 use Rattle.bp_theory.specs.Trees.{shut_leaf, open_leaf, split}
 use Rattle.bp_theory.specs.Judgement.{named_value}
+use Rattle.bp_theory.specs.declared.Cut.{Cut}
 use Rattle.bp_theory.specs.declared.Claim.{Claim}
 use Rattle.bp_theory.specs.declared.Proof as given
 use Rattle.cert_text.specs.Cert as texts
 use Rattle.cert_text.specs.Cert.{Proof, Tree, Shut, Open, Split, Frame}
-use Rattle.cert_text.specs.Text.{Version, Two, text_of, tokens_of}
+use Rattle.cert_text.specs.Text.{Version, Two, Three, text_of, tokens_of}
 use Rattle.cert_text.specs.Fault.{IsText}
-use Rattle.cert_text.specs.Differences.{against, difference, changing, last_pairs, changing_tree}
+use Rattle.cert_text.specs.Differences.{against, difference, changing, last_pairs, changing_tree, changing_cert}
 use Rattle.cert_text.specs.Changes.{changing_proof, last_mults, changing_nodes}
-use Rattle.cert_text.specs.Written.{written_pair, written_proof, written_picked, written_tree, written_claim, cert_of, certificate}
-use Rattle.cert_text.specs.Plain.{plain_text}
-use Rattle.cert_text.specs.Stages.{plain_of}
+use Rattle.cert_text.specs.Written.{written_pair, written_proof, written_picked, written_cut, written_tree, written_claim, cert_of, certificate}
+use Rattle.cert_text.specs.Plain.{version_with, plain_text}
 use Rattle.cert_text.proofs.PlainProof.{plain_lem}
-use Rattle.cert_text.proofs.BothTexts.{text_of_changes}
+use Rattle.cert_text.proofs.BothTexts.{text_of_changes, third_of_changes}
 
 -- one of two lists
 either-written : (u : Bool) (xs ys : List (ℕ × ℤ)) (n : ℕ × ℤ) → map written_pair xs ≡ ys → map written_pair (if◌then◌else◌ {A = List (ℕ × ℤ)} u xs (n ∷ xs)) ≡ if◌then◌else◌ {A = List (ℕ × ℤ)} u ys (written_pair n ∷ ys)
@@ -80,14 +80,20 @@ changing_tree-written had (split v at low high) =
     ∙ ap (λ (ps : List (ℕ × ℤ)). Split (v + 1) at left (changing_tree ps (written_tree high))) (last_pairs-written low)
     ∙ ap (λ (x : Tree). Split (v + 1) at left x) (changing_tree-written (last_mults low) high)
 
--- a certificate that has a text has this one in version 2
-pub rewritten : (frame : Frame) (version : Version) (claim : Claim) (zs : List ℤ) (t : theory.Tree) (old : List ℕ) → IsText frame version (cert_of (certificate claim zs t)) old
-    → IsText frame Two (cert_of (certificate claim zs t)) (plain_text Two claim zs (changing_nodes [] t))
-rewritten frame version claim zs t old is =
-    let c : texts.Cert = cert_of (certificate claim zs t) in
+-- a certificate's text with changes, byte by byte
+pub changed_bytes : (frame : Frame) (version : Version) (claim : Claim) (zs : List ℤ) (cuts : List Cut) (t : theory.Tree) → IsText frame version (cert_of (certificate claim zs cuts t)) (text_of (tokens_of frame version (changing_cert (cert_of (certificate claim zs cuts t)))))
+    → IsText frame version (cert_of (certificate claim zs cuts t)) (plain_text version claim zs cuts (changing_nodes [] t))
+changed_bytes frame version claim zs cuts t new =
     let a : texts.Claim = written_claim claim (unwrap_or (option_map (λ _. zs) (named_value claim)) []) in
-    let new = text_of_changes frame version c old is in
-    let trees : text_of (tokens_of frame Two (plain_of a (changing_tree [] (written_tree t)))) ≡ text_of (tokens_of frame Two (plain_of a (written_tree (changing_nodes [] t)))) =
-    ap (λ (x : Tree). text_of (tokens_of frame Two (plain_of a x))) (changing_tree-written [] t) in
-    let P : List ℕ → Type 0 = λ s. IsText frame Two c s in
-    subst P (trees ∙ sym (plain_lem frame Two claim zs (changing_nodes [] t))) new
+    let made : Tree → texts.Cert = λ x. record { claim = a; cuts = map written_cut cuts; tree = x } in
+    let trees : text_of (tokens_of frame version (made (changing_tree [] (written_tree t)))) ≡ text_of (tokens_of frame version (made (written_tree (changing_nodes [] t)))) =
+    ap (λ (x : Tree). text_of (tokens_of frame version (made x))) (changing_tree-written [] t) in
+    let P : List ℕ → Type 0 = λ s. IsText frame version (cert_of (certificate claim zs cuts t)) s in
+    subst P (trees ∙ sym (plain_lem frame version claim zs cuts (changing_nodes [] t))) new
+
+-- a certificate that has a text has this one in version 3 where it has cuts, and else in version 2
+pub rewritten : (frame : Frame) (version : Version) (claim : Claim) (zs : List ℤ) (cuts : List Cut) (t : theory.Tree) (old : List ℕ) → IsText frame version (cert_of (certificate claim zs cuts t)) old
+    → IsText frame (version_with cuts) (cert_of (certificate claim zs cuts t)) (plain_text (version_with cuts) claim zs cuts (changing_nodes [] t))
+rewritten frame version claim zs [] t old is = changed_bytes frame Two claim zs [] t (text_of_changes frame version (cert_of (certificate claim zs [] t)) old refl is)
+rewritten frame version claim zs (cut ∷ cuts) t old is =
+    changed_bytes frame Three claim zs (cut ∷ cuts) t (third_of_changes frame version (cert_of (certificate claim zs (cut ∷ cuts) t)) old (omega arith) is)

@@ -13,15 +13,15 @@ use Rattle.cert_text.proofs.Fine.{IsKept}
 use Rattle.cert_text.proofs.Putting.{some_false}
 
 -- what holds of each change
-abbrev pub IsChange : Frame → ℕ × ℤ → Type 0
-IsChange frame pair = (unsigned_abs pair.1 ≤ 2 ^ 40) × (may_name frame 0 pair.0 ≡ true)
+abbrev pub IsChange : Frame → ℕ → ℕ × ℤ → Type 0
+IsChange frame cuts pair = (unsigned_abs pair.1 ≤ 2 ^ 40) × (may_name frame cuts pair.0 ≡ true)
 
 -- what holds of changes that make some multipliers of others
-pub record Makes (frame : Frame) (last : ℕ) (had now ds : List (ℕ × ℤ)) : Type 0 where
+pub record Makes (frame : Frame) (cuts last : ℕ) (had now ds : List (ℕ × ℤ)) : Type 0 where
   pub made : changed had ds ≡ now
   pub up : AscendAbove last ds
   pub differ : Differ had ds
-  pub each : AllByRecursion (IsChange frame) ds
+  pub each : AllByRecursion (IsChange frame cuts) ds
 
 lower_up : (m n : ℕ) (ps : List (ℕ × ℤ)) → m ≤ n → AscendAbove n ps → AscendAbove m ps
 lower_up m n [] le up = tt
@@ -64,25 +64,25 @@ first_multiplier : (h : ℕ × ℤ) (hs : List (ℕ × ℤ)) → multiplier (h �
 first_multiplier h hs = rw (eq-eqb h.0 h.0 refl) refl
 
 -- nothing had before: the multipliers themselves
-all_new : (frame : Frame) (last : ℕ) (now : List (ℕ × ℤ)) → AscendAbove last now → AllByRecursion (IsKept frame) now → Makes frame last [] now now
-all_new frame last now up all = record { made = made last now up all; up = up; differ = differ now all; each = each now all }
+all_new : (frame : Frame) (cuts last : ℕ) (now : List (ℕ × ℤ)) → AscendAbove last now → AllByRecursion (IsKept frame cuts) now → Makes frame cuts last [] now now
+all_new frame cuts last now up all = record { made = made last now up all; up = up; differ = differ now all; each = each now all }
   where
-    made : (last : ℕ) (now : List (ℕ × ℤ)) → AscendAbove last now → AllByRecursion (IsKept frame) now → changed [] now ≡ now
+    made : (last : ℕ) (now : List (ℕ × ℤ)) → AscendAbove last now → AllByRecursion (IsKept frame cuts) now → changed [] now ≡ now
     made last [] up all = refl
     made last (n ∷ ns) up all =
         ap (λ (xs : List (ℕ × ℤ)). changed xs ns) (with_some n [] all.0.1) ∙ changed_above n [] ns up.1 ∙ ap (λ (xs : List (ℕ × ℤ)). n ∷ xs) (made n.0 ns up.1 all.1)
 
-    differ : (now : List (ℕ × ℤ)) → AllByRecursion (IsKept frame) now → Differ [] now
+    differ : (now : List (ℕ × ℤ)) → AllByRecursion (IsKept frame cuts) now → Differ [] now
     differ [] all = tt
     differ (n ∷ ns) all = (all.0.1, differ ns all.1)
 
-    each : (now : List (ℕ × ℤ)) → AllByRecursion (IsKept frame) now → AllByRecursion (IsChange frame) now
+    each : (now : List (ℕ × ℤ)) → AllByRecursion (IsKept frame cuts) now → AllByRecursion (IsChange frame cuts) now
     each [] all = tt
     each (n ∷ ns) all = ((all.0.0, all.0.2), each ns all.1)
 
 -- a row that is taken out
-taken_out : (frame : Frame) (last : ℕ) (h : ℕ × ℤ) (hs now ds : List (ℕ × ℤ)) → last < h.0 → IsKept frame h → Makes frame h.0 hs now ds → Makes frame last (h ∷ hs) now ((h.0, pos 0) ∷ ds)
-taken_out frame last h hs now ds low kept m = record {
+taken_out : (frame : Frame) (cuts last : ℕ) (h : ℕ × ℤ) (hs now ds : List (ℕ × ℤ)) → last < h.0 → IsKept frame cuts h → Makes frame cuts h.0 hs now ds → Makes frame cuts last (h ∷ hs) now ((h.0, pos 0) ∷ ds)
+taken_out frame cuts last h hs now ds low kept m = record {
   made = ap (λ (xs : List (ℕ × ℤ)). changed xs ds) (put_same h h.0 (pos 0) hs refl) ∙ m.made;
   up = (low, m.up);
   differ = ((λ e. kept.1 (sym (e ∙ first_multiplier h hs))), differ_above h hs ds m.up m.differ);
@@ -90,8 +90,8 @@ taken_out frame last h hs now ds low kept m = record {
 }
 
 -- a row that keeps its multiplier
-left_there : (frame : Frame) (last : ℕ) (h : ℕ × ℤ) (hs ns ds : List (ℕ × ℤ)) → last < h.0 → Makes frame h.0 hs ns ds → Makes frame last (h ∷ hs) (h ∷ ns) ds
-left_there frame last h hs ns ds low m = record {
+left_there : (frame : Frame) (cuts last : ℕ) (h : ℕ × ℤ) (hs ns ds : List (ℕ × ℤ)) → last < h.0 → Makes frame cuts h.0 hs ns ds → Makes frame cuts last (h ∷ hs) (h ∷ ns) ds
+left_there frame cuts last h hs ns ds low m = record {
   made = changed_above h hs ds m.up ∙ ap (λ (xs : List (ℕ × ℤ)). h ∷ xs) m.made;
   up = lower_up last h.0 ds (omega arith) m.up;
   differ = differ_above h hs ds m.up m.differ;
@@ -99,8 +99,8 @@ left_there frame last h hs ns ds low m = record {
 }
 
 -- a row that gets another multiplier
-given_other : (frame : Frame) (last : ℕ) (h n : ℕ × ℤ) (hs ns ds : List (ℕ × ℤ)) → last < h.0 → h.0 ≡ n.0 → n.1 ≢ h.1 → IsKept frame n → Makes frame h.0 hs ns ds → Makes frame last (h ∷ hs) (n ∷ ns) (n ∷ ds)
-given_other frame last h n hs ns ds low same other kept m =
+given_other : (frame : Frame) (cuts last : ℕ) (h n : ℕ × ℤ) (hs ns ds : List (ℕ × ℤ)) → last < h.0 → h.0 ≡ n.0 → n.1 ≢ h.1 → IsKept frame cuts n → Makes frame cuts h.0 hs ns ds → Makes frame cuts last (h ∷ hs) (n ∷ ns) (n ∷ ds)
+given_other frame cuts last h n hs ns ds low same other kept m =
     let U : ℕ → Type 0 = λ row. AscendAbove row ds in
     let up : AscendAbove n.0 ds = subst U same m.up in
     let first : multiplier (h ∷ hs) n.0 ≡ h.1 = ap (multiplier (h ∷ hs)) (sym same) ∙ first_multiplier h hs in
@@ -112,8 +112,8 @@ given_other frame last h n hs ns ds low same other kept m =
     }
 
 -- a row that comes in
-comes_in : (frame : Frame) (last : ℕ) (h n : ℕ × ℤ) (hs ns ds : List (ℕ × ℤ)) → last < n.0 → n.0 < h.0 → AscendAbove h.0 hs → IsKept frame n → Makes frame n.0 (h ∷ hs) ns ds → Makes frame last (h ∷ hs) (n ∷ ns) (n ∷ ds)
-comes_in frame last h n hs ns ds low below up kept m =
+comes_in : (frame : Frame) (cuts last : ℕ) (h n : ℕ × ℤ) (hs ns ds : List (ℕ × ℤ)) → last < n.0 → n.0 < h.0 → AscendAbove h.0 hs → IsKept frame cuts n → Makes frame cuts n.0 (h ∷ hs) ns ds → Makes frame cuts last (h ∷ hs) (n ∷ ns) (n ∷ ds)
+comes_in frame cuts last h n hs ns ds low below up kept m =
     let none : multiplier (h ∷ hs) n.0 ≡ pos 0 = multiplier-below n.0 (h ∷ hs) (below, up) in
     record {
       made = ap (λ (xs : List (ℕ × ℤ)). changed xs ds) (put_front h n hs below kept.1) ∙ changed_above n (h ∷ hs) ds m.up ∙ ap (λ (xs : List (ℕ × ℤ)). n ∷ xs) m.made;
@@ -123,41 +123,41 @@ comes_in frame last h n hs ns ds low below up kept m =
     }
 
 -- the changes behind a pair
-against_makes : (frame : Frame) (h : ℕ × ℤ) (hs : List (ℕ × ℤ)) (rest : List (ℕ × ℤ) → List (ℕ × ℤ)) → AscendAbove h.0 hs → IsKept frame h
-    → ((now : List (ℕ × ℤ)) → AscendAbove h.0 now → AllByRecursion (IsKept frame) now → Makes frame h.0 hs now (rest now))
-    → (last : ℕ) (now : List (ℕ × ℤ)) → last < h.0 → AscendAbove last now → AllByRecursion (IsKept frame) now → Makes frame last (h ∷ hs) now (against h rest now)
-against_makes frame h hs rest up kept makes last [] low up_now all = taken_out frame last h hs [] (rest []) low kept (makes [] tt tt)
-against_makes frame h hs rest up kept makes last (n ∷ ns) low up_now all =
-    by (nat_lt n.0 h.0) (nat_eq n.0 h.0) (int_eq n.1 h.1) refl refl refl (λ below. against_makes frame h hs rest up kept makes n.0 ns below up_now.1 all.1)
+against_makes : (frame : Frame) (cuts : ℕ) (h : ℕ × ℤ) (hs : List (ℕ × ℤ)) (rest : List (ℕ × ℤ) → List (ℕ × ℤ)) → AscendAbove h.0 hs → IsKept frame cuts h
+    → ((now : List (ℕ × ℤ)) → AscendAbove h.0 now → AllByRecursion (IsKept frame cuts) now → Makes frame cuts h.0 hs now (rest now))
+    → (last : ℕ) (now : List (ℕ × ℤ)) → last < h.0 → AscendAbove last now → AllByRecursion (IsKept frame cuts) now → Makes frame cuts last (h ∷ hs) now (against h rest now)
+against_makes frame cuts h hs rest up kept makes last [] low up_now all = taken_out frame cuts last h hs [] (rest []) low kept (makes [] tt tt)
+against_makes frame cuts h hs rest up kept makes last (n ∷ ns) low up_now all =
+    by (nat_lt n.0 h.0) (nat_eq n.0 h.0) (int_eq n.1 h.1) refl refl refl (λ below. against_makes frame cuts h hs rest up kept makes n.0 ns below up_now.1 all.1)
   where
-    by : (s t u : Bool) → nat_lt n.0 h.0 ≡ s → nat_eq n.0 h.0 ≡ t → int_eq n.1 h.1 ≡ u → (n.0 < h.0 → Makes frame n.0 (h ∷ hs) ns (against h rest ns))
-        → Makes frame last (h ∷ hs) (n ∷ ns) (if s then n ∷ against h rest ns else (if t then (if u then rest ns else n ∷ rest ns) else (h.0, pos 0) ∷ rest (n ∷ ns)))
+    by : (s t u : Bool) → nat_lt n.0 h.0 ≡ s → nat_eq n.0 h.0 ≡ t → int_eq n.1 h.1 ≡ u → (n.0 < h.0 → Makes frame cuts n.0 (h ∷ hs) ns (against h rest ns))
+        → Makes frame cuts last (h ∷ hs) (n ∷ ns) (if s then n ∷ against h rest ns else (if t then (if u then rest ns else n ∷ rest ns) else (h.0, pos 0) ∷ rest (n ∷ ns)))
     by true t u is eq also more =
         let below : n.0 < h.0 = ltb-true n.0 h.0 is in
-        comes_in frame last h n hs ns (against h rest ns) up_now.0 below up all.0 (more below)
+        comes_in frame cuts last h n hs ns (against h rest ns) up_now.0 below up all.0 (more below)
     by false true u is eq also more =
         let same : h.0 ≡ n.0 = sym (eqb-true n.0 h.0 eq) in
         let U : ℕ → Type 0 = λ row. AscendAbove row ns in
         let behind = makes ns (subst U (sym same) up_now.1) all.1 in
         equal u same also behind
       where
-        equal : (u : Bool) → h.0 ≡ n.0 → int_eq n.1 h.1 ≡ u → Makes frame h.0 hs ns (rest ns) → Makes frame last (h ∷ hs) (n ∷ ns) (if u then rest ns else n ∷ rest ns)
+        equal : (u : Bool) → h.0 ≡ n.0 → int_eq n.1 h.1 ≡ u → Makes frame cuts h.0 hs ns (rest ns) → Makes frame cuts last (h ∷ hs) (n ∷ ns) (if u then rest ns else n ∷ rest ns)
         equal true same also behind =
             let value : n.1 ≡ h.1 = (signed_Decides n.1 h.1).0 also in
             let first : (h.0, h.1) ≡ (n.0, h.1) = ap (λ (a : ℕ). (a, h.1)) same in
             let pair : h ≡ n = first ∙ ap (λ (z : ℤ). (n.0, z)) (sym value) in
-            let P : ℕ × ℤ → Type 0 = λ x. Makes frame last (h ∷ hs) (x ∷ ns) (rest ns) in
-            subst P pair (left_there frame last h hs ns (rest ns) low behind)
+            let P : ℕ × ℤ → Type 0 = λ x. Makes frame cuts last (h ∷ hs) (x ∷ ns) (rest ns) in
+            subst P pair (left_there frame cuts last h hs ns (rest ns) low behind)
         equal false same also behind =
-            given_other frame last h n hs ns (rest ns) low same (λ e. true≢false (sym ((signed_Decides n.1 h.1).1 e) ∙ also)) all.0 behind
+            given_other frame cuts last h n hs ns (rest ns) low same (λ e. true≢false (sym ((signed_Decides n.1 h.1).1 e) ∙ also)) all.0 behind
     by false false u is eq also more =
         let high : h.0 ≤ n.0 = ltb-false n.0 h.0 is in
         let apart : n.0 ≡ h.0 → ⊥ = λ e. true≢false (sym (eq-eqb n.0 h.0 e) ∙ eq) in
         let above : h.0 < n.0 = omega arith in
-        taken_out frame last h hs (n ∷ ns) (rest (n ∷ ns)) low kept (makes (n ∷ ns) (above, up_now.1) all)
+        taken_out frame cuts last h hs (n ∷ ns) (rest (n ∷ ns)) low kept (makes (n ∷ ns) (above, up_now.1) all)
 
 -- the changes between two lists make the second of the first
-pub difference_makes : (frame : Frame) (last : ℕ) (had now : List (ℕ × ℤ)) → AscendAbove last had → AllByRecursion (IsKept frame) had → AscendAbove last now → AllByRecursion (IsKept frame) now → Makes frame last had now (difference had now)
-difference_makes frame last [] now up all up_now all_now = all_new frame last now up_now all_now
-difference_makes frame last (h ∷ had) now up all up_now all_now =
-    against_makes frame h had (difference had) up.1 all.0 (λ next above each. difference_makes frame h.0 had next up.1 all.1 above each) last now up.0 up_now all_now
+pub difference_makes : (frame : Frame) (cuts last : ℕ) (had now : List (ℕ × ℤ)) → AscendAbove last had → AllByRecursion (IsKept frame cuts) had → AscendAbove last now → AllByRecursion (IsKept frame cuts) now → Makes frame cuts last had now (difference had now)
+difference_makes frame cuts last [] now up all up_now all_now = all_new frame cuts last now up_now all_now
+difference_makes frame cuts last (h ∷ had) now up all up_now all_now =
+    against_makes frame cuts h had (difference had) up.1 all.0 (λ next above each. difference_makes frame cuts h.0 had next up.1 all.1 above each) last now up.0 up_now all_now

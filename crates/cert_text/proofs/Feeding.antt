@@ -4,9 +4,9 @@ use Rattle.std.proofs.lemmas.List.{take_more}
 use Rattle.cert_text.specs.Text.{Kind}
 use Rattle.cert_text.specs.Fault.{IsSeenFault, IsFirstCertFault}
 use Rattle.cert_text.specs.Frames.{frame_of}
-use Rattle.cert_text.specs.Cert.{Tree}
+use Rattle.cert_text.specs.Cert.{Cut, Tree}
 use Rattle.cert_text.specs.Stages.{Wait}
-use Rattle.cert_text.specs.Standing.{EndsTextAt, EndsWell, ReadsCertificate}
+use Rattle.cert_text.specs.Standing.{EndsWell, ReadsCertificate}
 use Rattle.cert_text.specs.Builders.{BuildsOn, Feeds}
 use Rattle.cert_text.specs.declared.fault.CertFault.{CertFault}
 use Rattle.cert_text.specs.declared.fault.CertFault.TheVariants.{At, NoMemory}
@@ -51,15 +51,10 @@ read_fault frame new text NoMemory feeds = tt
 read_fault frame new text (At line kind) feeds = seen_faults_are_first (frame_of frame) text line kind feeds
 
 -- a fault at the end
-pub end_fault : (above : List Wait) (root : Tree) (frame : Frame) (new : Lines) (text : List ℕ) (line : ℕ) (kind : Kind) (result : Result (Unit {0}) CertFault) → result ≡ Err (At line kind) → IsFirstCertFault (frame_of frame) text line kind → EndsWell above root frame new text result
-end_fault above root frame new text line kind result is fault = let P : Result (Unit {0}) CertFault → Type 0 = λ r. EndsWell above root frame new text r in subst P (sym is) fault
-
--- a fault of the number with which the text ends
-pub number_fault : (above : List Wait) (root : Tree) (frame : Frame) (new : Lines) (text : List ℕ) (e : CertFault) → EndsTextAt above root frame new text (Err e) → EndsWell above root frame new text (Err e)
-number_fault above root frame new text NoMemory ends = tt
-number_fault above root frame new text (At line kind) ends = ends
+pub end_fault : (above : List Wait) (root : Tree) (cuts : List Cut) (frame : Frame) (new : Lines) (text : List ℕ) (line : ℕ) (kind : Kind) (result : Result (Unit {0}) CertFault) → result ≡ Err (At line kind) → IsFirstCertFault (frame_of frame) text line kind → EndsWell above root cuts frame new text result
+end_fault above root cuts frame new text line kind result is fault = let P : Result (Unit {0}) CertFault → Type 0 = λ r. EndsWell above root cuts frame new text r in subst P (sym is) fault
 
 -- a fault that is there at the end
-pub finish_fault : (above : List Wait) (root : Tree) (frame : Frame) (new : Lines) (text : List ℕ) (e : CertFault) → EndsWell above root frame new text (Err e) → ReadsCertificate frame text (Err e)
-finish_fault above root frame new text NoMemory ends = tt
-finish_fault above root frame new text (At line kind) ends = ends
+pub finish_fault : (above : List Wait) (root : Tree) (cuts : List Cut) (frame : Frame) (new : Lines) (text : List ℕ) (e : CertFault) → EndsWell above root cuts frame new text (Err e) → ReadsCertificate frame text (Err e)
+finish_fault above root cuts frame new text NoMemory ends = tt
+finish_fault above root cuts frame new text (At line kind) ends = ends

@@ -1,18 +1,23 @@
 -- A certificate that is read for a program goes with it.
-use Rattle.std.proofs.Common.{◌≡◌, ◌≢◌, refl, ap, subst, ◌∙◌, ℕ, ◌+◌, ◌-◌, ◌*◌, ◌<◌, ◌≤◌, ◌^◌, Bool, true, false, ◌&&◌, ◌||◌, List, [], ◌∷◌, ◌++◌, map, length, get_or, codes, Option, Some, None, Result, Ok, Err, arith, length-append}
+use Rattle.std.proofs.Common.{◌≡◌, ◌≢◌, refl, sym, suc, ap, subst, ◌∙◌, ℕ, ◌+◌, ◌-◌, ◌*◌, ◌<◌, ◌≤◌, ◌^◌, Bool, true, false, List, [], ◌∷◌, ◌++◌, map, length, get_or, Option, Some, None, Result, Ok, Err, arith, length-append}
 use Rattle.std.proofs.Math.IntN.{ℤ, pos}
-use Rattle.std.specs.Prelude.{IsSome, IfOk, is_none, nat_lt, nat_le, unsigned_abs, unwrap_or}
+use Rattle.std.specs.Prelude.{IsSome, IfOk, unsigned_abs, unwrap_or}
 use Rattle.std.specs.List.{AllByRecursion}
 use Rattle.std.specs.Option.{option_map}
-use Rattle.std.proofs.lemmas.Bool.{ltb-true, ltb-false, leb-true}
+use Rattle.std.proofs.lemmas.Bool.{ltb-false}
+use Rattle.std.proofs.lemmas.List.{length-map}
 use Rattle.std.proofs.lemmas.List.Elements.{All-from_recursion}
 use Rattle.bp_theory.specs.Blocking.{Blocking, row_at}
 use Rattle.bp_theory.specs.Bound.{Fits, ArePicked}
+use Rattle.bp_theory.specs.Decomposition.{no_row, proof_rows}
+use Rattle.bp_theory.specs.Cuts.{cut_row}
 use Rattle.bp_theory.specs.Trees as theory
 use Rattle.bp_theory.specs.Trees.{shut_leaf, open_leaf, split, Leaf, leaves, depth, low_part, high_part}
 use Rattle.bp_theory.specs.Judgement as judgement
 use Rattle.bp_theory.specs.Judgement.{Line, judged_lines, point_lines, named_value}
 use Rattle.bp_theory.specs.declared.Span.{Span}
+use Rattle.bp_theory.specs.declared.Row.{Row}
+use Rattle.bp_theory.specs.declared.Cut.{Cut}
 use Rattle.bp_theory.specs.declared.Proof as given
 use Rattle.bp_theory.specs.declared.Picked.{Picked}
 use Rattle.bp_theory.specs.declared.Picked.TheVariants.{Every, These}
@@ -20,24 +25,26 @@ use Rattle.bp_theory.specs.declared.Claim.{Claim}
 use Rattle.bp_theory.specs.declared.Claim.TheVariants.{Optimal, Infeasible, Bound}
 use Rattle.block_form.specs.Blocked.{BlockedProgram, IsFormed}
 use Rattle.cert_text.specs.Cert as texts
-use Rattle.cert_text.specs.Text.{Token, Words, LineEnd, Version, first_kind, is_past, may_name, blocks_behind, picked_words, value_fault, claim_lines, cut_lines, tree_lines, tokens_of, meant_tree}
+use Rattle.cert_text.specs.Text.{Version, first_kind, is_past, may_name, blocks_behind, picked_words, value_fault, claim_lines, meant_tree}
 use Rattle.cert_text.specs.Fault.{AreClean, IsCertText, IsFirstCertFault}
 use Rattle.cert_text.specs.Nodes.{nodes}
 use Rattle.cert_text.specs.Frames.{frame_of}
-use Rattle.cert_text.specs.Written.{cert_of, in_text, written_pair, written_picked, written_proof, written_tree, written_claim, certificate}
+use Rattle.cert_text.specs.Written.{cert_of, in_text, written_pair, written_picked, written_proof, written_cut, written_tree, written_claim, certificate}
 use Rattle.cert_text.specs.Sketch.{tree_of}
 use Rattle.cert_text.specs.Kept.{certificate_of, kept_cert}
-use Rattle.cert_text.specs.Programs.{frame_by, frame_for, ReadsFor, IsSmall, IsSmallClaim, GoesWith}
+use Rattle.cert_text.specs.Programs.{frame_by, frame_for, IsWhole, IsOver, AreOver, ReadsFor, IsSmall, IsSmallClaim, GoesWith}
 use Rattle.cert_text.specs.Standing.{ReadsCertificate}
 use Rattle.cert_text.specs.declared.cert.Cert.{Cert as Kept}
 use Rattle.cert_text.specs.declared.frame.Frame.{Frame}
 use Rattle.cert_text.specs.declared.fault.CertFault.{CertFault}
 use Rattle.cert_text.specs.declared.fault.CertFault.TheVariants.{At, NoMemory}
 use Rattle.cert_text.specs.declared.fault.CertKind.TheVariants.{TooLarge}
-use Rattle.cert_text.proofs.Meaning.{clean_front, tree_clean}
+use Rattle.cert_text.proofs.Meaning.{tree_clean}
 use Rattle.cert_text.proofs.Putting.{Rises, rises_increasing, above_rises}
-use Rattle.cert_text.proofs.Fine.{scale_small, block_tested, IsKept, none_kept, IsFineLeaf, IsFine, fine_tree, text_nodes, no_cuts}
-use Rattle.cert_text.proofs.NamedRows.{named_of_text}
+use Rattle.cert_text.proofs.Fine.{scale_small, block_tested, IsKept, none_kept, IsFineLeaf, IsFine, fine_tree, text_nodes, IsCombined, IsFineCut, AreFineCuts, fine_cuts, cuts_few, cuts_clean}
+use Rattle.cert_text.proofs.Clean.{claim_clean}
+use Rattle.cert_text.proofs.CombinedRows.{combined_of_text}
+use Rattle.cert_text.proofs.NamedRows.{named_of_text, blocks_same, blocking_over}
 
 -- ---- lists
 
@@ -63,10 +70,10 @@ second_all P (x ∷ xs) ys h = second_all P xs ys h.1
 abbrev pub IsFitting : Blocking → ℕ × ℤ → Type 0
 IsFitting b m = (unsigned_abs m.1 ≤ 2 ^ 40) × (m.1 ≢ pos 0) × IsSome (row_at b m.0)
 
-pairs_fit : (b : Blocking) (frame : texts.Frame) (ms : List (ℕ × ℤ)) → ((r : ℕ) → may_name frame 0 (r + 1) ≡ true → IsSome (row_at b r))
-    → AllByRecursion (IsKept frame) (map written_pair ms) → AllByRecursion (IsFitting b) ms
-pairs_fit b frame [] names all = tt
-pairs_fit b frame (m ∷ ms) names all = ((all.0.0, all.0.1, names m.0 all.0.2), pairs_fit b frame ms names all.1)
+pairs_fit : (b : Blocking) (frame : texts.Frame) (n : ℕ) (ms : List (ℕ × ℤ)) → ((r : ℕ) → may_name frame n (r + 1) ≡ true → IsSome (row_at b r))
+    → AllByRecursion (IsKept frame n) (map written_pair ms) → AllByRecursion (IsFitting b) ms
+pairs_fit b frame n [] names all = tt
+pairs_fit b frame n (m ∷ ms) names all = ((all.0.0, all.0.1, names m.0 all.0.2), pairs_fit b frame n ms names all.1)
 
 blocks_fit : (frame : texts.Frame) (last : ℕ) (ks : List ℕ) → AreClean (blocks_behind frame last (map in_text ks))
     → Rises last ks × AllByRecursion (λ k. k < frame.blocks) ks
@@ -83,37 +90,70 @@ picked_fit frame (These ks) clean =
     (rises_increasing 0 ks h.0, All-from_recursion (λ k. k < frame.blocks) ks h.1)
 
 -- a faultless leaf's proof fits
-leaf_fits : (b : BlockedProgram) → IsFormed b → (depth : ℕ) (proof : given.Proof) → IsFineLeaf (frame_for b) depth (written_proof proof) → Fits b.blocking proof
-leaf_fits b formed depth proof fine =
+leaf_fits : (b : BlockedProgram) → IsFormed b → (cuts : List Cut) (depth : ℕ) (proof : given.Proof) → IsFineLeaf (frame_for b) (length cuts) depth (written_proof proof) → Fits (blocking_over b cuts) proof
+leaf_fits b formed cuts depth proof fine =
     let frame : texts.Frame = frame_for b in
-    let fits = pairs_fit b.blocking frame proof.mults (named_of_text b formed) fine.pairs.each in
+    let k : Blocking = blocking_over b cuts in
+    let fits = pairs_fit k frame (length cuts) proof.mults (named_of_text b formed cuts) fine.pairs.each in
     record {
       scale = (scale_small depth proof.scale fine.scale).1;
-      sizes = All-from_recursion (λ m. unsigned_abs m.1 ≤ 2 ^ 40) proof.mults (all_mapped (IsFitting b.blocking) (λ m. unsigned_abs m.1 ≤ 2 ^ 40) (λ m h. h.0) proof.mults fits);
-      nonzero = All-from_recursion (λ m. m.1 ≢ pos 0) proof.mults (all_mapped (IsFitting b.blocking) (λ m. m.1 ≢ pos 0) (λ m h. h.1) proof.mults fits);
-      rows = All-from_recursion (λ m. IsSome (row_at b.blocking m.0)) proof.mults (all_mapped (IsFitting b.blocking) (λ m. IsSome (row_at b.blocking m.0)) (λ m h. h.2) proof.mults fits);
+      sizes = All-from_recursion (λ m. unsigned_abs m.1 ≤ 2 ^ 40) proof.mults (all_mapped (IsFitting k) (λ m. unsigned_abs m.1 ≤ 2 ^ 40) (λ m h. h.0) proof.mults fits);
+      nonzero = All-from_recursion (λ m. m.1 ≢ pos 0) proof.mults (all_mapped (IsFitting k) (λ m. m.1 ≢ pos 0) (λ m h. h.1) proof.mults fits);
+      rows = All-from_recursion (λ m. IsSome (row_at k m.0)) proof.mults (all_mapped (IsFitting k) (λ m. IsSome (row_at k m.0)) (λ m h. h.2) proof.mults fits);
       ascend = rises_increasing 0 (map (λ (m : ℕ × ℤ). m.0) proof.mults) (above_rises 0 proof.mults fine.pairs.up);
-      picked = picked_fit frame proof.picked fine.picked;
+      picked = subst (λ (n : ℕ). ArePicked n proof.picked) (sym (blocks_same b formed cuts)) (picked_fit frame proof.picked fine.picked);
     }
 
 -- ---- a tree
 
-tree_fits : (b : BlockedProgram) → IsFormed b → (depth : ℕ) (t : theory.Tree) (zone : List Span) → IsFine (frame_for b) depth (written_tree t)
-    → AllByRecursion (λ (leaf : Leaf). Fits b.blocking leaf.proof) (leaves t zone)
-tree_fits b formed depth (shut_leaf p) zone fine = (leaf_fits b formed depth p fine, tt)
-tree_fits b formed depth (open_leaf p) zone fine = (leaf_fits b formed depth p fine, tt)
-tree_fits b formed depth (split v at low high) zone fine =
-    both_all (λ (leaf : Leaf). Fits b.blocking leaf.proof) (leaves low (low_part zone v at)) (leaves high (high_part zone v at))
-    (tree_fits b formed (depth + 1) low (low_part zone v at) fine.2)
-    (tree_fits b formed (depth + 1) high (high_part zone v at) fine.3)
+tree_fits : (b : BlockedProgram) → IsFormed b → (cuts : List Cut) (depth : ℕ) (t : theory.Tree) (zone : List Span) → IsFine (frame_for b) (length cuts) depth (written_tree t)
+    → AllByRecursion (λ (leaf : Leaf). Fits (blocking_over b cuts) leaf.proof) (leaves t zone)
+tree_fits b formed cuts depth (shut_leaf p) zone fine = (leaf_fits b formed cuts depth p fine, tt)
+tree_fits b formed cuts depth (open_leaf p) zone fine = (leaf_fits b formed cuts depth p fine, tt)
+tree_fits b formed cuts depth (split v at low high) zone fine =
+    both_all (λ (leaf : Leaf). Fits (blocking_over b cuts) leaf.proof) (leaves low (low_part zone v at)) (leaves high (high_part zone v at))
+    (tree_fits b formed cuts (depth + 1) low (low_part zone v at) fine.2)
+    (tree_fits b formed cuts (depth + 1) high (high_part zone v at) fine.3)
 
-tree_shallow : (frame : texts.Frame) (above : ℕ) (t : theory.Tree) → IsFine frame above (written_tree t) → above + depth t ≤ 8256
-tree_shallow frame above (shut_leaf p) fine = let h = (scale_small above p.scale fine.scale).0 in omega arith
-tree_shallow frame above (open_leaf p) fine = let h = (scale_small above p.scale fine.scale).0 in omega arith
-tree_shallow frame above (split v at low high) fine =
-    let a : above + 1 + depth low ≤ 8256 = tree_shallow frame (above + 1) low fine.2 in
-    let b : above + 1 + depth high ≤ 8256 = tree_shallow frame (above + 1) high fine.3 in
+tree_shallow : (frame : texts.Frame) (cuts above : ℕ) (t : theory.Tree) → IsFine frame cuts above (written_tree t) → above + depth t ≤ 8256
+tree_shallow frame cuts above (shut_leaf p) fine = let h = (scale_small above p.scale fine.scale).0 in omega arith
+tree_shallow frame cuts above (open_leaf p) fine = let h = (scale_small above p.scale fine.scale).0 in omega arith
+tree_shallow frame cuts above (split v at low high) fine =
+    let a : above + 1 + depth low ≤ 8256 = tree_shallow frame cuts (above + 1) low fine.2 in
+    let b : above + 1 + depth high ≤ 8256 = tree_shallow frame cuts (above + 1) high fine.3 in
     omega arith
+
+-- ---- cuts
+
+-- a faultless cut is one over the rows before it
+cut_over : (b : BlockedProgram) → IsFormed b → (earlier : List Row) (cut : Cut) → IsFineCut (frame_for b) (length earlier) (written_cut cut) → IsOver (proof_rows b.named.program b.dec earlier) cut
+cut_over b formed earlier cut fine =
+    let frame : texts.Frame = frame_for b in
+    let P : ℕ × ℤ → Type 0 = λ m. (unsigned_abs m.1 ≤ 2 ^ 20) × (m.1 ≢ pos 0) × IsWhole (get_or (proof_rows b.named.program b.dec earlier) m.0 no_row) in
+    let all = over cut.rows fine.each in
+    record {
+      divides = fine.divides;
+      small = record {
+        divisor = fine.divisor;
+        sizes = All-from_recursion (λ m. unsigned_abs m.1 ≤ 2 ^ 20) cut.rows (all_mapped P (λ m. unsigned_abs m.1 ≤ 2 ^ 20) (λ m h. h.0) cut.rows all);
+        nonzero = All-from_recursion (λ m. m.1 ≢ pos 0) cut.rows (all_mapped P (λ m. m.1 ≢ pos 0) (λ m h. h.1) cut.rows all);
+        ascend = rises_increasing 0 (map (λ (m : ℕ × ℤ). m.0) cut.rows) (above_rises 0 cut.rows fine.up);
+      };
+      whole = All-from_recursion (λ m. IsWhole (get_or (proof_rows b.named.program b.dec earlier) m.0 no_row)) cut.rows
+          (all_mapped P (λ m. IsWhole (get_or (proof_rows b.named.program b.dec earlier) m.0 no_row)) (λ m h. h.2) cut.rows all);
+    }
+  where
+    over : (ms : List (ℕ × ℤ)) → AllByRecursion (IsCombined (frame_for b) (length earlier)) (map written_pair ms)
+        → AllByRecursion (λ (m : ℕ × ℤ). (unsigned_abs m.1 ≤ 2 ^ 20) × (m.1 ≢ pos 0) × IsWhole (get_or (proof_rows b.named.program b.dec earlier) m.0 no_row)) ms
+    over [] all = tt
+    over (m ∷ ms) all = ((all.0.0, all.0.1, combined_of_text b formed earlier m.0 all.0.2), over ms all.1)
+
+cuts_over : (b : BlockedProgram) → IsFormed b → (earlier : List Row) (cuts : List Cut) → AreFineCuts (frame_for b) (length earlier) (map written_cut cuts) → AreOver b.named.program b.dec earlier cuts
+cuts_over b formed earlier [] fine = tt
+cuts_over b formed earlier (cut ∷ cuts) fine =
+    let row : Row = cut_row b.named.program (proof_rows b.named.program b.dec earlier) cut in
+    let long : length earlier + 1 ≡ length (earlier ++ row ∷ []) = omega (arith, length-append earlier (row ∷ [])) in
+    (cut_over b formed earlier cut fine.0, cuts_over b formed (earlier ++ row ∷ []) cuts (subst (λ (n : ℕ). AreFineCuts (frame_for b) n (map written_cut cuts)) long fine.1))
 
 -- ---- lines are counted by bytes
 
@@ -131,16 +171,21 @@ point_count None x = omega arith
 point_count (Some v) None = omega arith
 point_count (Some v) (Some x) = omega arith
 
-lines_counted : (b : BlockedProgram) (claim : Claim) (zs : List ℤ) (t : theory.Tree)
-    → length (judged_lines b.named.program b.dec (certificate claim zs t)) ≤ 1 + nodes (written_tree t)
-lines_counted b claim zs t =
+cuts_count : (b : BlockedProgram) (earlier : List Row) (cuts : List Cut) → length (judgement.cut_lines b.named.program b.dec earlier cuts) ≡ length cuts
+cuts_count b earlier [] = refl
+cuts_count b earlier (cut ∷ cuts) = ap suc (cuts_count b (earlier ++ cut_row b.named.program (proof_rows b.named.program b.dec earlier) cut ∷ []) cuts)
+
+lines_counted : (b : BlockedProgram) (claim : Claim) (zs : List ℤ) (cuts : List Cut) (t : theory.Tree)
+    → length (judged_lines b.named.program b.dec (certificate claim zs cuts t)) ≤ 1 + length cuts + nodes (written_tree t)
+lines_counted b claim zs cuts t =
     let points : List Line = point_lines (named_value claim) (option_map (λ _. zs) (named_value claim)) in
+    let middle : List Line = judgement.cut_lines b.named.program b.dec [] cuts in
     let lines : List Line = judgement.tree_lines t b.named.program.spans in
     let few = point_count (named_value claim) (option_map (λ _. zs) (named_value claim)) in
     let each = tree_count t b.named.program.spans in
-    let first : length (points ++ []) ≡ length points + 0 = length-append points [] in
-    let all : length ((points ++ []) ++ lines) ≡ length (points ++ []) + length lines = length-append (points ++ []) lines in
-    omega (arith, few, each, first, all)
+    let first : length (points ++ middle) ≡ length points + length middle = length-append points middle in
+    let all : length ((points ++ middle) ++ lines) ≡ length (points ++ middle) + length lines = length-append (points ++ middle) lines in
+    omega (arith, few, each, first, all, cuts_count b [] cuts)
 
 -- ---- a claim's line
 
@@ -157,42 +202,41 @@ claim_small frame Infeasible zs clean = tt
 claim_small frame (Bound b None) zs clean = value_small b clean.1.1.0
 claim_small frame (Bound b (Some v)) zs clean = (value_small b clean.1.1.0, value_small v clean.1.1.1.1.0)
 
-pub claim_clean : (frame : texts.Frame) (version : Version) (c : texts.Cert) → AreClean (tokens_of frame version c) → AreClean (claim_lines frame c.claim)
-claim_clean frame version c clean =
-    let claim = claim_lines frame c.claim in
-    let cuts = cut_lines frame 0 c.cuts in
-    let tree = tree_lines frame version (length c.cuts) 0 [] c.tree in
-    let end : List Token = Words (codes "end") ∷ LineEnd None ∷ [] in
-    clean_front claim cuts (clean_front (claim ++ cuts) tree (clean_front ((claim ++ cuts) ++ tree) end clean.1.1.1))
-
 -- ---- a whole certificate
 
-pub text_goes_with : (b : BlockedProgram) → IsFormed b → (claim : Claim) (zs : List ℤ) (t : theory.Tree) (text : List ℕ) → length text < 2 ^ 64
-    → IsCertText (frame_for b) (cert_of (certificate claim zs t)) text → GoesWith b (certificate claim zs t)
-text_goes_with b formed claim zs t text short spells =
+pub text_goes_with : (b : BlockedProgram) → IsFormed b → (claim : Claim) (zs : List ℤ) (cuts : List Cut) (t : theory.Tree) (text : List ℕ) → length text < 2 ^ 64
+    → IsCertText (frame_for b) (cert_of (certificate claim zs cuts t)) text → GoesWith b (certificate claim zs cuts t)
+text_goes_with b formed claim zs cuts t text short spells =
     let frame : texts.Frame = frame_for b in
     let version : Version = spells.0 in
     let is = spells.1 in
     let w : texts.Cert = is.written in
-    let plain : w.cuts ≡ [] = no_cuts version w is.form in
-    let P : List texts.Cut → Type 0 = λ cuts. AreClean (tree_lines frame version (length cuts) 0 [] w.tree) in
-    let lines : AreClean (tree_lines frame version 0 0 [] w.tree) = subst P plain (tree_clean frame version w is.clean) in
+    let lists : w.cuts ≡ map written_cut cuts = ap (λ (c : texts.Cert). c.cuts) is.means in
     let trees : meant_tree version [] w.tree ≡ written_tree t = ap (λ (c : texts.Cert). c.tree) is.means in
     let claims : w.claim ≡ written_claim claim (unwrap_or (option_map (λ _. zs) (named_value claim)) []) = ap (λ (c : texts.Cert). c.claim) is.means in
-    let Q : texts.Tree → Type 0 = IsFine frame 0 in
-    let fine : IsFine frame 0 (written_tree t) = subst Q trees (fine_tree frame version 0 [] w.tree (none_kept frame) lines) in
+    let count : length w.cuts ≡ length cuts = ap (λ (xs : List texts.Cut). length xs) lists ∙ length-map cuts written_cut in
+    let Q : texts.Tree → Type 0 = IsFine frame (length w.cuts) 0 in
+    let N : ℕ → Type 0 = λ n. IsFine frame n 0 (written_tree t) in
+    let fine : IsFine frame (length cuts) 0 (written_tree t) =
+    subst N count (subst Q trees (fine_tree frame version (length w.cuts) 0 [] w.tree (none_kept frame (length w.cuts)) (tree_clean frame version w is.clean))) in
+    let F : List texts.Cut → Type 0 = AreFineCuts frame 0 in
+    let over : AreFineCuts frame 0 (map written_cut cuts) = subst F lists (fine_cuts frame 0 w.cuts (cuts_clean frame version w is.clean)) in
+    let low : 0 + length (map written_cut cuts) ≤ 256 = cuts_few frame 0 (map written_cut cuts) (omega arith) over in
+    let short_list : length cuts ≤ 256 = omega (arith, low, length-map cuts written_cut) in
     let C : texts.Claim → Type 0 = λ a. AreClean (claim_lines frame a) in
-    let few : 12 + 8 * nodes (written_tree t) ≤ length text = text_nodes frame version (cert_of (certificate claim zs t)) text is in
+    let few : 12 + 8 * nodes (written_tree t) ≤ length text = text_nodes frame version (cert_of (certificate claim zs cuts t)) text is in
     record {
       claim = claim_small frame claim (unwrap_or (option_map (λ _. zs) (named_value claim)) []) (subst C claims (claim_clean frame version w is.clean));
-      fits = All-from_recursion (λ (leaf : Leaf). Fits b.blocking leaf.proof) (leaves t b.named.program.spans) (tree_fits b formed 0 t b.named.program.spans fine);
-      shallow = (let low = tree_shallow frame 0 t fine in omega (arith, low));
-      lines = (let less = lines_counted b claim zs t in omega (arith, less, few, short));
+      few = short_list;
+      cuts = cuts_over b formed [] cuts over;
+      fits = All-from_recursion (λ (leaf : Leaf). Fits (blocking_over b cuts) leaf.proof) (leaves t b.named.program.spans) (tree_fits b formed cuts 0 t b.named.program.spans fine);
+      shallow = (let low = tree_shallow frame (length cuts) 0 t fine in omega (arith, low));
+      lines = (let less = lines_counted b claim zs cuts t in omega (arith, less, few, short, short_list));
     }
 
 goes_with : (b : BlockedProgram) → IsFormed b → (cert : Kept) (text : List ℕ) → length text < 2 ^ 64
     → IsCertText (frame_for b) (kept_cert cert) text → GoesWith b (certificate_of cert)
-goes_with b formed cert text short spells = text_goes_with b formed cert.claim cert.point (tree_of cert.tree) text short spells
+goes_with b formed cert text short spells = text_goes_with b formed cert.claim cert.point cert.cuts (tree_of cert.tree) text short spells
 
 pub goes_with_read : (b : BlockedProgram) → IsFormed b → (text : List ℕ) → length text < 2 ^ 64 → (r : Result Kept CertFault)
     → ReadsFor b text r → IfOk r (λ cert. GoesWith b (certificate_of cert))

@@ -3,9 +3,9 @@ use Rattle.std.proofs.Common.{◌≡◌, ◌≢◌, ◌⊎◌, ℕ, zero, suc, �
 use Rattle.std.proofs.lemmas.List.{append_cancel_left}
 use Rattle.cert_text.specs.Cert.{Cert, Frame}
 use Rattle.cert_text.specs.Text.{Kind, Token, Figure, numeral, signed_numeral, token_text, text_of}
-use Rattle.cert_text.specs.Fault.{EndsNumber, EndsToken, BeginsNumber, line_behind}
+use Rattle.cert_text.specs.Fault.{IsExcess, EndsNumber, EndsToken, BeginsNumber, line_behind}
 use Rattle.cert_text.specs.Words.{word_text, word_token}
-use Rattle.cert_text.specs.Stages.{after_bound, at_block, at_blocks, at_bound, at_bpcert, at_claim, at_coordinate, at_count, at_end, at_first_end, at_kind, at_multiplier, at_node, at_version, at_optimal, at_pairs, at_place, at_point, at_priced, at_row, at_rows, at_scale, at_value, at_values, at_variable, claim_end, infeasible_end, last_end, leaf_end, row_gap, split_end, variable_gap, over}
+use Rattle.cert_text.specs.Stages.{after_bound, at_first_cut, at_cuts, at_block, at_blocks, at_bound, at_bpcert, at_claim, at_coordinate, at_count, at_end, at_first_end, at_kind, at_multiplier, at_node, at_version, at_optimal, at_pairs, at_place, at_point, at_priced, at_row, at_rows, at_scale, at_value, at_values, at_variable, claim_end, infeasible_end, last_end, leaf_end, row_gap, split_end, variable_gap, over}
 use Rattle.cert_text.specs.Stages.{Stage, words, after, line_fault, sort, IsOfSort, is_deep_stage, number_fault, behind_number, Follows}
 use Rattle.cert_text.specs.Standing.{MayStand, Reached, Comes}
 use Rattle.cert_text.specs.declared.words.Word.{Word}
@@ -19,9 +19,9 @@ use Rattle.cert_text.proofs.Deep.{deep}
 use Rattle.cert_text.proofs.DeepStages.{no_word_deep, no_negative_deep, no_shallow_deep}
 use Rattle.cert_text.proofs.Reaching.{LeavesAt, leaves_there, none_there}
 
--- where no number comes of a node that is too deep, as far as the text and what follows tell
+-- where no number comes of a node that is too deep or of a cut that is one too many, as far as the text and what follows tell
 abbrev pub IsDry : Frame → Stage → List ℕ → Type 0
-IsDry frame stage text = IsFirst frame stage deep → BeginsNumber text → ⊥
+IsDry frame stage text = (k : Kind) → IsExcess k → IsFirst frame stage (deep k) → BeginsNumber text → ⊥
 
 -- what leaves the grammar at a place, and no number of a node that is too deep
 leaves_both : (frame : Frame) (stage : Stage) (number : Bool) (done p rest more : List ℕ) → Reached frame stage number done → MayStand number (p ++ rest) → (rest ≡ [] → more ≡ [])
@@ -105,6 +105,8 @@ over_words frame d word (claim_end v k) comes e = e
 over_words frame d word (at_point v k) comes e = e
 over_words frame d word (at_values v k zs) comes e = e
 over_words frame d word (at_coordinate v k zs) comes e = e
+over_words frame d word (at_first_cut a ws) comes e = e
+over_words frame d word (at_cuts a ws) comes e = e
 over_words frame d word (at_node a ws) comes e = e
 over_words frame d word (at_scale a ws o) comes e = e
 over_words frame d word (at_rows a ws o s) comes e = e
@@ -140,6 +142,8 @@ over_numbers frame d (claim_end v k) z of_sort e = e
 over_numbers frame d (at_point v k) z of_sort e = e
 over_numbers frame d (at_values v k zs) z of_sort e = e
 over_numbers frame d (at_coordinate v k zs) z of_sort e = e
+over_numbers frame d (at_first_cut a ws) z of_sort e = e
+over_numbers frame d (at_cuts a ws) z of_sort e = e
 over_numbers frame d (at_node a ws) z of_sort e = e
 over_numbers frame d (at_scale a ws o) z of_sort e = e
 over_numbers frame d (at_rows a ws o s) z of_sort e = e
@@ -181,7 +185,7 @@ leaves_word frame stage number done rest more word count r comes some within sta
     (λ z of_sort is q s ends goes same.
     let apart = word_number_apart stage word z comes of_sort in
     number_off z (first_byte word) (front.0 ++ s) q apart.0 apart.1 (sym (ap (λ (t : Token). token_text t ++ q) is) ∙ same ∙ ap (λ (xs : List ℕ). xs ++ s) front.1)))
-    (λ d o none. no_over d o) (λ first _. no_word_deep frame stage word first comes) where
+    (λ d o none. no_over d o) (λ k x first _. no_word_deep frame stage word k x first comes) where
       mismatch : (a : ℕ) (tail : List ℕ) → word_text word ≡ take count (word_text word) ++ a ∷ tail → (rest s q : List ℕ) → OtherAt (word_text word) count rest → GoesOn rest s → a ∷ (tail ++ q) ≡ s → ⊥
       mismatch a tail is [] [] q other goes same = cc
       mismatch a tail is [] (d ∷ s) q other goes same = goes
@@ -218,7 +222,7 @@ leaves_minus frame stage done rest more r of_sort digit fits =
     (λ y first. first_cases frame stage y (IsBarred y (45 ∷ []) rest) first
     (λ v here is q s ends goes same. word_apart stage v (negsuc 0) y (line_fault frame stage) 45 q s here of_sort is (inl refl) same)
     (λ z _ is q s ends goes same. minus_barred z q s [] (inr tt) (λ m e. positive m rest s q digit goes e) (sym (ap (λ (t : Token). token_text t ++ q) is) ∙ same)))
-    (λ d o none. over_numbers frame d stage (negsuc 0) of_sort o) (λ first _. no_negative_deep frame stage 0 first of_sort) where
+    (λ d o none. over_numbers frame d stage (negsuc 0) of_sort o) (λ k x first _. no_negative_deep frame stage 0 k x first of_sort) where
       positive : (m : ℕ) (rest s q : List ℕ) → NotPositiveFirst rest → GoesOn rest s → numeral (m + 1) ++ q ≡ s → ⊥
       positive m [] s q digit goes same = empty_barred (m + 1) q s goes same
       positive m (b ∷ bs) s q digit goes same = positive_barred b m q s bs digit goes same
@@ -235,7 +239,7 @@ leaves_zero frame stage done byte rest more r of_sort shallow digit =
     (λ y first. first_cases frame stage y (IsBarred y (48 ∷ []) (byte ∷ rest)) first
     (λ v here is q s ends goes same. word_apart stage v (pos 0) y (line_fault frame stage) 48 q s here of_sort is (inr ((omega arith), (omega arith))) same)
     (λ z _ is q s ends goes same. no_zero z q s (let P : Token → Type 0 = λ t. EndsToken t q in subst P is ends) goes (sym (ap (λ (t : Token). token_text t ++ q) is) ∙ same)))
-    (λ d o none. over_numbers frame d stage (pos 0) of_sort o) (λ first _. no_shallow_deep frame stage first shallow) where
+    (λ d o none. over_numbers frame d stage (pos 0) of_sort o) (λ k x first _. no_shallow_deep frame stage k x first shallow) where
       no_zero : (z : ℤ) (q s : List ℕ) → EndsNumber q → GoesOn (byte ∷ rest) s → signed_numeral z ++ q ≡ 48 ∷ s → ⊥
       no_zero (pos n) q s ends goes same = zero_barred byte n q s rest digit ends goes same
       no_zero (negsuc n) q s ends goes same = let first : ◌≡◌ {A = ℕ} 45 48 = cc in omega arith

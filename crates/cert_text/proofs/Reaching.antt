@@ -3,10 +3,10 @@ use Rattle.std.proofs.Common.{◌≡◌, ℕ, Bool, true, false, List, [], ◌�
 use Rattle.std.proofs.lemmas.Grind.{flat_map-append}
 use Rattle.cert_text.specs.Cert.{Cert, Frame}
 use Rattle.cert_text.specs.Text.{Kind, Token, Words, Figure, LineEnd, meant, signed_numeral, token_text, text_of, fault_of, tokens_of}
-use Rattle.cert_text.specs.Fault.{AreClean, EndsNumber, EndsToken, EndIsSeen, HasFaultyToken, HasNoFaultyToken, BeginsNumber, HasDeepNumber, HasNoDeepNumber, LeavesGrammar, IsFollowed, IsFirstCertFault, IsSeenFault, line_behind}
+use Rattle.cert_text.specs.Fault.{IsExcess, AreClean, EndsNumber, EndsToken, EndIsSeen, HasFaultyToken, HasNoFaultyToken, BeginsNumber, HasDeepNumber, HasNoDeepNumber, LeavesGrammar, IsFollowed, IsFirstCertFault, IsSeenFault, line_behind}
 use Rattle.cert_text.specs.declared.fault.CertKind.TheVariants.{Syntax}
 use Rattle.cert_text.specs.Words.{word_text, word_token}
-use Rattle.cert_text.specs.Stages.{Stage, words, after, line_fault, sort, IsOfSort, is_deep_stage, number_fault, behind_number, IsOf, Follows}
+use Rattle.cert_text.specs.Stages.{Stage, words, after, line_fault, sort, IsOfSort, is_deep_stage, deep_kind, number_fault, behind_number, IsOf, Follows}
 use Rattle.cert_text.specs.Standing.{AreReadFrom, MayStand, Reached, Comes}
 use Rattle.cert_text.specs.declared.words.Word.{Word}
 use Rattle.cert_text.proofs.Figures.{GoesOn}
@@ -16,7 +16,7 @@ use Rattle.cert_text.specs.declared.spots.Sort.{Sort}
 use Rattle.cert_text.proofs.Coherent.{AreCoherent, tokens_coherent}
 use Rattle.cert_text.proofs.Spaced.{AreSpaced, tokens_spaced}
 use Rattle.cert_text.proofs.Deep.{deep, deep_behind, spaced_first}
-use Rattle.cert_text.proofs.DeepStages.{deep_number}
+use Rattle.cert_text.proofs.DeepStages.{deep_number, deep_excess}
 use Rattle.cert_text.proofs.Total.{stuck_leaves}
 use Rattle.cert_text.proofs.StageProofs.{Alike}
 use Rattle.cert_text.proofs.StageMoves.{IsFirst, first_token, number_leads, IsOver, only_over, goes_on_from}
@@ -132,17 +132,18 @@ number_seen_faulty frame stage done rest byte z line kind r of_sort fault ends a
 of_version : (frame : Frame) (ts : List Token) → Certificates frame ts → (c : Cert) × IsOf frame c ts
 of_version frame ts m = (meant m.0 m.1, record { version = m.0; written = m.1; form = m.2; means = refl; tokens = m.3 })
 
--- the number of a node that is too deep, behind a text that is reached
+-- the number of a node that is too deep, or of a cut that is one too many, behind a text that is reached
 pub deep_there : (frame : Frame) (stage : Stage) (done rest : List ℕ) (line : ℕ) → Reached frame stage false done → is_deep_stage stage ≡ true → BeginsNumber rest → line ≡ line_behind done
-    → HasDeepNumber frame (done ++ rest) line
+    → HasDeepNumber frame (done ++ rest) line (deep_kind stage)
 deep_there frame stage done rest line r is number at_line =
     let about = deep_number frame stage is in
     let S : Sort → Type 0 = λ t. IsOfSort t (pos 0) in
     let more = goes_on_from frame (behind_number stage (pos 0)) in
     let F : Option Kind → Type 0 = λ f. Follows frame more.0 stage (Figure (pos 0) f ∷ more.1) in
-    let follows : Follows frame more.0 stage (deep ∷ more.1) = subst F about.0 ((number_leads frame more.0 stage (pos 0) (subst S (sym about.2) refl) more.1).1 more.2) in
-    let whole = (r.follow more.0 (deep ∷ more.1)).1 follows in
+    let follows : Follows frame more.0 stage (deep (deep_kind stage) ∷ more.1) = subst F about.0 ((number_leads frame more.0 stage (pos 0) (subst S (sym about.2) refl) more.1).1 more.2) in
+    let whole = (r.follow more.0 (deep (deep_kind stage) ∷ more.1)).1 follows in
     record {
+      excess = deep_excess stage;
       version = whole.version;
       written = whole.written;
       form = whole.form;
@@ -167,19 +168,19 @@ goes_more : (rest more : List ℕ) → (rest ≡ [] → more ≡ []) → GoesOn 
 goes_more [] more fits = let P : List ℕ → Type 0 = λ xs. GoesOn [] xs in subst P (sym (fits refl)) tt
 goes_more (b ∷ rest) more fits = refl
 
--- behind a text that is reached no number comes of a node that is too deep, where none begins there, and no token
+-- behind a text that is reached no number comes of a node that is too deep or of a cut that is one too many, where none begins there, and no token
 pub none_there : (frame : Frame) (stage : Stage) (number : Bool) (done p rest more : List ℕ) → Reached frame stage number done → MayStand number (p ++ rest) → (rest ≡ [] → more ≡ [])
     → (c : Cert) (us : List Token) → Follows frame c stage us
-    → ((y : Token) → IsFirst frame stage y → IsBarred y p rest) → (IsFirst frame stage deep → BeginsNumber (p ++ (rest ++ more)) → ⊥)
+    → ((y : Token) → IsFirst frame stage y → IsBarred y p rest) → ((k : Kind) → IsExcess k → IsFirst frame stage (deep k) → BeginsNumber (p ++ (rest ++ more)) → ⊥)
     → HasNoDeepNumber frame ((done ++ (p ++ rest)) ++ more)
-none_there frame stage number done p rest more r stands fits c us follows barred dry line a =
+none_there frame stage number done p rest more r stands fits c us follows barred dry line k a =
     let whole = (r.follow c us).1 follows in
-    let P : List Token → Type 0 = λ ts. AreCoherent (Unit {0}) ts (a.before ++ deep ∷ a.after) in
+    let P : List Token → Type 0 = λ ts. AreCoherent (Unit {0}) ts (a.before ++ deep k ∷ a.after) in
     let Q : List Token → Type 0 = λ ts. AreCoherent (Unit {0}) (tokens_of frame whole.version whole.written) ts in
     let w : List ℕ = p ++ (rest ++ more) in
     let bytes : (done ++ (p ++ rest)) ++ more ≡ done ++ w = append_assoc done (p ++ rest) more ∙ ap (λ (xs : List ℕ). done ++ xs) (append_assoc p rest more) in
     let same : text_of r.before ++ w ≡ text_of a.before ++ a.rest = sym (ap (λ (xs : List ℕ). xs ++ w) r.bytes) ∙ sym bytes ∙ a.bytes in
-    let found = deep_behind (Unit {0}) r.before us a.before a.after w a.rest
+    let found = deep_behind (Unit {0}) k a.excess r.before us a.before a.after w a.rest
     (subst P (sym whole.tokens) (subst Q a.tokens (tokens_coherent (Unit {0}) frame whole.version a.version whole.written a.written (λ _ _. tt))))
     (subst (λ (ts : List Token). AreSpaced ts) a.tokens (tokens_spaced frame a.version a.written)) r.clean (r.read w (may_more number p rest more fits stands)) same in
     by found.0 found.1 found.3 found.4
@@ -189,14 +190,14 @@ none_there frame stage number done p rest more r stands fits c us follows barred
         let v = of_version frame (r.before ++ y ∷ ys) (a.version, a.written, a.form, sym is) in
         first_token frame v.0 stage y ys ((r.follow v.0 (y ∷ ys)).0 v.1)
 
-    by : (ts : List Token) → a.before ≡ r.before ++ ts → AreSpaced (ts ++ deep ∷ a.after) → p ++ (rest ++ more) ≡ text_of ts ++ a.rest → ⊥
+    by : (ts : List Token) → a.before ≡ r.before ++ ts → AreSpaced (ts ++ deep k ∷ a.after) → p ++ (rest ++ more) ≡ text_of ts ++ a.rest → ⊥
     by [] is spaced same =
-        let here : tokens_of frame a.version a.written ≡ r.before ++ deep ∷ a.after = a.tokens ∙ ap (λ (ts : List Token). ts ++ deep ∷ a.after) (is ∙ append-nil r.before) in
+        let here : tokens_of frame a.version a.written ≡ r.before ++ deep k ∷ a.after = a.tokens ∙ ap (λ (ts : List Token). ts ++ deep k ∷ a.after) (is ∙ append-nil r.before) in
         let N : List ℕ → Type 0 = BeginsNumber in
-        dry (first deep a.after here) (subst N (sym same) a.number)
+        dry k a.excess (first (deep k) a.after here) (subst N (sym same) a.number)
     by (y ∷ ts) is spaced same =
-        let here : tokens_of frame a.version a.written ≡ r.before ++ y ∷ (ts ++ deep ∷ a.after) = a.tokens ∙ ap (λ (us : List Token). us ++ deep ∷ a.after) is ∙ append_assoc r.before (y ∷ ts) (deep ∷ a.after) in
-        barred y (first y (ts ++ deep ∷ a.after) here) (text_of ts ++ a.rest) (rest ++ more) (spaced_first y ts a.after a.rest spaced) (goes_more rest more fits)
+        let here : tokens_of frame a.version a.written ≡ r.before ++ y ∷ (ts ++ deep k ∷ a.after) = a.tokens ∙ ap (λ (us : List Token). us ++ deep k ∷ a.after) is ∙ append_assoc r.before (y ∷ ts) (deep k ∷ a.after) in
+        barred y (first y (ts ++ deep k ∷ a.after) here) (text_of ts ++ a.rest) (rest ++ more) (spaced_first k y ts a.after a.rest spaced) (goes_more rest more fits)
         (sym (append_assoc (token_text y) (text_of ts) a.rest) ∙ sym same)
 
 -- a text that is reached and can't go on so leaves the grammar

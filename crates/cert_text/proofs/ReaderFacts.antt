@@ -1,7 +1,7 @@
 -- The splits above the next tree, as a reader of certificates keeps them.
 use Rattle.std.proofs.Common.{◌≡◌, ℕ, List, [], ◌∷◌, ◌++◌, refl, sym, ap, ◌∙◌, subst}
 use Rattle.std.specs.Prelude.{Err}
-use Rattle.cert_text.specs.Cert.{Tree, Split}
+use Rattle.cert_text.specs.Cert.{Cut, Tree, Split}
 use Rattle.cert_text.specs.Written.{in_text}
 use Rattle.cert_text.specs.Stages.{Wait}
 use Rattle.cert_text.specs.Readers.{waits_behind, root_behind}
@@ -68,15 +68,17 @@ none_root ps root t R none same =
     let nothing : waits_of ps ≡ [] = ap waits_of none in
     sym (ap (λ (ws : List Wait). root_behind ws root t) nothing) ∙ same
 
--- a reader whose lines and tree are these stands for the same texts
-pub builds_on : (frame : Frame) (lines now : Lines) (above waits : List Wait) (root tree : Tree) (text : List ℕ) → now ≡ lines → waits ≡ above → tree ≡ root → StandsFor above root frame lines text → StandsFor waits tree frame now text
-builds_on frame lines now above waits root tree text same_lines same_waits same_root stands =
-    let P : Lines → Type 0 = λ r. StandsFor above root frame r text in
-    let Q : List Wait → Type 0 = λ ws. StandsFor ws root frame now text in
-    let R : Tree → Type 0 = λ t. StandsFor waits t frame now text in
-    subst R (sym same_root) (subst Q (sym same_waits) (subst P (sym same_lines) stands))
+-- a reader whose lines, tree and cuts are these stands for the same texts
+pub builds_on : (frame : Frame) (lines now : Lines) (above waits : List Wait) (root tree : Tree) (cuts all : List Cut) (text : List ℕ) → now ≡ lines → waits ≡ above → tree ≡ root → all ≡ cuts → StandsFor above root cuts frame lines text
+    → StandsFor waits tree all frame now text
+builds_on frame lines now above waits root tree cuts all text same_lines same_waits same_root same_cuts stands =
+    let P : Lines → Type 0 = λ r. StandsFor above root cuts frame r text in
+    let Q : List Wait → Type 0 = λ ws. StandsFor ws root cuts frame now text in
+    let R : Tree → Type 0 = λ t. StandsFor waits t cuts frame now text in
+    let S : List Cut → Type 0 = λ cs. StandsFor waits tree cs frame now text in
+    subst S (sym same_cuts) (subst R (sym same_root) (subst Q (sym same_waits) (subst P (sym same_lines) stands)))
 
 -- a fault of a line is one of the reader
-pub line_at_fault : (above : List Wait) (root : Tree) (frame : Frame) (lines : Lines) (new : Reader) (text : List ℕ) (byte : ℕ) (e : CertFault) → Steps above root frame lines text byte (Err e) → BuildsOn frame new text byte (Err e)
-line_at_fault above root frame lines new text byte NoMemory steps = tt
-line_at_fault above root frame lines new text byte (At line kind) steps = steps
+pub line_at_fault : (above : List Wait) (root : Tree) (cuts : List Cut) (frame : Frame) (lines : Lines) (new : Reader) (text : List ℕ) (byte : ℕ) (e : CertFault) → Steps above root cuts frame lines text byte (Err e) → BuildsOn frame new text byte (Err e)
+line_at_fault above root cuts frame lines new text byte NoMemory steps = tt
+line_at_fault above root cuts frame lines new text byte (At line kind) steps = steps

@@ -1,14 +1,15 @@
 -- Each place of a reader: what follows each token that may come, which tokens may come, and that a certificate goes on from there.
-use Rattle.std.proofs.Common.{◌≡◌, ◌⊎◌, ℕ, zero, suc, ◌+◌, ◌-◌, ◌^◌, Bool, true, false, List, [], ◌∷◌, ◌++◌, length, codes, Option, None, ℤ, pos, nat_abs, refl, sym, ap, ◌∙◌, subst, arith, append_assoc, append-nil, length-append, nat_eq}
+use Rattle.std.proofs.Common.{◌≡◌, ◌⊎◌, ℕ, zero, suc, ◌+◌, ◌-◌, ◌^◌, Bool, true, false, List, [], ◌∷◌, ◌++◌, length, codes, Option, None, ℤ, pos, nat_abs, refl, sym, ap, ◌∙◌, subst, inl, inr, ⊎_elim, ◌<◌, arith, append_assoc, append-nil, length-append, nat_eq}
 use Rattle.std.proofs.lemmas.Bool.Decides.{nat_tests}
-use Rattle.cert_text.specs.Cert.{Picked, Every, These, Proof, Tree, Shut, Open, Split, Cert, Frame}
-use Rattle.cert_text.specs.Text.{Kind, Token, Words, Figure, LineEnd, Version, One, Two, Three, pairs_word, value_fault, coordinate_fault, end_fault, row_fault, multiplier_fault, block_fault, variable_fault, may_name, count, kept_behind, meant_proof}
-use Rattle.cert_text.specs.Grammar.{Prefixed, Numbered, Valued, Points, Pairs, Blocks, Trees}
+use Rattle.cert_text.specs.Cert.{Picked, Every, These, Proof, Tree, Shut, Open, Split, Claim, Cut, Cert, Frame}
+use Rattle.cert_text.specs.Text.{Kind, Token, Words, Figure, LineEnd, Version, One, Two, Three, pairs_word, value_fault, coordinate_fault, end_fault, row_fault, multiplier_fault, block_fault, variable_fault, divisor_fault, may_combine, count, cut_lines, kept_behind, meant_proof}
+use Rattle.cert_text.specs.Grammar.{Prefixed, Numbered, Valued, Points, Pairs, Blocks, Cuts, Trees}
 use Rattle.cert_text.specs.Words.{word_token, change_word}
 use Rattle.cert_text.specs.declared.words.Word.{Word}
-use Rattle.cert_text.specs.Stages.{Wait, low_of, high_of, Known, claim_with, leaf_of, proof_of, Told, told, past, behind_leaf, Stage, behind, line_fault, Behind, BehindLeaf, BehindTree, AtNode, LeafEnd, AtBlocks, AtPriced, AtPairs, AtRow, AtBlock, AtScale, SplitEnd, AtPlace, VariableGap, AtVariable, AtValues, AtCoordinate, Follows}
+use Rattle.cert_text.specs.Stages.{Wait, low_of, high_of, Known, claim_with, leaf_of, proof_of, cut_of, Told, with_cuts, with_cut, past, Owner, of_leaf, of_cut, may_have, most_of, had_by, rows_word, rows_text, behind_leaf, Stage, behind, begin, line_fault, Behind, BehindLeaf, BehindTree, AtNode, AtCuts, AtFirstCut, Begin, LeafEnd, AtBlocks, AtPriced, BehindRows, AtPairs, AtRow, AtBlock, AtScale, SplitEnd, AtPlace, VariableGap, AtVariable, AtValues, AtCoordinate, Follows}
 use Rattle.cert_text.proofs.Productions.{prefixed_under, numbered_under, valued_under, points_end, points_more, points_short, first_pair, no_pairs, first_block, no_blocks, priced_by, priced_all, priced_list}
-use Rattle.cert_text.proofs.Trees.{Leaves, leaf_to, leaf_from, TreeBy, tree_by, under_leaf, under_open, under_split, split_to, SplitParts}
+use Rattle.cert_text.proofs.Claims.{CutParts, cut_split, cut_to, cut_from}
+use Rattle.cert_text.proofs.Trees.{Leaves, leaf_to, leaf_from, TreeBy, tree_by, tree_first, tree_over, under_leaf, under_open, under_split, split_to, SplitParts, words_differ}
 
 -- both directions
 abbrev pub Alike : Type 0 → Type 0 → Type 0
@@ -73,8 +74,8 @@ module _ (frame : Frame) (c : Cert) where
       (λ m. b.0 (e.0 m), λ m. e.1 (b.1 m))
 
   -- the parts of a leaf's line behind its first word
-  scale_alike : (a : Told) (ws : List Wait) (o : Bool) (ts : List Token) → Alike (Leaves frame a.version 0 (length ws) a.had (BehindLeaf frame c a ws o) ts) (AtScale frame c a ws o ts)
-  scale_alike a ws o ts = (leaf_from frame a.version 0 (length ws) a.had (BehindLeaf frame c a ws o) ts, leaf_to frame a.version 0 (length ws) a.had (BehindLeaf frame c a ws o) ts)
+  scale_alike : (a : Told) (ws : List Wait) (o : Bool) (ts : List Token) → Alike (Leaves frame a.version (length a.cuts) (length ws) a.had (BehindLeaf frame c a ws o) ts) (AtScale frame c a ws (of_leaf o) ts)
+  scale_alike a ws o ts = (leaf_from frame a.version (length a.cuts) (length ws) a.had (BehindLeaf frame c a ws o) ts, leaf_to frame a.version (length a.cuts) (length ws) a.had (BehindLeaf frame c a ws o) ts)
 
 prefixed_map : (x : Token) (M N : List Token → Type 0) → ((ts : List Token) → M ts → N ts) → (ts : List Token) → Prefixed x M ts → Prefixed x N ts
 prefixed_map x M N f ts m = (m.0, m.1, f m.0 m.2)
@@ -91,50 +92,58 @@ pairs_map named limit had last n G H f ts m = (m.0, m.1, m.2, f m.0 m.1 m.3, m.4
 blocks_map : (frame : Frame) (last n : ℕ) (G H : List ℕ → List Token → Type 0) → ((ks : List ℕ) (us : List Token) → G ks us → H ks us) → (ts : List Token) → Blocks frame last n G ts → Blocks frame last n H ts
 blocks_map frame last n G H f ts m = (m.0, m.1, m.2, f m.0 m.1 m.3, m.4)
 
-trees_map : (frame : Frame) (v : Version) (depth : ℕ) (had : List (ℕ × ℤ)) (G H : Tree → List Token → Type 0) → ((t : Tree) (us : List Token) → G t us → H t us) → (ts : List Token) → Trees frame v 0 depth had G ts → Trees frame v 0 depth had H ts
-trees_map frame v depth had G H f ts m = (m.0, m.1, f m.0 m.1 m.2, m.3)
+trees_map : (frame : Frame) (v : Version) (cuts depth : ℕ) (had : List (ℕ × ℤ)) (G H : Tree → List Token → Type 0) → ((t : Tree) (us : List Token) → G t us → H t us) → (ts : List Token) → Trees frame v cuts depth had G ts → Trees frame v cuts depth had H ts
+trees_map frame v cuts depth had G H f ts m = (m.0, m.1, f m.0 m.1 m.2, m.3)
 
 points_map : (frame : Frame) (number : ℕ) (G H : List ℤ → List Token → Type 0) → ((zs : List ℤ) (us : List Token) → G zs us → H zs us) → (ts : List Token) → Points frame number G ts → Points frame number H ts
 points_map frame number G H f ts m = (m.0, m.1, f m.0 m.1 m.2, m.3)
 
 -- the word before a leaf's multipliers
-pub change_token : (f : Option Kind) (v : Version) → Words (pairs_word v) ≡ word_token f (change_word v)
+change_token : (f : Option Kind) (v : Version) → Words (pairs_word v) ≡ word_token f (change_word v)
 change_token f One = refl
 change_token f Two = refl
 change_token f Three = refl
 
+-- the word before the rows
+pub rows_token : (f : Option Kind) (a : Told) (o : Owner) → Words (rows_text a o) ≡ word_token f (rows_word a o)
+rows_token f a (of_leaf o) = change_token f a.version
+rows_token f a of_cut = refl
+
+cuts_map : (frame : Frame) (earlier : ℕ) (G H : List Cut → List Token → Type 0) → ((cuts : List Cut) (us : List Token) → G cuts us → H cuts us) → (ts : List Token) → Cuts frame earlier G ts → Cuts frame earlier H ts
+cuts_map frame earlier G H f ts m = (m.0, m.1, f m.0 m.1 m.2, m.3)
+
 module _ (frame : Frame) (c : Cert) where
   -- a tree behind a low part
   abbrev HighTree : Told → List Wait → ℕ → ℤ → Tree → List Token → Type 0
-  HighTree a ws i z low = Trees frame a.version 0 (length ws + 1) (kept_behind a.version a.had low) (λ high. BehindTree frame c a ws (Split i z low high))
+  HighTree a ws i z low = Trees frame a.version (length a.cuts) (length ws + 1) (kept_behind a.version a.had low) (λ high. BehindTree frame c a ws (Split i z low high))
 
   -- the same in two spellings
   high_to : (a : Told) (ws : List Wait) (i : ℕ) (z : ℤ) (low : Tree) (us : List Token) → HighTree a ws i z low us → BehindTree frame c a (low_of i z ∷ ws) low us
   high_to a ws i z low us m =
       let deep : length ws + 1 ≡ length (low_of i z ∷ ws) = omega arith in
-      let P : ℕ → Type 0 = λ d. Trees frame a.version 0 d (kept_behind a.version a.had low) (λ high. BehindTree frame c a ws (Split i z low high)) us in
+      let P : ℕ → Type 0 = λ d. Trees frame a.version (length a.cuts) d (kept_behind a.version a.had low) (λ high. BehindTree frame c a ws (Split i z low high)) us in
       subst P deep m
 
   high_from : (a : Told) (ws : List Wait) (i : ℕ) (z : ℤ) (low : Tree) (us : List Token) → BehindTree frame c a (low_of i z ∷ ws) low us → HighTree a ws i z low us
   high_from a ws i z low us m =
       let deep : length ws + 1 ≡ length (low_of i z ∷ ws) = omega arith in
-      let P : ℕ → Type 0 = λ d. Trees frame a.version 0 d (kept_behind a.version a.had low) (λ high. BehindTree frame c a ws (Split i z low high)) us in
+      let P : ℕ → Type 0 = λ d. Trees frame a.version (length a.cuts) d (kept_behind a.version a.had low) (λ high. BehindTree frame c a ws (Split i z low high)) us in
       subst P (sym deep) m
 
   abbrev LowTree : Told → List Wait → ℕ → ℤ → List Token → Type 0
-  LowTree a ws i z = Trees frame a.version 0 (length ws + 1) a.had (HighTree a ws i z)
+  LowTree a ws i z = Trees frame a.version (length a.cuts) (length ws + 1) a.had (HighTree a ws i z)
 
   low_to : (a : Told) (ws : List Wait) (i : ℕ) (z : ℤ) (ts : List Token) → LowTree a ws i z ts → AtNode frame c a (low_of i z ∷ ws) ts
   low_to a ws i z ts m =
       let deep : length ws + 1 ≡ length (low_of i z ∷ ws) = omega arith in
-      let P : ℕ → Type 0 = λ d. Trees frame a.version 0 d a.had (BehindTree frame c a (low_of i z ∷ ws)) ts in
-      subst P deep (trees_map frame a.version (length ws + 1) a.had (HighTree a ws i z) (BehindTree frame c a (low_of i z ∷ ws)) (high_to a ws i z) ts m)
+      let P : ℕ → Type 0 = λ d. Trees frame a.version (length a.cuts) d a.had (BehindTree frame c a (low_of i z ∷ ws)) ts in
+      subst P deep (trees_map frame a.version (length a.cuts) (length ws + 1) a.had (HighTree a ws i z) (BehindTree frame c a (low_of i z ∷ ws)) (high_to a ws i z) ts m)
 
   low_from : (a : Told) (ws : List Wait) (i : ℕ) (z : ℤ) (ts : List Token) → AtNode frame c a (low_of i z ∷ ws) ts → LowTree a ws i z ts
   low_from a ws i z ts m =
       let deep : length ws + 1 ≡ length (low_of i z ∷ ws) = omega arith in
-      let P : ℕ → Type 0 = λ d. Trees frame a.version 0 d a.had (BehindTree frame c a (low_of i z ∷ ws)) ts in
-      trees_map frame a.version (length ws + 1) a.had (BehindTree frame c a (low_of i z ∷ ws)) (HighTree a ws i z) (high_from a ws i z) ts (subst P (sym deep) m)
+      let P : ℕ → Type 0 = λ d. Trees frame a.version (length a.cuts) d a.had (BehindTree frame c a (low_of i z ∷ ws)) ts in
+      trees_map frame a.version (length a.cuts) (length ws + 1) a.had (BehindTree frame c a (low_of i z ∷ ws)) (HighTree a ws i z) (high_from a ws i z) ts (subst P (sym deep) m)
 
   -- a split's line behind its first word
   abbrev AfterPlace : Told → List Wait → ℕ → ℤ → List Token → Type 0
@@ -152,44 +161,44 @@ module _ (frame : Frame) (c : Cert) where
   variable_from : (a : Told) (ws : List Wait) (i : ℕ) (ts : List Token) → VariableGap frame c a ws i ts → Prefixed (Words (codes " ")) (Valued value_fault (AfterPlace a ws i)) ts
   variable_from a ws i ts m = prefixed_map (Words (codes " ")) (AtPlace frame c a ws i) (Valued value_fault (AfterPlace a ws i)) (valued_map value_fault (SplitEnd frame c a ws i) (AfterPlace a ws i) (place_from a ws i)) ts m
 
-  split_alike : (a : Told) (ws : List Wait) (ts : List Token) → Alike (SplitParts frame a.version 0 (length ws) a.had (BehindTree frame c a ws) ts) (AtVariable frame c a ws ts)
+  split_alike : (a : Told) (ws : List Wait) (ts : List Token) → Alike (SplitParts frame a.version (length a.cuts) (length ws) a.had (BehindTree frame c a ws) ts) (AtVariable frame c a ws ts)
   split_alike a ws ts = (
     λ m. numbered_map (variable_fault frame (length ws)) (λ i. Prefixed (Words (codes " ")) (Valued value_fault (AfterPlace a ws i))) (VariableGap frame c a ws) (variable_to a ws) ts m,
     λ m. numbered_map (variable_fault frame (length ws)) (VariableGap frame c a ws) (λ i. Prefixed (Words (codes " ")) (Valued value_fault (AfterPlace a ws i))) (variable_from a ws) ts m,
   )
 
   -- what a tree begins with
-  pub node_by : (a : Told) (ws : List Wait) (ts : List Token) → AtNode frame c a ws ts → TreeBy frame a.version 0 (length ws) a.had (BehindTree frame c a ws) ts
-  node_by a ws ts m = tree_by frame a.version 0 (length ws) a.had (BehindTree frame c a ws) m.0 m.1 ts m.2 m.3
+  pub node_by : (a : Told) (ws : List Wait) (ts : List Token) → AtNode frame c a ws ts → TreeBy frame a.version (length a.cuts) (length ws) a.had (BehindTree frame c a ws) ts
+  node_by a ws ts m = tree_by frame a.version (length a.cuts) (length ws) a.had (BehindTree frame c a ws) m.0 m.1 ts m.2 m.3
 
-  pub node_leaf : (a : Told) (ws : List Wait) (ts : List Token) → Alike (AtNode frame c a ws (Words (codes "leaf ") ∷ ts)) (AtScale frame c a ws false ts)
+  pub node_leaf : (a : Told) (ws : List Wait) (ts : List Token) → Alike (AtNode frame c a ws (Words (codes "leaf ") ∷ ts)) (AtScale frame c a ws (of_leaf false) ts)
   node_leaf a ws ts =
       let s = scale_alike frame c a ws false ts in (
-        λ m. s.0 (under_leaf frame a.version 0 (length ws) a.had (BehindTree frame c a ws) ts (node_by a ws (Words (codes "leaf ") ∷ ts) m)),
+        λ m. s.0 (under_leaf frame a.version (length a.cuts) (length ws) a.had (BehindTree frame c a ws) ts (node_by a ws (Words (codes "leaf ") ∷ ts) m)),
         λ m. let l = s.1 m in (Shut l.0, l.1, l.2, ap (λ (xs : List Token). Words (codes "leaf ") ∷ xs) l.3),
       )
 
-  pub node_open : (a : Told) (ws : List Wait) (ts : List Token) → Alike (AtNode frame c a ws (Words (codes "open ") ∷ ts)) (AtScale frame c a ws true ts)
+  pub node_open : (a : Told) (ws : List Wait) (ts : List Token) → Alike (AtNode frame c a ws (Words (codes "open ") ∷ ts)) (AtScale frame c a ws (of_leaf true) ts)
   node_open a ws ts =
       let s = scale_alike frame c a ws true ts in (
-        λ m. s.0 (under_open frame a.version 0 (length ws) a.had (BehindTree frame c a ws) ts (node_by a ws (Words (codes "open ") ∷ ts) m)),
+        λ m. s.0 (under_open frame a.version (length a.cuts) (length ws) a.had (BehindTree frame c a ws) ts (node_by a ws (Words (codes "open ") ∷ ts) m)),
         λ m. let l = s.1 m in (Open l.0, l.1, l.2, ap (λ (xs : List Token). Words (codes "open ") ∷ xs) l.3),
       )
 
   pub node_split : (a : Told) (ws : List Wait) (ts : List Token) → Alike (AtNode frame c a ws (Words (codes "split ") ∷ ts)) (AtVariable frame c a ws ts)
   node_split a ws ts =
       let s = split_alike a ws ts in (
-        λ m. s.0 (under_split frame a.version 0 (length ws) a.had (BehindTree frame c a ws) ts (node_by a ws (Words (codes "split ") ∷ ts) m)),
-        λ m. split_to frame a.version 0 (length ws) a.had (BehindTree frame c a ws) ts (s.1 m),
+        λ m. s.0 (under_split frame a.version (length a.cuts) (length ws) a.had (BehindTree frame c a ws) ts (node_by a ws (Words (codes "split ") ∷ ts) m)),
+        λ m. split_to frame a.version (length a.cuts) (length ws) a.had (BehindTree frame c a ws) ts (s.1 m),
       )
 
   -- the values of a point
   abbrev ValuesG : Version → Known → List ℤ → List ℤ → List Token → Type 0
-  ValuesG v k zs ys = AtNode frame c (told v (claim_with k (zs ++ ys))) []
+  ValuesG v k zs ys = Begin frame c v (claim_with k (zs ++ ys)) []
 
-  pub values_end : (v : Version) (k : Known) (zs : List ℤ) (ts : List Token) → Alike (AtValues frame c v k zs (LineEnd (end_fault frame (length zs + 1)) ∷ ts)) (AtNode frame c (told v (claim_with k zs)) [] ts)
+  pub values_end : (v : Version) (k : Known) (zs : List ℤ) (ts : List Token) → Alike (AtValues frame c v k zs (LineEnd (end_fault frame (length zs + 1)) ∷ ts)) (Begin frame c v (claim_with k zs) [] ts)
   values_end v k zs ts =
-      let P : List ℤ → Type 0 = λ ys. AtNode frame c (told v (claim_with k ys)) [] ts in (
+      let P : List ℤ → Type 0 = λ ys. Begin frame c v (claim_with k ys) [] ts in (
         λ m. subst P (append-nil zs) (points_end frame (length zs + 1) (ValuesG v k zs) m.0 m.1 ts m.2 m.3),
         λ m. ([], ts, subst P (sym (append-nil zs)) m, refl),
       )
@@ -199,14 +208,14 @@ module _ (frame : Frame) (c : Cert) where
       let long : length zs + 1 + 1 ≡ length (zs ++ z ∷ []) + 1 = omega (arith, length-append zs (z ∷ [])) in
       let P : ℕ → Type 0 = λ n. Points frame n (ValuesG v k (zs ++ z ∷ [])) ts in
       subst P long (points_map frame (length zs + 1 + 1) (λ ys. ValuesG v k zs (z ∷ ys)) (ValuesG v k (zs ++ z ∷ []))
-      (λ ys us g. let Q : List ℤ → Type 0 = λ xs. AtNode frame c (told v (claim_with k xs)) [] us in subst Q (sym (append_assoc zs (z ∷ []) ys)) g) ts m)
+      (λ ys us g. let Q : List ℤ → Type 0 = λ xs. Begin frame c v (claim_with k xs) [] us in subst Q (sym (append_assoc zs (z ∷ []) ys)) g) ts m)
 
   more_from : (v : Version) (k : Known) (zs : List ℤ) (z : ℤ) (ts : List Token) → AtValues frame c v k (zs ++ z ∷ []) ts → Points frame (length zs + 1 + 1) (λ ys. ValuesG v k zs (z ∷ ys)) ts
   more_from v k zs z ts m =
       let long : length zs + 1 + 1 ≡ length (zs ++ z ∷ []) + 1 = omega (arith, length-append zs (z ∷ [])) in
       let P : ℕ → Type 0 = λ n. Points frame n (ValuesG v k (zs ++ z ∷ [])) ts in
       points_map frame (length zs + 1 + 1) (ValuesG v k (zs ++ z ∷ [])) (λ ys. ValuesG v k zs (z ∷ ys))
-      (λ ys us g. let Q : List ℤ → Type 0 = λ xs. AtNode frame c (told v (claim_with k xs)) [] us in subst Q (append_assoc zs (z ∷ []) ys) g) ts (subst P (sym long) m)
+      (λ ys us g. let Q : List ℤ → Type 0 = λ xs. Begin frame c v (claim_with k xs) [] us in subst Q (append_assoc zs (z ∷ []) ys) g) ts (subst P (sym long) m)
 
   pub values_more : (v : Version) (k : Known) (zs : List ℤ) (ts : List Token) → Alike (AtValues frame c v k zs (Words (codes " ") ∷ ts)) (AtCoordinate frame c v k zs ts)
   values_more v k zs ts = (λ m. forward ts m, λ m. back m) where
@@ -219,38 +228,37 @@ module _ (frame : Frame) (c : Cert) where
     back : AtCoordinate frame c v k zs ts → AtValues frame c v k zs (Words (codes " ") ∷ ts)
     back m = let i = more_from v k zs m.0 m.1 m.3 in (m.0 ∷ i.0, i.1, i.2, ap (λ (xs : List Token). Words (codes " ") ∷ xs) (m.2 ∙ ap (λ (xs : List Token). Figure m.0 (coordinate_fault frame (length zs + 1) m.0) ∷ xs) i.3))
 
-  -- the pairs of a leaf
-  abbrev pub PairsG : Told → List Wait → Bool → ℕ → List (ℕ × ℤ) → List (ℕ × ℤ) → List Token → Type 0
-  PairsG a ws o s ps qs = Prefixed (Words (codes " priced ")) (AtPriced frame c a ws o s (ps ++ qs))
+  -- the rows of a line
+  abbrev pub PairsG : Told → List Wait → Owner → ℕ → List (ℕ × ℤ) → List (ℕ × ℤ) → List Token → Type 0
+  PairsG a ws o s ps qs = BehindRows frame c a ws o s (ps ++ qs)
 
-  pub pairs_end : (a : Told) (ws : List Wait) (o : Bool) (s : ℕ) (ps : List (ℕ × ℤ)) (last : ℕ) (ts : List Token) → Alike (AtPairs frame c a ws o s ps last 0 (Words (codes " priced ") ∷ ts)) (AtPriced frame c a ws o s ps ts)
+  pub pairs_end : (a : Told) (ws : List Wait) (o : Owner) (s : ℕ) (ps : List (ℕ × ℤ)) (last : ℕ) (ts : List Token) → Alike (AtPairs frame c a ws o s ps last 0 ts) (BehindRows frame c a ws o s ps ts)
   pairs_end a ws o s ps last ts =
-      let P : List (ℕ × ℤ) → Type 0 = λ qs. AtPriced frame c a ws o s qs ts in
-      let Q : List (ℕ × ℤ) → Type 0 = λ qs. AtPriced frame c a ws o s qs ts in (
-        λ m. subst P (append-nil ps) (prefixed_under (Words (codes " priced ")) (AtPriced frame c a ws o s (ps ++ [])) ts (no_pairs (may_name frame 0) (2 ^ 40) a.had last (PairsG a ws o s ps) m.0 m.1 (Words (codes " priced ") ∷ ts) m.2 m.3 m.4)),
-        λ m. ([], Words (codes " priced ") ∷ ts, refl, (ts, refl, subst Q (sym (append-nil ps)) m), refl),
+      let P : List (ℕ × ℤ) → Type 0 = λ qs. BehindRows frame c a ws o s qs ts in (
+        λ m. subst P (append-nil ps) (no_pairs (may_have frame a o) (most_of o) (had_by a o) last (PairsG a ws o s ps) m.0 m.1 ts m.2 m.3 m.4),
+        λ m. ([], ts, refl, subst P (sym (append-nil ps)) m, refl),
       )
 
-  pair_to : (a : Told) (ws : List Wait) (o : Bool) (s : ℕ) (ps : List (ℕ × ℤ)) (r : ℕ) (z : ℤ) (n m : ℕ) → n ≡ suc m → (ts : List Token) → Pairs (may_name frame 0) (2 ^ 40) a.had r m (λ qs. PairsG a ws o s ps ((r, z) ∷ qs)) ts → AtPairs frame c a ws o s (ps ++ (r, z) ∷ []) r (n - 1) ts
+  pair_to : (a : Told) (ws : List Wait) (o : Owner) (s : ℕ) (ps : List (ℕ × ℤ)) (r : ℕ) (z : ℤ) (n m : ℕ) → n ≡ suc m → (ts : List Token) → Pairs (may_have frame a o) (most_of o) (had_by a o) r m (λ qs. PairsG a ws o s ps ((r, z) ∷ qs)) ts → AtPairs frame c a ws o s (ps ++ (r, z) ∷ []) r (n - 1) ts
   pair_to a ws o s ps r z n m is ts x =
       let less : m ≡ n - 1 = omega arith in
       let P : ℕ → Type 0 = λ k. AtPairs frame c a ws o s (ps ++ (r, z) ∷ []) r k ts in
-      subst P less (pairs_map (may_name frame 0) (2 ^ 40) a.had r m (λ qs. PairsG a ws o s ps ((r, z) ∷ qs)) (PairsG a ws o s (ps ++ (r, z) ∷ []))
-      (λ qs us g. let Q : List (ℕ × ℤ) → Type 0 = λ xs. Prefixed (Words (codes " priced ")) (AtPriced frame c a ws o s xs) us in subst Q (sym (append_assoc ps ((r, z) ∷ []) qs)) g) ts x)
+      subst P less (pairs_map (may_have frame a o) (most_of o) (had_by a o) r m (λ qs. PairsG a ws o s ps ((r, z) ∷ qs)) (PairsG a ws o s (ps ++ (r, z) ∷ []))
+      (λ qs us g. let Q : List (ℕ × ℤ) → Type 0 = λ xs. BehindRows frame c a ws o s xs us in subst Q (sym (append_assoc ps ((r, z) ∷ []) qs)) g) ts x)
 
-  pair_from : (a : Told) (ws : List Wait) (o : Bool) (s : ℕ) (ps : List (ℕ × ℤ)) (r : ℕ) (z : ℤ) (n m : ℕ) → n ≡ suc m → (ts : List Token) → AtPairs frame c a ws o s (ps ++ (r, z) ∷ []) r (n - 1) ts → Pairs (may_name frame 0) (2 ^ 40) a.had r m (λ qs. PairsG a ws o s ps ((r, z) ∷ qs)) ts
+  pair_from : (a : Told) (ws : List Wait) (o : Owner) (s : ℕ) (ps : List (ℕ × ℤ)) (r : ℕ) (z : ℤ) (n m : ℕ) → n ≡ suc m → (ts : List Token) → AtPairs frame c a ws o s (ps ++ (r, z) ∷ []) r (n - 1) ts → Pairs (may_have frame a o) (most_of o) (had_by a o) r m (λ qs. PairsG a ws o s ps ((r, z) ∷ qs)) ts
   pair_from a ws o s ps r z n m is ts x =
       let less : m ≡ n - 1 = omega arith in
       let P : ℕ → Type 0 = λ k. AtPairs frame c a ws o s (ps ++ (r, z) ∷ []) r k ts in
-      pairs_map (may_name frame 0) (2 ^ 40) a.had r m (PairsG a ws o s (ps ++ (r, z) ∷ [])) (λ qs. PairsG a ws o s ps ((r, z) ∷ qs))
-      (λ qs us g. let Q : List (ℕ × ℤ) → Type 0 = λ xs. Prefixed (Words (codes " priced ")) (AtPriced frame c a ws o s xs) us in subst Q (append_assoc ps ((r, z) ∷ []) qs) g) ts (subst P (sym less) x)
+      pairs_map (may_have frame a o) (most_of o) (had_by a o) r m (PairsG a ws o s (ps ++ (r, z) ∷ [])) (λ qs. PairsG a ws o s ps ((r, z) ∷ qs))
+      (λ qs us g. let Q : List (ℕ × ℤ) → Type 0 = λ xs. BehindRows frame c a ws o s xs us in subst Q (append_assoc ps ((r, z) ∷ []) qs) g) ts (subst P (sym less) x)
 
-  pub pairs_more : (a : Told) (ws : List Wait) (o : Bool) (s : ℕ) (ps : List (ℕ × ℤ)) (last n m : ℕ) → n ≡ suc m → (ts : List Token) → Alike (AtPairs frame c a ws o s ps last n (Words (codes " ") ∷ ts)) (AtRow frame c a ws o s ps last n ts)
+  pub pairs_more : (a : Told) (ws : List Wait) (o : Owner) (s : ℕ) (ps : List (ℕ × ℤ)) (last n m : ℕ) → n ≡ suc m → (ts : List Token) → Alike (AtPairs frame c a ws o s ps last n (Words (codes " ") ∷ ts)) (AtRow frame c a ws o s ps last n ts)
   pairs_more a ws o s ps last n m is ts = (λ x. forward x, λ x. back x) where
     forward : AtPairs frame c a ws o s ps last n (Words (codes " ") ∷ ts) → AtRow frame c a ws o s ps last n ts
     forward x =
-        let i = first_pair (may_name frame 0) (2 ^ 40) a.had last m (PairsG a ws o s ps) x.0 x.1 (Words (codes " ") ∷ ts) (x.2 ∙ is) x.3 x.4 in
-        let tails : ts ≡ Figure (pos i.row) (row_fault (may_name frame 0) last i.row) ∷ Words (codes " ") ∷ Figure i.by (multiplier_fault (2 ^ 40) a.had i.row i.by) ∷ i.tail = same_tail _ _ _ _ i.is in
+        let i = first_pair (may_have frame a o) (most_of o) (had_by a o) last m (PairsG a ws o s ps) x.0 x.1 (Words (codes " ") ∷ ts) (x.2 ∙ is) x.3 x.4 in
+        let tails : ts ≡ Figure (pos i.row) (row_fault (may_have frame a o) last i.row) ∷ Words (codes " ") ∷ Figure i.by (multiplier_fault (most_of o) (had_by a o) i.row i.by) ∷ i.tail = same_tail _ _ _ _ i.is in
         (i.row, _, tails, (_, refl, (i.by, i.tail, refl, pair_to a ws o s ps i.row i.by n m is i.tail i.rest)))
 
     back : AtRow frame c a ws o s ps last n ts → AtPairs frame c a ws o s ps last n (Words (codes " ") ∷ ts)
@@ -259,14 +267,14 @@ module _ (frame : Frame) (c : Cert) where
         let v = g.2 in
         let i = pair_from a ws o s ps x.0 v.0 n m is v.1 v.3 in
         let long : length ((x.0, v.0) ∷ i.0) ≡ n = longer (x.0, v.0) i.0 i.2 in
-        let e : ts ≡ Figure (pos x.0) (row_fault (may_name frame 0) last x.0) ∷ x.1 = x.2 in
+        let e : ts ≡ Figure (pos x.0) (row_fault (may_have frame a o) last x.0) ∷ x.1 = x.2 in
         let f : x.1 ≡ Words (codes " ") ∷ g.0 = g.1 in
-        let h : g.0 ≡ Figure v.0 (multiplier_fault (2 ^ 40) a.had x.0 v.0) ∷ v.1 = v.2 in (
+        let h : g.0 ≡ Figure v.0 (multiplier_fault (most_of o) (had_by a o) x.0 v.0) ∷ v.1 = v.2 in (
           (x.0, v.0) ∷ i.0,
           i.1,
           long,
           i.3,
-          ap (λ (xs : List Token). Words (codes " ") ∷ xs) (e ∙ ap (λ (xs : List Token). Figure (pos x.0) (row_fault (may_name frame 0) last x.0) ∷ xs) (f ∙ ap (λ (xs : List Token). Words (codes " ") ∷ xs) (h ∙ ap (λ (xs : List Token). Figure v.0 (multiplier_fault (2 ^ 40) a.had x.0 v.0) ∷ xs) i.4))),
+          ap (λ (xs : List Token). Words (codes " ") ∷ xs) (e ∙ ap (λ (xs : List Token). Figure (pos x.0) (row_fault (may_have frame a o) last x.0) ∷ xs) (f ∙ ap (λ (xs : List Token). Words (codes " ") ∷ xs) (h ∙ ap (λ (xs : List Token). Figure v.0 (multiplier_fault (most_of o) (had_by a o) x.0 v.0) ∷ xs) i.4))),
         ) where
           longer : (p : ℕ × ℤ) (ps : List (ℕ × ℤ)) → length ps ≡ m → length (p ∷ ps) ≡ n
           longer p ps e = omega arith
@@ -330,3 +338,101 @@ module _ (frame : Frame) (c : Cert) where
     λ m. let P : ℕ → Type 0 = λ k. count n ∷ ts ≡ count k ∷ ts in
         (These m.0, m.1, m.3, subst P (sym m.2) refl ∙ ap (λ (xs : List Token). count (length m.0) ∷ xs) m.4),
   )
+
+  -- the place behind a claim
+  pub begin_alike : (v : Version) (claim : Claim) (ws : List Wait) (ts : List Token) → Alike (Begin frame c v claim ws ts) (Follows frame c (begin v claim ws) ts)
+  begin_alike One claim ws ts = (λ m. m, λ m. m)
+  begin_alike Two claim ws ts = (λ m. m, λ m. m)
+  begin_alike Three claim ws ts = (λ m. m, λ m. m)
+
+  -- a tree behind these cuts
+  abbrev NodeWith : Told → List Wait → List Token → List Cut → Type 0
+  NodeWith a ws us cuts = AtNode frame c (record { version = a.version; claim = a.claim; cuts = cuts; had = a.had }) ws us
+
+  -- cuts in front of a tree
+  abbrev CutsG : Told → List Wait → List Cut → List Token → Type 0
+  CutsG a ws cuts = AtNode frame c (with_cuts a cuts) ws
+
+  -- no tree begins as a cut does
+  no_cut : (a : Told) (ws : List Wait) (us : List Token) → AtNode frame c a ws (Words (codes "cut ") ∷ us) → ⊥
+  no_cut a ws us m = ⊎_elim
+      (λ e. words_differ 99 108 (codes "ut ") (codes "eaf ") [] [] (λ e. omega arith) (ap (λ (w : Token). w ∷ []) e))
+      (λ n. ⊎_elim (λ e. words_differ 99 111 (codes "ut ") (codes "pen ") [] [] (λ e. omega arith) (ap (λ (w : Token). w ∷ []) e))
+      (λ e. words_differ 99 115 (codes "ut ") (codes "plit ") [] [] (λ e. omega arith) (ap (λ (w : Token). w ∷ []) e)) n)
+      (tree_first frame a.version (length a.cuts) (length ws) a.had (BehindTree frame c a ws) (Words (codes "cut ")) us (node_by a ws (Words (codes "cut ") ∷ us) m))
+
+  -- the place behind a cut
+  cut_behind : (a : Told) (ws : List Wait) (d : ℕ) (ps : List (ℕ × ℤ)) (ts : List Token) → Alike (Cuts frame (length a.cuts + 1) (λ cuts. CutsG a ws (cut_of d ps ∷ cuts)) ts) (AtCuts frame c (with_cut a d ps) ws ts)
+  cut_behind a ws d ps ts =
+      let long : length a.cuts + 1 ≡ length (a.cuts ++ cut_of d ps ∷ []) = omega (arith, length-append a.cuts (cut_of d ps ∷ [])) in
+      let P : ℕ → Type 0 = λ n. Cuts frame n (CutsG (with_cut a d ps) ws) ts in
+      let R : List Token → List Cut → Type 0 = NodeWith a ws in (
+        λ m. subst P long (cuts_map frame (length a.cuts + 1) (λ cuts. CutsG a ws (cut_of d ps ∷ cuts)) (CutsG (with_cut a d ps) ws) (λ cuts us g. subst (R us) (sym (append_assoc a.cuts (cut_of d ps ∷ []) cuts)) g) ts m),
+        λ m. cuts_map frame (length a.cuts + 1) (CutsG (with_cut a d ps) ws) (λ cuts. CutsG a ws (cut_of d ps ∷ cuts)) (λ cuts us g. subst (R us) (append_assoc a.cuts (cut_of d ps ∷ []) cuts) g) ts (subst P (sym long) m),
+      )
+
+  -- the parts of a cut's line in front of what may follow
+  abbrev LineParts : ℕ → (ℕ → List (ℕ × ℤ) → List Token → Type 0) → List Token → Type 0
+  LineParts earlier M =
+      Numbered (divisor_fault earlier) (λ d. Prefixed (Words (codes " rows ")) (Numbered (λ _. None) (λ n. Pairs (may_combine frame earlier) (2 ^ 20) [] 0 n (λ ps. Prefixed (LineEnd None) (M d ps)))))
+
+  -- a cut's line behind its first word
+  cut_alike : (a : Told) (ws : List Wait) (ts : List Token) → Alike (CutParts frame (length a.cuts) (CutsG a ws) ts) (AtScale frame c a ws of_cut ts)
+  cut_alike a ws ts = (
+    λ m. parts_map (λ d ps. Cuts frame (length a.cuts + 1) (λ cuts. CutsG a ws (cut_of d ps ∷ cuts))) (λ d ps. AtCuts frame c (with_cut a d ps) ws) (λ d ps us. (cut_behind a ws d ps us).0) m,
+    λ m. parts_map (λ d ps. AtCuts frame c (with_cut a d ps) ws) (λ d ps. Cuts frame (length a.cuts + 1) (λ cuts. CutsG a ws (cut_of d ps ∷ cuts))) (λ d ps us. (cut_behind a ws d ps us).1) m,
+  ) where
+    parts_map : (M N : ℕ → List (ℕ × ℤ) → List Token → Type 0) → ((d : ℕ) (ps : List (ℕ × ℤ)) (us : List Token) → M d ps us → N d ps us) → LineParts (length a.cuts) M ts → LineParts (length a.cuts) N ts
+    parts_map M N f m = (m.0, m.1, m.2, let r = m.3 in (r.0, r.1, let n = r.2 in (n.0, n.1, n.2, let p = n.3 in (p.0, p.1, p.2, (let l = p.3 in (l.0, l.1, f m.0 p.0 l.0 l.2)), p.4))))
+
+  -- a further cut
+  pub cuts_cut : (a : Told) (ws : List Wait) (ts : List Token) → Alike (AtCuts frame c a ws (Words (codes "cut ") ∷ ts)) (AtScale frame c a ws of_cut ts)
+  cuts_cut a ws ts = (
+    λ m. (cut_alike a ws ts).0 (cut_from frame (length a.cuts) (CutsG a ws) (λ cuts us g. no_cut (with_cuts a cuts) ws us g) m.0 m.1 ts m.2 m.3),
+    λ m. cut_to frame (length a.cuts) (CutsG a ws) ts ((cut_alike a ws ts).1 m),
+  )
+
+  -- the first cut
+  pub first_cut : (a : Told) (ws : List Wait) (ts : List Token) → Alike (AtFirstCut frame c a ws (Words (codes "cut ") ∷ ts)) (AtScale frame c a ws of_cut ts)
+  first_cut a ws ts = (
+    λ m. (cuts_cut a ws ts).0 (m.0, m.1, m.2.1, m.3),
+    λ m. let k = (cuts_cut a ws ts).1 m in at_least k.0 k.1 k.2 k.3,
+  ) where
+    at_least : (cuts : List Cut) (us : List Token) → CutsG a ws cuts us → Words (codes "cut ") ∷ ts ≡ cut_lines frame (length a.cuts) cuts ++ us → AtFirstCut frame c a ws (Words (codes "cut ") ∷ ts)
+    at_least [] us g is = absurd (no_cut (with_cuts a []) ws ts (let P : List Token → Type 0 = CutsG a ws [] in subst P (sym is) g))
+    at_least (cut ∷ cuts) us g is = (cut ∷ cuts, us, (omega arith, g), is)
+
+  -- another word than a cut's begins the tree
+  pub cuts_node : (a : Told) (ws : List Wait) (y : Token) (ts : List Token) → (y ≡ Words (codes "cut ") → ⊥) → Alike (AtCuts frame c a ws (y ∷ ts)) (AtNode frame c a ws (y ∷ ts))
+  cuts_node a ws y ts other = (λ m. forward m.0 m.1 m.2 m.3, λ m. ([], y ∷ ts, subst (NodeWith a ws (y ∷ ts)) (sym (append-nil a.cuts)) m, refl)) where
+    forward : (cuts : List Cut) (us : List Token) → CutsG a ws cuts us → y ∷ ts ≡ cut_lines frame (length a.cuts) cuts ++ us → AtNode frame c a ws (y ∷ ts)
+    forward [] us g is = subst (NodeWith a ws (y ∷ ts)) (append-nil a.cuts) (let P : List Token → Type 0 = CutsG a ws [] in subst P (sym is) g)
+    forward (cut ∷ cuts) us g is = absurd (other (same_head y (Words (codes "cut ")) ts _ (is ∙ cut_split frame (length a.cuts) (CutsG a ws) cut cuts us)))
+
+  -- what begins cuts
+  pub cuts_first : (a : Told) (ws : List Wait) (y : Token) (ys : List Token) → AtCuts frame c a ws (y ∷ ys)
+      → (y ≡ Words (codes "cut ")) ⊎ ((y ≡ Words (codes "leaf ")) ⊎ ((y ≡ Words (codes "open ")) ⊎ (y ≡ Words (codes "split "))))
+  cuts_first a ws y ys m = by m.0 m.1 m.2 m.3 where
+    by : (cuts : List Cut) (us : List Token) → CutsG a ws cuts us → y ∷ ys ≡ cut_lines frame (length a.cuts) cuts ++ us
+        → (y ≡ Words (codes "cut ")) ⊎ ((y ≡ Words (codes "leaf ")) ⊎ ((y ≡ Words (codes "open ")) ⊎ (y ≡ Words (codes "split "))))
+    by [] us g is =
+        let P : List Token → Type 0 = CutsG a ws [] in
+        inr (tree_first frame a.version (length (with_cuts a []).cuts) (length ws) a.had (BehindTree frame c (with_cuts a []) ws) y ys (node_by (with_cuts a []) ws (y ∷ ys) (subst P (sym is) g)))
+    by (cut ∷ cuts) us g is = inl (same_head y (Words (codes "cut ")) ys _ (is ∙ cut_split frame (length a.cuts) (CutsG a ws) cut cuts us))
+
+  pub first_cut_first : (a : Told) (ws : List Wait) (y : Token) (ys : List Token) → AtFirstCut frame c a ws (y ∷ ys) → y ≡ Words (codes "cut ")
+  first_cut_first a ws y ys m = by m.0 m.1 m.2 m.3 where
+    by : (cuts : List Cut) (us : List Token) → (0 < length cuts) × CutsG a ws cuts us → y ∷ ys ≡ cut_lines frame (length a.cuts) cuts ++ us → y ≡ Words (codes "cut ")
+    by [] us g is = absurd (let none : 0 < length {A = Cut} [] = g.0 in omega (arith, none))
+    by (cut ∷ cuts) us g is = same_head y (Words (codes "cut ")) ys _ (is ∙ cut_split frame (length a.cuts) (CutsG a ws) cut cuts us)
+
+  pub cuts_over : (a : Told) (ws : List Wait) → AtCuts frame c a ws [] → ⊥
+  cuts_over a ws m = by m.0 m.1 m.2 m.3 where
+    by : (cuts : List Cut) (us : List Token) → CutsG a ws cuts us → [] ≡ cut_lines frame (length a.cuts) cuts ++ us → ⊥
+    by [] us g is =
+        let P : List Token → Type 0 = CutsG a ws [] in
+        tree_over frame a.version (length (with_cuts a []).cuts) (length ws) a.had (BehindTree frame c (with_cuts a []) ws) (node_by (with_cuts a []) ws [] (subst P (sym is) g))
+    by (cut ∷ cuts) us g is = no_tokens (Words (codes "cut ")) _ (is ∙ cut_split frame (length a.cuts) (CutsG a ws) cut cuts us)
+
+  pub first_cut_over : (a : Told) (ws : List Wait) → AtFirstCut frame c a ws [] → ⊥
+  first_cut_over a ws m = cuts_over a ws (m.0, m.1, m.2.1, m.3)

@@ -1,7 +1,7 @@
 -- The words that may come at a place: where they lead, and that their first bytes tell them apart.
 use Rattle.std.proofs.Common.{◌≡◌, ◌≢◌, ℕ, ◌≤◌, Bool, true, false, not, List, [], ◌∷◌, drop, Option, Some, None, ℤ, refl, sym, ap, ◌∙◌, subst, inl, inr, ⊎_elim, arith, nat_eq, if◌then◌else◌}
 use Rattle.std.specs.Prelude.{slice_index_or}
-use Rattle.cert_text.specs.Cert.{These, Tree, Cert, Frame}
+use Rattle.cert_text.specs.Cert.{These, Tree, Cut, Cert, Frame}
 use Rattle.cert_text.specs.Text.{Kind, token_text}
 use Rattle.cert_text.specs.Fault.{EndsToken, EndIsSeen}
 use Rattle.cert_text.specs.Words.{word_text, word_token, word_begins}
@@ -13,14 +13,14 @@ use Rattle.cert_text.specs.declared.spots.Spot.{Spot}
 use Rattle.cert_text.specs.declared.spots.Spot.TheVariants as s
 use Rattle.cert_text.specs.declared.words.Word.{Word}
 use Rattle.cert_text.specs.declared.words.Word.TheVariants as w
-use Rattle.cert_text.specs.Stages.{Wait, proof_of, Stage, at_bpcert, at_version, at_first_end, at_claim, at_kind, at_optimal, infeasible_end, at_bound, after_bound, at_value, claim_end, at_point, at_values, at_coordinate, at_node, at_scale, at_rows, at_count, at_pairs, at_row, row_gap, at_multiplier, at_priced, at_blocks, at_block, leaf_end, at_variable, variable_gap, at_place, split_end, at_end, last_end, over, behind_leaf, words, after, sort, IsOfSort}
+use Rattle.cert_text.specs.Stages.{Wait, proof_of, of_leaf, of_cut, behind_rows, at_first_cut, at_cuts, Stage, at_bpcert, at_version, at_first_end, at_claim, at_kind, at_optimal, infeasible_end, at_bound, after_bound, at_value, claim_end, at_point, at_values, at_coordinate, at_node, at_scale, at_rows, at_count, at_pairs, at_row, row_gap, at_multiplier, at_priced, at_blocks, at_block, leaf_end, at_variable, variable_gap, at_place, split_end, at_end, last_end, over, behind_leaf, words, after, sort, IsOfSort}
 use Rattle.cert_text.proofs.StageProofs.{ForEach, Leads}
 use Rattle.cert_text.proofs.StageMoves.{word_leads}
 
 -- the place behind each word
 words_after : (stage : Stage) → ForEach (λ word next. next ≡ after stage word) (words stage)
 words_after at_bpcert = (refl, tt)
-words_after at_version = (refl, (refl, tt))
+words_after at_version = (refl, (refl, (refl, tt)))
 words_after (at_first_end v) = (refl, tt)
 words_after (at_claim v) = (refl, tt)
 words_after (at_kind v) = (refl, (refl, (refl, tt)))
@@ -29,10 +29,14 @@ words_after (after_bound v b) = (refl, (refl, tt))
 words_after (claim_end v k) = (refl, tt)
 words_after (at_point v k) = (refl, tt)
 words_after (at_values v k zs) = (refl, (refl, tt))
+words_after (at_first_cut a ws) = (refl, tt)
+words_after (at_cuts a ws) = (refl, (refl, (refl, (refl, tt))))
 words_after (at_node a ws) = (refl, (refl, (refl, tt)))
 words_after (at_rows a ws o s) = (refl, tt)
-words_after (at_pairs a ws o s ps last n) =
-    elim (nat_eq n 0) as (λ t. ForEach (λ word next. next ≡ after (at_pairs a ws o s ps last n) word) (if t then (w.Priced, at_priced a ws o s ps) ∷ [] else (w.Space, at_row a ws o s ps last n) ∷ [])) [ true ↦ (refl, tt) | false ↦ (refl, tt) ]
+words_after (at_pairs a ws (of_leaf o) s ps last n) =
+    elim (nat_eq n 0) as (λ t. ForEach (λ word next. next ≡ after (at_pairs a ws (of_leaf o) s ps last n) word) (if t then behind_rows a ws (of_leaf o) s ps ∷ [] else (w.Space, at_row a ws (of_leaf o) s ps last n) ∷ [])) [ true ↦ (refl, tt) | false ↦ (refl, tt) ]
+words_after (at_pairs a ws of_cut s ps last n) =
+    elim (nat_eq n 0) as (λ t. ForEach (λ word next. next ≡ after (at_pairs a ws of_cut s ps last n) word) (if t then behind_rows a ws of_cut s ps ∷ [] else (w.Space, at_row a ws of_cut s ps last n) ∷ [])) [ true ↦ (refl, tt) | false ↦ (refl, tt) ]
 words_after (row_gap a ws o s ps r n) = (refl, tt)
 words_after (at_priced a ws o s ps) = (refl, tt)
 words_after (at_blocks a ws o s ps ks last n) =
@@ -79,7 +83,7 @@ AreDistinct (e ∷ es) = ForEach (λ v next. first_byte e.0 ≡ first_byte v →
 
 words_distinct : (stage : Stage) → AreDistinct (words stage)
 words_distinct at_bpcert = (tt, tt)
-words_distinct at_version = (((λ e. omega arith), tt), (tt, tt))
+words_distinct at_version = (((λ e. omega arith), ((λ e. omega arith), tt)), (((λ e. omega arith), tt), (tt, tt)))
 words_distinct (at_first_end v) = (tt, tt)
 words_distinct (at_claim v) = (tt, tt)
 words_distinct (at_kind v) = (((λ e. omega arith), ((λ e. omega arith), tt)), (((λ e. omega arith), tt), (tt, tt)))
@@ -88,10 +92,13 @@ words_distinct (after_bound v b) = (((λ e. omega arith), tt), (tt, tt))
 words_distinct (claim_end v k) = (tt, tt)
 words_distinct (at_point v k) = (tt, tt)
 words_distinct (at_values v k zs) = (((λ e. omega arith), tt), (tt, tt))
+words_distinct (at_first_cut a ws) = (tt, tt)
+words_distinct (at_cuts a ws) =
+    (((λ e. omega arith), ((λ e. omega arith), ((λ e. omega arith), tt))), (((λ e. omega arith), ((λ e. omega arith), tt)), (((λ e. omega arith), tt), (tt, tt))))
 words_distinct (at_node a ws) = (((λ e. omega arith), ((λ e. omega arith), tt)), (((λ e. omega arith), tt), (tt, tt)))
 words_distinct (at_rows a ws o s) = (tt, tt)
 words_distinct (at_pairs a ws o s ps last n) =
-    elim (nat_eq n 0) as (λ t. AreDistinct (if t then (w.Priced, at_priced a ws o s ps) ∷ [] else (w.Space, at_row a ws o s ps last n) ∷ [])) [ true ↦ (tt, tt) | false ↦ (tt, tt) ]
+    elim (nat_eq n 0) as (λ t. AreDistinct (if t then behind_rows a ws o s ps ∷ [] else (w.Space, at_row a ws o s ps last n) ∷ [])) [ true ↦ (tt, tt) | false ↦ (tt, tt) ]
 words_distinct (row_gap a ws o s ps r n) = (tt, tt)
 words_distinct (at_priced a ws o s ps) = (tt, tt)
 words_distinct (at_blocks a ws o s ps ks last n) =
@@ -164,6 +171,8 @@ word_number_apart (after_bound v b) word z here of_sort = absurd of_sort
 word_number_apart (claim_end v k) word z here of_sort = absurd of_sort
 word_number_apart (at_point v k) word z here of_sort = absurd of_sort
 word_number_apart (at_values v k zs) word z here of_sort = absurd of_sort
+word_number_apart (at_first_cut a ws) word z here of_sort = absurd of_sort
+word_number_apart (at_cuts a ws) word z here of_sort = absurd of_sort
 word_number_apart (at_node a ws) word z here of_sort = absurd of_sort
 word_number_apart (at_rows a ws o s) word z here of_sort = absurd of_sort
 word_number_apart (at_pairs a ws o s ps last n) word z here of_sort = absurd of_sort
@@ -181,6 +190,7 @@ pub word_token-text : (f : Option Kind) (word : Word) → token_text (word_token
 word_token-text f w.Bpcert = refl
 word_token-text f w.One = refl
 word_token-text f w.Two = refl
+word_token-text f w.Three = refl
 word_token-text f w.LineEnd = refl
 word_token-text f w.Claim = refl
 word_token-text f w.Optimal = refl
@@ -189,6 +199,7 @@ word_token-text f w.Bound = refl
 word_token-text f w.Value = refl
 word_token-text f w.Point = refl
 word_token-text f w.Space = refl
+word_token-text f w.Cut = refl
 word_token-text f w.Leaf = refl
 word_token-text f w.Open = refl
 word_token-text f w.Split = refl
@@ -203,6 +214,7 @@ pub word_ends : (f : Option Kind) (word : Word) (rest : List ℕ) → EndsToken 
 word_ends f w.Bpcert rest = tt
 word_ends f w.One rest = tt
 word_ends f w.Two rest = tt
+word_ends f w.Three rest = tt
 word_ends f w.LineEnd rest = tt
 word_ends f w.Claim rest = tt
 word_ends f w.Optimal rest = tt
@@ -211,6 +223,7 @@ word_ends f w.Bound rest = tt
 word_ends f w.Value rest = tt
 word_ends f w.Point rest = tt
 word_ends f w.Space rest = tt
+word_ends f w.Cut rest = tt
 word_ends f w.Leaf rest = tt
 word_ends f w.Open rest = tt
 word_ends f w.Split rest = tt
@@ -225,6 +238,7 @@ pub word_seen : (f : Option Kind) (word : Word) (rest : List ℕ) → EndIsSeen 
 word_seen f w.Bpcert rest = tt
 word_seen f w.One rest = tt
 word_seen f w.Two rest = tt
+word_seen f w.Three rest = tt
 word_seen f w.LineEnd rest = tt
 word_seen f w.Claim rest = tt
 word_seen f w.Optimal rest = tt
@@ -233,6 +247,7 @@ word_seen f w.Bound rest = tt
 word_seen f w.Value rest = tt
 word_seen f w.Point rest = tt
 word_seen f w.Space rest = tt
+word_seen f w.Cut rest = tt
 word_seen f w.Leaf rest = tt
 word_seen f w.Open rest = tt
 word_seen f w.Split rest = tt
@@ -247,6 +262,7 @@ pub word_split : (word : Word) → word_text word ≡ first_byte word ∷ drop 1
 word_split w.Bpcert = refl
 word_split w.One = refl
 word_split w.Two = refl
+word_split w.Three = refl
 word_split w.LineEnd = refl
 word_split w.Claim = refl
 word_split w.Optimal = refl
@@ -255,6 +271,7 @@ word_split w.Bound = refl
 word_split w.Value = refl
 word_split w.Point = refl
 word_split w.Space = refl
+word_split w.Cut = refl
 word_split w.Leaf = refl
 word_split w.Open = refl
 word_split w.Split = refl
@@ -269,46 +286,58 @@ abbrev pub heads : List (Word × Stage) → List Word
 heads [] = []
 heads (e ∷ es) = e.0 ∷ heads es
 
-pub words_are : (above : List Wait) (root : Tree) (r : Lines) (n : ℕ) (spot : Spot) → heads (words (place_of above root r n spot)) ≡ spot_words r.version spot (not (nat_eq n 0))
-words_are above root r n s.Bpcert = refl
-words_are above root r n s.Version = refl
-words_are above root r n s.FirstEnd = refl
-words_are above root r n s.Claim = refl
-words_are above root r n s.Kind = refl
-words_are above root r n s.OptimalValue = refl
-words_are above root r n s.InfeasibleEnd = refl
-words_are above root r n s.BoundValue = refl
-words_are above root r n s.AfterBound = refl
-words_are above root r n s.KnownValue = refl
-words_are above root r n s.ClaimEnd = refl
-words_are above root r n s.Point = refl
-words_are above root r n s.Values = refl
-words_are above root r n s.Coordinate = refl
-words_are above root r n s.Node = refl
-words_are above root r n s.Scale = refl
-words_are above root r n s.Rows = refl
-words_are above root r n s.Count = refl
-words_are above root r n s.Pairs = pairs (nat_eq n 0) _ _ where
+pub words_are : (above : List Wait) (root : Tree) (cuts : List Cut) (r : Lines) (n : ℕ) (spot : Spot) → heads (words (place_of above root cuts r n spot)) ≡ spot_words r.version spot (not (nat_eq n 0))
+words_are above root cuts r n s.Bpcert = refl
+words_are above root cuts r n s.Version = refl
+words_are above root cuts r n s.FirstEnd = refl
+words_are above root cuts r n s.Claim = refl
+words_are above root cuts r n s.Kind = refl
+words_are above root cuts r n s.OptimalValue = refl
+words_are above root cuts r n s.InfeasibleEnd = refl
+words_are above root cuts r n s.BoundValue = refl
+words_are above root cuts r n s.AfterBound = refl
+words_are above root cuts r n s.KnownValue = refl
+words_are above root cuts r n s.ClaimEnd = refl
+words_are above root cuts r n s.Point = refl
+words_are above root cuts r n s.Values = refl
+words_are above root cuts r n s.Coordinate = refl
+words_are above root cuts r n s.FirstCut = refl
+words_are above root cuts r n s.Cuts = refl
+words_are above root cuts r n s.Divisor = refl
+words_are above root cuts r n s.CutRows = refl
+words_are above root cuts r n s.CutCount = refl
+words_are above root cuts r n s.CutPairs = pairs (nat_eq n 0) _ _ where
+  pairs : (t : Bool) (x y : Stage) → heads (if t then (w.LineEnd, x) ∷ [] else (w.Space, y) ∷ []) ≡ (if not t then w.Space ∷ [] else w.LineEnd ∷ [])
+  pairs true x y = refl
+  pairs false x y = refl
+words_are above root cuts r n s.CutRow = refl
+words_are above root cuts r n s.CutGap = refl
+words_are above root cuts r n s.CutMultiplier = refl
+words_are above root cuts r n s.Node = refl
+words_are above root cuts r n s.Scale = refl
+words_are above root cuts r n s.Rows = refl
+words_are above root cuts r n s.Count = refl
+words_are above root cuts r n s.Pairs = pairs (nat_eq n 0) _ _ where
   pairs : (t : Bool) (x y : Stage) → heads (if t then (w.Priced, x) ∷ [] else (w.Space, y) ∷ []) ≡ (if not t then w.Space ∷ [] else w.Priced ∷ [])
   pairs true x y = refl
   pairs false x y = refl
-words_are above root r n s.Row = refl
-words_are above root r n s.RowGap = refl
-words_are above root r n s.Multiplier = refl
-words_are above root r n s.Priced = refl
-words_are above root r n s.Blocks = blocks (nat_eq n 0) _ _ where
+words_are above root cuts r n s.Row = refl
+words_are above root cuts r n s.RowGap = refl
+words_are above root cuts r n s.Multiplier = refl
+words_are above root cuts r n s.Priced = refl
+words_are above root cuts r n s.Blocks = blocks (nat_eq n 0) _ _ where
   blocks : (t : Bool) (x y : Stage) → heads (if t then (w.LineEnd, x) ∷ [] else (w.Space, y) ∷ []) ≡ (if not t then w.Space ∷ [] else w.LineEnd ∷ [])
   blocks true x y = refl
   blocks false x y = refl
-words_are above root r n s.Block = refl
-words_are above root r n s.LeafEnd = refl
-words_are above root r n s.Variable = refl
-words_are above root r n s.VariableGap = refl
-words_are above root r n s.Place = refl
-words_are above root r n s.SplitEnd = refl
-words_are above root r n s.End = refl
-words_are above root r n s.LastEnd = refl
-words_are above root r n s.Over = refl
+words_are above root cuts r n s.Block = refl
+words_are above root cuts r n s.LeafEnd = refl
+words_are above root cuts r n s.Variable = refl
+words_are above root cuts r n s.VariableGap = refl
+words_are above root cuts r n s.Place = refl
+words_are above root cuts r n s.SplitEnd = refl
+words_are above root cuts r n s.End = refl
+words_are above root cuts r n s.LastEnd = refl
+words_are above root cuts r n s.Over = refl
 
 -- a word that is picked may come, and begins with the byte
 pub picked_comes : (byte : ℕ) (word : Word) (es : List (Word × Stage)) → picked_word byte (heads es) ≡ Some word → Comes word es × (word_begins word byte ≡ true)

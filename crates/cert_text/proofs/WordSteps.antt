@@ -9,7 +9,7 @@ use Rattle.cert_text.specs.Fault.{IsSeenFault, line_behind}
 use Rattle.cert_text.specs.Words.{word_text, word_token, word_begins, is_line_end}
 use Rattle.cert_text.specs.Spots.{spot_words, picked_word}
 use Rattle.cert_text.specs.Frames.{frame_of}
-use Rattle.cert_text.specs.Cert.{Tree}
+use Rattle.cert_text.specs.Cert.{Cut, Tree}
 use Rattle.cert_text.specs.Readers.{HasHighs, Keeps, slack, place_of, stage_of}
 use Rattle.cert_text.specs.Stages.{Wait, Stage, words, after, line_fault}
 use Rattle.cert_text.specs.Standing.{MayStand, Reached, Comes, IsInWord, IsPart, CountFits, StandsFor, Between, InWordAt, Steps, EndsNumberAt, is_digit}
@@ -32,19 +32,19 @@ use Rattle.cert_text.proofs.Bytes.{word_line, line_more, slack_small}
 use Rattle.cert_text.proofs.ReaderSteps.{same_place, counts_push}
 
 -- a fault that a call gave
-pub at_fault : (above : List Wait) (root : Tree) (frame : Frame) (new : Lines) (text : List ℕ) (byte line : ℕ) (kind : Kind) (result : Result (Option Event) CertFault) → result ≡ Err (At line kind) → IsSeenFault (frame_of frame) (text ++ byte ∷ []) line kind → Steps above root frame new text byte result
-at_fault above root frame new text byte line kind result is fault = let P : Result (Option Event) CertFault → Type 0 = λ r. Steps above root frame new text byte r in subst P (sym is) fault
+pub at_fault : (above : List Wait) (root : Tree) (cuts : List Cut) (frame : Frame) (new : Lines) (text : List ℕ) (byte line : ℕ) (kind : Kind) (result : Result (Option Event) CertFault) → result ≡ Err (At line kind) → IsSeenFault (frame_of frame) (text ++ byte ∷ []) line kind → Steps above root cuts frame new text byte result
+at_fault above root cuts frame new text byte line kind result is fault = let P : Result (Option Event) CertFault → Type 0 = λ r. Steps above root cuts frame new text byte r in subst P (sym is) fault
 
 -- a fault of the number that ended
-pub number_stops : (above : List Wait) (root : Tree) (frame : Frame) (new : Lines) (text : List ℕ) (byte : ℕ) (e : CertFault) → EndsNumberAt above root frame new text byte (Err e) → Steps above root frame new text byte (Err e)
-number_stops above root frame new text byte NoMemory ends = tt
-number_stops above root frame new text byte (At line kind) ends = ends
+pub number_stops : (above : List Wait) (root : Tree) (cuts : List Cut) (frame : Frame) (new : Lines) (text : List ℕ) (byte : ℕ) (e : CertFault) → EndsNumberAt above root cuts frame new text byte (Err e) → Steps above root cuts frame new text byte (Err e)
+number_stops above root cuts frame new text byte NoMemory ends = tt
+number_stops above root cuts frame new text byte (At line kind) ends = ends
 
 -- a call that went well
-pub at_done : (above : List Wait) (root : Tree) (frame : Frame) (new now : Lines) (text : List ℕ) (byte : ℕ) (result : Result (Option Event) CertFault) → result ≡ Ok None → new ≡ now → StandsFor above root frame now (text ++ byte ∷ []) → Steps above root frame new text byte result
-at_done above root frame new now text byte result is same stands =
-    let P : Result (Option Event) CertFault → Type 0 = λ r. Steps above root frame new text byte r in
-    let Q : Lines → Type 0 = λ x. StandsFor above root frame x (text ++ byte ∷ []) in
+pub at_done : (above : List Wait) (root : Tree) (cuts : List Cut) (frame : Frame) (new now : Lines) (text : List ℕ) (byte : ℕ) (result : Result (Option Event) CertFault) → result ≡ Ok None → new ≡ now → StandsFor above root cuts frame now (text ++ byte ∷ []) → Steps above root cuts frame new text byte result
+at_done above root cuts frame new now text byte result is same stands =
+    let P : Result (Option Event) CertFault → Type 0 = λ r. Steps above root cuts frame new text byte r in
+    let Q : Lines → Type 0 = λ x. StandsFor above root cuts frame x (text ++ byte ∷ []) in
     subst P (sym is) (subst Q (sym same) stands)
 
 take_whole : (xs : List ℕ) → take (length xs) xs ≡ xs
@@ -65,6 +65,7 @@ fault_word : (f : Option Kind) (word : Word) (kind : Kind) → fault_of (word_to
 fault_word f w.Bpcert kind is = absurd (cc)
 fault_word f w.One kind is = absurd (cc)
 fault_word f w.Two kind is = absurd (cc)
+fault_word f w.Three kind is = absurd (cc)
 fault_word f w.LineEnd kind is = refl
 fault_word f w.Claim kind is = absurd (cc)
 fault_word f w.Optimal kind is = absurd (cc)
@@ -73,6 +74,7 @@ fault_word f w.Bound kind is = absurd (cc)
 fault_word f w.Value kind is = absurd (cc)
 fault_word f w.Point kind is = absurd (cc)
 fault_word f w.Space kind is = absurd (cc)
+fault_word f w.Cut kind is = absurd (cc)
 fault_word f w.Leaf kind is = absurd (cc)
 fault_word f w.Open kind is = absurd (cc)
 fault_word f w.Split kind is = absurd (cc)
@@ -86,6 +88,7 @@ line_end_is : (word : Word) → is_line_end word ≡ true → word ≡ w.LineEnd
 line_end_is w.Bpcert is = absurd (cc)
 line_end_is w.One is = absurd (cc)
 line_end_is w.Two is = absurd (cc)
+line_end_is w.Three is = absurd (cc)
 line_end_is w.LineEnd is = refl
 line_end_is w.Claim is = absurd (cc)
 line_end_is w.Optimal is = absurd (cc)
@@ -94,6 +97,7 @@ line_end_is w.Bound is = absurd (cc)
 line_end_is w.Value is = absurd (cc)
 line_end_is w.Point is = absurd (cc)
 line_end_is w.Space is = absurd (cc)
+line_end_is w.Cut is = absurd (cc)
 line_end_is w.Leaf is = absurd (cc)
 line_end_is w.Open is = absurd (cc)
 line_end_is w.Split is = absurd (cc)
@@ -104,11 +108,11 @@ line_end_is w.All is = absurd (cc)
 line_end_is w.End is = absurd (cc)
 
 -- a line's end that leaves a point with too few values
-pub end_at_fault : (above : List Wait) (root : Tree) (frame : Frame) (r : Lines) (word : Word) (count byte line : ℕ) (text : List ℕ) (kind : Kind) (at : InWordAt above root frame r word count text) → fault_of (word_token (line_fault (frame_of frame) (stage_of above root r at.count)) word) ≡ Some kind
+pub end_at_fault : (above : List Wait) (root : Tree) (cuts : List Cut) (frame : Frame) (r : Lines) (word : Word) (count byte line : ℕ) (text : List ℕ) (kind : Kind) (at : InWordAt above root cuts frame r word count text) → fault_of (word_token (line_fault (frame_of frame) (stage_of above root cuts r at.count)) word) ≡ Some kind
     → slice_index_or (word_text word) count 0 ≡ byte → count + 1 ≡ length (word_text word) → line ≡ r.line → IsSeenFault (frame_of frame) (text ++ byte ∷ []) line kind
-end_at_fault above root frame r word count byte line text kind at fault is last at_line =
+end_at_fault above root cuts frame r word count byte line text kind at fault is last at_line =
     let part = at.part in
-    let stage = stage_of above root r at.count in
+    let stage = stage_of above root cuts r at.count in
     let ending = fault_word (line_fault (frame_of frame) stage) word kind fault in
     let one : length (word_text word) ≡ 1 = ap (λ (v : Word). length (word_text v)) ending in
     let none : count ≡ 0 = omega arith in
@@ -123,12 +127,12 @@ fits_word old new left count size more grows fits = ⊎_elim (λ same. inl same)
     (λ big. let small = slack_small new in let room : 2 ^ 64 - 1 + slack new ≤ left + more = let b : 2 ^ 64 - 1 + slack old ≤ left + size = big.1 in omega arith in inr (big.0, room)) fits
 
 -- a whole word
-pub word_ends_well : (above next : List Wait) (root tree : Tree) (frame : Frame) (old new : Lines) (word : Word) (count byte line : ℕ) (text : List ℕ) (at : InWordAt above root frame old word count text) → fault_of (word_token (line_fault (frame_of frame) (stage_of above root old at.count)) word) ≡ None
-    → ((n : ℕ) → stage_of next tree new n ≡ after (stage_of above root old n) word) → HasHighs next new → Keeps old new → slice_index_or (word_text word) count 0 ≡ byte → count + 1 ≡ length (word_text word)
-    → line ≡ line_behind (text ++ byte ∷ []) → line_behind (text ++ byte ∷ []) ≤ length (text ++ byte ∷ []) → StandsFor next tree frame (record new { part = Fresh; line = line }) (text ++ byte ∷ [])
-word_ends_well above next root tree frame old new word count byte line text at clean leads highs keeps is last line_is few =
+pub word_ends_well : (above next : List Wait) (root tree : Tree) (cuts later : List Cut) (frame : Frame) (old new : Lines) (word : Word) (count byte line : ℕ) (text : List ℕ) (at : InWordAt above root cuts frame old word count text) → fault_of (word_token (line_fault (frame_of frame) (stage_of above root cuts old at.count)) word) ≡ None
+    → ((n : ℕ) → stage_of next tree later new n ≡ after (stage_of above root cuts old n) word) → HasHighs next later new → Keeps old new → slice_index_or (word_text word) count 0 ≡ byte → count + 1 ≡ length (word_text word)
+    → line ≡ line_behind (text ++ byte ∷ []) → line_behind (text ++ byte ∷ []) ≤ length (text ++ byte ∷ []) → StandsFor next tree later frame (record new { part = Fresh; line = line }) (text ++ byte ∷ [])
+word_ends_well above next root tree cuts later frame old new word count byte line text at clean leads highs keeps is last line_is few =
     let part = at.part in
-    let stage = stage_of above root old at.count in
+    let stage = stage_of above root cuts old at.count in
     let whole = word_done part.done text (word_text word) count byte part.bytes part.within last is in
     let there = word_reached (frame_of frame) stage part.number part.done word part.reached part.comes clean part.stands in
     let P : List ℕ → Type 0 = λ t. Reached (frame_of frame) (after stage word) false t in
@@ -141,16 +145,16 @@ word_ends_well above next root tree frame old new word count byte line text at c
         counted = subst F (sym keeps.left) (fits_word old.spot new.spot old.left at.count (length text) (length (text ++ byte ∷ [])) grows at.counts.counted);
         line = line_is;
         short = inr few;
-        highs = record { depth = highs.depth; highs = highs.highs };
+        highs = record { depth = highs.depth; highs = highs.highs; cuts = highs.cuts; few = highs.few };
       };
-      part = subst Q (sym (same_place next tree new Fresh line at.count new.spot ∙ leads at.count)) (subst P (sym whole) there);
+      part = subst Q (sym (same_place next tree later new Fresh line at.count new.spot ∙ leads at.count)) (subst P (sym whole) there);
     }
 
 -- a line's end counts
-pub line_ends_well : (above next : List Wait) (root tree : Tree) (frame : Frame) (old new : Lines) (word : Word) (count byte line : ℕ) (text : List ℕ) (at : InWordAt above root frame old word count text) → length text + 1 < 2 ^ 64 → fault_of (word_token (line_fault (frame_of frame) (stage_of above root old at.count)) word) ≡ None
-    → ((n : ℕ) → stage_of next tree new n ≡ after (stage_of above root old n) word) → HasHighs next new → Keeps old new → slice_index_or (word_text word) count 0 ≡ byte → count + 1 ≡ length (word_text word)
-    → is_line_end word ≡ true → line ≡ min (new.line + 1) (2 ^ 64 - 1) → StandsFor next tree frame (record new { part = Fresh; line = line }) (text ++ byte ∷ [])
-line_ends_well above next root tree frame old new word count byte line text at fits clean leads highs keeps is last ends line_is =
+pub line_ends_well : (above next : List Wait) (root tree : Tree) (cuts later : List Cut) (frame : Frame) (old new : Lines) (word : Word) (count byte line : ℕ) (text : List ℕ) (at : InWordAt above root cuts frame old word count text) → length text + 1 < 2 ^ 64 → fault_of (word_token (line_fault (frame_of frame) (stage_of above root cuts old at.count)) word) ≡ None
+    → ((n : ℕ) → stage_of next tree later new n ≡ after (stage_of above root cuts old n) word) → HasHighs next later new → Keeps old new → slice_index_or (word_text word) count 0 ≡ byte → count + 1 ≡ length (word_text word)
+    → is_line_end word ≡ true → line ≡ min (new.line + 1) (2 ^ 64 - 1) → StandsFor next tree later frame (record new { part = Fresh; line = line }) (text ++ byte ∷ [])
+line_ends_well above next root tree cuts later frame old new word count byte line text at fits clean leads highs keeps is last ends line_is =
     let part = at.part in
     let ending = line_end_is word ends in
     let one : length (word_text word) ≡ 1 = ap (λ (v : Word). length (word_text v)) ending in
@@ -161,22 +165,22 @@ line_ends_well above next root tree frame old new word count byte line text at f
     let same : new.line ≡ line_behind text = keeps.line ∙ at.counts.line in
     let counted : line ≡ line_behind (text ++ byte ∷ []) = omega arith in
     let room : line_behind (text ++ byte ∷ []) ≤ length (text ++ byte ∷ []) = omega (arith, length-append text (byte ∷ [])) in
-    word_ends_well above next root tree frame old new word count byte line text at clean leads highs keeps is last counted room where
-      first : old.spot ≡ s.Bpcert → Comes word (words (stage_of above root old at.count)) → word ≡ w.LineEnd → ⊥
+    word_ends_well above next root tree cuts later frame old new word count byte line text at clean leads highs keeps is last counted room where
+      first : old.spot ≡ s.Bpcert → Comes word (words (stage_of above root cuts old at.count)) → word ≡ w.LineEnd → ⊥
       first spot comes ending =
-          let P : Spot → Type 0 = λ x. Comes word (words (place_of above root old at.count x)) in
+          let P : Spot → Type 0 = λ x. Comes word (words (place_of above root cuts old at.count x)) in
           let there : (word ≡ w.Bpcert) ⊎ ⊥ = subst P spot comes in
           ⊎_elim (λ e. let wrong : ◌≡◌ {A = Word} w.LineEnd w.Bpcert = sym ending ∙ e in cc) (λ e. e) there
 
 -- another word ends no line
-pub other_ends_well : (above next : List Wait) (root tree : Tree) (frame : Frame) (old new : Lines) (word : Word) (count byte : ℕ) (text : List ℕ) (at : InWordAt above root frame old word count text) → fault_of (word_token (line_fault (frame_of frame) (stage_of above root old at.count)) word) ≡ None
-    → ((n : ℕ) → stage_of next tree new n ≡ after (stage_of above root old n) word) → HasHighs next new → Keeps old new → slice_index_or (word_text word) count 0 ≡ byte → count + 1 ≡ length (word_text word)
-    → is_line_end word ≡ false → StandsFor next tree frame (record new { part = Fresh }) (text ++ byte ∷ [])
-other_ends_well above next root tree frame old new word count byte text at clean leads highs keeps is last ends =
+pub other_ends_well : (above next : List Wait) (root tree : Tree) (cuts later : List Cut) (frame : Frame) (old new : Lines) (word : Word) (count byte : ℕ) (text : List ℕ) (at : InWordAt above root cuts frame old word count text) → fault_of (word_token (line_fault (frame_of frame) (stage_of above root cuts old at.count)) word) ≡ None
+    → ((n : ℕ) → stage_of next tree later new n ≡ after (stage_of above root cuts old n) word) → HasHighs next later new → Keeps old new → slice_index_or (word_text word) count 0 ≡ byte → count + 1 ≡ length (word_text word)
+    → is_line_end word ≡ false → StandsFor next tree later frame (record new { part = Fresh }) (text ++ byte ∷ [])
+other_ends_well above next root tree cuts later frame old new word count byte text at clean leads highs keeps is last ends =
     let other : byte ≢ 10 = ⊎_elim (λ ending. absurd (true≢false (sym (ap is_line_end ending) ∙ ends))) (λ apart e. apart (is ∙ e)) (word_line word count) in
-    let pushed = counts_push above old Fresh at.count text byte other at.counts in
+    let pushed = counts_push above cuts old Fresh at.count text byte other at.counts in
     let few : line_behind (text ++ byte ∷ []) ≤ length (text ++ byte ∷ []) = ⊎_elim (λ none. absurd (some text byte none.0)) (λ h. h) pushed.short in
-    word_ends_well above next root tree frame old new word count byte new.line text at clean leads highs keeps is last (keeps.line ∙ pushed.line) few where
+    word_ends_well above next root tree cuts later frame old new word count byte new.line text at clean leads highs keeps is last (keeps.line ∙ pushed.line) few where
       some : (xs : List ℕ) (b : ℕ) → xs ++ b ∷ [] ≡ [] → ⊥
       some [] b e = cc
       some (x ∷ xs) b e = cc
@@ -195,9 +199,9 @@ stands_part true (x ∷ word) rest zero some within stands = absurd (omega arith
 stands_part true (x ∷ word) rest (suc count) some within stands = stands []
 
 -- a word doesn't go on so
-pub syntax_word : (above : List Wait) (root : Tree) (frame : Frame) (r : Lines) (word : Word) (count byte line : ℕ) (text : List ℕ) → InWordAt above root frame r word count text → slice_index_or (word_text word) count 0 ≢ byte → (count ≡ 0 → word_begins word byte ≡ true) → line ≡ r.line
+pub syntax_word : (above : List Wait) (root : Tree) (cuts : List Cut) (frame : Frame) (r : Lines) (word : Word) (count byte line : ℕ) (text : List ℕ) → InWordAt above root cuts frame r word count text → slice_index_or (word_text word) count 0 ≢ byte → (count ≡ 0 → word_begins word byte ≡ true) → line ≡ r.line
     → IsSeenFault (frame_of frame) (text ++ byte ∷ []) line Syntax
-syntax_word above root frame r word count byte line text at other begun at_line =
+syntax_word above root cuts frame r word count byte line text at other begun at_line =
     let part = at.part in
     let some : 0 < count = positive count other begun in
     let length_some : 0 < length (word_text word) = let less : count < length (word_text word) = part.within in omega arith in
@@ -206,7 +210,7 @@ syntax_word above root frame r word count byte line text at other begun at_line 
     let P : List ℕ → Type 0 = λ t. IsSeenFault (frame_of frame) t line Syntax in
     let L : ℕ → Type 0 = λ l. IsSeenFault (frame_of frame) (part.done ++ (take count (word_text word) ++ byte ∷ [])) l Syntax in
     subst P (sym bytes) (subst L (sym here) (leaves_seen (frame_of frame) (part.done ++ (take count (word_text word) ++ byte ∷ [])) [] byte (line_behind (part.done ++ take count (word_text word)))
-    (λ more. leaves_word (frame_of frame) (stage_of above root r at.count) part.number part.done (byte ∷ []) more word count part.reached part.comes some part.within
+    (λ more. leaves_word (frame_of frame) (stage_of above root cuts r at.count) part.number part.done (byte ∷ []) more word count part.reached part.comes some part.within
     (stands_part part.number (word_text word) (byte ∷ []) count some length_some part.stands)
     (λ tail a is same. other (nth_at (word_text word) count a tail part.within is ∙ same)) (λ none. cc)))) where
       positive : (k : ℕ) → slice_index_or (word_text word) k 0 ≢ byte → (k ≡ 0 → word_begins word byte ≡ true) → 0 < k
@@ -214,17 +218,17 @@ syntax_word above root frame r word count byte line text at other begun at_line 
       positive (suc k) other begun = omega arith
 
 -- a word goes on
-pub word_goes_on : (above : List Wait) (root : Tree) (frame : Frame) (r : Lines) (word : Word) (count byte : ℕ) (text : List ℕ) → InWordAt above root frame r word count text → slice_index_or (word_text word) count 0 ≡ byte → count + 1 < length (word_text word)
-    → StandsFor above root frame (record r { part = InWord word (count + 1) }) (text ++ byte ∷ [])
-word_goes_on above root frame r word count byte text at is more =
+pub word_goes_on : (above : List Wait) (root : Tree) (cuts : List Cut) (frame : Frame) (r : Lines) (word : Word) (count byte : ℕ) (text : List ℕ) → InWordAt above root cuts frame r word count text → slice_index_or (word_text word) count 0 ≡ byte → count + 1 < length (word_text word)
+    → StandsFor above root cuts frame (record r { part = InWord word (count + 1) }) (text ++ byte ∷ [])
+word_goes_on above root cuts frame r word count byte text at is more =
     let part = at.part in
     let other : byte ≢ 10 = ⊎_elim (λ ending. absurd (short ending)) (λ apart e. apart (is ∙ e)) (word_line word count) in
     let some : 0 < count + 1 = omega arith in
     let P : Stage → Type 0 = λ stage. (0 < count + 1) × IsInWord (frame_of frame) stage word (count + 1) (text ++ byte ∷ []) in
     record {
       count = at.count;
-      counts = counts_push above r (InWord word (count + 1)) at.count text byte other at.counts;
-      part = subst P (sym (same_place above root r (InWord word (count + 1)) r.line at.count r.spot)) (
+      counts = counts_push above cuts r (InWord word (count + 1)) at.count text byte other at.counts;
+      part = subst P (sym (same_place above root cuts r (InWord word (count + 1)) r.line at.count r.spot)) (
         some,
         record {
           number = part.number;
@@ -241,13 +245,13 @@ word_goes_on above root frame r word count byte text at is more =
       short ending = let one : length (word_text word) ≡ 1 = ap (λ (v : Word). length (word_text v)) ending in omega arith
 
 -- a reader within a word
-pub within_word : (above : List Wait) (root : Tree) (frame : Frame) (r : Lines) (text : List ℕ) (word : Word) (count : ℕ) → StandsFor above root frame r text → r.part ≡ InWord word count → InWordAt above root frame r word count text
-within_word above root frame r text word count stands is =
-    let P : Part → Type 0 = λ p. IsPart (frame_of frame) (stage_of above root r stands.count) p text in
+pub within_word : (above : List Wait) (root : Tree) (cuts : List Cut) (frame : Frame) (r : Lines) (text : List ℕ) (word : Word) (count : ℕ) → StandsFor above root cuts frame r text → r.part ≡ InWord word count → InWordAt above root cuts frame r word count text
+within_word above root cuts frame r text word count stands is =
+    let P : Part → Type 0 = λ p. IsPart (frame_of frame) (stage_of above root cuts r stands.count) p text in
     record { count = stands.count; counts = stands.counts; part = (subst P is stands.part).1 }
 
-pub within_some : (above : List Wait) (root : Tree) (frame : Frame) (r : Lines) (text : List ℕ) (word : Word) (count : ℕ) → StandsFor above root frame r text → r.part ≡ InWord word count → 0 < count
-within_some above root frame r text word count stands is = let P : Part → Type 0 = λ p. IsPart (frame_of frame) (stage_of above root r stands.count) p text in (subst P is stands.part).0
+pub within_some : (above : List Wait) (root : Tree) (cuts : List Cut) (frame : Frame) (r : Lines) (text : List ℕ) (word : Word) (count : ℕ) → StandsFor above root cuts frame r text → r.part ≡ InWord word count → 0 < count
+within_some above root cuts frame r text word count stands is = let P : Part → Type 0 = λ p. IsPart (frame_of frame) (stage_of above root cuts r stands.count) p text in (subst P is stands.part).0
 
 -- whether pairs or blocks are still to come is told by what is kept
 more_is : (spot : Spot) (left count size : ℕ) → size + 1 < 2 ^ 64 → CountFits spot left count size → nat_lt 0 left ≡ not (nat_eq count 0)
@@ -259,16 +263,16 @@ more_is spot left count size small fits = ⊎_elim
       positive left count some less = grind (arith, nat_tests)
 
 -- the words of a reader between two tokens
-words_between : (above : List Wait) (root : Tree) (frame : Frame) (r : Lines) (number : Bool) (text : List ℕ) (more : Bool) (between : Between above root frame r number text) → length text + 1 < 2 ^ 64 → more ≡ nat_lt 0 r.left → spot_words r.version r.spot more ≡ heads (words (stage_of above root r between.count))
-words_between above root frame r number text more between small is =
-    ap (λ (t : Bool). spot_words r.version r.spot t) (is ∙ more_is r.spot r.left between.count (length text) small between.counts.counted) ∙ sym (words_are above root r between.count r.spot)
+words_between : (above : List Wait) (root : Tree) (cuts : List Cut) (frame : Frame) (r : Lines) (number : Bool) (text : List ℕ) (more : Bool) (between : Between above root cuts frame r number text) → length text + 1 < 2 ^ 64 → more ≡ nat_lt 0 r.left → spot_words r.version r.spot more ≡ heads (words (stage_of above root cuts r between.count))
+words_between above root cuts frame r number text more between small is =
+    ap (λ (t : Bool). spot_words r.version r.spot t) (is ∙ more_is r.spot r.left between.count (length text) small between.counts.counted) ∙ sym (words_are above root cuts r between.count r.spot)
 
-pub word_begun : (above : List Wait) (root : Tree) (frame : Frame) (r : Lines) (number : Bool) (text : List ℕ) (more : Bool) (byte : ℕ) (word : Word) → Between above root frame r number text → length text + 1 < 2 ^ 64 → more ≡ nat_lt 0 r.left → picked_word byte (spot_words r.version r.spot more) ≡ Some word → (number ≡ true → is_digit byte ≡ false)
-    → InWordAt above root frame r word 0 text × (word_begins word byte ≡ true)
-word_begun above root frame r number text more byte word between small is picked apart =
-    let stage = stage_of above root r between.count in
+pub word_begun : (above : List Wait) (root : Tree) (cuts : List Cut) (frame : Frame) (r : Lines) (number : Bool) (text : List ℕ) (more : Bool) (byte : ℕ) (word : Word) → Between above root cuts frame r number text → length text + 1 < 2 ^ 64 → more ≡ nat_lt 0 r.left → picked_word byte (spot_words r.version r.spot more) ≡ Some word → (number ≡ true → is_digit byte ≡ false)
+    → InWordAt above root cuts frame r word 0 text × (word_begins word byte ≡ true)
+word_begun above root cuts frame r number text more byte word between small is picked apart =
+    let stage = stage_of above root cuts r between.count in
     let E : List Word → Type 0 = λ ws. picked_word byte ws ≡ Some word in
-    let found = picked_comes byte word (words stage) (subst E (words_between above root frame r number text more between small is) picked) in
+    let found = picked_comes byte word (words stage) (subst E (words_between above root cuts frame r number text more between small is) picked) in
     let some : 0 < length (word_text word) = positive (word_text word) (word_split word) in (
       record {
         count = between.count;
@@ -300,11 +304,11 @@ word_begun above root frame r number text more byte word between small is picked
       stands true rest apart [] is same = cc
       stands true rest apart {b} (x ∷ xs) is same = let head : x ≡ b = cc in let none = apart refl in not_digit x byte (head ∙ same) none
 
-pub no_word_begun : (above : List Wait) (root : Tree) (frame : Frame) (r : Lines) (number : Bool) (text : List ℕ) (more : Bool) (byte : ℕ) (between : Between above root frame r number text) → length text + 1 < 2 ^ 64 → more ≡ nat_lt 0 r.left → picked_word byte (spot_words r.version r.spot more) ≡ None
-    → (v : Word) → Comes v (words (stage_of above root r between.count)) → word_begins v byte ≡ false
-no_word_begun above root frame r number text more byte between small is picked v here =
+pub no_word_begun : (above : List Wait) (root : Tree) (cuts : List Cut) (frame : Frame) (r : Lines) (number : Bool) (text : List ℕ) (more : Bool) (byte : ℕ) (between : Between above root cuts frame r number text) → length text + 1 < 2 ^ 64 → more ≡ nat_lt 0 r.left → picked_word byte (spot_words r.version r.spot more) ≡ None
+    → (v : Word) → Comes v (words (stage_of above root cuts r between.count)) → word_begins v byte ≡ false
+no_word_begun above root cuts frame r number text more byte between small is picked v here =
     let E : List Word → Type 0 = λ ws. picked_word byte ws ≡ None in
-    picked_none byte v (words (stage_of above root r between.count)) (subst E (words_between above root frame r number text more between small is) picked) here
+    picked_none byte v (words (stage_of above root cuts r between.count)) (subst E (words_between above root cuts frame r number text more between small is) picked) here
 
 -- a byte that is no digit may stand behind a number
 pub may_follow : (number : Bool) (byte : ℕ) → (number ≡ true → is_digit byte ≡ false) → MayStand number (byte ∷ [])

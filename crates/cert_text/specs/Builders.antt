@@ -1,8 +1,8 @@
 -- The tree that a reader of certificates has built, and the texts that it stands for.
-use Rattle.std.specs.Prelude.{ℕ, List, [], ◌∷◌, ◌++◌, Result, Ok, Err}
-use Rattle.cert_text.specs.Cert.{Tree}
+use Rattle.std.specs.Prelude.{ℕ, List, map, [], ◌∷◌, ◌++◌, Result, Ok, Err}
+use Rattle.cert_text.specs.Cert.{Cut, Tree}
 use Rattle.cert_text.specs.Sketch.{tree_of}
-use Rattle.cert_text.specs.Written.{in_text, written_tree}
+use Rattle.cert_text.specs.Written.{in_text, written_cut, written_tree}
 use Rattle.cert_text.specs.Fault.{IsSeenFault}
 use Rattle.cert_text.specs.Frames.{frame_of}
 use Rattle.cert_text.specs.Stages.{Wait, low_of, high_of}
@@ -32,9 +32,13 @@ waits_of ps = waits_on ps []
 abbrev pub root_of : Sketch → Tree
 root_of tree = written_tree (tree_of tree)
 
--- a reader has built of a text's tree what its lines say
+-- the cuts that were read
+abbrev pub cuts_of : Reader → List Cut
+cuts_of r = map written_cut r.cuts
+
+-- a reader has kept of a text's cuts, and built of its tree, what its lines say
 abbrev pub Builds : Frame → Reader → List ℕ → Type 0
-Builds frame r text = StandsFor (waits_of r.pending.items) (root_of r.root) frame r.lines text
+Builds frame r text = StandsFor (waits_of r.pending.items) (root_of r.root) (cuts_of r) frame r.lines text
 
 -- what a reader does with a byte behind a text
 abbrev pub BuildsOn : Frame → Reader → List ℕ → ℕ → Result (Unit {0}) CertFault → Type 0

@@ -1,4 +1,4 @@
--- Certificates as the lines of version 2 have them: each leaf with what it changes of the one before.
+-- Certificates as the lines of versions 2 and 3 have them: each leaf with what it changes of the one before.
 use Rattle.std.specs.Prelude.{ℕ, List, ℤ}
 use Rattle.bp_theory.specs.declared.Proof.{Proof}
 use Rattle.bp_theory.specs.Trees.{Tree, shut_leaf, open_leaf, split}

@@ -15,7 +15,7 @@ abbrev pub difference : List (ℕ × ℤ) → List (ℕ × ℤ) → List (ℕ ×
 difference [] now = now
 difference (h ∷ had) now = against h (difference had) now
 
--- a leaf's proof as a line of version 2 has it behind these multipliers
+-- a leaf's proof as a line of versions 2 and 3 has it behind these multipliers
 abbrev pub changing : List (ℕ × ℤ) → Proof → Proof
 changing had proof = record { scale = proof.scale; pairs = difference had proof.pairs; picked = proof.picked }
 
@@ -25,12 +25,12 @@ last_pairs (Shut proof) = proof.pairs
 last_pairs (Open proof) = proof.pairs
 last_pairs (Split var at low high) = last_pairs high
 
--- a tree as the lines of version 2 have it
+-- a tree as the lines of versions 2 and 3 have it
 abbrev pub changing_tree : List (ℕ × ℤ) → Tree → Tree
 changing_tree had (Shut proof) = Shut (changing had proof)
 changing_tree had (Open proof) = Open (changing had proof)
 changing_tree had (Split var at low high) = Split var at (changing_tree had low) (changing_tree (last_pairs low) high)
 
--- a certificate as its text of version 2 has it
+-- a certificate as its text of versions 2 and 3 has it
 abbrev pub changing_cert : Cert → Cert
 changing_cert cert = record { claim = cert.claim; cuts = cert.cuts; tree = changing_tree [] cert.tree }

@@ -1,7 +1,7 @@
 -- Parts of the grammar as sets of token lists, each in front of what may follow it.
 use Rattle.std.specs.Prelude.{◌≡◌, ℕ, Bool, List, ◌∷◌, ◌++◌, length, Option, ℤ, pos}
-use Rattle.cert_text.specs.Cert.{Picked, Tree, Frame}
-use Rattle.cert_text.specs.Text.{Kind, Token, Figure, Version, point_values, pairs_behind, blocks_behind, picked_words, tree_lines}
+use Rattle.cert_text.specs.Cert.{Picked, Tree, Cut, Frame}
+use Rattle.cert_text.specs.Text.{Kind, Token, Figure, Version, point_values, pairs_behind, blocks_behind, picked_words, cut_lines, tree_lines}
 
 -- a token in front of others
 abbrev pub Prefixed : Token → (List Token → Type 0) → List Token → Type 0
@@ -30,6 +30,10 @@ Blocks frame last n G ts = (ks : List ℕ) × (us : List Token) × (length ks �
 -- the priced blocks, in front of what may follow them
 abbrev pub Priced : Frame → (Picked → List Token → Type 0) → List Token → Type 0
 Priced frame G ts = (p : Picked) × (us : List Token) × G p us × (ts ≡ picked_words frame p ++ us)
+
+-- cuts behind so many earlier ones, in front of what may follow them
+abbrev pub Cuts : Frame → ℕ → (List Cut → List Token → Type 0) → List Token → Type 0
+Cuts frame earlier G ts = (cuts : List Cut) × (us : List Token) × G cuts us × (ts ≡ cut_lines frame earlier cuts ++ us)
 
 -- a tree at a depth, in front of what may follow it
 abbrev pub Trees : Frame → Version → ℕ → ℕ → List (ℕ × ℤ) → (Tree → List Token → Type 0) → List Token → Type 0

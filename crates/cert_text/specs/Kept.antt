@@ -5,9 +5,9 @@ use Rattle.cert_text.specs.Sketch.{tree_of}
 use Rattle.cert_text.specs.Written.{cert_of, certificate}
 use Rattle.cert_text.specs.declared.cert.Cert.{Cert}
 
--- its claim, its point and its tree
+-- its claim, its point, its cuts and its tree
 abbrev pub certificate_of : Cert → Certificate
-certificate_of c = certificate c.claim c.point (tree_of c.tree)
+certificate_of c = certificate c.claim c.point c.cuts (tree_of c.tree)
 
 -- the same by numbers in texts
 abbrev pub kept_cert : Cert → texts.Cert

@@ -1,5 +1,5 @@
 -- The certificate of a search's outcome.
-use Rattle.std.specs.Prelude.{◌<◌, ◌^◌, Bool, List, length, Option, Some, None, IfSome, ℤ, unsigned_abs}
+use Rattle.std.specs.Prelude.{◌<◌, Bool, List, length, Option, Some, None, IfSome, ℤ, unsigned_abs}
 use Rattle.bp_theory.specs.Limits.{number_limit}
 use Rattle.std.specs.Option.{option_map}
 use Rattle.bp_theory.specs.Program.{in_sense}

@@ -1,13 +1,14 @@
 -- The bytes of certificates, part by part, without regard to faults.
-use Rattle.std.specs.Prelude.{ℕ, ◌+◌, List, ◌++◌, length, codes, Option, Some, None, ℤ}
+use Rattle.std.specs.Prelude.{ℕ, ◌+◌, List, [], ◌∷◌, ◌++◌, length, codes, Option, Some, None, ℤ}
 use Rattle.std.specs.List.{flat_map}
 use Rattle.bp_theory.specs.declared.Claim.{Claim}
+use Rattle.bp_theory.specs.declared.Cut.{Cut}
 use Rattle.bp_theory.specs.declared.Claim.TheVariants.{Optimal, Infeasible, Bound}
 use Rattle.bp_theory.specs.declared.Picked.{Picked}
 use Rattle.bp_theory.specs.declared.Picked.TheVariants.{Every, These}
 use Rattle.bp_theory.specs.declared.Proof.{Proof}
 use Rattle.bp_theory.specs.Trees.{Tree, shut_leaf, open_leaf, split}
-use Rattle.cert_text.specs.Text.{Version, version_word, pairs_word, numeral, signed_numeral}
+use Rattle.cert_text.specs.Text.{Version, Two, Three, version_word, pairs_word, numeral, signed_numeral}
 
 -- a row and its multiplier
 abbrev pub pair_text : ℕ × ℤ → List ℕ
@@ -59,6 +60,19 @@ claim_text (Bound b v) zs = codes "claim bound " ++ bound_text b v zs
 abbrev pub version_text : Version → List ℕ
 version_text version = codes "bpcert " ++ version_word version ++ codes "\n"
 
+-- a cut's line
+abbrev pub cut_text : Cut → List ℕ
+cut_text cut = codes "cut " ++ numeral cut.q ++ codes " rows " ++ numeral (length cut.rows) ++ flat_map pair_text cut.rows ++ codes "\n"
+
+-- the version of a certificate with these cuts whose leaves have changes
+abbrev pub version_with : List Cut → Version
+version_with [] = Two
+version_with (cut ∷ cuts) = Three
+
+-- the lines in front of a tree
+abbrev pub head_text : Version → Claim → List ℤ → List Cut → List ℕ
+head_text version claim zs cuts = version_text version ++ claim_text claim zs ++ flat_map cut_text cuts
+
 -- a whole certificate, where a leaf's multipliers are those of its line
-abbrev pub plain_text : Version → Claim → List ℤ → Tree → List ℕ
-plain_text version claim zs tree = version_text version ++ claim_text claim zs ++ tree_text version tree ++ codes "end\n"
+abbrev pub plain_text : Version → Claim → List ℤ → List Cut → Tree → List ℕ
+plain_text version claim zs cuts tree = version_text version ++ claim_text claim zs ++ flat_map cut_text cuts ++ tree_text version tree ++ codes "end\n"

@@ -1,20 +1,27 @@
 -- Certificates of programs in blocks: what reading needs to know, what is read, and what holds of it.
-use Rattle.std.specs.Prelude.{◌≡◌, IfSome, ℕ, ◌+◌, ◌-◌, ◌<◌, ◌≤◌, ◌^◌, Bool, false, ◌&&◌, List, length, map, is_some, nat_lt, slice_index_or, All, Result, Ok, Err, Some, None, ℤ, unsigned_abs}
+use Rattle.std.specs.Prelude.{◌≡◌, IfSome, ℕ, ◌+◌, ◌-◌, ◌<◌, ◌≤◌, Bool, false, ◌&&◌, List, [], ◌∷◌, ◌++◌, length, map, is_some, nat_lt, slice_index_or, All, Result, Ok, Err, Some, None, ℤ, unsigned_abs}
 use Rattle.std.specs.List.{range_with_len}
+use Rattle.bp_theory.specs.Program.{Program}
 use Rattle.bp_theory.specs.Blocking.{row_at}
+use Rattle.bp_theory.specs.Decomposition.{Decomposition, ProofRow, whole_row, link_row, no_row, proof_rows}
+use Rattle.bp_theory.specs.Cuts.{cut_row}
 use Rattle.bp_theory.specs.Bound.{Fits}
 use Rattle.bp_theory.specs.Trees.{Tree, leaves, depth, HasSoundSplits}
 use Rattle.bp_theory.specs.Claims.{Certificate}
-use Rattle.bp_theory.specs.Judgement.{judged_lines}
+use Rattle.bp_theory.specs.Judgement.{judged_lines, blocking_with}
+use Rattle.bp_theory.specs.declared.Row.{Row}
+use Rattle.bp_theory.specs.declared.Cut.{Cut}
 use Rattle.bp_theory.specs.declared.Claim.{Claim}
 use Rattle.bp_theory.specs.declared.Claim.TheVariants.{Optimal, Infeasible, Bound}
 use Rattle.block_form.specs.Blocked.{BlockedProgram, IsFormed}
+use Rattle.block_form.specs.Cuts.{IsSmallCut}
 use Rattle.cert_text.specs.Cert as texts
-use Rattle.bp_theory.specs.Limits.{greatest_depth, number_limit}
-use Rattle.cert_text.specs.Text.{One}
+use Rattle.bp_theory.specs.Limits.{greatest_depth, most_cuts, number_limit}
+use Rattle.cert_text.specs.Text.{One, Three}
 use Rattle.cert_text.specs.Fault.{IsText, IsCertText, IsFirstCertFault}
 use Rattle.cert_text.specs.Kept.{kept_cert}
 use Rattle.cert_text.specs.Plain.{plain_text}
+use Rattle.cert_text.specs.Changes.{changing_nodes}
 use Rattle.cert_text.specs.Written.{cert_of, certificate}
 use Rattle.cert_text.specs.declared.cert.Cert.{Cert as Kept}
 use Rattle.cert_text.specs.declared.fault.CertFault.{CertFault}
@@ -34,9 +41,9 @@ frame_by variables masters links blocks = record {
 abbrev pub masters_of : BlockedProgram → List Bool
 masters_of b = map (λ row. is_some (row_at b.blocking row)) (range_with_len 0 (length b.named.program.rows))
 
--- how many link rows there are: the rows that proofs may name behind the model's
+-- how many link rows there are: the rows that proofs may name between the model's and the cuts
 abbrev pub links_behind : BlockedProgram → ℕ
-links_behind b = length b.blocking.rows - length b.named.program.rows
+links_behind b = length b.blocking.rows - length b.named.program.rows - length b.cuts
 
 -- what reading needs to know of a program in blocks
 abbrev pub frame_for : BlockedProgram → texts.Frame
@@ -59,11 +66,31 @@ IsSmallClaim Infeasible = Unit {0}
 IsSmallClaim (Bound b None) = IsSmall b
 IsSmallClaim (Bound b (Some v)) = IsSmall b × IsSmall v
 
--- a certificate goes with a program: its claim keeps the limit of numbers, the proofs of its leaves fit, no node is too
--- deep, and its lines can be counted
+-- a row that cuts may combine: a master row or an earlier cut
+abbrev pub IsWhole : ProofRow → Type 0
+IsWhole (whole_row row) = Unit {0}
+IsWhole (link_row v k) = ⊥
+IsWhole no_row = ⊥
+
+-- a cut over rows that proofs may name: it has a divisor, keeps the limits, and combines master rows and earlier cuts alone
+pub record IsOver (rows : List ProofRow) (cut : Cut) : Type 0 where
+  pub divides : 0 < cut.q
+  pub small : IsSmallCut cut
+  pub whole : All (λ m. IsWhole (slice_index_or rows m.0 no_row)) cut.rows
+
+-- each cut is over the rows of proofs before it
+abbrev pub AreOver : Program → Decomposition → List Row → List Cut → Type 0
+AreOver p d earlier [] = Unit {0}
+AreOver p d earlier (cut ∷ cuts) =
+    IsOver (proof_rows p d earlier) cut × AreOver p d (earlier ++ cut_row p (proof_rows p d earlier) cut ∷ []) cuts
+
+-- a certificate goes with a program: its claim keeps the limit of numbers, its cuts are few, and each is one over the rows before it, the proofs
+-- of its leaves fit the program with these cuts, no node is too deep, and its lines can be counted
 pub record GoesWith (b : BlockedProgram) (cert : Certificate) : Type 0 where
   pub claim : IsSmallClaim cert.claim
-  pub fits : All (λ leaf. Fits b.blocking leaf.proof) (leaves cert.tree b.named.program.spans)
+  pub few : length cert.cuts ≤ most_cuts
+  pub cuts : AreOver b.named.program b.dec [] cert.cuts
+  pub fits : All (λ leaf. Fits (blocking_with b.named.program b.dec cert) leaf.proof) (leaves cert.tree b.named.program.spans)
   pub shallow : depth cert.tree ≤ greatest_depth
   pub lines : 3 + length (judged_lines b.named.program b.dec cert) ≤ number_limit
 
@@ -72,16 +99,24 @@ pub record IsSmallPoint (count : ℕ) (zs : List ℤ) : Type 0 where
   pub each : length zs ≡ count
   pub small : All IsSmall zs
 
--- a certificate that may be written for a program: the numbers of its claim and its point are those of texts, its splits
--- are sound, the proofs of its leaves fit, and no node is too deep
+-- a certificate that may be written for a program: the numbers of its claim and its point are those of texts, its cuts are few, and
+-- each is one over the rows before it, its splits are sound, the proofs of its leaves fit, and no node is too deep
 pub record CanWrite (b : BlockedProgram) (cert : Certificate) : Type 0 where
   pub claim : IsSmallClaim cert.claim
   pub point : IfSome cert.point (IsSmallPoint (length b.named.program.spans))
+  pub few : length cert.cuts ≤ most_cuts
+  pub cuts : AreOver b.named.program b.dec [] cert.cuts
   pub splits : HasSoundSplits cert.tree b.named.program.spans
-  pub fits : All (λ leaf. Fits b.blocking leaf.proof) (leaves cert.tree b.named.program.spans)
+  pub fits : All (λ leaf. Fits (blocking_with b.named.program b.dec cert) leaf.proof) (leaves cert.tree b.named.program.spans)
   pub shallow : depth cert.tree ≤ greatest_depth
+
+-- a certificate's text: with cuts that of version 3, else that of version 1
+abbrev pub HasItsText : texts.Frame → Claim → List ℤ → List Cut → Tree → Type 0
+HasItsText frame claim zs [] t = IsText frame One (cert_of (certificate claim zs [] t)) (plain_text One claim zs [] t)
+HasItsText frame claim zs (cut ∷ cuts) t =
+    IsText frame Three (cert_of (certificate claim zs (cut ∷ cuts) t)) (plain_text Three claim zs (cut ∷ cuts) (changing_nodes [] t))
 
 -- a certificate within the limits has its text, without a fault
 abbrev pub LimitsSuffice : Type 0
-LimitsSuffice = (b : BlockedProgram) → IsFormed b → (claim : Claim) (zs : List ℤ) (t : Tree) → CanWrite b (certificate claim zs t)
-    → IsText (frame_for b) One (cert_of (certificate claim zs t)) (plain_text One claim zs t)
+LimitsSuffice = (b : BlockedProgram) → IsFormed b → (claim : Claim) (zs : List ℤ) (cuts : List Cut) (t : Tree) → CanWrite b (certificate claim zs cuts t)
+    → HasItsText (frame_for b) claim zs cuts t

@@ -1,7 +1,7 @@
--- The texts that a reader of lines stands for, below which splits: what has come of a certificate, and how far.
+-- The texts that a reader of lines stands for, below which splits and behind which cuts: what has come of a certificate, and how far.
 use Rattle.std.specs.Prelude.{◌≡◌, ◌⊎◌, ℕ, ◌+◌, ◌-◌, ◌^◌, ◌≤◌, ◌<◌, Bool, true, false, IsTrue, List, [], ◌∷◌, ◌++◌, length, take, min, Option, Result, Ok, Err, nat_le, ◌&&◌}
 use Rattle.cert_text.specs.Cert as texts
-use Rattle.cert_text.specs.Cert.{Cert, Tree}
+use Rattle.cert_text.specs.Cert.{Cert, Cut, Tree}
 use Rattle.cert_text.specs.Text.{Token, text_of, signed_numeral}
 use Rattle.cert_text.specs.Fault.{AreClean, EndsNumber, EndsToken, line_behind, IsCertText, IsSeenFault, IsFirstCertFault}
 use Rattle.cert_text.specs.Words.{word_text}
@@ -9,7 +9,7 @@ use Rattle.cert_text.specs.Signed.{signed}
 use Rattle.cert_text.specs.Frames.{frame_of}
 use Rattle.cert_text.specs.Stages.{Wait, Stage, words, sort, IsOfSort, is_deep_stage, IsOf, Follows}
 use Rattle.cert_text.specs.Kept.{kept_cert}
-use Rattle.cert_text.specs.Readers.{HasHighs, waits_after, root_after, stage_of, slack}
+use Rattle.cert_text.specs.Readers.{HasHighs, waits_after, root_after, cuts_after, stage_of, slack}
 use Rattle.cert_text.specs.declared.fault.CertFault.{CertFault}
 use Rattle.cert_text.specs.declared.fault.CertFault.TheVariants.{At, NoMemory}
 use Rattle.cert_text.specs.declared.cert.Cert.{Cert as Kept}
@@ -102,55 +102,49 @@ abbrev pub IsShort : Spot → List ℕ → Type 0
 IsShort spot text = ((text ≡ []) × (spot ≡ Bpcert)) ⊎ (line_behind text ≤ length text)
 
 -- what a reader keeps of a text besides its place
-pub record KeepsCounts (above : List Wait) (r : Lines) (count : ℕ) (text : List ℕ) : Type 0 where
+pub record KeepsCounts (above : List Wait) (cuts : List Cut) (r : Lines) (count : ℕ) (text : List ℕ) : Type 0 where
   pub counted : CountFits r.spot r.left count (length text)
   pub line : r.line ≡ line_behind text
   pub short : IsShort r.spot text
-  pub highs : HasHighs above r
+  pub highs : HasHighs above cuts r
 
 -- a reader stands for a text
-pub record StandsFor (above : List Wait) (root : Tree) (frame : Frame) (r : Lines) (text : List ℕ) : Type 0 where
+pub record StandsFor (above : List Wait) (root : Tree) (cuts : List Cut) (frame : Frame) (r : Lines) (text : List ℕ) : Type 0 where
   pub count : ℕ
-  pub counts : KeepsCounts above r count text
-  pub part : IsPart (frame_of frame) (stage_of above root r count) r.part text
+  pub counts : KeepsCounts above cuts r count text
+  pub part : IsPart (frame_of frame) (stage_of above root cuts r count) r.part text
 
 -- a reader between two tokens of a text
-pub record Between (above : List Wait) (root : Tree) (frame : Frame) (r : Lines) (number : Bool) (text : List ℕ) : Type 0 where
+pub record Between (above : List Wait) (root : Tree) (cuts : List Cut) (frame : Frame) (r : Lines) (number : Bool) (text : List ℕ) : Type 0 where
   pub count : ℕ
-  pub counts : KeepsCounts above r count text
-  pub reached : Reached (frame_of frame) (stage_of above root r count) number text
-  pub worded : number ≡ true → sort (stage_of above root r count) ≡ Wordy
+  pub counts : KeepsCounts above cuts r count text
+  pub reached : Reached (frame_of frame) (stage_of above root cuts r count) number text
+  pub worded : number ≡ true → sort (stage_of above root cuts r count) ≡ Wordy
   pub going : number ≡ true → r.spot ≡ Over → ⊥
 
 -- a reader that has so many bytes of a word
-pub record InWordAt (above : List Wait) (root : Tree) (frame : Frame) (r : Lines) (word : Word) (bytes : ℕ) (text : List ℕ) : Type 0 where
+pub record InWordAt (above : List Wait) (root : Tree) (cuts : List Cut) (frame : Frame) (r : Lines) (word : Word) (bytes : ℕ) (text : List ℕ) : Type 0 where
   pub count : ℕ
-  pub counts : KeepsCounts above r count text
-  pub part : IsInWord (frame_of frame) (stage_of above root r count) word bytes text
+  pub counts : KeepsCounts above cuts r count text
+  pub part : IsInWord (frame_of frame) (stage_of above root cuts r count) word bytes text
 
 -- what a reader does with a byte behind a text that it stands for: where the byte ends a line, the line says this
-abbrev pub Steps : List Wait → Tree → Frame → Lines → List ℕ → ℕ → Result (Option Event) CertFault → Type 0
-Steps above root frame new text byte (Ok event) = StandsFor (waits_after above event) (root_after above root event) frame new (text ++ byte ∷ [])
-Steps above root frame new text byte (Err NoMemory) = Unit {0}
-Steps above root frame new text byte (Err (At line kind)) = IsSeenFault (frame_of frame) (text ++ byte ∷ []) line kind
+abbrev pub Steps : List Wait → Tree → List Cut → Frame → Lines → List ℕ → ℕ → Result (Option Event) CertFault → Type 0
+Steps above root cuts frame new text byte (Ok event) = StandsFor (waits_after above event) (root_after above root event) (cuts_after cuts event) frame new (text ++ byte ∷ [])
+Steps above root cuts frame new text byte (Err NoMemory) = Unit {0}
+Steps above root cuts frame new text byte (Err (At line kind)) = IsSeenFault (frame_of frame) (text ++ byte ∷ []) line kind
 
 -- what a reader does at the end of a number, where a byte follows that is no digit
-abbrev pub EndsNumberAt : List Wait → Tree → Frame → Lines → List ℕ → ℕ → Result (Unit {0}) CertFault → Type 0
-EndsNumberAt above root frame new text byte (Ok _) = Between above root frame new true text
-EndsNumberAt above root frame new text byte (Err NoMemory) = Unit {0}
-EndsNumberAt above root frame new text byte (Err (At line kind)) = IsSeenFault (frame_of frame) (text ++ byte ∷ []) line kind
-
--- what a reader does at the end of a number with which the text ends
-abbrev pub EndsTextAt : List Wait → Tree → Frame → Lines → List ℕ → Result (Unit {0}) CertFault → Type 0
-EndsTextAt above root frame new text (Ok _) = Between above root frame new true text
-EndsTextAt above root frame new text (Err NoMemory) = Unit {0}
-EndsTextAt above root frame new text (Err (At line kind)) = IsFirstCertFault (frame_of frame) text line kind
+abbrev pub EndsNumberAt : List Wait → Tree → List Cut → Frame → Lines → List ℕ → ℕ → Result (Unit {0}) CertFault → Type 0
+EndsNumberAt above root cuts frame new text byte (Ok _) = Between above root cuts frame new true text
+EndsNumberAt above root cuts frame new text byte (Err NoMemory) = Unit {0}
+EndsNumberAt above root cuts frame new text byte (Err (At line kind)) = IsSeenFault (frame_of frame) (text ++ byte ∷ []) line kind
 
 -- what a reader does at the text's end
-abbrev pub EndsWell : List Wait → Tree → Frame → Lines → List ℕ → Result (Unit {0}) CertFault → Type 0
-EndsWell above root frame new text (Ok _) = StandsFor above root frame new text × (new.part ≡ Fresh) × (new.spot ≡ Over)
-EndsWell above root frame new text (Err NoMemory) = Unit {0}
-EndsWell above root frame new text (Err (At line kind)) = IsFirstCertFault (frame_of frame) text line kind
+abbrev pub EndsWell : List Wait → Tree → List Cut → Frame → Lines → List ℕ → Result (Unit {0}) CertFault → Type 0
+EndsWell above root cuts frame new text (Ok _) = StandsFor above root cuts frame new text × (new.part ≡ Fresh) × (new.spot ≡ Over)
+EndsWell above root cuts frame new text (Err NoMemory) = Unit {0}
+EndsWell above root cuts frame new text (Err (At line kind)) = IsFirstCertFault (frame_of frame) text line kind
 
 -- what is read of a text
 abbrev pub ReadsCertificate : Frame → List ℕ → Result Kept CertFault → Type 0

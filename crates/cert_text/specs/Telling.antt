@@ -1,5 +1,5 @@
 -- Which lines may come where in a certificate's text, and what of it stays as it is from the tree's first line on.
-use Rattle.std.specs.Prelude.{◌≡◌, ℕ, false, List, [], ◌∷◌, Option, Some, None}
+use Rattle.std.specs.Prelude.{◌≡◌, ◌⊎◌, ℕ, false, List, [], ◌∷◌, Option, Some, None}
 use Rattle.cert_text.specs.Text.{is_deep}
 use Rattle.cert_text.specs.declared.spots.Spot.{Spot}
 use Rattle.cert_text.specs.declared.spots.Spot.TheVariants as s
@@ -7,13 +7,23 @@ use Rattle.cert_text.specs.declared.lines.Event.{Event}
 use Rattle.cert_text.specs.declared.lines.Event.TheVariants as e
 use Rattle.cert_text.specs.declared.lines.Lines.{Lines}
 
--- a place before the tree's first line, within its lines, or behind them
+-- a place before the cuts and the tree, within the lines of cuts, within those of the tree, or behind them
 pub data Phase : Type 0 where
   ahead : Phase
+  cutting : Phase
   within : Phase
   past : Phase
 
 abbrev pub phase_at : Spot → Phase
+phase_at s.FirstCut = cutting
+phase_at s.Cuts = cutting
+phase_at s.Divisor = cutting
+phase_at s.CutRows = cutting
+phase_at s.CutCount = cutting
+phase_at s.CutPairs = cutting
+phase_at s.CutRow = cutting
+phase_at s.CutGap = cutting
+phase_at s.CutMultiplier = cutting
 phase_at s.Node = within
 phase_at s.Scale = within
 phase_at s.Rows = within
@@ -48,9 +58,10 @@ pub record HasSameClaim (old new : Lines) : Type 0 where
   pub claim : new.claim ≡ old.claim
   pub point : new.point ≡ old.point
 
--- they stay in the tree and behind it
+-- they stay from the cuts on
 abbrev pub StaysFrom : Phase → Lines → Lines → Type 0
 StaysFrom ahead old new = Unit {0}
+StaysFrom cutting old new = HasSameClaim old new
 StaysFrom within old new = HasSameClaim old new
 StaysFrom past old new = HasSameClaim old new
 
@@ -64,7 +75,7 @@ IsShallowAt _ depth = Unit {0}
 abbrev pub IsShallow : Lines → Type 0
 IsShallow r = IsShallowAt r.spot r.depth
 
--- the phase and the depths are those of before, and from the tree on the claim and the point are
+-- the phase and the depths are those of before, and from the cuts on the claim and the point are
 pub record Stays (old new : Lines) : Type 0 where
   pub phase : phase_of new ≡ phase_of old
   pub claim : StaysFrom (phase_of old) old new
@@ -72,9 +83,22 @@ pub record Stays (old new : Lines) : Type 0 where
   pub depth : new.depth ≡ old.depth
   pub highs : new.highs.items ≡ old.highs.items
 
--- a claim ends before the tree, a node's line within it; a split's node isn't too deep
+-- a phase that may follow within a line: behind a node's first word the cuts are past
+abbrev pub GoesOn : Phase → Phase → Type 0
+GoesOn phase next = (next ≡ phase) ⊎ ((phase ≡ cutting) × (next ≡ within))
+
+-- the same within a line, which may begin the tree
+pub record Passes (old new : Lines) : Type 0 where
+  pub phase : GoesOn (phase_of old) (phase_of new)
+  pub claim : StaysFrom (phase_of old) old new
+  pub shallow : IsShallow old → IsShallow new
+  pub depth : new.depth ≡ old.depth
+  pub highs : new.highs.items ≡ old.highs.items
+
+-- a claim ends before the cuts and the tree, a cut's line before the tree, a node's line within it; a split's node isn't too deep
 abbrev pub Tells : Lines → Lines → Option Event → Type 0
-Tells old new None = Stays old new
-Tells old new (Some e.Claim) = (phase_of old ≡ ahead) × (phase_of new ≡ within) × IsShallow new
+Tells old new None = Passes old new
+Tells old new (Some e.Claim) = (phase_of old ≡ ahead) × GoesOn cutting (phase_of new) × IsShallow new
+Tells old new (Some (e.Cut cut)) = (phase_of old ≡ cutting) × (phase_of new ≡ cutting) × HasSameClaim old new × IsShallow new
 Tells old new (Some (e.Split p)) = (phase_of old ≡ within) × (phase_of new ≡ within) × HasSameClaim old new × IsShallow new × (IsShallow old → is_deep old.depth ≡ false)
 Tells old new (Some (e.Leaf is_open proof)) = (phase_of old ≡ within) × (phase_of new ≡ phase_behind old.highs.items) × HasSameClaim old new × IsShallow new

@@ -2,13 +2,14 @@
 use Rattle.std.specs.Prelude.{ℕ, Bool, true, false, List, [], ◌∷◌, codes, Option, nat_eq, slice_index_or}
 use Rattle.cert_text.specs.Text as texts
 use Rattle.cert_text.specs.declared.words.Word.{Word}
-use Rattle.cert_text.specs.declared.words.Word.TheVariants.{Bpcert, One, Two, LineEnd, Claim, Optimal, Infeasible, Bound, Value, Point, Space, Leaf, Open, Split, Rows, Change, Priced, All, End}
+use Rattle.cert_text.specs.declared.words.Word.TheVariants.{Bpcert, One, Two, Three, LineEnd, Claim, Optimal, Infeasible, Bound, Value, Point, Space, Cut, Leaf, Open, Split, Rows, Change, Priced, All, End}
 
 -- the bytes of a word
 abbrev pub word_text : Word → List ℕ
 word_text Bpcert = codes "bpcert "
 word_text One = codes "1"
 word_text Two = codes "2"
+word_text Three = codes "3"
 word_text LineEnd = 10 ∷ []
 word_text Claim = codes "claim "
 word_text Optimal = codes "optimal "
@@ -17,6 +18,7 @@ word_text Bound = codes "bound "
 word_text Value = codes " value "
 word_text Point = codes "point"
 word_text Space = codes " "
+word_text Cut = codes "cut "
 word_text Leaf = codes "leaf "
 word_text Open = codes "open "
 word_text Split = codes "split "

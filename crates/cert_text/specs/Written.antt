@@ -50,6 +50,6 @@ written_claim (claims.Bound bound (Some v)) point = texts.BoundValue bound v poi
 abbrev pub cert_of : Certificate → texts.Cert
 cert_of cert = record { claim = written_claim cert.claim (unwrap_or cert.point []); cuts = map written_cut cert.cuts; tree = written_tree cert.tree }
 
--- a certificate without cuts, with a point exactly where its claim names a value
-abbrev pub certificate : Claim → List ℤ → Tree → Certificate
-certificate claim point tree = record { claim = claim; point = option_map (λ _. point) (named_value claim); cuts = []; tree = tree }
+-- a certificate with a point exactly where its claim names a value
+abbrev pub certificate : Claim → List ℤ → List Cut → Tree → Certificate
+certificate claim point cuts tree = record { claim = claim; point = option_map (λ _. point) (named_value claim); cuts = cuts; tree = tree }

@@ -1,4 +1,4 @@
-// A certificate as it is kept: its claim, the point of its value, and its tree of proofs.
+// A certificate as it is kept: its claim, the point of its value, its cuts, and its tree of proofs.
 ghost use Rattle.std.specs.Prelude.{◌≡◌, ◌-◌, ◌^◌, min, MatchOption, None, Some};
 ghost use Rattle.cert_text.specs.Kept.{certificate_of, kept_cert};
 ghost use Rattle.cert_text.specs.Nodes.{nodes};
@@ -6,13 +6,14 @@ ghost use Rattle.cert_text.specs.Written.{written_tree};
 ghost use Rattle.cert_text.specs.Sketch.{tree_of};
 
 use crate::sketch::Sketch;
-use bp_theory::{Claim, Items};
+use bp_theory::{Claim, Cut, Items};
 
-/// A certificate: a claim, the point of its value, and a tree with the proofs of its leaves.
+/// A certificate: a claim, the point of its value, rounding cuts, and a tree with the proofs of its leaves.
 #[derive(Drop)]
 pub struct Cert {
     pub(crate) claim: Claim,
     pub(crate) point: Items<i64>,
+    pub(crate) cuts: Items<Cut>,
     pub(crate) tree: Sketch,
 }
 
@@ -37,8 +38,14 @@ impl Cert {
         }
     }
 
-    /// The tree. Its node lines follow one another in preorder, from line 3, or 4 where there is a
-    /// point.
+    /// The cuts, whose lines follow those of the claim and the point.
+    pub fn cuts(&self) -> &[Cut]
+        ensures { result.now ≡ (certificate_of self.now).cuts }
+    {
+        self.cuts.as_slice()
+    }
+
+    /// The tree. Its node lines follow one another in preorder, behind those of the claim, the point and the cuts.
     pub fn tree(&self) -> &Sketch
         ensures { tree_of result.now ≡ (certificate_of self.now).tree }
     {

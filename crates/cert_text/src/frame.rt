@@ -14,7 +14,7 @@ pub struct Frame {
     pub links: u32,
     /// How many blocks there are.
     pub blocks: u32,
-    ghost few_rows: { length masters + links ≤ 2 ^ 32 },
+    ghost few_rows: { length masters + links ≤ 2 ^ 31 },
     ghost few_variables: { variables < 2 ^ 32 },
     ghost few_blocks: { blocks < 2 ^ 32 },
 }

@@ -1,15 +1,22 @@
 // Numbers of a certificate, tested against their limits in their places.
-ghost use Rattle.std.specs.Prelude.{◌≡◌, ◌+◌, ◌<◌, ◌^◌, [], MatchResult, None, Some};
-ghost use Rattle.cert_text.specs.Text.{value_fault, coordinate_fault, row_fault, block_fault, scale_fault, variable_fault, is_deep, may_name};
+ghost use Rattle.std.specs.Prelude.{◌≡◌, ◌+◌, ◌<◌, ◌≤◌, ◌^◌, [], length, nat_le, OnOk, MatchResult, None, Some};
+ghost use Rattle.bp_theory.specs.Limits.{most_cuts};
+ghost use Rattle.cert_text.specs.Text.{value_fault, coordinate_fault, row_fault, block_fault, scale_fault, variable_fault, divisor_fault, is_deep, may_name, may_combine};
 ghost use Rattle.cert_text.specs.Frames.{frame_of};
 ghost use Rattle.cert_text.specs.Versions.{changed_fault};
 ghost use Rattle.cert_text.specs.Signed.{signed};
 
 use crate::fault::CertKind;
 use crate::frame::Frame;
-use block_form::{MAX_MULTIPLIER, MAX_SCALE};
+use block_form::MAX_SCALE;
 use bp_model::MAX_NUMBER;
 use branch_tree::MAX_DEPTH;
+
+// The most cuts of a certificate.
+const MAX_CUTS: u16 = 256;
+
+// The greatest divisor of a cut, and the greatest size of its multipliers.
+pub const MAX_DIVISOR: u32 = 1 << 20;
 
 // A number with its sign.
 pub fn signed_of(negative: bool, value: u64) -> i64
@@ -53,13 +60,14 @@ pub fn judge_coordinate(
     Ok(signed_of(negative, value))
 }
 
-// The multiplier of a row that had another one.
-pub fn judge_multiplier(had: &i64, negative: bool, value: u64) -> Result<i64, CertKind>
-    ensures { MatchResult result (λ z. (changed_fault had.now (signed negative value) ≡ None) ×
+// The multiplier, within a limit, of a row that had another one.
+pub fn judge_multiplier(limit: u64, had: &i64, negative: bool, value: u64) -> Result<i64, CertKind>
+    requires { limit < 2 ^ 63 }
+    ensures { MatchResult result (λ z. (changed_fault limit had.now (signed negative value) ≡ None) ×
         (z ≡ signed negative value))
-        (λ kind. changed_fault had.now (signed negative value) ≡ Some kind) }
+        (λ kind. changed_fault limit had.now (signed negative value) ≡ Some kind) }
 {
-    if value > MAX_MULTIPLIER {
+    if value > limit {
         return Err(CertKind::TooLarge);
     }
     let z = signed_of(negative, value);
@@ -90,28 +98,85 @@ pub fn judge_scale(depth: usize, value: u64) -> Result<u32, CertKind>
     Ok(value as u32)
 }
 
-// Whether a row of the text is a master row or a link row.
-fn is_named(frame: &Frame, row: u64) -> bool
-    ensures { result ≡ may_name (frame_of frame.now) 0 row }
+// Whether a row of the text, one of the model's, is a master row.
+fn is_master(frame: &Frame, row: u64) -> bool
+    requires { row ≤ length frame.now.masters }
+    ensures { result ≡ (frame_of frame.now).is_master row }
 {
-    let masters = frame.masters.as_slice();
-    let rows = masters.len() as u64;
-    if row > rows {
-        return row - rows <= u64::from(frame.links);
-    }
-    row >= 1 && masters[row as usize - 1]
+    row >= 1 && frame.masters.as_slice()[row as usize - 1]
 }
 
-// A leaf's row behind another one, as its number from 0.
-pub fn judge_row(frame: &Frame, last: u64, value: u64) -> Result<u32, CertKind>
-    ensures { MatchResult result (λ r.
-        (row_fault (may_name (frame_of frame.now) 0) last value ≡ None) × (r + 1 ≡ value))
-        (λ kind. row_fault (may_name (frame_of frame.now) 0) last value ≡ Some kind) }
+// Whether a row of the text is a master row, a link row or one of so many cuts.
+fn is_named(frame: &Frame, cuts: u16, row: u64) -> bool
+    ensures { result ≡ may_name (frame_of frame.now) cuts row }
 {
-    if last < value && is_named(frame, value) {
+    let rows = frame.masters.as_slice().len() as u64;
+    if row > rows {
+        return row - rows <= u64::from(frame.links) + u64::from(cuts);
+    }
+    is_master(frame, row)
+}
+
+// A leaf's row behind another one, where there are so many cuts, as its number from 0.
+pub fn judge_row(frame: &Frame, cuts: u16, last: u64, value: u64) -> Result<u32, CertKind>
+    ensures { MatchResult result (λ r.
+        (row_fault (may_name (frame_of frame.now) cuts) last value ≡ None) × (r + 1 ≡ value))
+        (λ kind. row_fault (may_name (frame_of frame.now) cuts) last value ≡ Some kind) }
+{
+    if last < value && is_named(frame, cuts, value) {
         return Ok((value - 1) as u32);
     }
     Err(CertKind::Number)
+}
+
+// Whether a row of the text is a master row or one of so many cuts.
+fn is_combined(frame: &Frame, cuts: u16, row: u64) -> bool
+    ensures { result ≡ may_combine (frame_of frame.now) cuts row }
+{
+    let rows = frame.masters.as_slice().len() as u64;
+    if row > rows {
+        let behind = row - rows;
+        let links = u64::from(frame.links);
+        return links < behind && behind - links <= u64::from(cuts);
+    }
+    is_master(frame, row)
+}
+
+// A cut's row behind another one, where so many cuts are earlier, as its number from 0.
+pub fn judge_combined(frame: &Frame, cuts: u16, last: u64, value: u64) -> Result<u32, CertKind>
+    ensures { MatchResult result (λ r.
+        (row_fault (may_combine (frame_of frame.now) cuts) last value ≡ None) × (r + 1 ≡ value))
+        (λ kind. row_fault (may_combine (frame_of frame.now) cuts) last value ≡ Some kind) }
+{
+    if last < value && is_combined(frame, cuts, value) {
+        return Ok((value - 1) as u32);
+    }
+    Err(CertKind::Number)
+}
+
+// Whether no cut may come behind so many.
+pub fn is_last_cut(cuts: u16) -> bool
+    ensures { result ≡ nat_le most_cuts cuts }
+{
+    cuts >= MAX_CUTS
+}
+
+// The divisor of a cut behind so many others.
+pub fn judge_divisor(cuts: u16, value: u64) -> Result<u32, CertKind>
+    ensures judged { MatchResult result (λ q. (divisor_fault cuts value ≡ None) × (q ≡ value))
+        (λ kind. divisor_fault cuts value ≡ Some kind) }
+    ensures few { OnOk result (cuts < most_cuts) }
+{
+    if is_last_cut(cuts) {
+        return Err(CertKind::Limit);
+    }
+    if value > u64::from(MAX_DIVISOR) {
+        return Err(CertKind::TooLarge);
+    }
+    if value == 0 {
+        return Err(CertKind::Number);
+    }
+    Ok(value as u32)
 }
 
 // A priced block behind another one, as its number from 0.

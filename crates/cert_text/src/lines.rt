@@ -3,11 +3,12 @@ ghost use Rattle.std.specs.Prelude.{◌≡◌, ℕ, [], ◌∷◌, OnOk, IfOk, M
 ghost use Rattle.cert_text.specs.declared.frame.Frame.{Frame};
 ghost use Rattle.cert_text.specs.declared.words.Word.{Word};
 ghost use Rattle.cert_text.specs.Written.{in_text, written_claim, written_proof};
+ghost use Rattle.cert_text.specs.Cert as texts;
 ghost use Rattle.cert_text.specs.Cert.{Tree};
 ghost use Rattle.bp_theory.specs.declared.Picked.TheVariants.{Every, These};
-ghost use Rattle.cert_text.specs.Stages.{Wait, told, at_node, low_of, behind, behind_leaf};
+ghost use Rattle.cert_text.specs.Stages.{Wait, begin, at_node, low_of, behind, behind_leaf};
 ghost use Rattle.cert_text.specs.Versions.{version_of};
-ghost use Rattle.cert_text.specs.Readers.{Keeps, HasHighs, waits_behind, root_behind, waits_after, root_after, LeadsTo, KeepsHighs, told_of, stage_of, TakesNatural, TakesWhole};
+ghost use Rattle.cert_text.specs.Readers.{Keeps, cutting, HasHighs, waits_behind, root_behind, waits_after, root_after, cuts_after, LeadsTo, KeepsHighs, told_of, stage_of, TakesNatural, TakesWhole};
 ghost use Rattle.cert_text.specs.Telling.{within, ahead, phase_of, phase_behind, HasSameClaim, IsShallow, Stays, Tells};
 ghost use Rattle.cert_text.specs.Frames.{frame_of};
 ghost use Rattle.cert_text.specs.Text.{is_deep, scale_fault, variable_fault};
@@ -17,18 +18,20 @@ ghost use Rattle.cert_text.specs.declared.spots.Spot.TheVariants as spots;
 ghost use Rattle.cert_text.specs.declared.spots.Sort.TheVariants.{Natural, Whole};
 
 mod bytes;
+mod cuts;
 
 use crate::fault::{CertFault, CertKind};
 use crate::frame::Frame;
 use crate::judge::{
-    is_too_deep, judge_block, judge_coordinate, judge_multiplier, judge_row, judge_scale,
-    judge_value, judge_variable,
+    is_too_deep, judge_block, judge_coordinate, judge_multiplier, judge_scale, judge_value,
+    judge_variable,
 };
 use crate::multipliers::Multipliers;
-use crate::spots::Spot;
+use crate::spots::{Spot, first_spot};
 use crate::version::Version;
 use crate::words::Word;
-use bp_theory::{Claim, Items, Picked, Proof};
+use block_form::MAX_MULTIPLIER;
+use bp_theory::{Claim, Cut, Items, Picked, Proof};
 use std::alloc::{AllocError, Global};
 use std::mem;
 
@@ -52,8 +55,10 @@ pub struct SplitPlace {
 /// What lines of a certificate say, told at the byte that ends the last of them.
 #[derive(Drop)]
 pub enum Event {
-    /// The claim, and the point where it has one: the tree comes next.
+    /// The claim, and the point where it has one: the cuts come next in version 3, and else the tree.
     Claim,
+    /// A cut: a further one comes next, or the tree.
+    Cut(Cut),
     /// A split: its low part comes next.
     Split(SplitPlace),
     /// A leaf, open or shut, with its proof, which has all its multipliers in each version. What comes next is the
@@ -61,8 +66,9 @@ pub enum Event {
     Leaf { is_open: bool, proof: Proof },
 }
 
-/// A reader of a certificate's lines. It keeps no tree: of the nodes that were read only the depths of the high parts
-/// that are still to come, at most 8,257, and the multipliers that the next leaf changes.
+/// A reader of a certificate's lines. It keeps no tree and no cuts: of the nodes that were read only the depths of the
+/// high parts that are still to come, at most 8,257, and the multipliers that the next leaf changes; of the cuts that
+/// were read, how many there are.
 #[derive(Drop)]
 pub struct Lines {
     spot: Spot,
@@ -72,6 +78,9 @@ pub struct Lines {
     pub(crate) claim: Claim,
     bound: i64,
     pub(crate) point: Items<i64>,
+    // How many cuts have begun: their divisors have come.
+    cuts: u16,
+    divisor: u32,
     depth: usize,
     highs: Vec<usize>,
     had: Multipliers,
@@ -88,11 +97,13 @@ pub struct Lines {
 impl Lines {
     // A leaf is whole: the nearest high part comes next, or the last line.
     fn leave_leaf(&mut self)
-        ensures place { (above : List Wait) (root tree : Tree) (n : ℕ) → HasHighs above self.old →
-            stage_of (waits_behind above tree) (root_behind above root tree) self.new n ≡
-            behind (told_of self.old) above tree }
-        ensures highs { (above : List Wait) (tree : Tree) → HasHighs above self.old →
-            HasHighs (waits_behind above tree) self.new }
+        requires { cutting self.old.spot ≡ 0 }
+        ensures place { (above : List Wait) (root tree : Tree) (cuts : List texts.Cut) (n : ℕ) →
+            HasHighs above cuts self.old →
+            stage_of (waits_behind above tree) (root_behind above root tree) cuts self.new n ≡
+            behind (told_of cuts self.old) above tree }
+        ensures highs { (above : List Wait) (tree : Tree) (cuts : List texts.Cut) →
+            HasHighs above cuts self.old → HasHighs (waits_behind above tree) cuts self.new }
         ensures keeps { Keeps self.old self.new }
         ensures phase { phase_of self.new ≡ phase_behind self.old.highs.items }
         ensures claim { HasSameClaim self.old self.new }
@@ -112,10 +123,11 @@ impl Lines {
 
     // A leaf's line ends, where all blocks are priced.
     fn end_every(&mut self, alloc: Global) -> Result<Option<Event>, AllocError>
-        ensures place { IfOk result (λ event. (above : List Wait) (root : Tree) (n : ℕ) →
-            HasHighs above self.old →
-            stage_of (waits_after above event) (root_after above root event) self.new n ≡
-            behind_leaf (told_of self.old) above self.old.is_open (written_proof
+        requires { cutting self.old.spot ≡ 0 }
+        ensures place { IfOk result (λ event. (above : List Wait) (root : Tree) (cuts : List texts.Cut) (n : ℕ) →
+            HasHighs above cuts self.old →
+            stage_of (waits_after above event) (root_after above root event) (cuts_after cuts event) self.new n ≡
+            behind_leaf (told_of cuts self.old) above self.old.is_open (written_proof
             (record { scale = self.old.scale; mults = self.old.mults; picked = Every }))) }
         ensures highs { IfOk result (λ event. KeepsHighs self.old self.new event) }
         ensures keeps { OnOk result (Keeps self.old self.new) }
@@ -135,10 +147,11 @@ impl Lines {
 
     // A leaf's line ends, where the blocks of a list are priced.
     fn end_these(&mut self, alloc: Global) -> Result<Option<Event>, AllocError>
-        ensures place { IfOk result (λ event. (above : List Wait) (root : Tree) (n : ℕ) →
-            HasHighs above self.old →
-            stage_of (waits_after above event) (root_after above root event) self.new n ≡
-            behind_leaf (told_of self.old) above self.old.is_open (written_proof
+        requires { cutting self.old.spot ≡ 0 }
+        ensures place { IfOk result (λ event. (above : List Wait) (root : Tree) (cuts : List texts.Cut) (n : ℕ) →
+            HasHighs above cuts self.old →
+            stage_of (waits_after above event) (root_after above root event) (cuts_after cuts event) self.new n ≡
+            behind_leaf (told_of cuts self.old) above self.old.is_open (written_proof
             (record {
               scale = self.old.scale;
               mults = self.old.mults;
@@ -164,9 +177,10 @@ impl Lines {
 
     // A split's line ends.
     fn end_split(&mut self) -> Result<Option<Event>, AllocError>
-        ensures place { IfOk result (λ event. (above : List Wait) (root : Tree) (n : ℕ) →
-            stage_of (waits_after above event) (root_after above root event) self.new n ≡
-            at_node (told_of self.old)
+        requires { cutting self.old.spot ≡ 0 }
+        ensures place { IfOk result (λ event. (above : List Wait) (root : Tree) (cuts : List texts.Cut) (n : ℕ) →
+            stage_of (waits_after above event) (root_after above root event) (cuts_after cuts event) self.new n ≡
+            at_node (told_of cuts self.old)
             (low_of (in_text self.old.place.var) self.old.place.at ∷ above)) }
         ensures highs { IfOk result (λ event. KeepsHighs self.old self.new event) }
         ensures keeps { OnOk result (Keeps self.old self.new) }
@@ -179,12 +193,13 @@ impl Lines {
         Ok(Some(Event::Split(self.place)))
     }
 
-    // A claim is whole: the tree comes next.
+    // A claim is whole: the cuts come next in version 3, and else the tree.
     fn begin_tree(&mut self, alloc: Global) -> Result<Option<Event>, AllocError>
-        ensures place { IfOk result (λ event. (above : List Wait) (root : Tree) (n : ℕ) →
-            stage_of (waits_after above event) (root_after above root event) self.new n ≡ at_node
-            (told (version_of self.old.version) (written_claim self.old.claim self.old.point)) []) }
-        ensures highs { IfOk result (λ event. KeepsHighs self.old self.new event) }
+        ensures place { IfOk result (λ event. (above : List Wait) (root : Tree) (cuts : List texts.Cut) (n : ℕ) →
+            stage_of (waits_after above event) (root_after above root event) (cuts_after cuts event) self.new n ≡
+            begin (version_of self.old.version) (written_claim self.old.claim self.old.point) []) }
+        ensures highs { IfOk result (λ event. (above : List Wait) (cuts : List texts.Cut) →
+            HasHighs (waits_after above event) (cuts_after cuts event) self.new) }
         ensures keeps { OnOk result (Keeps self.old self.new) }
         ensures told { IfOk result (λ event. phase_of self.old ≡ ahead →
             Tells self.old self.new event) }
@@ -192,7 +207,9 @@ impl Lines {
         self.depth = 0;
         self.highs = Vec::new(alloc);
         self.had = Multipliers::new(alloc);
-        self.spot = Spot::Node;
+        self.cuts = 0;
+        let spot = first_spot(self.version);
+        self.spot = spot;
         Ok(Some(Event::Claim))
     }
 
@@ -306,6 +323,7 @@ impl Lines {
         match (self.spot, word) {
             (Spot::Bpcert, _) => self.go_to(Spot::Version),
             (Spot::Version, Word::Two) => self.begin_claim(Version::Two),
+            (Spot::Version, Word::Three) => self.begin_claim(Version::Three),
             (Spot::Version, _) => self.begin_claim(Version::One),
             (Spot::FirstEnd, _) => self.go_to(Spot::Claim),
             (Spot::Claim, _) => self.go_to(Spot::Kind),
@@ -316,10 +334,16 @@ impl Lines {
             (Spot::Point, _) => self.begin_point(alloc),
             (Spot::Values, Word::Space) => self.go_to(Spot::Coordinate),
             (Spot::Values, _) => self.begin_tree(alloc),
+            (Spot::FirstCut, _) => self.go_to(Spot::Divisor),
+            (Spot::Cuts, _) => self.after_cuts(word),
+            (Spot::CutRows, _) => self.go_to(Spot::CutCount),
+            (Spot::CutPairs, Word::Space) => self.go_to(Spot::CutRow),
+            (Spot::CutPairs, _) => self.end_cut(alloc),
+            (Spot::CutGap, _) => self.go_to(Spot::CutMultiplier),
             (Spot::Node, _) => self.after_node(word),
             (Spot::Rows, _) => self.go_to(Spot::Count),
-            (Spot::Pairs, Word::Priced) => self.go_to(Spot::Priced),
-            (Spot::Pairs, _) => self.go_to(Spot::Row),
+            (Spot::Pairs, Word::Space) => self.go_to(Spot::Row),
+            (Spot::Pairs, _) => self.go_to(Spot::Priced),
             (Spot::RowGap, _) => self.go_to(Spot::Multiplier),
             (Spot::Priced, _) => self.go_to(Spot::LeafEnd),
             (Spot::Blocks, Word::Space) => self.go_to(Spot::Block),
@@ -345,16 +369,17 @@ impl Lines {
 
     // Whether the next node is too deep.
     fn is_deep(&self) -> bool
-        ensures { (above : List Wait) → HasHighs above self.now → result ≡ is_deep (length above) }
+        ensures { (above : List Wait) (cuts : List texts.Cut) → HasHighs above cuts self.now →
+            result ≡ is_deep (length above) }
     {
         is_too_deep(self.depth)
     }
 
     // The scale of the next node.
     fn scale_of(&self, value: u64) -> Result<u32, CertKind>
-        ensures { MatchResult result (λ s. ((above : List Wait) → HasHighs above self.now →
+        ensures { MatchResult result (λ s. ((above : List Wait) (cuts : List texts.Cut) → HasHighs above cuts self.now →
             scale_fault (length above) value ≡ None) × (s ≡ value))
-            (λ kind. (above : List Wait) → HasHighs above self.now →
+            (λ kind. (above : List Wait) (cuts : List texts.Cut) → HasHighs above cuts self.now →
             scale_fault (length above) value ≡ Some kind) }
     {
         judge_scale(self.depth, value)
@@ -362,9 +387,9 @@ impl Lines {
 
     // The variable behind which the next node is split, as its number from 0.
     fn variable_of(&self, frame: &Frame, value: u64) -> Result<u32, CertKind>
-        ensures judged { MatchResult result (λ v. ((above : List Wait) → HasHighs above self.now →
+        ensures judged { MatchResult result (λ v. ((above : List Wait) (cuts : List texts.Cut) → HasHighs above cuts self.now →
             variable_fault (frame_of frame.now) (length above) value ≡ None) × (v + 1 ≡ value))
-            (λ kind. (above : List Wait) → HasHighs above self.now →
+            (λ kind. (above : List Wait) (cuts : List texts.Cut) → HasHighs above cuts self.now →
             variable_fault (frame_of frame.now) (length above) value ≡ Some kind) }
         ensures shallow { OnOk result (is_deep self.now.depth ≡ false) }
     {
@@ -381,26 +406,26 @@ impl Lines {
         Ok(())
     }
 
-    // So many rows come next.
-    fn begin_pairs(&mut self, alloc: Global, count: u64) -> Result<(), CertFault>
+    // So many rows come next, at this place.
+    fn begin_pairs(&mut self, alloc: Global, count: u64, spot: Spot) -> Result<(), CertFault>
         ensures moved { self.new ≡
-            record self.old { spot = spots.Pairs; mults = []; last = 0; left = count } }
+            record self.old { spot = spot; mults = []; last = 0; left = count } }
         ensures done { result ≡ Ok tt }
     {
         self.mults = Items::new(alloc);
         self.last = 0;
         self.left = count;
-        self.spot = Spot::Pairs;
+        self.spot = spot;
         Ok(())
     }
 
-    // A row's number is known.
-    fn keep_row(&mut self, row: u32) -> Result<(), CertFault>
-        ensures moved { self.new ≡ record self.old { spot = spots.RowGap; row = row } }
+    // A row's number is known: its multiplier comes behind this place.
+    fn keep_row(&mut self, row: u32, spot: Spot) -> Result<(), CertFault>
+        ensures moved { self.new ≡ record self.old { spot = spot; row = row } }
         ensures done { result ≡ Ok tt }
     {
         self.row = row;
-        self.spot = Spot::RowGap;
+        self.spot = spot;
         Ok(())
     }
 
@@ -461,10 +486,19 @@ impl Lines {
                 Err(kind) => Err(self.fault(kind)),
                 Ok(scale) => self.keep_scale(scale),
             },
-            Spot::Count => self.begin_pairs(alloc, value),
-            Spot::Row => match judge_row(frame, self.last, value) {
+            Spot::Divisor => match self.divisor_of(value) {
                 Err(kind) => Err(self.fault(kind)),
-                Ok(row) => self.keep_row(row),
+                Ok(divisor) => self.keep_divisor(divisor),
+            },
+            Spot::CutCount => self.begin_pairs(alloc, value, Spot::CutPairs),
+            Spot::CutRow => match self.combined_of(frame, value) {
+                Err(kind) => Err(self.fault(kind)),
+                Ok(row) => self.keep_row(row, Spot::CutGap),
+            },
+            Spot::Count => self.begin_pairs(alloc, value, Spot::Pairs),
+            Spot::Row => match self.row_of(frame, value) {
+                Err(kind) => Err(self.fault(kind)),
+                Ok(row) => self.keep_row(row, Spot::RowGap),
             },
             Spot::Priced => self.begin_blocks(alloc, value),
             Spot::Block => self.take_block(frame, value),
@@ -476,11 +510,11 @@ impl Lines {
         }
     }
 
-    // A row's multiplier is kept.
-    fn keep_multiplier(&mut self, z: &i64) -> Result<(), AllocError>
+    // A row's multiplier is kept; the next row comes at this place.
+    fn keep_multiplier(&mut self, z: &i64, spot: Spot) -> Result<(), AllocError>
         ensures { OnOk result (self.new ≡
             record self.old {
-              spot = spots.Pairs;
+              spot = spot;
               mults = self.old.mults ++ (self.old.row, z.now) ∷
                   [];
               last = self.old.row + 1;
@@ -490,8 +524,24 @@ impl Lines {
         self.mults.push((self.row, *z))?;
         self.last = u64::from(self.row) + 1;
         self.left = self.left.saturating_sub(1);
-        self.spot = Spot::Pairs;
+        self.spot = spot;
         Ok(())
+    }
+
+    // A multiplier of a leaf's row.
+    fn take_multiplier(&mut self, negative: bool, value: u64) -> Result<(), CertFault>
+        requires { self.old.spot ≡ spots.Multiplier }
+        ensures takes { (frame : Frame) →
+            TakesWhole (frame_of frame) self.old self.new negative value result }
+        ensures stays { OnOk result (Stays self.old self.new) }
+    {
+        match judge_multiplier(MAX_MULTIPLIER, &self.had.get(self.row), negative, value) {
+            Err(kind) => Err(self.fault(kind)),
+            Ok(z) => match self.keep_multiplier(&z, Spot::Pairs) {
+                Err(_) => Err(CertFault::NoMemory),
+                Ok(()) => Ok(()),
+            },
+        }
     }
 
     // A point's value.
@@ -558,13 +608,8 @@ impl Lines {
     {
         match self.spot {
             Spot::Coordinate => self.take_coordinate(frame, negative, value),
-            Spot::Multiplier => match judge_multiplier(&self.had.get(self.row), negative, value) {
-                Err(kind) => Err(self.fault(kind)),
-                Ok(z) => match self.keep_multiplier(&z) {
-                    Err(_) => Err(CertFault::NoMemory),
-                    Ok(()) => Ok(()),
-                },
-            },
+            Spot::CutMultiplier => self.take_cut_multiplier(negative, value),
+            Spot::Multiplier => self.take_multiplier(negative, value),
             Spot::OptimalValue => match judge_value(negative, value) {
                 Err(kind) => Err(self.fault(kind)),
                 Ok(z) => self.keep_claim(Claim::Optimal(z)),
@@ -587,7 +632,7 @@ impl Lines {
 
     /// A reader that has read nothing.
     pub fn new(alloc: Global) -> Lines
-        ensures stands { (root : Tree) (frame : Frame) → StandsFor [] root frame result [] }
+        ensures stands { (root : Tree) (frame : Frame) → StandsFor [] root [] frame result [] }
         ensures phase { phase_of result ≡ ahead }
         ensures shallow { IsShallow result }
     {
@@ -599,6 +644,8 @@ impl Lines {
             claim: Claim::Infeasible,
             bound: 0,
             point: Items::new(alloc),
+            cuts: 0,
+            divisor: 0,
             depth: 0,
             highs: Vec::new(alloc),
             had: Multipliers::new(alloc),

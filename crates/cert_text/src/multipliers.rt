@@ -103,7 +103,10 @@ impl Multipliers {
         self.change(changes)?;
         match version {
             Version::One => Ok(self.take(alloc)),
-            Version::Two => Ok(Items::from_vec(Vec::from_slice(alloc, self.pairs.as_slice())?)),
+            Version::Two | Version::Three => Ok(Items::from_vec(Vec::from_slice(
+                alloc,
+                self.pairs.as_slice(),
+            )?)),
         }
     }
 

@@ -8,45 +8,55 @@ ghost use Rattle.branch_tree.specs.Trees.{tree_of};
 ghost use Rattle.cert_text.specs.Fault.{IsText};
 ghost use Rattle.cert_text.specs.Text.{Two};
 ghost use Rattle.cert_text.specs.Written.{cert_of};
-ghost use Rattle.cert_text.specs.Plain.{plain_text, tree_text};
+ghost use Rattle.cert_text.specs.Plain.{version_with, plain_text, tree_text};
 ghost use Rattle.cert_text.specs.Changes.{changing_nodes, last_mults};
 ghost use Rattle.cert_text.specs.Programs.{frame_for};
 ghost use Rattle.cert_text.specs.Outcomes.{grove_of, claim_of, point_of, HasSmallNumbers, IsWritable};
 
-use crate::writer::{put_changed_leaf, put_claim, put_split};
+use crate::writer::{put_changed_leaf, put_head, put_split};
 use block_form::Blocked;
-use bp_theory::{Claim, Items};
+use bp_theory::{Claim, Cut, Items};
 use branch_tree::{Grove, Outcome, Tree};
 use std::alloc::{AllocError, Global};
 
-/// The text of the certificate of a search's outcome in version 2: its claim, its best point where there is one, and
-/// its tree, whose live leaves are open. The text has no fault, so it is read back.
+/// The text of the certificate of a search's outcome: its claim, its best point where there is one, the cuts of the
+/// program, and its tree, whose live leaves are open. It is of version 3 where there are cuts, else of version 2. The
+/// text has no fault, so it is read back.
 pub fn write_cert(alloc: Global, b: &Blocked, outcome: &Outcome) -> Result<Vec<u8>, AllocError>
     requires { IsWritable b.now outcome.now }
-    ensures { IfOk result (λ text. IsText (frame_for b.now) Two
+    ensures { IfOk result (λ text. IsText (frame_for b.now) (version_with b.now.cuts)
         (cert_of (read_off (claim_of b.now.named.program.maximises outcome.now)
-        (point_of outcome.now) [] (grove_of outcome.now).tree)) text.items) }
+        (point_of outcome.now) b.now.cuts (grove_of outcome.now).tree)) text.items) }
 {
     let claim = outcome_claim(b.model().maximises(), outcome);
     let tree = outcome_grove(outcome).tree();
     let mut out = Vec::new(alloc);
-    put_outcome(&mut out, alloc, &claim, outcome_point(outcome), tree)?;
+    put_outcome(
+        &mut out,
+        alloc,
+        &claim,
+        outcome_point(outcome),
+        b.cuts(),
+        tree,
+    )?;
     Ok(out)
 }
 
-// The text of a claim, a point and a tree.
+// The text of a claim, a point, cuts and a tree.
+#[tactic(auto, using(crate::proofs::CutTexts::whole_text))]
 fn put_outcome(
     out: &mut Vec<u8>,
     alloc: Global,
     claim: &Claim,
     point: &[i64],
+    cuts: &[Cut],
     tree: &Tree,
 ) -> Result<(), AllocError>
-    ensures { OnOk result (out.new.items ≡ out.old.items ++ plain_text Two claim.now point.now
+    ensures { OnOk result (out.new.items ≡ out.old.items ++
+        plain_text (version_with cuts.now) claim.now point.now cuts.now
         (changing_nodes [] (certificate_tree (tree_of tree.now)))) }
 {
-    out.extend_from_slice(b"bpcert 2\n")?;
-    put_claim(out, claim, point)?;
+    put_head(out, claim, point, cuts)?;
     put_nodes(out, alloc, tree, &[])?;
     out.extend_from_slice(b"end\n")
 }

@@ -56,9 +56,10 @@ fn master_rows(alloc: Global, b: &Blocked) -> Result<Items<bool>, AllocError>
     Ok(masters)
 }
 
-// How many link rows there are: they come behind the model's rows.
+// How many link rows there are: they come behind the model's rows and before the cuts.
 fn link_rows(b: &Blocked) -> u32
     ensures { result ≡ links_behind b.now }
 {
-    b.named_rows() - b.model().rows()
+    let behind = b.named_rows() - b.model().rows();
+    behind - b.cuts().len() as u32
 }

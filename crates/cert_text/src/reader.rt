@@ -1,12 +1,12 @@
-// A reader of a certificate's text, which builds the tree that its lines say.
+// A reader of a certificate's text, which keeps the cuts and builds the tree that its lines say.
 ghost use Rattle.std.specs.Prelude.{◌≡◌, List, ℕ, [], OnOk, IfOk, length, Some, ◌++◌, ◌+◌, ◌<◌, ◌^◌};
 ghost use Rattle.cert_text.specs.Sketch.{tree_of};
 ghost use Rattle.cert_text.specs.Cert.{Split};
 ghost use Rattle.cert_text.specs.declared.frame.Frame.{Frame};
 ghost use Rattle.cert_text.specs.Written.{in_text, written_tree, written_proof};
 ghost use Rattle.cert_text.specs.Stages.{leaf_of};
-ghost use Rattle.cert_text.specs.Readers.{waits_behind, root_behind, waits_after, root_after};
-ghost use Rattle.cert_text.specs.Builders.{waits_of, root_of, Builds, BuildsOn, Feeds};
+ghost use Rattle.cert_text.specs.Readers.{waits_behind, root_behind, waits_after, root_after, cuts_after};
+ghost use Rattle.cert_text.specs.Builders.{waits_of, root_of, cuts_of, Builds, BuildsOn, Feeds};
 ghost use Rattle.cert_text.specs.Standing.{ReadsCertificate};
 
 use crate::cert::Cert;
@@ -14,7 +14,7 @@ use crate::fault::CertFault;
 use crate::frame::Frame;
 use crate::lines::{Event, Lines, SplitPlace};
 use crate::sketch::Sketch;
-use bp_theory::{Items, Picked, Proof};
+use bp_theory::{Cut, Items, Picked, Proof};
 use std::alloc::{AllocError, Global};
 
 // A split above the tree that comes next: its low part is still to come, or there.
@@ -28,6 +28,7 @@ pub enum Pending {
 #[derive(Drop)]
 pub struct Reader {
     lines: Lines,
+    cuts: Items<Cut>,
     pending: Vec<Pending>,
     root: Sketch,
 }
@@ -66,6 +67,7 @@ impl Reader {
         ensures root { OnOk result (root_of self.new.root ≡
             root_behind (waits_of self.old.pending.items) (root_of self.old.root)
             (written_tree (tree_of tree))) }
+        ensures cuts { OnOk result (self.new.cuts ≡ self.old.cuts) }
         ensures lines { OnOk result (self.new.lines ≡ self.old.lines) }
     {
         let mut tree = tree;
@@ -84,17 +86,23 @@ impl Reader {
         Ok(())
     }
 
-    // What a line says goes into the tree.
+    // What a line says goes among the cuts or into the tree.
     fn take(&mut self, alloc: Global, event: Event) -> Result<(), AllocError>
         ensures waits { OnOk result (waits_of self.new.pending.items ≡
             waits_after (waits_of self.old.pending.items) (Some event)) }
         ensures root { OnOk result (root_of self.new.root ≡
             root_after (waits_of self.old.pending.items) (root_of self.old.root) (Some event)) }
+        ensures cuts { OnOk result (cuts_of self.new ≡ cuts_after (cuts_of self.old) (Some event)) }
         ensures lines { OnOk result (self.new.lines ≡ self.old.lines) }
     {
         match event {
             Event::Claim => {
                 self.pending = Vec::new(alloc);
+                self.cuts = Items::new(alloc);
+                Ok(())
+            }
+            Event::Cut(cut) => {
+                self.cuts.push(cut)?;
                 Ok(())
             }
             Event::Split(place) => {
@@ -126,6 +134,7 @@ impl Reader {
     {
         Reader {
             lines: Lines::new(alloc),
+            cuts: Items::new(alloc),
             pending: Vec::new(alloc),
             root: Sketch::Leaf(Proof {
                 scale: 0,
@@ -150,16 +159,17 @@ impl Reader {
     }
 
     /// The certificate that was read, where the text ends here.
-    pub fn finish(self, alloc: Global, frame: &Frame) -> Result<Cert, CertFault>
-        ensures { (text : List ℕ) → length text < 2 ^ 64 → Builds frame.now self text →
+    pub fn finish(self, frame: &Frame) -> Result<Cert, CertFault>
+        ensures { (text : List ℕ) → Builds frame.now self text →
             ReadsCertificate frame.now text result }
     {
-        let mut lines = self.lines;
-        match lines.end(alloc, frame) {
+        let lines = self.lines;
+        match lines.end(frame) {
             Err(fault) => Err(fault),
             Ok(()) => Ok(Cert {
                 claim: lines.claim,
                 point: lines.point,
+                cuts: self.cuts,
                 tree: self.root,
             }),
         }
@@ -176,6 +186,6 @@ pub fn read(alloc: Global, frame: &Frame, bytes: &[u8]) -> Result<Cert, CertFaul
     let mut reader = Reader::new(alloc);
     match reader.feed(alloc, frame, bytes) {
         Err(fault) => Err(fault),
-        Ok(()) => reader.finish(alloc, frame),
+        Ok(()) => reader.finish(frame),
     }
 }

@@ -1,6 +1,6 @@
 // Places between two tokens of a certificate's text, and what may come there.
 ghost use Rattle.std.specs.Prelude.{◌≡◌};
-ghost use Rattle.cert_text.specs.Spots.{spot_sort, spot_words, picked_word};
+ghost use Rattle.cert_text.specs.Spots.{spot_sort, spot_words, spot_behind_claim, picked_word};
 
 use crate::version::Version;
 use crate::words::{Word, begins};
@@ -22,6 +22,15 @@ pub enum Spot {
     Point,
     Values,
     Coordinate,
+    FirstCut,
+    Cuts,
+    Divisor,
+    CutRows,
+    CutCount,
+    CutPairs,
+    CutRow,
+    CutGap,
+    CutMultiplier,
     Node,
     Scale,
     Rows,
@@ -60,11 +69,29 @@ pub fn sort_of(spot: Spot) -> Sort
         | Spot::BoundValue
         | Spot::KnownValue
         | Spot::Coordinate
+        | Spot::CutMultiplier
         | Spot::Multiplier
         | Spot::Place => Sort::Whole,
-        Spot::Scale | Spot::Count | Spot::Row | Spot::Priced | Spot::Block | Spot::Variable =>
-            Sort::Natural,
+        Spot::Divisor
+        | Spot::CutCount
+        | Spot::CutRow
+        | Spot::Scale
+        | Spot::Count
+        | Spot::Row
+        | Spot::Priced
+        | Spot::Block
+        | Spot::Variable => Sort::Natural,
         _ => Sort::Wordy,
+    }
+}
+
+// The place behind a claim and its point.
+pub fn first_spot(version: Version) -> Spot
+    ensures { result ≡ spot_behind_claim version }
+{
+    match version {
+        Version::One | Version::Two => Spot::Node,
+        Version::Three => Spot::FirstCut,
     }
 }
 
@@ -74,7 +101,7 @@ pub fn words_at(version: Version, spot: Spot, more: bool) -> &'static [Word]
 {
     match spot {
         Spot::Bpcert => &[Word::Bpcert],
-        Spot::Version => &[Word::One, Word::Two],
+        Spot::Version => &[Word::One, Word::Two, Word::Three],
         Spot::FirstEnd
         | Spot::InfeasibleEnd
         | Spot::ClaimEnd
@@ -86,10 +113,21 @@ pub fn words_at(version: Version, spot: Spot, more: bool) -> &'static [Word]
         Spot::AfterBound => &[Word::LineEnd, Word::Value],
         Spot::Point => &[Word::Point],
         Spot::Values => &[Word::LineEnd, Word::Space],
+        Spot::FirstCut => &[Word::Cut],
+        Spot::Cuts => &[Word::Cut, Word::Leaf, Word::Open, Word::Split],
+        Spot::CutRows => &[Word::Rows],
+        Spot::CutPairs => {
+            if more {
+                &[Word::Space]
+            } else {
+                &[Word::LineEnd]
+            }
+        }
         Spot::Node => &[Word::Leaf, Word::Open, Word::Split],
         Spot::Rows => match version {
             Version::One => &[Word::Rows],
             Version::Two => &[Word::Change],
+            Version::Three => &[Word::Change],
         },
         Spot::Pairs => {
             if more {
@@ -98,7 +136,7 @@ pub fn words_at(version: Version, spot: Spot, more: bool) -> &'static [Word]
                 &[Word::Priced]
             }
         }
-        Spot::RowGap | Spot::VariableGap => &[Word::Space],
+        Spot::CutGap | Spot::RowGap | Spot::VariableGap => &[Word::Space],
         Spot::Priced => &[Word::All],
         Spot::Blocks => {
             if more {

@@ -3,7 +3,7 @@ ghost use Rattle.std.specs.Prelude.{◌≡◌, ℕ, ◌+◌, ◌++◌, List, [],
 ghost use Rattle.std.specs.List.{flat_map};
 ghost use Rattle.cert_text.specs.Cert.{Frame};
 ghost use Rattle.cert_text.specs.Text.{numeral, signed_numeral, text_of, tokens_of, One, Two};
-ghost use Rattle.cert_text.specs.Plain.{pair_text, block_text, coordinate_text, picked_text, tail_text, proof_text, tree_text, point_text, bound_text, claim_text, plain_text};
+ghost use Rattle.cert_text.specs.Plain.{pair_text, block_text, coordinate_text, picked_text, tail_text, proof_text, tree_text, point_text, bound_text, claim_text, cut_text, version_text, version_with, head_text, plain_text};
 ghost use Rattle.cert_text.specs.Changes.{changing_proof, changing_nodes, last_mults};
 ghost use Rattle.cert_text.specs.Fault.{IsText, IsCertText};
 ghost use Rattle.cert_text.specs.Kept.{kept_cert};
@@ -13,7 +13,7 @@ ghost use Rattle.cert_text.specs.Written.{cert_of, certificate};
 use crate::cert::Cert;
 use crate::differences::differences;
 use crate::sketch::Sketch;
-use bp_theory::{Claim, Picked, Proof};
+use bp_theory::{Claim, Cut, Picked, Proof};
 use itoa::Buffer;
 use std::alloc::{AllocError, Global};
 
@@ -138,7 +138,7 @@ fn put_changes(
     put_tail(out, changes.as_slice(), &proof.picked)
 }
 
-/// A leaf's line of version 2 with its first word, behind a leaf that has these multipliers; gives its own.
+/// A leaf's line of versions 2 and 3 with its first word, behind a leaf that has these multipliers; gives its own.
 pub fn put_changed_leaf<'a>(
     out: &mut Vec<u8>,
     alloc: Global,
@@ -238,14 +238,63 @@ pub fn put_claim(out: &mut Vec<u8>, claim: &Claim, point: &[i64]) -> Result<(), 
     }
 }
 
-// The text of a certificate.
+// A cut's line.
+fn put_cut(out: &mut Vec<u8>, cut: &Cut) -> Result<(), AllocError>
+    ensures { OnOk result (out.new.items ≡ out.old.items ++ cut_text cut.now) }
+{
+    out.extend_from_slice(b"cut ")?;
+    put_number(out, u64::from(cut.q))?;
+    out.extend_from_slice(b" rows ")?;
+    put_number(out, cut.rows.len() as u64)?;
+    put_pairs(out, cut.rows.as_slice())?;
+    out.extend_from_slice(b"\n")
+}
+
+// The lines of cuts.
+fn put_cuts(out: &mut Vec<u8>, cuts: &[Cut]) -> Result<(), AllocError>
+    ensures { OnOk result (out.new.items ≡ out.old.items ++ flat_map cut_text cuts.now) }
+{
+    for cut in cuts {
+        put_cut(out, cut)?;
+    }
+    Ok(())
+}
+
+// The first line of a certificate with these cuts: its leaves have changes, in version 2 where it has no cuts, else in
+// version 3.
+fn put_first(out: &mut Vec<u8>, cuts: &[Cut]) -> Result<(), AllocError>
+    ensures { OnOk result (out.new.items ≡ out.old.items ++ version_text (version_with cuts.now)) }
+{
+    match cuts {
+        [] => out.extend_from_slice(b"bpcert 2\n"),
+        [_, ..] => out.extend_from_slice(b"bpcert 3\n"),
+    }
+}
+
+/// The lines in front of a tree whose leaves have changes: the first line, of version 3 exactly where there are cuts and
+/// else of version 2, those of the claim and its point, and those of the cuts.
+pub fn put_head(
+    out: &mut Vec<u8>,
+    claim: &Claim,
+    point: &[i64],
+    cuts: &[Cut],
+) -> Result<(), AllocError>
+    ensures { OnOk result (out.new.items ≡ out.old.items ++
+        head_text (version_with cuts.now) claim.now point.now cuts.now) }
+{
+    put_first(out, cuts)?;
+    put_claim(out, claim, point)?;
+    put_cuts(out, cuts)
+}
+
+// The text of a certificate without cuts.
 fn put_cert(
     out: &mut Vec<u8>,
     claim: &Claim,
     point: &[i64],
     tree: &Sketch,
 ) -> Result<(), AllocError>
-    ensures { OnOk result (out.new.items ≡ out.old.items ++ plain_text One claim.now point.now
+    ensures { OnOk result (out.new.items ≡ out.old.items ++ plain_text One claim.now point.now []
         (tree_of tree.now)) }
 {
     out.extend_from_slice(b"bpcert 1\n")?;
@@ -276,25 +325,27 @@ fn put_changed_tree<'a>(
     }
 }
 
-// The text of a certificate in version 2.
+// The text of a certificate whose leaves have changes.
+#[tactic(auto, using(crate::proofs::CutTexts::whole_text))]
 fn put_changed_cert(
     out: &mut Vec<u8>,
     alloc: Global,
     claim: &Claim,
     point: &[i64],
+    cuts: &[Cut],
     tree: &Sketch,
 ) -> Result<(), AllocError>
-    ensures { OnOk result (out.new.items ≡ out.old.items ++ plain_text Two claim.now point.now
+    ensures { OnOk result (out.new.items ≡ out.old.items ++
+        plain_text (version_with cuts.now) claim.now point.now cuts.now
         (changing_nodes [] (tree_of tree.now))) }
 {
-    out.extend_from_slice(b"bpcert 2\n")?;
-    put_claim(out, claim, point)?;
+    put_head(out, claim, point, cuts)?;
     put_changed_tree(out, alloc, tree, &[])?;
     out.extend_from_slice(b"end\n")
 }
 
-/// The text of the certificate of a claim and a tree, with a point exactly where the claim names
-/// a value.
+/// The text of version 1 of the certificate of a claim and a tree, without cuts and with a point exactly where the claim
+/// names a value.
 pub fn write(
     alloc: Global,
     claim: &Claim,
@@ -303,18 +354,18 @@ pub fn write(
 ) -> Result<Vec<u8>, AllocError>
     ensures { IfOk result (λ text. (frame : Frame) →
         text.items ≡ text_of (tokens_of frame One
-        (cert_of (certificate claim.now point.now (tree_of tree.now))))) }
+        (cert_of (certificate claim.now point.now [] (tree_of tree.now))))) }
 {
     let mut out = Vec::new(alloc);
     put_cert(&mut out, claim, point, tree)?;
     Ok(out)
 }
 
-/// The text of version 2 of a certificate that some text was read of.
+/// The text of a certificate that some text was read of: in version 3 where it has cuts, else in version 2.
 pub fn rewrite(alloc: Global, cert: &Cert) -> Result<Vec<u8>, AllocError>
     ensures { IfOk result (λ text. (frame : Frame) (old : List ℕ) →
         IsCertText frame (kept_cert cert.now) old →
-        IsText frame Two (kept_cert cert.now) text.items) }
+        IsText frame (version_with cert.now.cuts) (kept_cert cert.now) text.items) }
 {
     let mut out = Vec::new(alloc);
     put_changed_cert(
@@ -322,6 +373,7 @@ pub fn rewrite(alloc: Global, cert: &Cert) -> Result<Vec<u8>, AllocError>
         alloc,
         &cert.claim,
         cert.point.as_slice(),
+        cert.cuts.as_slice(),
         &cert.tree,
     )?;
     Ok(out)

@@ -80,6 +80,7 @@ fn check_blocks<F: Shelf, O: Sink>(
     cert: &str,
     visits: Option<u64>,
 ) -> Ended
+    requires uncut { b.now.cuts ≡ [] }
     ensures answered { IsTrue (F.tells shelf.old) →
         AnswersBy (ChecksVisiting visits (F.file shelf.old) cert.now b.now) result.status
         (O.tells out.old) (O.taken out.old) (O.taken out.new) }
@@ -118,6 +119,7 @@ fn judged_file<F: Shelf>(
     cert: &str,
     visits: Option<u64>,
 ) -> Result<Reply, ShelfFault>
+    requires uncut { b.now.cuts ≡ [] }
     ensures right { IsTrue (F.tells shelf.old) →
         IfOk result (RepliesFrom visits (F.file shelf.old) cert.now b.now) }
     ensures statuses { IfOk result (λ reply. IsCheckStatus reply.status) }
@@ -224,7 +226,7 @@ fn reply_of(alloc: Global, checker: Checker) -> Result<Reply, AllocError>
         ChecksFor b visits checker text → IfOk result (IsReplyTo visits b text) }
     ensures statuses { IfOk result (λ reply. IsCheckStatus reply.status) }
 {
-    match checker.finish(alloc) {
+    match checker.finish() {
         Ok(judged) => verdict(alloc, &judged),
         Err(FeedFault::At { line, kind }) => Ok(Reply {
             status: 3,

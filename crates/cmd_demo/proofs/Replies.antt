@@ -21,17 +21,17 @@ use Rattle.cmd_demo.proofs.Certified.{judged_accepted}
 
 -- the summary of an outcome whose certificate was judged
 pub demos : (seed size : ℕ) (b : BlockedProgram) (o : Outcome) (judged : Judged) (status : ℕ) (report : List ℕ) → IsOutcome b (Some 2000) o
-    → IsJudged b (outcome_certificate b.named.program o) judged → status ≡ outcome_status o → report ≡ demo_report seed size b.named o judged
+    → IsJudged b (outcome_certificate b o) judged → status ≡ outcome_status o → report ≡ demo_report seed size b.named o judged
     → DemosBlocked seed size (Some o) b status report
 demos seed size b o judged status report is judges ended told =
-    let valid : IsCertified b.named.program b.dec (outcome_certificate b.named.program o) = outcome_certified b 2000 o is in record {
+    let valid : IsCertified b.named.program b.dec (outcome_certificate b o) = outcome_certified b 2000 o is in record {
       outcome = o;
       is_kept = refl;
       is_outcome = is;
       valid = valid;
       has_status = ended;
       has_report = told ∙ ap (λ (j : Judged). demo_report seed size b.named o j)
-          (judged_accepted b (outcome_certificate b.named.program o) judged valid judges);
+          (judged_accepted b (outcome_certificate b o) judged valid judges);
     }
 
 -- want of memory halts

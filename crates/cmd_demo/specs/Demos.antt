@@ -31,9 +31,9 @@ pub record DemosBlocked (seed size : ℕ) (kept : Option Outcome) (b : BlockedPr
   pub outcome : Outcome
   pub is_kept : kept ≡ Some outcome
   pub is_outcome : IsOutcome b (Some demo_steps) outcome
-  pub valid : IsCertified b.named.program b.dec (outcome_certificate b.named.program outcome)
+  pub valid : IsCertified b.named.program b.dec (outcome_certificate b outcome)
   pub has_status : status ≡ outcome_status outcome
-  pub has_report : report ≡ demo_report seed size b.named outcome (Accepted (outcome_certificate b.named.program outcome).claim)
+  pub has_report : report ≡ demo_report seed size b.named outcome (Accepted (outcome_certificate b outcome).claim)
 
 -- what `demo` answers; nothing is kept where it is stopped
 abbrev pub AnswersDemo : (seed size : ℕ) → Option Outcome → (status : ℕ) → (report : List ℕ) → Type 0

@@ -81,6 +81,7 @@ fn summary(
     b: &Blocked,
     outcome: &Outcome,
 ) -> Result<Reply, AllocError>
+    requires uncut { b.now.cuts ≡ [] }
     requires ends { IsOutcome b.now (Some 2000) outcome.now }
     requires writable { IsWritable b.now outcome.now }
     ensures { IfOk result (IsSummary seed size b.now outcome.now) }
@@ -93,10 +94,11 @@ fn summary(
 
 // What the certificate of an outcome is judged to be. Its text has no fault, so that only memory can be wanting.
 fn judge_outcome(alloc: Global, b: &Blocked, outcome: &Outcome) -> Result<Judged, AllocError>
+    requires uncut { b.now.cuts ≡ [] }
     requires ends { IsOutcome b.now (Some 2000) outcome.now }
     requires writable { IsWritable b.now outcome.now }
     ensures { IfOk result (IsJudged b.now
-        (outcome_certificate b.now.named.program outcome.now)) }
+        (outcome_certificate b.now outcome.now)) }
 {
     let text = write_cert(alloc, b, outcome)?;
     if text.len() >= TOO_LONG {
@@ -110,7 +112,8 @@ fn judge_outcome(alloc: Global, b: &Blocked, outcome: &Outcome) -> Result<Judged
 
 // What a certificate is judged to be whose text is fed in pieces, or the text's first fault.
 fn judge_text(alloc: Global, b: &Blocked, text: &[u8]) -> Result<Judged, FeedFault>
-    requires { length text.now < 2 ^ 63 }
+    requires uncut { b.now.cuts ≡ [] }
+    requires few { length text.now < 2 ^ 63 }
     ensures { Finishes b.now None text.now result }
 {
     let Ok(made) = Checker::make(alloc, b, None) else {
@@ -121,5 +124,5 @@ fn judge_text(alloc: Global, b: &Blocked, text: &[u8]) -> Result<Judged, FeedFau
         // A fault is kept, and answered at the end.
         let _ = checker.feed(alloc, b, piece);
     }
-    checker.finish(alloc)
+    checker.finish()
 }

@@ -11,10 +11,8 @@ use Rattle.bp_theory.specs.Sums.{round_up}
 use Rattle.bp_theory.specs.Program.{Program, IsFeasible, cost, value, in_sense}
 use Rattle.bp_theory.specs.Blocking.{Blocking}
 use Rattle.bp_theory.specs.Bound.{IsBound, IsEndless}
-use Rattle.bp_theory.specs.Decomposition.{blocking_of}
-use Rattle.bp_theory.specs.Cuts.{cut_rows}
 use Rattle.bp_theory.specs.Trees.{Tree, shut_leaf, open_leaf, split, Leaf, leaves, low_part, high_part}
-use Rattle.bp_theory.specs.Claims.{Holds, Empties, Certificate, Shows, PointFits, IsValid, IsCertified, IsTrueClaim}
+use Rattle.bp_theory.specs.Claims.{Holds, Empties, Certificate, Shows, PointFits, IsValid, IsTrueClaim}
 use Rattle.bp_theory.specs.declared.Span.{Span}
 use Rattle.bp_theory.specs.declared.Proof.{Proof}
 use Rattle.bp_theory.specs.declared.Cut.{Cut}
@@ -25,7 +23,7 @@ use Rattle.bp_theory.proofs.CutProof.{le-round_up, certified_is_true_lem}
 use Rattle.bp_theory.proofs.ShrinkProof.{one_bound_lem}
 use Rattle.bp_theory.proofs.TruthProof.{older_lem, in_sense_twice}
 use Rattle.block_form.specs.Blocked.{BlockedProgram, IsFormed}
-use Rattle.block_form.proofs.PlainLemmas.{plain_blocking}
+use Rattle.cert_load.specs.Recut.{with_cuts}
 use Rattle.search_laws.specs.Grove.{GrowingTree, live, shut, fork, live_bounds}
 use Rattle.search_laws.specs.GroveFacts.{Settles, IsNoDearer, best_cost}
 use Rattle.search_laws.specs.Loading.{rounded_bound, LoadsLeaf, Loads}
@@ -178,22 +176,17 @@ loaded_over b best P zone (split v at low high) (fork w a first second) gives lo
 
 -- ---- a certificate that was opened
 
--- it is valid for the program's blocks, since it has no cuts
-valid_here : (b : BlockedProgram) (cert : Certificate) → IsFormed b → cert.cuts ≡ [] → IsCertified b.named.program b.dec cert → IsValid b.named.program b.blocking cert
-valid_here b cert formed uncut valid =
-    let p : Program = b.named.program in
-    subst (λ (k : Blocking). IsValid p k cert) (ap (λ (cuts : List Cut). blocking_of p b.dec (cut_rows p b.dec [] cuts)) uncut ∙ sym (plain_blocking formed)) valid.valid
-
-opened_over : (b : BlockedProgram) (text : List ℕ) (from : Loaded) → IsFormed b → (one : IsOpened b text from) → IsOver (Over b.named.program one.cert.claim) from.grove.tree
-opened_over b text from formed one =
+opened_over : (b : BlockedProgram) (text : List ℕ) (from : Loaded) → (one : IsOpened b text from) → IsOver (Over b.named.program one.cert.claim) from.grove.tree
+opened_over b text from one =
     let p : Program = b.named.program in
     let cert : Certificate = one.cert in
-    let valid : IsValid p b.blocking cert = valid_here b cert formed one.uncut one.valid in
+    let k : Blocking = (with_cuts b cert.cuts).blocking in
+    let valid : IsValid p k cert = one.valid.valid in
     let best : Option ℤ = best_cost p cert.point in
     let P : ℤ → Type 0 = Over p cert.claim in
-    let gives : All (Gives b.blocking best P) (leaves cert.tree p.spans) = λ k d l. claim_gives p b.blocking cert.claim cert.point _ one.goes_with.claim valid.point (valid.shown k d l) in
+    let gives : All (Gives k best P) (leaves cert.tree p.spans) = λ n d l. claim_gives p k cert.claim cert.point _ one.goes_with.claim valid.point (valid.shown n d l) in
     subst (IsOver P) (sym one.loaded.adopted.tree)
-    (loaded_over b.blocking best P p.spans cert.tree one.loaded.tree (recursion_from_All (Gives b.blocking best P) (leaves cert.tree p.spans) gives) one.loaded.loads)
+    (loaded_over k best P p.spans cert.tree one.loaded.tree (recursion_from_All (Gives k best P) (leaves cert.tree p.spans) gives) one.loaded.loads)
 
 -- ---- what is claimed
 
@@ -227,30 +220,30 @@ no_worse b most claim g (ends.Budget h best bound) is true' same over =
     costs None feasible = tt
     costs (Some x) feasible = (true_bound b.named.program claim x true' feasible, tt)
 
-pub merged_claim : (b : BlockedProgram) (most : ℕ) (text more : List ℕ) (first second from : Loaded) (o : Outcome) → IsFormed b → (one : IsOpened b text first)
-    → (other : IsOpened b more second) → IsMergedOf first second from → EndsWithin b most o → grove_in o ≡ from.grove → point_of o ≡ point_in from.best
+pub merged_claim : (b : BlockedProgram) (cuts : List Cut) (most : ℕ) (text more : List ℕ) (first second from : Loaded) (o : Outcome) → IsFormed b → (one : IsOpened b text first)
+    → (other : IsOpened b more second) → IsMergedOf first second from → EndsWithin (with_cuts b cuts) most o → grove_in o ≡ from.grove → point_of o ≡ point_in from.best
     → IsMergedClaim b.named.program one.cert.claim other.cert.claim (claim_of b.named.program.maximises o)
-merged_claim b most text more first second from o formed one other is ended grove point =
+merged_claim b cuts most text more first second from o formed one other is ended grove point =
     let p : Program = b.named.program in
     let c : Certificate = one.cert in
     let d : Certificate = other.cert in
     let x : Option ℤ = cost_in first.best in
     let y : Option ℤ = cost_in second.best in
-    let valid : IsValid p b.blocking c = valid_here b c formed one.uncut one.valid in
-    let beside : IsValid p b.blocking d = valid_here b d formed other.uncut other.valid in
+    let valid = one.valid.valid in
+    let beside = other.valid.valid in
     let points : point_of o ≡ better p c.point d.point =
     point ∙ ap point_in is.best ∙ cheaper_point p first.best second.best one.loaded.loaded.costs other.loaded.loaded.costs
     ∙ ap (λ (k : Option (List ℤ)). better p k (point_in second.best)) one.loaded.point ∙ ap (better p c.point) other.loaded.point in
     record {
-      value = outcome_cost b most o ended ∙ ap (best_cost p) points ∙ better_cost p c.point d.point
+      value = outcome_cost (with_cuts b cuts) most o ended ∙ ap (best_cost p) points ∙ better_cost p c.point d.point
           ∙ ap (λ (k : Option ℤ). cheaper_cost k (best_cost p d.point)) (sym (point_cost p c.claim c.point valid.point))
           ∙ ap (cheaper_cost (claimed_cost p c.claim)) (sym (point_cost p d.claim d.point beside.point));
-      first = no_worse b most c.claim from.grove o ended (certified_is_true_lem p b.dec c formed.kept.closed one.valid) grove
+      first = no_worse (with_cuts b cuts) most c.claim from.grove o ended (certified_is_true_lem p b.dec c formed.kept.closed one.valid) grove
           (subst (IsOver (Over p c.claim)) (sym is.tree)
           (shut_over (Over p c.claim) (merged first.grove.tree second.grove.tree) (cheaper_cost x y)
-          (over_first (Over p c.claim) (over_rises p c.claim) first.grove.tree second.grove.tree (opened_over b text first formed one))));
-      second = no_worse b most d.claim from.grove o ended (certified_is_true_lem p b.dec d formed.kept.closed other.valid) grove
+          (over_first (Over p c.claim) (over_rises p c.claim) first.grove.tree second.grove.tree (opened_over b text first one))));
+      second = no_worse (with_cuts b cuts) most d.claim from.grove o ended (certified_is_true_lem p b.dec d formed.kept.closed other.valid) grove
           (subst (IsOver (Over p d.claim)) (sym is.tree)
           (shut_over (Over p d.claim) (merged first.grove.tree second.grove.tree) (cheaper_cost x y)
-          (over_second (Over p d.claim) (over_rises p d.claim) first.grove.tree second.grove.tree (opened_over b more second formed other))));
+          (over_second (Over p d.claim) (over_rises p d.claim) first.grove.tree second.grove.tree (opened_over b more second other))));
     }

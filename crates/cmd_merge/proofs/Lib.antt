@@ -5,3 +5,4 @@ pub mod OneText
 pub mod OneAnswer
 pub mod StopProof
 pub mod WrittenProof
+pub mod JoinProof

@@ -26,13 +26,13 @@ nodes_written (split v at low high) =
     let b : nodes (written_tree high) ≡ node_count high = nodes_written high in
     omega arith
 
-pub few_nodes : (b : BlockedProgram) (cert : Cert) (text : List ℕ) (from : Loaded) → length text < 2 ^ 64 → IsCertText (frame_for b) (kept_cert cert) text
-    → IsLoadedOf b (certificate_of cert) from → made from.grove.tree < 2 ^ 61
-few_nodes b cert text from short spelled loaded =
+pub few_nodes : (b c : BlockedProgram) (cert : Cert) (text : List ℕ) (from : Loaded) → length text < 2 ^ 64 → IsCertText (frame_for b) (kept_cert cert) text
+    → IsLoadedOf c (certificate_of cert) from → made from.grove.tree < 2 ^ 61
+few_nodes b c cert text from short spelled loaded =
     let t : Tree = tree_of cert.tree in
     let few : 12 + 8 * nodes (written_tree t) ≤ length text = text_nodes (frame_for b) spelled.0 (kept_cert cert) text spelled.1 in
     let each : nodes (written_tree t) ≡ node_count t = nodes_written t in
     let all : made loaded.tree ≡ node_count t =
-    made_of b.blocking (best_cost b.named.program (certificate_of cert).point) b.named.program.spans t loaded.tree loaded.loads in
+    made_of c.blocking (best_cost c.named.program (certificate_of cert).point) c.named.program.spans t loaded.tree loaded.loads in
     let same : made from.grove.tree ≡ made loaded.tree = ap (λ (g : GrowingTree). made g) loaded.adopted.tree in
     omega (arith, few, each, all, same, short)

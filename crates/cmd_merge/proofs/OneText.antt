@@ -7,6 +7,7 @@ use Rattle.bp_shelf.specs.Shelf.{Files}
 use Rattle.block_form.specs.Blocked.{BlockedProgram, IsFormed}
 use Rattle.branch_tree.specs.declared.loaded.Loaded.{Loaded}
 use Rattle.cert_load.specs.Loadings.{IsTooDeep}
+use Rattle.cert_load.specs.Recut.{with_cuts}
 use Rattle.cert_load.proofs.Reaching.{loaded_is_low}
 use Rattle.cert_text.specs.Fault.{IsCertText}
 use Rattle.cert_text.specs.Written.{cert_of}
@@ -67,7 +68,7 @@ one_refusal b text s t r q formed h g = by h g (one_status b text _ _ (refused_c
     by (too_deep cert line spelled has valid deep is told) (too_deep cert' line' spelled' has' valid' deep' is' told') e = is ∙ sym is'
 
 -- a text has one certificate
-one_certificate : (b : BlockedProgram) (text : List ℕ) (c d : Certificate) → IsCertText (frame_for b) (cert_of c) text → IsCertText (frame_for b) (cert_of d) text
+pub one_certificate : (b : BlockedProgram) (text : List ℕ) (c d : Certificate) → IsCertText (frame_for b) (cert_of c) text → IsCertText (frame_for b) (cert_of d) text
     → HasItsPoint (named_value c.claim) c.point → HasItsPoint (named_value d.claim) d.point → c ≡ d
 one_certificate b text c d spelled spelled' has has' =
     one_written c d has has' (certificates_are_one (frame_for b) (cert_of c) (cert_of d) text spelled spelled')
@@ -81,4 +82,4 @@ opened_or_refused b text from s r formed one h = by h (one_status b text 0 _ (va
     by (rejected cert line kind spelled has fault is told) e = absurd (omega (arith, e))
     by (too_deep cert line spelled has valid deep is told) e =
         let same : cert ≡ one.cert = one_certificate b text cert one.cert spelled one.spelled has one.has_point in
-        loaded_is_low b one.cert from line one.loaded (subst (λ (c : Certificate). IsTooDeep b c line) same deep)
+        loaded_is_low (with_cuts b one.cert.cuts) one.cert from line one.loaded (subst (λ (c : Certificate). IsTooDeep (with_cuts b c.cuts) c line) same deep)

@@ -7,8 +7,8 @@ use Rattle.bp_shelf.specs.Shelf.{Files, AllShort}
 use Rattle.bp_shelf.specs.declared.shelf.ShelfFault.{ShelfFault}
 use Rattle.bp_shelf.specs.declared.shelf.ShelfFault.TheVariants.{Missing, Failed, NoMemory}
 use Rattle.block_form.specs.Blocked.{BlockedProgram}
-use Rattle.branch_tree.specs.declared.loaded.Loaded.{Loaded}
 use Rattle.cert_load.specs.Loadings.{IsLoadedOf, IsTooDeep}
+use Rattle.cert_load.specs.Recut.{with_cuts}
 use Rattle.cert_text.specs.Fault.{IsCertText}
 use Rattle.cert_text.specs.Kept.{certificate_of, kept_cert}
 use Rattle.cert_text.specs.Programs.{GoesWith, frame_for}
@@ -20,37 +20,44 @@ use Rattle.cert_check.specs.declared.judge.Judged.TheVariants.{Accepted, Rejecte
 use Rattle.bp_report.specs.Report.{check_report}
 use Rattle.bp_report.specs.Refusals.{from_refusal}
 use Rattle.cmd_check.proofs.Certificates.{kept_point}
-use Rattle.cmd_merge.specs.Opens.{IsOpened, IsOpenedFile, CanMerge, RefusesText, rejected, too_deep, RefusesFile, missing, refused}
+use Rattle.cmd_merge.specs.Opens.{IsOpenedText, IsOpenedFile, IsLoadedOver, CanJoin, RefusesText, rejected, too_deep, RefusesFile, missing, refused}
 use Rattle.cmd_merge.specs.Stops.{IsStop, IsTextStop, CountsStopped}
+use Rattle.cmd_merge.specs.declared.opening.Opened.{Opened}
 use Rattle.cmd_merge.specs.declared.opening.Stop.{Stop}
 use Rattle.cmd_merge.specs.declared.opening.Stop.TheVariants.{Refused, Stopped}
 use Rattle.cmd_merge.proofs.NodeCount.{few_nodes}
 
 -- ---- a text
 
-opened_by : (b : BlockedProgram) (text : List ℕ) (cert : Cert) (from : Loaded) → IsCertText (frame_for b) (kept_cert cert) text → GoesWith b (certificate_of cert)
-    → IsCertified b.named.program b.dec (certificate_of cert) → IsLoadedOf b (certificate_of cert) from → IsOpened b text from
-opened_by b text cert from spelled goes valid loaded = record {
-  cert = certificate_of cert;
-  spelled = spelled;
-  has_point = kept_point cert.claim cert.point;
-  uncut = refl;
-  goes_with = goes;
-  valid = valid;
-  loaded = loaded;
+opened_by : (b : BlockedProgram) (text : List ℕ) (cert : Cert) (o : Opened) → IsCertText (frame_for b) (kept_cert cert) text → GoesWith b (certificate_of cert)
+    → IsCertified b.named.program b.dec (certificate_of cert) → IsLoadedOver b (certificate_of cert) o → IsOpenedText b text o
+opened_by b text cert o spelled goes valid loaded = record {
+  opened = record {
+    cert = certificate_of cert;
+    spelled = spelled;
+    has_point = kept_point cert.claim cert.point;
+    goes_with = goes;
+    valid = valid;
+    loaded = subst (λ (x : BlockedProgram). IsLoadedOf x (certificate_of cert) o.from) loaded.0 loaded.1;
+  };
+  over = loaded.0;
 }
 
-pub text_opened : (b : BlockedProgram) (text : List ℕ) (cert : Cert) (r : Result Loaded Stop) → IsCertText (frame_for b) (kept_cert cert) text → GoesWith b (certificate_of cert)
-    → IfOk r (IsLoadedOf b (certificate_of cert)) → IfOk r (λ from. IsCertified b.named.program b.dec (certificate_of cert)) → IfOk r (IsOpened b text)
-text_opened b text cert (Ok from) spelled goes loaded valid = opened_by b text cert from spelled goes valid loaded
+pub text_opened : (b : BlockedProgram) (text : List ℕ) (cert : Cert) (r : Result Opened Stop) → IsCertText (frame_for b) (kept_cert cert) text → GoesWith b (certificate_of cert)
+    → IfOk r (IsLoadedOver b (certificate_of cert)) → IfOk r (λ o. IsCertified b.named.program b.dec (certificate_of cert)) → IfOk r (IsOpenedText b text)
+text_opened b text cert (Ok o) spelled goes loaded valid = opened_by b text cert o spelled goes valid loaded
 text_opened b text cert (Err stop) spelled goes loaded valid = tt
 
-pub text_usable : (b : BlockedProgram) (text : List ℕ) (cert : Cert) (r : Result Loaded Stop) → length text < 2 ^ 64 → IsCertText (frame_for b) (kept_cert cert) text
-    → IfOk r (IsLoadedOf b (certificate_of cert)) → IfOk r (CanMerge b)
-text_usable b text cert (Ok from) short spelled loaded = record { loaded = loaded.loaded; few = few_nodes b cert text from short spelled loaded }
+pub text_usable : (b : BlockedProgram) (text : List ℕ) (cert : Cert) (r : Result Opened Stop) → length text < 2 ^ 64 → IsCertText (frame_for b) (kept_cert cert) text
+    → IfOk r (IsLoadedOver b (certificate_of cert)) → IfOk r (CanJoin b)
+text_usable b text cert (Ok o) short spelled loaded = record {
+  model = ap (λ (x : BlockedProgram). x.named) loaded.0;
+  dec = ap (λ (x : BlockedProgram). x.dec) loaded.0;
+  can = record { loaded = loaded.1.loaded; few = few_nodes b o.program cert text o.from short spelled loaded.1 };
+}
 text_usable b text cert (Err stop) short spelled loaded = tt
 
-pub text_stopped : (b : BlockedProgram) (text : List ℕ) (cert : Cert) (r : Result Loaded Stop) → IsCertText (frame_for b) (kept_cert cert) text
+pub text_stopped : (b : BlockedProgram) (text : List ℕ) (cert : Cert) (r : Result Opened Stop) → IsCertText (frame_for b) (kept_cert cert) text
     → IfErr r (λ stop. (t : List ℕ) → IsCertText (frame_for b) (kept_cert cert) t → IsTextStop b t stop) → IfErr r (IsTextStop b text)
 text_stopped b text cert (Ok from) spelled stopped = tt
 text_stopped b text cert (Err stop) spelled stopped = stopped text spelled
@@ -72,8 +79,8 @@ read_of files name front short found is_front = by (files name) refl found is_fr
     by None is found is_front = let none : ⊥ = cc in absurd none
     by (Some all) is found is_front = record { there = is ∙ ap Some (sym (whole all front (short name all is) is_front)) }
 
-pub file_opened : (files : Files) (b : BlockedProgram) (name front : List ℕ) (r : Result Loaded Stop) → AllShort files → IsSome (files name)
-    → IfSome (files name) (λ all. front ≡ take (2 ^ 62 - 1) all) → IfOk r (IsOpened b front) → IfOk r (IsOpenedFile files b name)
+pub file_opened : (files : Files) (b : BlockedProgram) (name front : List ℕ) (r : Result Opened Stop) → AllShort files → IsSome (files name)
+    → IfSome (files name) (λ all. front ≡ take (2 ^ 62 - 1) all) → IfOk r (IsOpenedText b front) → IfOk r (IsOpenedFile files b name)
 file_opened files b name front (Ok from) short found is_front opened =
     record { text = front; there = (read_of files name front short found is_front).there; opened = opened }
 file_opened files b name front (Err stop) short found is_front opened = tt
@@ -84,7 +91,7 @@ text_refused files b name front (Stopped Missing) there is = absurd (cc)
 text_refused files b name front (Stopped Failed) there is = tt
 text_refused files b name front (Stopped NoMemory) there is = tt
 
-pub file_stopped : (files : Files) (b : BlockedProgram) (name front : List ℕ) (r : Result Loaded Stop) → AllShort files → IsSome (files name)
+pub file_stopped : (files : Files) (b : BlockedProgram) (name front : List ℕ) (r : Result Opened Stop) → AllShort files → IsSome (files name)
     → IfSome (files name) (λ all. front ≡ take (2 ^ 62 - 1) all) → IfErr r (IsTextStop b front) → IfErr r (IsStop (RefusesFile files b name))
 file_stopped files b name front (Ok from) short found is_front stopped = tt
 file_stopped files b name front (Err stop) short found is_front stopped = text_refused files b name front stop (read_of files name front short found is_front).there stopped
@@ -101,10 +108,11 @@ read_stopped files b name fault (Err e) is gone = subst (λ (s : Stop). IsStop (
 
 -- ---- a certificate
 
-pub cert_deep : (b : BlockedProgram) (cert : Cert) (line : ℕ) (report text : List ℕ) → IsCertified b.named.program b.dec (certificate_of cert)
-    → IsTooDeep b (certificate_of cert) line → report ≡ from_refusal line → IsCertText (frame_for b) (kept_cert cert) text → RefusesText b text 3 report
-cert_deep b cert line report text valid deep told spelled =
-    too_deep (certificate_of cert) line spelled (kept_point cert.claim cert.point) valid deep refl told
+pub cert_deep : (b c : BlockedProgram) (cert : Cert) (line : ℕ) (report text : List ℕ) → c ≡ with_cuts b (certificate_of cert).cuts
+    → IsCertified b.named.program b.dec (certificate_of cert) → IsTooDeep c (certificate_of cert) line → report ≡ from_refusal line → IsCertText (frame_for b) (kept_cert cert) text → RefusesText b text 3 report
+cert_deep b c cert line report text over valid deep told spelled =
+    too_deep (certificate_of cert) line spelled (kept_point cert.claim cert.point) valid
+    (subst (λ (x : BlockedProgram). IsTooDeep x (certificate_of cert) line) over deep) refl told
 
 pub cert_rejected : (b : BlockedProgram) (cert : Cert) (judged : Judged) (line : ℕ) (kind : CheckKind) (report text : List ℕ) → judged ≡ Rejected line kind
     → IsJudged b (certificate_of cert) judged → report ≡ check_report judged → IsCertText (frame_for b) (kept_cert cert) text → RefusesText b text 6 report

@@ -4,8 +4,7 @@ use Rattle.std.proofs.lemmas.List.{append-nil}
 use Rattle.bp_shelf.specs.Shelf.{Files}
 use Rattle.bp_shelf.specs.declared.shelf.ShelfFault.{ShelfFault}
 use Rattle.bp_shelf.specs.declared.shelf.ShelfFault.TheVariants.{Missing, Failed, NoMemory}
-use Rattle.block_form.specs.Blocked.{BlockedProgram}
-use Rattle.branch_tree.specs.declared.loaded.Loaded.{Loaded}
+use Rattle.block_form.specs.Blocked.{BlockedProgram, IsFormed}
 use Rattle.bp_front.specs.Answers.{IsOnly, AnswersBy}
 use Rattle.bp_front.specs.Endings.{status_of}
 use Rattle.bp_front.specs.Front.{FilesCome, blocked}
@@ -14,8 +13,9 @@ use Rattle.bp_front.specs.Written.{Answer, stops, Answered}
 use Rattle.bp_front.specs.declared.front.Halt.TheVariants as halts
 use Rattle.bp_front.proofs.Written.{HasOneStatus, right_only, right_answers}
 use Rattle.cmd_merge.specs.Opens.{IsOpenedFile}
-use Rattle.cmd_merge.specs.Merges.{AnswersBoth, MergesBlocked, merged, Merges, stopped, went_on, answer_of}
+use Rattle.cmd_merge.specs.Merges.{JoinsBoth, StopsBoth, MergesBlocked, apart, merged, Merges, stopped, went_on, answer_of}
 use Rattle.cmd_merge.specs.Stops.{IsStop}
+use Rattle.cmd_merge.specs.declared.opening.Opened.{Opened}
 use Rattle.cmd_merge.specs.declared.opening.Stop.{Stop}
 use Rattle.cmd_merge.specs.declared.opening.Stop.TheVariants.{Refused, Stopped}
 use Rattle.cmd_merge.specs.declared.written.Merged.{Merged}
@@ -42,10 +42,22 @@ memory_stops Right (Ok x) is = tt
 memory_stops Right (Err e) is = subst (λ (s : Stop). IsStop Right s) (sym is) tt
 
 -- both files
-pub both_merged : (files : Files) (b : BlockedProgram) (one other : List ℕ) (from further : Loaded) (m : Merged) → (x : IsOpenedFile files b one from)
-    → (y : IsOpenedFile files b other further) → AnswersBoth b x.opened.cert y.opened.cert from further (answer_of m) → MergesBlocked files b one other (answer_of m)
-both_merged files b one other from further m x y answers =
-    merged x.text y.text from further (answer_of m) x.there y.there x.opened y.opened answers
+pub both_merged : (files : Files) (b : BlockedProgram) (one other : List ℕ) (first second : Opened) (r : Result Merged Stop) → IsFormed b → IsOpenedFile files b one first
+    → IsOpenedFile files b other second → IfOk r (λ m. JoinsBoth first second (answer_of m)) → IfOk r (λ m. MergesBlocked files b one other (answer_of m))
+both_merged files b one other first second (Ok m) formed x y answers =
+    let joined = answers b x.text y.text formed x.opened y.opened in
+    merged x.text y.text first.from second.from joined.0 (answer_of m) x.there y.there x.opened.opened y.opened.opened joined.1 joined.2
+both_merged files b one other first second (Err stop) formed x y answers = tt
+
+pub both_apart : (files : Files) (b : BlockedProgram) (one other : List ℕ) (first second : Opened) (r : Result Merged Stop) → IsOpenedFile files b one first
+    → IsOpenedFile files b other second → IfErr r (StopsBoth first second) → IfErr r (IsStop (MergesBlocked files b one other))
+both_apart files b one other first second (Ok m) x y ends = tt
+both_apart files b one other first second (Err (Refused reply)) x y ends =
+    let found = ends b x.text y.text x.opened y.opened in
+    rw (found.2, found.3) (apart x.text y.text first.from second.from found.0 x.there y.there x.opened.opened y.opened.opened found.1)
+both_apart files b one other first second (Err (Stopped Missing)) x y ends = absurd (cc)
+both_apart files b one other first second (Err (Stopped Failed)) x y ends = tt
+both_apart files b one other first second (Err (Stopped NoMemory)) x y ends = tt
 
 -- a program in blocks
 pub blocks_merged : (files : Files) (lp one other : List ℕ) (dec : Option (List ℕ)) (b : BlockedProgram) (r : Result Merged Stop) → FilesCome files lp dec (blocked b)

@@ -2,7 +2,9 @@
 use Rattle.std.proofs.Common.{◌≡◌, refl, sym, ap, subst, ◌∙◌, ℕ, ◌+◌, ◌<◌, ◌^◌, List, Option, Some, None, arith}
 use Rattle.std.proofs.Math.IntN.{ℤ}
 use Rattle.bp_theory.specs.Trees.{steps}
+use Rattle.bp_theory.specs.declared.Cut.{Cut}
 use Rattle.block_form.specs.Blocked.{BlockedProgram, IsFormed}
+use Rattle.cert_load.specs.Recut.{with_cuts}
 use Rattle.search_laws.specs.Grove.{GrowingTree, certificate_tree}
 use Rattle.search_laws.specs.GroveFacts.{IsSearch}
 use Rattle.branch_tree.specs.Groves.{GroveState}
@@ -14,7 +16,7 @@ use Rattle.bp_search.specs.Ends.{EndsWithin, HasStopped, grove_in, point_of}
 use Rattle.bp_search.specs.Searches.{kept_point, as_pair, HasItsCost, IsRunning}
 use Rattle.bp_search.specs.declared.kept.Kept.{Kept}
 use Rattle.bp_theory.specs.Program.{Program, cost}
-use Rattle.cert_text.specs.Text.{Two}
+use Rattle.cert_text.specs.Plain.{version_with}
 use Rattle.cert_text.specs.Fault.{IsText}
 use Rattle.cert_text.specs.Written.{cert_of}
 use Rattle.cert_text.specs.Programs.{frame_for}
@@ -54,22 +56,23 @@ own_steps t = record { few = omega arith; spent = λ some. refl }
 pub few_together : (m n : ℕ) → m < 2 ^ 61 → n < 2 ^ 61 → m + n < 2 ^ 62
 few_together m n h g = omega (arith, h, g)
 
-pub both_answered : (b : BlockedProgram) (text more : List ℕ) (first second from : Loaded) (kept : Option Kept) (o : Outcome) (m : Merged) → IsFormed b → (one : IsOpened b text first)
-    → (other : IsOpened b more second) → IsMergedOf first second from → as_pair kept ≡ from.best
-    → ((most : ℕ) → HasStopped most from.grove.tree → EndsWithin b most o) → grove_in o ≡ from.grove → point_of o ≡ kept_point kept
-    → IsText (frame_for b) Two (cert_of (outcome_certificate b.named.program o)) m.text.items → m.reply.report.items ≡ merged_report b.named.program.maximises o → m.reply.status ≡ 0
-    → AnswersBoth b one.cert other.cert first second (answer_of m)
-both_answered b text more first second from kept o m formed one other is kept_of ended grove point spelled told done =
+pub both_answered : (b : BlockedProgram) (cuts : List Cut) (text more : List ℕ) (first second from : Loaded) (kept : Option Kept) (o : Outcome) (m : Merged) → IsFormed b
+    → (one : IsOpened b text first) → (other : IsOpened b more second) → IsMergedOf first second from → as_pair kept ≡ from.best
+    → ((most : ℕ) → HasStopped most from.grove.tree → EndsWithin (with_cuts b cuts) most o) → grove_in o ≡ from.grove → point_of o ≡ kept_point kept
+    → IsText (frame_for (with_cuts b cuts)) (version_with cuts) (cert_of (outcome_certificate (with_cuts b cuts) o)) m.text.items
+    → m.reply.report.items ≡ merged_report b.named.program.maximises o → m.reply.status ≡ 0
+    → AnswersBoth (with_cuts b cuts) one.cert other.cert first second (answer_of m)
+both_answered b cuts text more first second from kept o m formed one other is kept_of ended grove point spelled told done =
     let t : GrowingTree = from.grove.tree in
-    let ends : EndsWithin b (steps (certificate_tree t)) o = ended (steps (certificate_tree t)) (own_steps t) in
+    let ends : EndsWithin (with_cuts b cuts) (steps (certificate_tree t)) o = ended (steps (certificate_tree t)) (own_steps t) in
     record {
       from = from;
       merged = is;
       outcome = o;
       grove = grove;
       ended = ends;
-      claim = merged_claim b (steps (certificate_tree t)) text more first second from o formed one other is ends grove (point ∙ kept_is from.best kept kept_of);
+      claim = merged_claim b cuts (steps (certificate_tree t)) text more first second from o formed one other is ends grove (point ∙ kept_is from.best kept kept_of);
       text = m.text.items;
-      spelled = record { spelled = spelled; valid = outcome_certified b (steps (certificate_tree t)) o ends };
+      spelled = record { spelled = spelled; valid = outcome_certified (with_cuts b cuts) (steps (certificate_tree t)) o ends };
       is = rw (done, told) refl;
     }

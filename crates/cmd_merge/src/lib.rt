@@ -1,7 +1,9 @@
 //! The command `merge`: two valid certificates of one model as one that is as far as both.
 #![tactic(auto)]
 
+mod joined;
 mod opening;
+mod same;
 mod written;
 
 ghost use Rattle.std.specs.Prelude.{◌≡◌, ◌≢◌, ◌⊎◌, [], IfOk, IfErr, IsTrue, None};
@@ -12,8 +14,9 @@ ghost use Rattle.cmd_merge.specs.Merges.{MergesBlocked, Merges, AnswersMerge, an
 ghost use Rattle.cmd_merge.specs.Stops.{IsStop, IsRefusal, CountsStopped};
 ghost use Rattle.cmd_merge.specs.Files.{MergeLeaves, MergeWrites};
 
+use crate::joined::join;
 use crate::opening::{Stop, open_cert};
-use crate::written::{Merged, written};
+use crate::written::Merged;
 use block_form::Blocked;
 use bp_front::{Ended, Halt, Reply, load, print, stopped, stopped_by};
 use bp_shelf::{Shelf, ShelfFault, Sink};
@@ -112,6 +115,7 @@ fn merge_files<F: Shelf>(
     first: &str,
     second: &str,
 ) -> Result<Merged, Stop>
+    requires uncut { b.now.cuts ≡ [] }
     ensures merged { IsTrue (F.tells shelf.old) →
         IfOk result (λ m. MergesBlocked (F.file shelf.old) b.now first.now second.now
         (answer_of m)) }
@@ -124,7 +128,9 @@ fn merge_files<F: Shelf>(
     ensures cause { CountsStopped (F.read_faults shelf.old) (F.read_faults shelf.new) result }
     ensures writes { F.write_faults shelf.new ≡ F.write_faults shelf.old }
 {
+    // For the proof alone: `b` is formed.
+    let _ = b.blocks();
     let one = open_cert(alloc, shelf, b, first)?;
     let other = open_cert(alloc, shelf, b, second)?;
-    Ok(written(alloc, b, one, other)?)
+    join(alloc, one, other)
 }

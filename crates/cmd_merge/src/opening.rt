@@ -1,12 +1,11 @@
 // The certificate of a file as a tree to merge, or why there is none.
-ghost use Rattle.std.specs.Prelude.{◌≡◌, ◌⊎◌, ℕ, List, IfOk, IfErr, IsTrue, Some};
+ghost use Rattle.std.specs.Prelude.{◌≡◌, ◌⊎◌, ℕ, List, [], IfOk, IfErr, IsTrue, Some};
 ghost use Rattle.bp_theory.specs.Claims.{IsCertified};
 ghost use Rattle.bp_shelf.specs.declared.shelf.ShelfFault.TheVariants.{NoMemory};
-ghost use Rattle.cert_load.specs.Loadings.{IsLoadedOf};
 ghost use Rattle.cert_text.specs.Fault.{IsCertText};
 ghost use Rattle.cert_text.specs.Kept.{certificate_of, kept_cert};
 ghost use Rattle.cert_text.specs.Programs.{GoesWith, frame_for};
-ghost use Rattle.cmd_merge.specs.Opens.{IsOpened, IsOpenedFile, CanMerge, RefusesFile};
+ghost use Rattle.cmd_merge.specs.Opens.{IsOpenedText, IsOpenedFile, IsLoadedOver, CanJoin, RefusesFile};
 ghost use Rattle.cmd_merge.specs.Stops.{IsStop, IsTextStop, IsRefusal, CountsStopped};
 ghost use Rattle.cmd_merge.specs.declared.opening.Stop.TheVariants.{Stopped};
 
@@ -16,7 +15,7 @@ use bp_report::{cert_text, check_text, from_text};
 use bp_shelf::{Shelf, ShelfFault};
 use branch_tree::Loaded;
 use cert_check::{Judged, check as judge};
-use cert_load::{LoadFault, load};
+use cert_load::{LoadFault, load, with_cuts_of};
 use cert_text::{Cert, CertFault, read_cert};
 use std::alloc::{AllocError, Global};
 
@@ -48,16 +47,24 @@ impl From<ShelfFault> for Stop {
     }
 }
 
-/// The tree of a certificate's file, or why there is none to merge.
+/// A certificate to merge: the program with its cuts, and the tree with the point that is loaded of it.
+#[derive(Drop)]
+pub struct Opened {
+    pub program: Blocked,
+    pub from: Loaded,
+}
+
+/// The certificate of a file to merge, or why there is none.
 pub fn open_cert<F: Shelf>(
     alloc: Global,
     shelf: &mut F,
     b: &Blocked,
     name: &str,
-) -> Result<Loaded, Stop>
+) -> Result<Opened, Stop>
+    requires uncut { b.now.cuts ≡ [] }
     ensures opened { IsTrue (F.tells shelf.old) →
         IfOk result (IsOpenedFile (F.file shelf.old) b.now name.now) }
-    ensures usable { IfOk result (CanMerge b.now) }
+    ensures usable { IfOk result (CanJoin b.now) }
     ensures stopped { IsTrue (F.tells shelf.old) →
         IfErr result (IsStop (RefusesFile (F.file shelf.old) b.now name.now)) }
     ensures refusals { IfErr result IsRefusal }
@@ -67,13 +74,14 @@ pub fn open_cert<F: Shelf>(
     ensures writes { F.write_faults shelf.new ≡ F.write_faults shelf.old }
 {
     let text = read_front(alloc, shelf, name, MAX_FILE)?;
-    opened(alloc, b, &text)
+    open_text(alloc, b, &text)
 }
 
-// The tree of a certificate's text, or why there is none to merge.
-fn opened(alloc: Global, b: &Blocked, text: &[u8]) -> Result<Loaded, Stop>
-    ensures opened { IfOk result (IsOpened b.now text.now) }
-    ensures usable { IfOk result (CanMerge b.now) }
+// The certificate of a text to merge, or why there is none.
+fn open_text(alloc: Global, b: &Blocked, text: &[u8]) -> Result<Opened, Stop>
+    requires uncut { b.now.cuts ≡ [] }
+    ensures opened { IfOk result (IsOpenedText b.now text.now) }
+    ensures usable { IfOk result (CanJoin b.now) }
     ensures stopped { IfErr result (IsTextStop b.now text.now) }
     ensures refusals { IfErr result IsRefusal }
 {
@@ -91,11 +99,12 @@ fn opened(alloc: Global, b: &Blocked, text: &[u8]) -> Result<Loaded, Stop>
     }
 }
 
-// The tree of a certificate that was read, or why there is none to merge.
-fn judged(alloc: Global, b: &Blocked, cert: &Cert) -> Result<Loaded, Stop>
-    requires { GoesWith b.now (certificate_of cert.now) }
-    ensures loaded { IfOk result (IsLoadedOf b.now (certificate_of cert.now)) }
-    ensures valid { IfOk result (λ from. IsCertified b.now.named.program b.now.dec
+// The certificate that was read, to merge, or why there is none.
+fn judged(alloc: Global, b: &Blocked, cert: &Cert) -> Result<Opened, Stop>
+    requires uncut { b.now.cuts ≡ [] }
+    requires goes_with { GoesWith b.now (certificate_of cert.now) }
+    ensures loaded { IfOk result (IsLoadedOver b.now (certificate_of cert.now)) }
+    ensures valid { IfOk result (λ opened. IsCertified b.now.named.program b.now.dec
         (certificate_of cert.now)) }
     ensures stopped { IfErr result (λ stop. (text : List ℕ) →
         IsCertText (frame_for b.now) (kept_cert cert.now) text → IsTextStop b.now text stop) }
@@ -112,17 +121,19 @@ fn judged(alloc: Global, b: &Blocked, cert: &Cert) -> Result<Loaded, Stop>
     }
 }
 
-// The tree of a valid certificate, or the refusal of a live leaf that is too deep.
-fn loaded(alloc: Global, b: &Blocked, cert: &Cert) -> Result<Loaded, Stop>
+// A valid certificate to merge, or the refusal of a live leaf that is too deep.
+fn loaded(alloc: Global, b: &Blocked, cert: &Cert) -> Result<Opened, Stop>
+    requires uncut { b.now.cuts ≡ [] }
     requires goes_with { GoesWith b.now (certificate_of cert.now) }
     requires valid { IsCertified b.now.named.program b.now.dec (certificate_of cert.now) }
-    ensures loaded { IfOk result (IsLoadedOf b.now (certificate_of cert.now)) }
+    ensures loaded { IfOk result (IsLoadedOver b.now (certificate_of cert.now)) }
     ensures stopped { IfErr result (λ stop. (text : List ℕ) →
         IsCertText (frame_for b.now) (kept_cert cert.now) text → IsTextStop b.now text stop) }
     ensures refusals { IfErr result IsRefusal }
 {
-    match load(alloc, b, cert) {
-        Ok(from) => Ok(from),
+    let program = with_cuts_of(alloc, b, cert)?;
+    match load(alloc, &program, cert) {
+        Ok(from) => Ok(Opened { program, from }),
         Err(LoadFault::Deep(line)) => Err(Stop::Refused(Reply {
             status: 3,
             report: from_text(alloc, line)?,

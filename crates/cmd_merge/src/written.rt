@@ -1,5 +1,8 @@
 // Two loaded trees merged, and the text and the report of the certificate.
 ghost use Rattle.std.specs.Prelude.{◌≡◌, ℕ, List, IfOk};
+ghost use Rattle.bp_theory.specs.declared.Cut.{Cut};
+ghost use Rattle.block_form.specs.Blocked.{BlockedProgram, IsFormed};
+ghost use Rattle.cert_load.specs.Recut.{with_cuts};
 ghost use Rattle.cmd_merge.specs.Merges.{AnswersBoth, answer_of};
 ghost use Rattle.cmd_merge.specs.Opens.{IsOpened, CanMerge};
 
@@ -18,7 +21,7 @@ pub struct Merged {
     pub reply: Reply,
 }
 
-/// The merged certificate of two loaded trees.
+/// The merged certificate of two loaded trees, with the program's cuts.
 pub fn written(
     alloc: Global,
     b: &Blocked,
@@ -27,8 +30,9 @@ pub fn written(
 ) -> Result<Merged, AllocError>
     requires first { CanMerge b.now first }
     requires second { CanMerge b.now second }
-    ensures merged { IfOk result (λ m. (text more : List ℕ) → (one : IsOpened b.now text first) →
-        (other : IsOpened b.now more second) →
+    ensures merged { IfOk result (λ m. (plain : BlockedProgram) (cuts : List Cut) (text more : List ℕ) →
+        IsFormed plain → b.now ≡ with_cuts plain cuts → (one : IsOpened plain text first) →
+        (other : IsOpened plain more second) →
         AnswersBoth b.now one.cert other.cert first second (answer_of m)) }
     ensures done { IfOk result (λ m. m.reply.status ≡ 0) }
 {

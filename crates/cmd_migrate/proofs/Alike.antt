@@ -4,7 +4,6 @@ use Rattle.bp_theory.specs.Claims.{Certificate}
 use Rattle.bp_shelf.specs.Shelf.{Files}
 use Rattle.block_form.specs.Blocked.{BlockedProgram}
 use Rattle.cert_text.specs.Cert.{Cert}
-use Rattle.cert_text.specs.Text.{Two}
 use Rattle.cert_text.specs.Fault.{IsText, IsCertText, IsFirstCertFault}
 use Rattle.cert_text.specs.Written.{cert_of}
 use Rattle.cert_text.specs.Kept.{kept_cert}
@@ -15,18 +14,19 @@ use Rattle.cert_text.proofs.LawProofs.{certificates_are_one, certificates_are_fa
 use Rattle.cmd_check.specs.Checks.{ChecksBlocked, missing, faulty, accepted, rejected}
 use Rattle.bp_front.proofs.Written.{one_text, no_text}
 use Rattle.cmd_migrate.specs.Laws.{AreReadAlike, AreJudgedAlike}
+use Rattle.cmd_migrate.specs.Migrates.{version_anew}
 
 pub read_alike : AreReadAlike
 read_alike b old new c one other spells anew reads reads' =
-    certificates_are_one (frame_for b) (kept_cert one) c old reads spells ∙ certificates_are_one (frame_for b) c (kept_cert other) new (Two, anew) reads'
+    certificates_are_one (frame_for b) (kept_cert one) c old reads spells ∙ certificates_are_one (frame_for b) c (kept_cert other) new (version_anew c.cuts, anew) reads'
 
 -- what the old text spells the new one does
-spelled : (b : BlockedProgram) (old text new : List ℕ) (c : Cert) (d : Certificate) → text ≡ old → IsCertText (frame_for b) c old → IsText (frame_for b) Two c new
+spelled : (b : BlockedProgram) (old text new : List ℕ) (c : Cert) (d : Certificate) → text ≡ old → IsCertText (frame_for b) c old → IsText (frame_for b) (version_anew c.cuts) c new
     → IsCertText (frame_for b) (cert_of d) text → IsCertText (frame_for b) (cert_of d) new
 spelled b old text new c d same spells anew spells' =
     let here : IsCertText (frame_for b) (cert_of d) old = subst (λ (t : List ℕ). IsCertText (frame_for b) (cert_of d) t) same spells' in
     let one : c ≡ cert_of d = certificates_are_one (frame_for b) c (cert_of d) old spells here in
-    (Two, subst (λ (e : Cert). IsText (frame_for b) Two e new) one anew)
+    (version_anew (cert_of d).cuts, subst (λ (e : Cert). IsText (frame_for b) (version_anew e.cuts) e new) one anew)
 
 faultless : (b : BlockedProgram) (old text : List ℕ) (c : Cert) (line : ℕ) (kind : CertKind) → text ≡ old → IsCertText (frame_for b) c old
     → IsFirstCertFault (frame_for b) text line kind → ⊥

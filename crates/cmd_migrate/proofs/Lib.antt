@@ -1,3 +1,4 @@
 pub mod OneAnswer
 pub mod Lifted
 pub mod Alike
+pub mod Streamed

@@ -7,9 +7,10 @@ use Rattle.bp_shelf.specs.declared.shelf.ShelfFault.{ShelfFault}
 use Rattle.bp_shelf.specs.declared.shelf.ShelfFault.TheVariants.{Missing, Failed, NoMemory}
 use Rattle.block_form.specs.Blocked.{BlockedProgram}
 use Rattle.cert_text.specs.Cert.{Cert}
-use Rattle.cert_text.specs.Text.{Two}
-use Rattle.cert_text.specs.Fault.{IsText, IsCertText}
+use Rattle.cert_text.specs.Fault.{IsCertText}
+use Rattle.cert_text.specs.Kept.{kept_cert}
 use Rattle.cert_text.specs.Nodes.{nodes}
+use Rattle.cert_text.specs.declared.cert.Cert.{Cert as Kept}
 use Rattle.cert_text.specs.Programs.{frame_for}
 use Rattle.cert_text.proofs.Fine.{text_nodes}
 use Rattle.bp_report.specs.Report.{migrated_report}
@@ -22,7 +23,7 @@ use Rattle.bp_front.specs.declared.front.Halt.{Halt}
 use Rattle.bp_front.specs.declared.front.Halt.TheVariants.{Refused, Stopped}
 use Rattle.bp_front.proofs.Written.{right_answers}
 use Rattle.cmd_migrate.specs.declared.Migrated.{Migrated}
-use Rattle.cmd_migrate.specs.Migrates.{TextMigrates, missing, migrated, Migrates, stopped, went_on, answer_of}
+use Rattle.cmd_migrate.specs.Migrates.{TextMigrates, missing, Migrates, stopped, went_on, ReadsCert, ReadsFiles}
 
 -- ---- a text
 
@@ -32,15 +33,18 @@ few_nodes b c text short spells =
     let few : 12 + 8 * nodes c.tree ≤ length text = text_nodes (frame_for b) spells.0 c text spells.1 in
     omega (arith, few, short)
 
-migrates_as : (b : BlockedProgram) (file : Option (List ℕ)) (s status : ℕ) (r report text : List ℕ) → status ≡ s → report ≡ r
-    → TextMigrates b file (record { status = s; report = r; text = Some text }) → TextMigrates b file (record { status = status; report = report; text = Some text })
-migrates_as b file s status r report text done told h = rw (done, told) h
-
-pub text_migrated : (b : BlockedProgram) (text : List ℕ) (c : Cert) (m : Migrated) → length text < 2 ^ 64 → IsCertText (frame_for b) c text → IsText (frame_for b) Two c m.text.items
-    → m.reply.report.items ≡ migrated_report (min (nodes c.tree) (2 ^ 64 - 1)) → m.reply.status ≡ 0 → TextMigrates b (Some text) (answer_of m)
-text_migrated b text c m short spells anew told done =
-    migrates_as b (Some text) 0 m.reply.status (migrated_report (nodes c.tree)) m.reply.report.items m.text.items done (told ∙ ap migrated_report (few_nodes b c text short spells))
-    (migrated text m.text.items c refl spells anew)
+pub text_read : (b : BlockedProgram) (text : List ℕ) (cert : Kept) (m : Migrated) → length text < 2 ^ 64 → IsCertText (frame_for b) (kept_cert cert) text → m.b ≡ b → m.cert ≡ cert
+    → m.reply.report.items ≡ migrated_report (min (nodes (kept_cert cert).tree) (2 ^ 64 - 1)) → m.reply.status ≡ 0 → ReadsCert b (Some text) m
+text_read b text cert m short spells beside same told done =
+    let back : (k : Kept) → k ≡ cert → IsCertText (frame_for b) (kept_cert k) text = λ k is. subst (λ (x : Kept). IsCertText (frame_for b) (kept_cert x) text) (sym is) spells in
+    record {
+      same = beside;
+      text = text;
+      is = refl;
+      spells = back m.cert same;
+      told = told ∙ ap migrated_report (few_nodes b (kept_cert cert) text short spells) ∙ ap (λ (x : Kept). migrated_report (nodes (kept_cert x).tree)) (sym same);
+      done = done;
+    }
 
 -- ---- a file
 
@@ -55,10 +59,10 @@ read_whole files name front short found is_front = by (files name) refl found is
     by None is found is_front = let none : ⊥ = cc in absurd none
     by (Some all) is found is_front = ap Some (whole all front (short name all is) is_front) ∙ sym is
 
-pub file_migrated : (files : Files) (lp cert : List ℕ) (dec : Option (List ℕ)) (b : BlockedProgram) (front : List ℕ) (r : Result Migrated Halt) → FilesCome files lp dec (blocked b)
-    → Some front ≡ files cert → IfOk r (λ m. TextMigrates b (Some front) (answer_of m)) → IfOk r (λ m. Migrates files lp cert dec (answer_of m))
-file_migrated files lp cert dec b front (Ok m) come is h = went_on b (answer_of m) come (subst (λ (file : Option (List ℕ)). TextMigrates b file (answer_of m)) is h)
-file_migrated files lp cert dec b front (Err e) come is h = tt
+pub file_read : (files : Files) (lp cert : List ℕ) (dec : Option (List ℕ)) (b : BlockedProgram) (front : List ℕ) (r : Result Migrated Halt) → FilesCome files lp dec (blocked b)
+    → Some front ≡ files cert → IfOk r (λ m. ReadsCert b (Some front) m) → IfOk r (λ m. ReadsFiles files lp cert dec m)
+file_read files lp cert dec b front (Ok m) come is h = (b, come, subst (λ (file : Option (List ℕ)). ReadsCert b file m) is h)
+file_read files lp cert dec b front (Err e) come is h = tt
 
 pub file_halted : (files : Files) (lp cert : List ℕ) (dec : Option (List ℕ)) (b : BlockedProgram) (front : List ℕ) (r : Result Migrated Halt) → FilesCome files lp dec (blocked b)
     → Some front ≡ files cert → IfErr r (IsTextHalt (TextMigrates b (Some front))) → IfErr r (IsHalt (Migrates files lp cert dec))

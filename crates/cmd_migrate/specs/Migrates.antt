@@ -1,10 +1,11 @@
 -- What `migrate` answers by the files.
-use Rattle.std.specs.Prelude.{◌≡◌, ℕ, List, [], Option, Some, None}
+use Rattle.std.specs.Prelude.{◌≡◌, ℕ, List, [], ◌∷◌, Option, Some, None}
 use Rattle.bp_shelf.specs.Shelf.{Files}
 use Rattle.block_form.specs.Blocked.{BlockedProgram}
-use Rattle.cert_text.specs.Cert.{Cert}
-use Rattle.cert_text.specs.Text.{Two}
+use Rattle.cert_text.specs.Cert.{Cut, Cert}
+use Rattle.cert_text.specs.Text.{Version, Two, Three}
 use Rattle.cert_text.specs.Fault.{IsText, IsCertText, IsFirstCertFault}
+use Rattle.cert_text.specs.Kept.{kept_cert}
 use Rattle.cert_text.specs.Nodes.{nodes}
 use Rattle.cert_text.specs.Programs.{frame_for}
 use Rattle.cert_text.specs.declared.fault.CertKind.{CertKind}
@@ -14,13 +15,18 @@ use Rattle.bp_front.specs.Front.{FilesCome, blocked, ends}
 use Rattle.bp_front.specs.Written.{Answer, stops, Answered}
 use Rattle.cmd_migrate.specs.declared.Migrated.{Migrated}
 
--- what the file of a certificate is answered, beside a program in blocks: its first fault, or the text of version 2 of the certificate that it
--- spells, which means the same
+-- the version of a certificate with these cuts that is written anew
+abbrev pub version_anew : List Cut → Version
+version_anew [] = Two
+version_anew (cut ∷ cuts) = Three
+
+-- what the file of a certificate is answered, beside a program in blocks: its first fault, or the text of version 2, or of version 3 where it has
+-- cuts, of the certificate that it spells, which means the same
 pub data TextMigrates (b : BlockedProgram) (file : Option (List ℕ)) : Answer → Type 0 where
   missing : file ≡ None → TextMigrates b file (stops 11 [])
   faulty : (text : List ℕ) (line : ℕ) (kind : CertKind) → file ≡ Some text → IsFirstCertFault (frame_for b) text line kind
       → TextMigrates b file (stops 3 (cert_refusal line kind))
-  migrated : (text new : List ℕ) (c : Cert) → file ≡ Some text → IsCertText (frame_for b) c text → IsText (frame_for b) Two c new
+  migrated : (text new : List ℕ) (c : Cert) → file ≡ Some text → IsCertText (frame_for b) c text → IsText (frame_for b) (version_anew c.cuts) c new
       → TextMigrates b file (record { status = 0; report = migrated_report (nodes c.tree); text = Some new })
 
 -- what `migrate` answers: what the model's and the decomposition's files come to where they come to no program in blocks, and else what the
@@ -33,6 +39,15 @@ pub data Migrates (files : Files) (lp cert : List ℕ) (dec : Option (List ℕ))
 abbrev pub AnswersMigrate : Files → (lp cert : List ℕ) → (dec : Option (List ℕ)) → (status : ℕ) → (report : List ℕ) → Type 0
 AnswersMigrate files lp cert dec status report = Answered (Migrates files lp cert dec) status report
 
--- the text and the report of a migrated certificate
-abbrev pub answer_of : Migrated → Answer
-answer_of m = record { status = m.reply.status; report = m.reply.report.items; text = Some m.text.items }
+-- a certificate that a file spells, beside a program in blocks, with the report on it
+pub record ReadsCert (b : BlockedProgram) (file : Option (List ℕ)) (m : Migrated) : Type 0 where
+  pub same : m.b ≡ b
+  pub text : List ℕ
+  pub is : file ≡ Some text
+  pub spells : IsCertText (frame_for b) (kept_cert m.cert) text
+  pub told : m.reply.report.items ≡ migrated_report (nodes (kept_cert m.cert).tree)
+  pub done : m.reply.status ≡ 0
+
+-- the same by the files
+abbrev pub ReadsFiles : Files → (lp cert : List ℕ) → (dec : Option (List ℕ)) → Migrated → Type 0
+ReadsFiles files lp cert dec m = (b : BlockedProgram) × FilesCome files lp dec (blocked b) × ReadsCert b (files cert) m

@@ -8,8 +8,8 @@ use Rattle.branch_tree.specs.declared.loaded.Loaded.{Loaded}
 use Rattle.branch_tree.specs.declared.outcome.Outcome.{Outcome}
 use Rattle.bp_front.specs.Front.{FilesCome, blocked}
 use Rattle.cmd_solve.specs.declared.crew.CrewOrder.{CrewOrder}
-use Rattle.cmd_solve.specs.Crews.{ordered_crew, IsSearchOf, HasEventsFrom, events_with, LoadsBy, EventsBy, HasEvents}
-use Rattle.cmd_solve.proofs.Starting.{ComesFrom}
+use Rattle.cmd_solve.specs.Crews.{ordered_crew, IsSearchOf, HasEventsFrom, events_with, EventsBy, HasEvents}
+use Rattle.cmd_solve.proofs.Starting.{ComesFrom, ready_begins, fresh_begins}
 
 -- the events of a search beside the outcome that is kept of it, or beside nothing
 pub kept_with : (b : BlockedProgram) (from : Option Loaded) (steps : Option ℕ) (crew : Option CrewOrder) (outcome : Outcome) (kept : Option Outcome) (events : List Event)
@@ -25,17 +25,13 @@ kept_with b from steps crew outcome (Some other) events is (inr same) = subst (�
 pub fresh_events : (files : Files) (from : Option (List ℕ)) (steps : Option ℕ) (crew : Option CrewOrder) (b : BlockedProgram) (kept : Option Outcome) (events : List Event)
     → from ≡ None → HasEventsFrom b None steps crew kept events → EventsBy files from steps crew b kept events
 fresh_events files from steps crew b None events is has = has
-fresh_events files from steps crew b (Some outcome) events is has =
-    let begun : LoadsBy files None b None = refl in
-    (None, subst (λ (f : Option (List ℕ)). LoadsBy files f b None) (sym is) begun, has)
+fresh_events files from steps crew b (Some outcome) events is has = (b, None, fresh_begins files from b is, has)
 
 -- the events of a search from a loaded tree
-pub ready_events : (files : Files) (from : Option (List ℕ)) (steps : Option ℕ) (crew : Option CrewOrder) (b : BlockedProgram) (loaded : Loaded) (leaf : Option ℕ)
-    (below : Option (List Side)) (kept : Option Outcome) (events : List Event) → ComesFrom files from leaf b loaded below → HasEventsFrom b (Some loaded) steps crew kept events → EventsBy files from steps crew b kept events
-ready_events files from steps crew b loaded leaf below None events come has = has
-ready_events files from steps crew b loaded leaf below (Some outcome) events come has =
-    let begun : LoadsBy files (Some come.name) b (Some loaded) = (come.text, loaded, come.there, come.start.start, refl) in
-    (Some loaded, subst (λ (f : Option (List ℕ)). LoadsBy files f b (Some loaded)) (sym come.named) begun, has)
+pub ready_events : (files : Files) (from : Option (List ℕ)) (steps : Option ℕ) (crew : Option CrewOrder) (b c : BlockedProgram) (loaded : Loaded) (leaf : Option ℕ)
+    (below : Option (List Side)) (kept : Option Outcome) (events : List Event) → ComesFrom files from leaf b c loaded below → HasEventsFrom c (Some loaded) steps crew kept events → EventsBy files from steps crew b kept events
+ready_events files from steps crew b c loaded leaf below None events come has = has
+ready_events files from steps crew b c loaded leaf below (Some outcome) events come has = (c, Some loaded, ready_begins files from leaf b c loaded below come, has)
 
 -- nothing is kept of a reply whose status is no fault of the sink
 pub printed_none : (status end : ℕ) (kept : Option Outcome) → (status ≡ end) ⊎ (status ≡ 8) → (status ≢ 8 → kept ≡ None) → (status ≡ 8 → kept ≡ None) → end ≢ 8 → kept ≡ None

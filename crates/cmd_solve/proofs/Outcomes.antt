@@ -17,19 +17,21 @@ use Rattle.bp_front.specs.Front.{FilesCome, blocked}
 use Rattle.bp_search.specs.Ends.{EndsWithin}
 use Rattle.search_laws.specs.Outcomes.{read_off}
 use Rattle.bp_front.specs.declared.ending.Reply.{Reply}
+use Rattle.branch_tree.specs.declared.loaded.Loaded.{Loaded}
+use Rattle.cmd_solve.specs.Starts.{BeginsBy}
 use Rattle.cmd_solve.specs.Solves.{outcome_certificate, IsSpelledOut}
-use Rattle.cmd_solve.specs.Saves.{IsSolved, TellsOf, IsSaved, SavesBlocked, HasCertificate, IsPartOf, AsBeforeOr}
+use Rattle.cmd_solve.specs.Saves.{IsSolved, TellsOf, IsSaved, SavesBlocked, SavesBy, HasCertificate, IsPartOf, AsBeforeOr}
 
 -- the certificate of an outcome of a search is valid
-pub outcome_certified : (b : BlockedProgram) (most : ℕ) (o : Outcome) → EndsWithin b most o → IsCertified b.named.program b.dec (outcome_certificate b.named.program o)
+pub outcome_certified : (b : BlockedProgram) (most : ℕ) (o : Outcome) → EndsWithin b most o → IsCertified b.named.program b.dec (outcome_certificate b o)
 outcome_certified b most (Optimal g point value) is =
     let p : Program = b.named.program in
-    subst (λ (z : ℤ). IsCertified p b.dec (read_off (claim.Optimal (in_sense p.maximises z)) (Some point) [] g.tree)) (sym is.is_cost) is.searched.certified
+    subst (λ (z : ℤ). IsCertified p b.dec (read_off (claim.Optimal (in_sense p.maximises z)) (Some point) b.cuts g.tree)) (sym is.is_cost) is.searched.certified
 outcome_certified b most (Infeasible g) is = is.searched.certified
 outcome_certified b most (Budget g None bound) is = is.searched.certified
 outcome_certified b most (Budget g (Some kept) bound) is =
     let p : Program = b.named.program in
-    subst (λ (z : ℤ). IsCertified p b.dec (read_off (claim.Bound (in_sense p.maximises bound) (Some (in_sense p.maximises z))) (Some kept.0) [] g.tree)) (sym is.kept.1)
+    subst (λ (z : ℤ). IsCertified p b.dec (read_off (claim.Bound (in_sense p.maximises bound) (Some (in_sense p.maximises z))) (Some kept.0) b.cuts g.tree)) (sym is.kept.1)
     is.searched.certified
 
 -- the reply to an outcome is what is told of it
@@ -55,8 +57,19 @@ is_part b most o name before now (Err NoMemory) ends streams want = by streams.h
     by (inl same) = inl same
     by (inr part) = inr (part.0, part.1, part.3, record { spelled = part.2; valid = outcome_certified b most o ends })
 
+-- what is saved of a search from the start, or from a loaded tree
+pub saved_by : (files : Files) (from : Option (List ℕ)) (b c : BlockedProgram) (start : Option Loaded) (cert : Option (List ℕ)) (now : Files) (kept : Option Outcome)
+    → BeginsBy files from b c start → SavesBlocked c cert now kept → SavesBy files from b cert now kept
+saved_by files from b c start cert now None begins saved = tt
+saved_by files from b c start cert now (Some outcome) begins saved = (c, (start, begins), saved)
+
+-- where nothing is kept, nothing is saved
+pub none_saved : (files : Files) (from : Option (List ℕ)) (b : BlockedProgram) (cert : Option (List ℕ)) (now : Files) (kept : Option Outcome) → kept ≡ None → SavesBy files from b cert now kept
+none_saved files from b cert now None none = tt
+none_saved files from b cert now (Some outcome) none = absurd (cc)
+
 -- what is saved of a program in blocks is so of the files that come to it
-pub lift_saved : (before : Files) (lp : List ℕ) (dec cert : Option (List ℕ)) (now : Files) (b : BlockedProgram) (kept : Option Outcome) → FilesCome before lp dec (blocked b)
-    → SavesBlocked b cert now kept → HasCertificate before lp dec cert now kept
-lift_saved before lp dec cert now b None come saved = tt
-lift_saved before lp dec cert now b (Some outcome) come saved = (b, come, saved)
+pub lift_saved : (before : Files) (lp : List ℕ) (dec cert from : Option (List ℕ)) (now : Files) (b : BlockedProgram) (kept : Option Outcome) → FilesCome before lp dec (blocked b)
+    → SavesBy before from b cert now kept → HasCertificate before lp dec cert from now kept
+lift_saved before lp dec cert from now b None come saved = tt
+lift_saved before lp dec cert from now b (Some outcome) come saved = (b, come, saved)

@@ -9,10 +9,10 @@ use Rattle.bp_front.specs.Front.{FilesCome, blocked}
 use Rattle.bp_front.specs.declared.ending.Reply.{Reply}
 use Rattle.cmd_solve.specs.Starts.{EndsAt}
 use Rattle.cmd_solve.specs.Solves.{SolvesOn, SolvesAt, SolvesBy, went_on}
-use Rattle.cmd_solve.specs.Saves.{IsSolved, TellsOf, IsPartOf, HoldsPart, AsBeforeOr, LeavesPart}
+use Rattle.cmd_solve.specs.Saves.{IsSolved, TellsOf, IsPartOf, HoldsPart, HoldsPartBy, AsBeforeOr, LeavesPart}
 use Rattle.cmd_solve.proofs.Outcomes.{tells}
 use Rattle.cmd_solve.proofs.Told.{solves_at}
-use Rattle.cmd_solve.proofs.Starting.{ComesFrom}
+use Rattle.cmd_solve.proofs.Starting.{ComesFrom, ready_begins, fresh_begins}
 
 -- where nothing was written
 pub nothing_left : (Part : Option (List ℕ) → Type 0) (cert : Option (List ℕ)) (before now : Files) → now ≡ before → AsBeforeOr Part cert before now
@@ -57,26 +57,56 @@ part_at b from below given o told cert before now ends left =
     part_as (TellsOf b told o) (λ kept. SolvesAt from below given kept b) b cert before now
     (λ kept status report right. solves_at b from below given o told kept status report ends right) left
 
+-- of one from the start
+pub fresh_part : (files : Files) (from : Option (List ℕ)) (leaf given : Option ℕ) (b : BlockedProgram) (cert : Option (List ℕ)) (before now : Files)
+    → from ≡ None → AsBeforeOr (HoldsPart (λ kept. SolvesAt None None given kept b) b) cert before now → AsBeforeOr (HoldsPartBy files from leaf given b) cert before now
+fresh_part files from leaf given b cert before now is left =
+    left_as (HoldsPart (λ kept. SolvesAt None None given kept b) b) (HoldsPartBy files from leaf given b) cert before now by left
+  where
+    by : (file : Option (List ℕ)) → HoldsPart (λ kept. SolvesAt None None given kept b) b file → HoldsPartBy files from leaf given b file
+    by file h = (
+      b,
+      (None, fresh_begins files from b is),
+      record {
+        outcome = h.outcome;
+        status = h.status;
+        report = h.report;
+        right = subst (λ (f : Option (List ℕ)). SolvesBy files f leaf given (Some h.outcome) b h.status h.report) (sym is) h.right;
+        part = h.part;
+      },
+    )
+
 -- of one from a named file
-pub ready_part : (files : Files) (from : Option (List ℕ)) (leaf given : Option ℕ) (b : BlockedProgram) (loaded : Loaded) (below : Option (List Side)) (cert : Option (List ℕ)) (before now : Files)
-    → ComesFrom files from leaf b loaded below → AsBeforeOr (HoldsPart (λ kept. SolvesOn loaded.grove.tree below given kept b) b) cert before now
-    → AsBeforeOr (HoldsPart (λ kept. SolvesBy files from leaf given kept b) b) cert before now
-ready_part files from leaf given b loaded below cert before now come left =
-    part_as (λ kept. SolvesOn loaded.grove.tree below given kept b) (λ kept. SolvesBy files from leaf given kept b) b cert before now
-    (λ kept status report right. subst (λ (f : Option (List ℕ)). SolvesBy files f leaf given kept b status report) (sym come.named) (went_on come.text loaded below come.there come.start right))
-    left
+pub ready_part : (files : Files) (from : Option (List ℕ)) (leaf given : Option ℕ) (b c : BlockedProgram) (loaded : Loaded) (below : Option (List Side)) (cert : Option (List ℕ)) (before now : Files)
+    → ComesFrom files from leaf b c loaded below → AsBeforeOr (HoldsPart (λ kept. SolvesOn loaded.grove.tree below given kept c) c) cert before now
+    → AsBeforeOr (HoldsPartBy files from leaf given b) cert before now
+ready_part files from leaf given b c loaded below cert before now come left =
+    left_as (HoldsPart (λ kept. SolvesOn loaded.grove.tree below given kept c) c) (HoldsPartBy files from leaf given b) cert before now by left
+  where
+    by : (file : Option (List ℕ)) → HoldsPart (λ kept. SolvesOn loaded.grove.tree below given kept c) c file → HoldsPartBy files from leaf given b file
+    by file h = (
+      c,
+      (Some loaded, ready_begins files from leaf b c loaded below come),
+      record {
+        outcome = h.outcome;
+        status = h.status;
+        report = h.report;
+        right = subst (λ (f : Option (List ℕ)). SolvesBy files f leaf given (Some h.outcome) b h.status h.report) (sym come.named)
+            (went_on come.text loaded below c come.there come.start come.over h.right);
+        part = h.part;
+      },
+    )
 
 -- of one of the program in blocks that the files come to
 pub lift_part : (before : Files) (lp : List ℕ) (dec : Option (List ℕ)) (given : Option ℕ) (cert from : Option (List ℕ)) (leaf : Option ℕ) (now : Files) (b : BlockedProgram)
-    → FilesCome before lp dec (blocked b) → AsBeforeOr (HoldsPart (λ kept. SolvesBy before from leaf given kept b) b) cert before now
-    → LeavesPart before lp dec given cert from leaf now
+    → FilesCome before lp dec (blocked b) → AsBeforeOr (HoldsPartBy before from leaf given b) cert before now → LeavesPart before lp dec given cert from leaf now
 lift_part before lp dec given cert from leaf now b come left =
-    left_as (HoldsPart (λ kept. SolvesBy before from leaf given kept b) b)
-    (λ file. (c : BlockedProgram) × FilesCome before lp dec (blocked c) × HoldsPart (λ kept. SolvesBy before from leaf given kept c) c file) cert before now
+    left_as (HoldsPartBy before from leaf given b)
+    (λ file. (d : BlockedProgram) × FilesCome before lp dec (blocked d) × HoldsPartBy before from leaf given d file) cert before now
     (λ file part. (b, come, part)) left
 
 -- where the files come to none, or nothing was searched
 pub untouched_part : (before : Files) (lp : List ℕ) (dec : Option (List ℕ)) (given : Option ℕ) (cert from : Option (List ℕ)) (leaf : Option ℕ) (now : Files) → now ≡ before
     → LeavesPart before lp dec given cert from leaf now
 untouched_part before lp dec given cert from leaf now same =
-    nothing_left (λ file. (c : BlockedProgram) × FilesCome before lp dec (blocked c) × HoldsPart (λ kept. SolvesBy before from leaf given kept c) c file) cert before now same
+    nothing_left (λ file. (d : BlockedProgram) × FilesCome before lp dec (blocked d) × HoldsPartBy before from leaf given d file) cert before now same

@@ -9,12 +9,10 @@ use Rattle.bp_theory.proofs.CutProof.{certified_is_true_lem}
 use Rattle.bp_shelf.specs.Shelf.{Files, AllShort}
 use Rattle.block_form.specs.Blocked.{BlockedProgram, IsFormed}
 use Rattle.search_laws.specs.declared.Side.{Side}
-use Rattle.search_laws.specs.Grove.{GrowingTree}
-use Rattle.search_laws.specs.GroveFacts.{best_cost}
-use Rattle.search_laws.proofs.LoadProof.{load_keeps_lem}
 use Rattle.branch_tree.specs.declared.outcome.Outcome.{Outcome}
 use Rattle.branch_tree.specs.declared.loaded.Loaded.{Loaded}
 use Rattle.cert_load.specs.Loadings.{IsLoadedOf, IsTooDeep}
+use Rattle.cert_load.specs.Recut.{with_cuts}
 use Rattle.cert_load.proofs.Reaching.{loaded_is_low}
 use Rattle.cert_text.specs.Fault.{IsCertText}
 use Rattle.cert_text.specs.Written.{cert_of}
@@ -38,7 +36,7 @@ use Rattle.bp_front.specs.declared.ending.Reply.{Reply}
 use Rattle.cmd_check.specs.Checks as checks
 use Rattle.cmd_check.proofs.OneAnswer.{one_check}
 use Rattle.cmd_check.proofs.Certificates.{one_written, kept_point}
-use Rattle.cmd_solve.specs.Starts.{IsStart, IsStartAt, RefusesStart, faulty, rejected, too_deep, no_leaf, StartsBy, StartsOf, HasStart, LacksStart, CanBegin}
+use Rattle.cmd_solve.specs.Starts.{IsStart, IsStartAt, RefusesStart, faulty, rejected, too_deep, no_leaf, StartsBy, StartsOf, GoesOnOver, BeginsBy, HasStart, LacksStart, CanBegin}
 use Rattle.branch_tree.specs.Loads.{IsLoaded}
 use Rattle.cmd_solve.specs.Crews.{ordered_crew}
 use Rattle.cmd_solve.specs.declared.crew.CrewOrder.{CrewOrder}
@@ -48,6 +46,7 @@ use Rattle.cmd_solve.specs.Saves as saves
 use Rattle.cmd_solve.specs.Saves.{LeavesOn, LeavesBy}
 use Rattle.cmd_solve.specs.declared.start.Start.TheVariants.{Fresh, Ready, Refused}
 use Rattle.cmd_solve.specs.declared.start.Start.{Start}
+use Rattle.cmd_solve.proofs.Told.{HasStatusOf, status_on, same_status}
 
 -- one text in one file, whatever its name
 abbrev file_of : List ℕ → Files
@@ -107,11 +106,7 @@ one_certificate : (b : BlockedProgram) (text : List ℕ) (c d : Certificate) →
 one_certificate b text c d spelled spelled' has has' =
     one_written c d has has' (certificates_are_one (frame_for b) (cert_of c) (cert_of d) text spelled spelled')
 
--- where in a tree a search works is one place, and there is none where there is no such leaf
-one_place : (tree : Tree) (leaf : Option ℕ) (x y : Option (List Side)) → IsWorkedOn tree leaf x → IsWorkedOn tree leaf y → x ≡ y
-one_place tree None x y first second = first ∙ sym second
-one_place tree (Some number) x y first second = first.1 ∙ sym first.2 ∙ second.2 ∙ sym second.1
-
+-- there is no place to work at where there is no such leaf
 no_place : (tree : Tree) (leaf : Option ℕ) (below : Option (List Side)) (number : ℕ) → IsWorkedOn tree leaf below → leaf ≡ Some number → open_path tree number ≡ None → ⊥
 no_place tree leaf below number worked is none =
     let at : IsWorkedOn tree (Some number) below = subst (λ (l : Option ℕ). IsWorkedOn tree l below) is worked in
@@ -129,26 +124,10 @@ start_or_refused b leaf text from below s r formed at h =
     by (rejected cert line kind spelled has fault is told) e = absurd (omega (arith, e))
     by (too_deep cert line spelled has valid deep is told) e =
         let same : cert ≡ at.start.cert = one_certificate b text cert at.start.cert spelled at.start.spelled has at.start.has_point in
-        loaded_is_low b at.start.cert from line at.start.loaded (subst (λ (c : Certificate). IsTooDeep b c line) same deep)
+        loaded_is_low (with_cuts b at.start.cert.cuts) at.start.cert from line at.start.loaded (subst (λ (c : Certificate). IsTooDeep (with_cuts b c.cuts) c line) same deep)
     by (no_leaf other number start named none is told) e =
         let same : start.cert ≡ at.start.cert = one_certificate b text start.cert at.start.cert start.spelled at.start.spelled start.has_point at.start.has_point in
         no_place at.start.cert.tree leaf below number at.worked_on named (subst (λ (c : Certificate). open_path c.tree number ≡ None) same none)
-
--- a text is one start
-pub one_start : (b : BlockedProgram) (text : List ℕ) (from other : Loaded) → IsStart b text from → IsStart b text other → from.grove.tree ≡ other.grove.tree
-one_start b text from other x y =
-    let same : x.cert ≡ y.cert = one_certificate b text x.cert y.cert x.spelled y.spelled x.has_point y.has_point in
-    let loaded : IsLoadedOf b y.cert from = subst (λ (c : Certificate). IsLoadedOf b c from) same x.loaded in
-    loaded.adopted.tree
-    ∙ load_keeps_lem.one b.named.program b.blocking y.cert.tree (best_cost b.named.program y.cert.point) loaded.tree y.loaded.tree loaded.loads y.loaded.loads
-    ∙ sym y.loaded.adopted.tree
-
-one_below : (b : BlockedProgram) (leaf : Option ℕ) (text : List ℕ) (from other : Loaded) (below beyond : Option (List Side)) → IsStartAt b leaf text from below
-    → IsStartAt b leaf text other beyond → below ≡ beyond
-one_below b leaf text from other below beyond x y =
-    let same : x.start.cert ≡ y.start.cert =
-    one_certificate b text x.start.cert y.start.cert x.start.spelled y.start.spelled x.start.has_point y.start.has_point in
-    one_place y.start.cert.tree leaf below beyond (subst (λ (c : Certificate). IsWorkedOn c.tree leaf below) same x.worked_on) y.worked_on
 
 one_text : (file : Option (List ℕ)) (t u : List ℕ) → file ≡ Some t → file ≡ Some u → t ≡ u
 one_text file t u a b = cc
@@ -158,26 +137,21 @@ no_text file t a b = absurd (cc)
 
 -- ---- one status
 
--- where a file is a start, the status of the search alone is right
-pub went_only : (files : Files) (name : List ℕ) (leaf given : Option ℕ) (kept : Option Outcome) (b : BlockedProgram) (text : List ℕ) (from : Loaded) (below : Option (List Side)) (status : ℕ)
-    → IsFormed b → files name ≡ Some text → IsStartAt b leaf text from below → IsOnly (SolvesOn from.grove.tree below given kept b) status
-    → IsOnly (SolvesFrom files name leaf given kept b) status
-went_only files name leaf given kept b text from below status formed there start only = λ no_read no_write no_want meant report right.
-    by meant report (only no_read no_write no_want) right
+-- where a file is a start, the status of the search alone is right: it is that of the outcome that is kept
+pub went_only : (files : Files) (name : List ℕ) (leaf given : Option ℕ) (kept : Option Outcome) (b c : BlockedProgram) (text : List ℕ) (from : Loaded) (below : Option (List Side)) (status : ℕ)
+    (tells : Bool) (before now : List ℕ) → IsFormed b → files name ≡ Some text → IsStartAt b leaf text from below
+    → AnswersBy (SolvesOn from.grove.tree below given kept c) status tells before now → IsOnly (SolvesFrom files name leaf given kept b) status
+went_only files name leaf given kept b c text from below status tells before now formed there start answers = λ no_read no_write no_want meant report right.
+    let answer = answers no_read no_write no_want in
+    by meant report (status_on c from.grove.tree below given kept status answer.0 answer.1) right
   where
-    by : (meant : ℕ) (report : List ℕ) → ((m : ℕ) (r : List ℕ) → SolvesOn from.grove.tree below given kept b m r → status ≡ m) → SolvesFrom files name leaf given kept b meant report
-        → status ≡ meant
-    by meant report each (missing none nothing is told) = absurd (no_text (files name) text none there)
-    by meant report each (refused text' there' nothing refuses) =
+    by : (meant : ℕ) (report : List ℕ) → HasStatusOf kept status → SolvesFrom files name leaf given kept b meant report → status ≡ meant
+    by meant report here (missing none nothing is told) = absurd (no_text (files name) text none there)
+    by meant report here (refused text' there' nothing refuses) =
         absurd (start_or_refused b leaf text from below meant report formed start
         (subst (λ (t : List ℕ). RefusesStart b leaf t meant report) (one_text (files name) text' text there' there) refuses))
-    by meant report each (went_on text' from' below' there' start' solves) =
-        let here : IsStartAt b leaf text from' below' = subst (λ (t : List ℕ). IsStartAt b leaf t from' below') (one_text (files name) text' text there' there) start' in
-        let tree : from'.grove.tree ≡ from.grove.tree = one_start b text from' from here.start start.start in
-        let place : below' ≡ below = one_below b leaf text from' from below' below here start in
-        each meant report
-        (subst (λ (p : Option (List Side)). SolvesOn from.grove.tree p given kept b meant report) place
-        (subst (λ (g : GrowingTree). SolvesOn g below' given kept b meant report) tree solves))
+    by meant report here (went_on text' from' below' other there' start' over' solves) =
+        same_status kept status meant here (status_on other from'.grove.tree below' given kept meant report solves)
 
 -- where a file is refused as a start, the status of the refusal alone is right
 pub refused_only : (files : Files) (name : List ℕ) (leaf given : Option ℕ) (kept : Option Outcome) (b : BlockedProgram) (text : List ℕ) (status end : ℕ) (report : List ℕ) → IsFormed b
@@ -193,7 +167,7 @@ refused_only files name leaf given kept b text status end report formed there re
     by meant other (refused text' there' nothing refuses') =
         one_refusal b leaf text end meant report other formed refuses
         (subst (λ (t : List ℕ). RefusesStart b leaf t meant other) (one_text (files name) text' text there' there) refuses')
-    by meant other (went_on text' from below there' start solves) =
+    by meant other (went_on text' from below over there' start goes solves) =
         absurd (start_or_refused b leaf text from below end report formed
         (subst (λ (t : List ℕ). IsStartAt b leaf t from below) (one_text (files name) text' text there' there) start) refuses)
 
@@ -205,29 +179,52 @@ missing_only files name leaf given kept b status none ended = λ no_read no_writ
     by : (meant : ℕ) (other : List ℕ) → SolvesFrom files name leaf given kept b meant other → 11 ≡ meant
     by meant other (missing none' nothing is told) = sym is
     by meant other (refused text there nothing refuses) = absurd (no_text (files name) text none there)
-    by meant other (went_on text from below there start solves) = absurd (no_text (files name) text none there)
+    by meant other (went_on text from below over there start goes solves) = absurd (no_text (files name) text none there)
 
 -- ---- the start that a text gives
 
-pub start_ready : (b : BlockedProgram) (leaf : Option ℕ) (cert : Kept) (from : Loaded) (below : Option (List Side)) → IsCertified b.named.program b.dec (certificate_of cert)
-    → IsLoadedOf b (certificate_of cert) from → IsWorkedOn (certificate_of cert).tree leaf below → StartsOf b leaf cert (Ready from below)
-start_ready b leaf cert from below valid loaded worked = λ text spelled. record {
-  start = record { cert = certificate_of cert; spelled = spelled; has_point = kept_point cert.claim cert.point; valid = valid; loaded = loaded };
-  worked_on = worked;
-}
+-- what is loaded over the program with the certificate's cuts
+over_cuts : (b c : BlockedProgram) (cert : Certificate) (from : Loaded) → GoesOnOver b cert c → IsLoadedOf c cert from → IsLoadedOf (with_cuts b cert.cuts) cert from
+over_cuts b c cert from over loaded = subst (λ (x : BlockedProgram). IsLoadedOf x cert from) over loaded
 
-pub start_without : (b : BlockedProgram) (number : ℕ) (cert : Kept) (from : Loaded) (report text : List ℕ) → IsCertified b.named.program b.dec (certificate_of cert)
-    → IsLoadedOf b (certificate_of cert) from → open_path (certificate_of cert).tree number ≡ None → report ≡ leaf_refusal number
+pub start_ready : (b c : BlockedProgram) (leaf : Option ℕ) (cert : Kept) (from : Loaded) (below : Option (List Side)) → GoesOnOver b (certificate_of cert) c
+    → IsCertified b.named.program b.dec (certificate_of cert)
+    → IsLoadedOf c (certificate_of cert) from → IsWorkedOn (certificate_of cert).tree leaf below → StartsOf b leaf cert (Ready c from below)
+start_ready b c leaf cert from below over valid loaded worked = λ text spelled. (
+  record {
+    start = record {
+      cert = certificate_of cert;
+      spelled = spelled;
+      has_point = kept_point cert.claim cert.point;
+      valid = valid;
+      loaded = over_cuts b c (certificate_of cert) from over loaded;
+    };
+    worked_on = worked;
+  },
+  over,
+)
+
+pub start_without : (b c : BlockedProgram) (number : ℕ) (cert : Kept) (from : Loaded) (report text : List ℕ) → GoesOnOver b (certificate_of cert) c
+    → IsCertified b.named.program b.dec (certificate_of cert)
+    → IsLoadedOf c (certificate_of cert) from → open_path (certificate_of cert).tree number ≡ None → report ≡ leaf_refusal number
     → IsCertText (frame_for b) (kept_cert cert) text → RefusesStart b (Some number) text 3 report
-start_without b number cert from report text valid loaded none told spelled =
+start_without b c number cert from report text over valid loaded none told spelled =
     no_leaf from number
-    (record { cert = certificate_of cert; spelled = spelled; has_point = kept_point cert.claim cert.point; valid = valid; loaded = loaded })
+    (record {
+      cert = certificate_of cert;
+      spelled = spelled;
+      has_point = kept_point cert.claim cert.point;
+      valid = valid;
+      loaded = over_cuts b c (certificate_of cert) from over loaded;
+    })
     refl none refl told
 
-pub start_deep : (b : BlockedProgram) (leaf : Option ℕ) (cert : Kept) (line : ℕ) (report text : List ℕ) → IsCertified b.named.program b.dec (certificate_of cert)
-    → IsTooDeep b (certificate_of cert) line → report ≡ from_refusal line → IsCertText (frame_for b) (kept_cert cert) text → RefusesStart b leaf text 3 report
-start_deep b leaf cert line report text valid deep told spelled =
-    too_deep (certificate_of cert) line spelled (kept_point cert.claim cert.point) valid deep refl told
+pub start_deep : (b c : BlockedProgram) (leaf : Option ℕ) (cert : Kept) (line : ℕ) (report text : List ℕ) → GoesOnOver b (certificate_of cert) c
+    → IsCertified b.named.program b.dec (certificate_of cert)
+    → IsTooDeep c (certificate_of cert) line → report ≡ from_refusal line → IsCertText (frame_for b) (kept_cert cert) text → RefusesStart b leaf text 3 report
+start_deep b c leaf cert line report text over valid deep told spelled =
+    too_deep (certificate_of cert) line spelled (kept_point cert.claim cert.point) valid
+    (subst (λ (x : BlockedProgram). IsTooDeep x (certificate_of cert) line) over deep) refl told
 
 pub start_rejected : (b : BlockedProgram) (leaf : Option ℕ) (cert : Kept) (judged : Judged) (line : ℕ) (kind : CheckKind) (report text : List ℕ) → judged ≡ Rejected line kind
     → IsJudged b (certificate_of cert) judged → report ≡ check_report judged → IsCertText (frame_for b) (kept_cert cert) text → RefusesStart b leaf text 6 report
@@ -264,9 +261,9 @@ front_starts files name front leaf b start short found is_front starts = by (fil
 
 -- ---- that a search may begin
 
-pub can_begin : (b : BlockedProgram) (leaf : Option ℕ) (start : Start) (from : Loaded) (below : Option (List Side)) → start ≡ Ready from below → CanBegin b leaf start
-    → IsLoaded b from × (leaf ≡ None → below ≡ None)
-can_begin b leaf start from below is can = subst (CanBegin b leaf) is can
+pub can_begin : (b c : BlockedProgram) (leaf : Option ℕ) (start : Start) (from : Loaded) (below : Option (List Side)) → start ≡ Ready c from below → CanBegin b leaf start
+    → IsLoaded c from × (leaf ≡ None → below ≡ None)
+can_begin b c leaf start from below is can = subst (CanBegin b leaf) is can
 
 -- a search works at a path only without a crew
 pub alone_at : (leaf : Option ℕ) (below : Option (List Side)) (crew : Option CrewOrder) → (leaf ≡ None → below ≡ None) → IfSome leaf (λ _. crew ≡ None) → IfSome below (λ _. crew ≡ None)
@@ -288,18 +285,19 @@ pub fresh_from : (files : Files) (from : Option (List ℕ)) (leaf : Option ℕ) 
 fresh_from files None leaf b h = refl
 fresh_from files (Some name) leaf b h = absurd h.2
 
--- the file that a loaded tree comes from
-pub record ComesFrom (files : Files) (from : Option (List ℕ)) (leaf : Option ℕ) (b : BlockedProgram) (loaded : Loaded) (below : Option (List Side)) : Type 0 where
+-- the file that a loaded tree comes from, and the program that a search of it is over
+pub record ComesFrom (files : Files) (from : Option (List ℕ)) (leaf : Option ℕ) (b c : BlockedProgram) (loaded : Loaded) (below : Option (List Side)) : Type 0 where
   pub name : List ℕ
   pub text : List ℕ
   pub named : from ≡ Some name
   pub there : files name ≡ Some text
   pub start : IsStartAt b leaf text loaded below
+  pub over : GoesOnOver b start.start.cert c
 
-pub ready_from : (files : Files) (from : Option (List ℕ)) (leaf : Option ℕ) (b : BlockedProgram) (loaded : Loaded) (below : Option (List Side)) → HasStart files from leaf b (Ready loaded below)
-    → ComesFrom files from leaf b loaded below
-ready_from files None leaf b loaded below h = let none : ⊥ = cc in absurd none
-ready_from files (Some name) leaf b loaded below h = record { name = name; text = h.0; named = refl; there = h.1; start = h.2 }
+pub ready_from : (files : Files) (from : Option (List ℕ)) (leaf : Option ℕ) (b c : BlockedProgram) (loaded : Loaded) (below : Option (List Side)) → HasStart files from leaf b (Ready c loaded below)
+    → ComesFrom files from leaf b c loaded below
+ready_from files None leaf b c loaded below h = let none : ⊥ = cc in absurd none
+ready_from files (Some name) leaf b c loaded below h = record { name = name; text = h.0; named = refl; there = h.1; start = h.2.0; over = h.2.1 }
 
 -- the file that is refused as a start
 pub record IsRefusedFrom (files : Files) (from : Option (List ℕ)) (leaf : Option ℕ) (b : BlockedProgram) (reply : Reply) : Type 0 where
@@ -314,35 +312,48 @@ refused_from files None leaf b reply h = let none : ⊥ = cc in absurd none
 refused_from files (Some name) leaf b reply h = record { name = name; text = h.0; named = refl; there = h.1; refuses = h.2 }
 
 -- answers of a search from a loaded tree
-pub ready_answers : (files : Files) (from : Option (List ℕ)) (leaf given : Option ℕ) (kept : Option Outcome) (b : BlockedProgram) (loaded : Loaded) (below : Option (List Side)) (status : ℕ) (tells : Bool) (before now : List ℕ)
-    → ComesFrom files from leaf b loaded below → AnswersBy (SolvesOn loaded.grove.tree below given kept b) status tells before now → AnswersBy (SolvesBy files from leaf given kept b) status tells before now
-ready_answers files from leaf given kept b loaded below status tells before now come answers = λ no_read no_write no_want.
+pub ready_answers : (files : Files) (from : Option (List ℕ)) (leaf given : Option ℕ) (kept : Option Outcome) (b c : BlockedProgram) (loaded : Loaded) (below : Option (List Side)) (status : ℕ) (tells : Bool) (before now : List ℕ)
+    → ComesFrom files from leaf b c loaded below → AnswersBy (SolvesOn loaded.grove.tree below given kept c) status tells before now → AnswersBy (SolvesBy files from leaf given kept b) status tells before now
+ready_answers files from leaf given kept b c loaded below status tells before now come answers = λ no_read no_write no_want.
     let x = answers no_read no_write no_want in
-    (x.0, subst (λ (f : Option (List ℕ)). SolvesBy files f leaf given kept b status x.0) (sym come.named) (went_on come.text loaded below come.there come.start x.1), x.2)
+    (x.0, subst (λ (f : Option (List ℕ)). SolvesBy files f leaf given kept b status x.0) (sym come.named) (went_on come.text loaded below c come.there come.start come.over x.1), x.2)
 
-pub ready_only : (files : Files) (from : Option (List ℕ)) (leaf given : Option ℕ) (kept : Option Outcome) (b : BlockedProgram) (loaded : Loaded) (below : Option (List Side)) (status : ℕ) → IsFormed b
-    → ComesFrom files from leaf b loaded below → IsOnly (SolvesOn loaded.grove.tree below given kept b) status → IsOnly (SolvesBy files from leaf given kept b) status
-ready_only files from leaf given kept b loaded below status formed come only =
+pub ready_only : (files : Files) (from : Option (List ℕ)) (leaf given : Option ℕ) (kept : Option Outcome) (b c : BlockedProgram) (loaded : Loaded) (below : Option (List Side)) (status : ℕ)
+    (tells : Bool) (before now : List ℕ) → IsFormed b
+    → ComesFrom files from leaf b c loaded below → AnswersBy (SolvesOn loaded.grove.tree below given kept c) status tells before now → IsOnly (SolvesBy files from leaf given kept b) status
+ready_only files from leaf given kept b c loaded below status tells before now formed come answers =
     subst (λ (f : Option (List ℕ)). IsOnly (SolvesBy files f leaf given kept b) status) (sym come.named)
-    (went_only files come.name leaf given kept b come.text loaded below status formed come.there come.start only)
+    (went_only files come.name leaf given kept b c come.text loaded below status tells before now formed come.there come.start answers)
 
-pub ready_cut : (files : Files) (from : Option (List ℕ)) (leaf given : Option ℕ) (b : BlockedProgram) (loaded : Loaded) (below : Option (List Side)) (status : ℕ) (before now : List ℕ)
-    → ComesFrom files from leaf b loaded below → CutsOff (λ kept. SolvesOn loaded.grove.tree below given kept b) status before now
+pub ready_cut : (files : Files) (from : Option (List ℕ)) (leaf given : Option ℕ) (b c : BlockedProgram) (loaded : Loaded) (below : Option (List Side)) (status : ℕ) (before now : List ℕ)
+    → ComesFrom files from leaf b c loaded below → CutsOff (λ kept. SolvesOn loaded.grove.tree below given kept c) status before now
     → CutsOff (λ kept. SolvesBy files from leaf given kept b) status before now
-ready_cut files from leaf given b loaded below status before now come cuts = λ is_fault.
+ready_cut files from leaf given b c loaded below status before now come cuts = λ is_fault.
     let x = cuts is_fault in (
       x.0,
       x.1,
       x.2,
       x.3,
-      subst (λ (f : Option (List ℕ)). SolvesBy files f leaf given x.0 b x.1 x.2) (sym come.named) (went_on come.text loaded below come.there come.start x.4),
+      subst (λ (f : Option (List ℕ)). SolvesBy files f leaf given x.0 b x.1 x.2) (sym come.named) (went_on come.text loaded below c come.there come.start come.over x.4),
       x.5,
     )
 
-pub ready_leaves : (files : Files) (from : Option (List ℕ)) (leaf given : Option ℕ) (cert : Option (List ℕ)) (now : Files) (b : BlockedProgram) (loaded : Loaded) (below : Option (List Side))
-    → ComesFrom files from leaf b loaded below → LeavesOn loaded.grove.tree below given cert now b → LeavesBy files from leaf given cert now b
-ready_leaves files from leaf given cert now b loaded below come leaves =
-    subst (λ (f : Option (List ℕ)). LeavesBy files f leaf given cert now b) (sym come.named) (saves.went_on come.text loaded below come.there come.start leaves)
+pub ready_leaves : (files : Files) (from : Option (List ℕ)) (leaf given : Option ℕ) (cert : Option (List ℕ)) (now : Files) (b c : BlockedProgram) (loaded : Loaded) (below : Option (List Side))
+    → ComesFrom files from leaf b c loaded below → LeavesOn loaded.grove.tree below given cert now c → LeavesBy files from leaf given cert now b
+ready_leaves files from leaf given cert now b c loaded below come leaves =
+    subst (λ (f : Option (List ℕ)). LeavesBy files f leaf given cert now b) (sym come.named) (saves.went_on come.text loaded below c come.there come.start come.over leaves)
+
+-- the program that the search is over
+pub ready_begins : (files : Files) (from : Option (List ℕ)) (leaf : Option ℕ) (b c : BlockedProgram) (loaded : Loaded) (below : Option (List Side)) → ComesFrom files from leaf b c loaded below
+    → BeginsBy files from b c (Some loaded)
+ready_begins files from leaf b c loaded below come =
+    let begun : BeginsBy files (Some come.name) b c (Some loaded) = (come.text, loaded, come.there, come.start.start, come.over, refl) in
+    subst (λ (f : Option (List ℕ)). BeginsBy files f b c (Some loaded)) (sym come.named) begun
+
+pub fresh_begins : (files : Files) (from : Option (List ℕ)) (b : BlockedProgram) → from ≡ None → BeginsBy files from b b None
+fresh_begins files from b is =
+    let begun : BeginsBy files None b b None = (refl, refl) in
+    subst (λ (f : Option (List ℕ)). BeginsBy files f b b None) (sym is) begun
 
 -- answers where a file is refused as a start
 pub refused_answers : (files : Files) (from : Option (List ℕ)) (leaf given : Option ℕ) (kept : Option Outcome) (b : BlockedProgram) (reply : Reply) (status : ℕ) (tells : Bool) (before now : List ℕ)

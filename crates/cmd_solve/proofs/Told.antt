@@ -71,10 +71,14 @@ cut_at b from below given o told status before now ends cuts = λ is_fault.
     (x.0, x.1, x.2, x.3, solves_at b from below given o told x.0 x.1 x.2 ends x.4, x.5)
 
 -- what is answered of the outcome that is kept has its status
-abbrev HasStatusOf : Option Outcome → ℕ → Type 0
+abbrev pub HasStatusOf : Option Outcome → ℕ → Type 0
 HasStatusOf kept meant = (o : Outcome) × (kept ≡ Some o) × (meant ≡ outcome_status o)
 
-status_on : (b : BlockedProgram) (start : GrowingTree) (below : Option (List Side)) (given : Option ℕ) (kept : Option Outcome) (meant : ℕ) (report : List ℕ)
+-- one outcome is kept, so there is one such status
+pub same_status : (kept : Option Outcome) (status meant : ℕ) → HasStatusOf kept status → HasStatusOf kept meant → status ≡ meant
+same_status kept status meant has other = has.2 ∙ ap outcome_status (one_outcome has.0 other.0 (sym has.1 ∙ other.1)) ∙ sym other.2
+
+pub status_on : (b : BlockedProgram) (start : GrowingTree) (below : Option (List Side)) (given : Option ℕ) (kept : Option Outcome) (meant : ℕ) (report : List ℕ)
     → SolvesOn start below given kept b meant report → HasStatusOf kept meant
 status_on b start None given kept meant report right = (right.outcome, right.is_kept, right.has_status)
 status_on b start (Some path) given kept meant report right = (right.outcome, right.is_kept, right.has_status)

@@ -9,7 +9,7 @@ use Rattle.branch_tree.specs.declared.outcome.Outcome.{Outcome}
 use Rattle.bp_search.specs.Ends.{last_step}
 use Rattle.bp_crew.specs.Runs.{IsCrewRun}
 use Rattle.bp_front.specs.Front.{FilesCome, blocked}
-use Rattle.cmd_solve.specs.Starts.{IsStart}
+use Rattle.cmd_solve.specs.Starts.{BeginsBy}
 use Rattle.cmd_solve.specs.declared.crew.CrewOrder.{CrewOrder}
 
 -- the crew that is ordered: one worker and the seed 0 where only the other is given
@@ -45,15 +45,11 @@ abbrev pub events_with : Option Outcome → List Event → List Event
 events_with None events = []
 events_with (Some outcome) events = events
 
--- where a search begins: at the start, or at what a named file is loaded as
-abbrev pub LoadsBy : Files → Option (List ℕ) → BlockedProgram → Option Loaded → Type 0
-LoadsBy files None b from = from ≡ None
-LoadsBy files (Some name) b from = (text : List ℕ) × (loaded : Loaded) × (files name ≡ Some text) × IsStart b text loaded × (from ≡ Some loaded)
-
 -- the events of a program in blocks, beside what is kept
 abbrev pub EventsBy : Files → (from : Option (List ℕ)) → (steps : Option ℕ) → Option CrewOrder → BlockedProgram → Option Outcome → List Event → Type 0
 EventsBy files from steps crew b None events = events ≡ []
-EventsBy files from steps crew b (Some outcome) events = (start : Option Loaded) × LoadsBy files from b start × IsSearchOf b start steps crew outcome events
+EventsBy files from steps crew b (Some outcome) events =
+    (c : BlockedProgram) × (start : Option Loaded) × BeginsBy files from b c start × IsSearchOf c start steps crew outcome events
 
 -- the events of `solve`: none where nothing is kept, and else those of the program in blocks that the files come to
 abbrev pub HasEvents : Files → (lp : List ℕ) → (dec : Option (List ℕ)) → (steps : Option ℕ) → (from : Option (List ℕ)) → (workers order : Option ℕ) → Option Outcome → List Event → Type 0

@@ -12,7 +12,7 @@ use Rattle.bp_search.specs.Below.{EndsBelow}
 use Rattle.bp_report.specs.Report.{solve_report}
 use Rattle.bp_front.specs.Front.{FilesCome, blocked, ends}
 use Rattle.bp_front.specs.declared.ending.Reply.{Reply}
-use Rattle.cmd_solve.specs.Starts.{IsStartAt, RefusesStart}
+use Rattle.cmd_solve.specs.Starts.{IsStartAt, RefusesStart, GoesOnOver, SearchesOver}
 use Rattle.cmd_solve.specs.Solves.{IsSpelledOut, outcome_status, SolvesBy}
 
 -- what is kept of an outcome, and printed for it: its status, and the report that tells so many steps
@@ -36,10 +36,16 @@ abbrev pub SavesBlocked : BlockedProgram → Option (List ℕ) → Files → Opt
 SavesBlocked b cert files None = Unit {0}
 SavesBlocked b cert files (Some outcome) = IsSaved b outcome cert files
 
+-- the same of a search from a named file, with the cuts of its certificate, or from the start
+abbrev pub SavesBy : (before : Files) → (from : Option (List ℕ)) → BlockedProgram → (cert : Option (List ℕ)) → (now : Files) → Option Outcome → Type 0
+SavesBy before from b cert now None = Unit {0}
+SavesBy before from b cert now (Some outcome) = (c : BlockedProgram) × SearchesOver before from b c × IsSaved c outcome cert now
+
 -- the same of the program in blocks that the files come to
-abbrev pub HasCertificate : Files → List ℕ → Option (List ℕ) → Option (List ℕ) → Files → Option Outcome → Type 0
-HasCertificate before lp dec cert now None = Unit {0}
-HasCertificate before lp dec cert now (Some outcome) = (b : BlockedProgram) × FilesCome before lp dec (blocked b) × IsSaved b outcome cert now
+abbrev pub HasCertificate : Files → List ℕ → Option (List ℕ) → (cert from : Option (List ℕ)) → Files → Option Outcome → Type 0
+HasCertificate before lp dec cert from now None = Unit {0}
+HasCertificate before lp dec cert from now (Some outcome) =
+    (b : BlockedProgram) × FilesCome before lp dec (blocked b) × SavesBy before from b cert now (Some outcome)
 
 -- an outcome of a search whose tree has at most so many steps has its certificate in the file that is named for it
 abbrev pub LeavesBlocked : (most : ℕ) → Option (List ℕ) → Files → BlockedProgram → Type 0
@@ -59,12 +65,14 @@ abbrev pub LeavesAt : Option Loaded → (below : Option (List Side)) → (given 
 LeavesAt None below given cert files b = LeavesBlocked (given_steps given) cert files b
 LeavesAt (Some from) below given cert files b = LeavesOn from.grove.tree below given cert files b
 
--- the same of a search that goes on from a named file; where the file is no start nothing is written
+-- the same of a search that goes on from a named file, over the program with the cuts of its certificate; where the file is no start
+-- nothing is written
 pub data LeavesFrom (before : Files) (name : List ℕ) (leaf : Option ℕ) (given : Option ℕ) (cert : Option (List ℕ)) (now : Files) (b : BlockedProgram) : Type 0 where
   refused : (text : List ℕ) (status : ℕ) (report : List ℕ) → before name ≡ Some text → RefusesStart b leaf text status report → now ≡ before
       → LeavesFrom before name leaf given cert now b
-  went_on : (text : List ℕ) (from : Loaded) (below : Option (List Side)) → before name ≡ Some text → IsStartAt b leaf text from below
-      → LeavesOn from.grove.tree below given cert now b → LeavesFrom before name leaf given cert now b
+  went_on : (text : List ℕ) (from : Loaded) (below : Option (List Side)) (c : BlockedProgram) → before name ≡ Some text
+      → (at : IsStartAt b leaf text from below) → GoesOnOver b at.start.cert c
+      → LeavesOn from.grove.tree below given cert now c → LeavesFrom before name leaf given cert now b
 
 -- the same of a search from a named file or from the start
 abbrev pub LeavesBy : (before : Files) → (from : Option (List ℕ)) → (leaf : Option ℕ) → (given : Option ℕ) → (cert : Option (List ℕ)) → (now : Files) → BlockedProgram → Type 0
@@ -98,8 +106,12 @@ abbrev pub AsBeforeOr : (Part : Option (List ℕ) → Type 0) → Option (List �
 AsBeforeOr Part None before now = Unit {0}
 AsBeforeOr Part (Some name) before now = (now name ≡ before name) ⊎ Part (now name)
 
+-- a file holds a beginning of the certificate of an outcome that is a right answer, over the program in blocks of the search
+abbrev pub HoldsPartBy : (before : Files) → (from : Option (List ℕ)) → (leaf given : Option ℕ) → BlockedProgram → Option (List ℕ) → Type 0
+HoldsPartBy before from leaf given b file = (c : BlockedProgram) × SearchesOver before from b c × HoldsPart (λ kept. SolvesBy before from leaf given kept b) c file
+
 -- What stands where memory was wanting: the file for a certificate, where one is named, is as before, or holds a beginning of the
 -- certificate of an outcome of the program in blocks that the files come to.
 abbrev pub LeavesPart : (before : Files) → (lp : List ℕ) → (dec : Option (List ℕ)) → (given : Option ℕ) → (cert from : Option (List ℕ)) → (leaf : Option ℕ) → (now : Files) → Type 0
 LeavesPart before lp dec given cert from leaf now =
-    AsBeforeOr (λ file. (b : BlockedProgram) × FilesCome before lp dec (blocked b) × HoldsPart (λ kept. SolvesBy before from leaf given kept b) b file) cert before now
+    AsBeforeOr (λ file. (b : BlockedProgram) × FilesCome before lp dec (blocked b) × HoldsPartBy before from leaf given b file) cert before now

@@ -1,6 +1,5 @@
 -- What `solve` answers.
 use Rattle.std.specs.Prelude.{◌≡◌, ℕ, ◌+◌, List, [], Option, Some, None}
-use Rattle.bp_theory.specs.Program.{Program}
 use Rattle.bp_theory.specs.Trees.{steps}
 use Rattle.bp_theory.specs.Claims.{Certificate, IsCertified}
 use Rattle.bp_shelf.specs.Shelf.{Files}
@@ -13,14 +12,14 @@ use Rattle.branch_tree.specs.declared.outcome.Outcome.TheVariants.{Optimal, Infe
 use Rattle.branch_tree.specs.declared.loaded.Loaded.{Loaded}
 use Rattle.bp_search.specs.Ends.{EndsWithin, given_steps}
 use Rattle.bp_search.specs.Below.{EndsBelow}
-use Rattle.cert_text.specs.Text.{Two}
+use Rattle.cert_text.specs.Plain.{version_with}
 use Rattle.cert_text.specs.Fault.{IsText}
 use Rattle.cert_text.specs.Written.{cert_of}
 use Rattle.cert_text.specs.Programs.{frame_for}
 use Rattle.cert_text.specs.Outcomes.{grove_of, claim_of, point_of}
 use Rattle.bp_report.specs.Report.{solve_report}
 use Rattle.bp_front.specs.Answers.{AnswersFront}
-use Rattle.cmd_solve.specs.Starts.{IsStartAt, RefusesStart}
+use Rattle.cmd_solve.specs.Starts.{IsStartAt, RefusesStart, GoesOnOver}
 
 -- the status of an outcome: optimal, infeasible, or out of steps
 abbrev pub outcome_status : Outcome → ℕ
@@ -28,14 +27,14 @@ outcome_status (Optimal g point value) = 0
 outcome_status (Infeasible g) = 4
 outcome_status (Budget g best bound) = 5
 
--- the certificate of an outcome: its tree, its claim, and the point of the claimed value
-abbrev pub outcome_certificate : Program → Outcome → Certificate
-outcome_certificate p o = read_off (claim_of p.maximises o) (point_of o) [] (grove_of o).tree
+-- the certificate of an outcome: its tree, its claim, the point of the claimed value, and the cuts of the program that it is of
+abbrev pub outcome_certificate : BlockedProgram → Outcome → Certificate
+outcome_certificate b o = read_off (claim_of b.named.program.maximises o) (point_of o) b.cuts (grove_of o).tree
 
 -- a text spells the certificate of an outcome, and it is valid
 pub record IsSpelledOut (b : BlockedProgram) (outcome : Outcome) (text : List ℕ) : Type 0 where
-  pub spelled : IsText (frame_for b) Two (cert_of (outcome_certificate b.named.program outcome)) text
-  pub valid : IsCertified b.named.program b.dec (outcome_certificate b.named.program outcome)
+  pub spelled : IsText (frame_for b) (version_with b.cuts) (cert_of (outcome_certificate b outcome)) text
+  pub valid : IsCertified b.named.program b.dec (outcome_certificate b outcome)
 
 -- what a program in blocks is answered by `solve`: the outcome of a search whose tree has at most so many steps, which is
 -- kept; the report tells the given steps
@@ -62,13 +61,15 @@ SolvesOn start (Some path) given kept b status report = SolvesBelow start path g
 
 -- what a program in blocks is answered by `solve` that goes on from a named file: what `check` answers where the file isn't
 -- there or has no valid certificate, the line of a leaf that is too deep, the number of an open leaf that isn't there, or else
--- the outcome of a search that goes on from what is loaded, at and below the named leaf alone where one is named
+-- the outcome of a search that goes on from what is loaded, over the program with the certificate's cuts, at and below the named leaf
+-- alone where one is named
 pub data SolvesFrom (files : Files) (name : List ℕ) (leaf : Option ℕ) (given : Option ℕ) (kept : Option Outcome) (b : BlockedProgram) (status : ℕ) (report : List ℕ) : Type 0 where
   missing : files name ≡ None → kept ≡ None → status ≡ 11 → report ≡ [] → SolvesFrom files name leaf given kept b status report
   refused : (text : List ℕ) → files name ≡ Some text → kept ≡ None → RefusesStart b leaf text status report
       → SolvesFrom files name leaf given kept b status report
-  went_on : (text : List ℕ) (from : Loaded) (below : Option (List Side)) → files name ≡ Some text → IsStartAt b leaf text from below
-      → SolvesOn from.grove.tree below given kept b status report → SolvesFrom files name leaf given kept b status report
+  went_on : (text : List ℕ) (from : Loaded) (below : Option (List Side)) (c : BlockedProgram) → files name ≡ Some text
+      → (at : IsStartAt b leaf text from below) → GoesOnOver b at.start.cert c
+      → SolvesOn from.grove.tree below given kept c status report → SolvesFrom files name leaf given kept b status report
 
 -- what a program in blocks is answered by `solve`, from a named file or from the start
 abbrev pub SolvesBy : Files → (from : Option (List ℕ)) → (leaf : Option ℕ) → (given : Option ℕ) → Option Outcome → BlockedProgram → (status : ℕ) → (report : List ℕ) → Type 0

@@ -14,6 +14,7 @@ use Rattle.branch_tree.specs.declared.outcome.Outcome.{Outcome}
 use Rattle.bp_search.specs.Ends.{EndsWithin, given_steps}
 use Rattle.bp_search.specs.Below.{EndsBelow}
 use Rattle.cert_load.specs.Loadings.{IsLoadedOf, IsTooDeep}
+use Rattle.cert_load.specs.Recut.{with_cuts}
 use Rattle.cert_text.specs.Fault.{IsCertText}
 use Rattle.cert_text.specs.Fault as texts
 use Rattle.cert_text.specs.Written.{cert_of}
@@ -27,13 +28,13 @@ use Rattle.cmd_solve.specs.Leaves.{open_path, IsWorkedOn}
 use Rattle.cmd_solve.specs.declared.start.Start.{Start}
 use Rattle.cmd_solve.specs.declared.start.Start.TheVariants.{Fresh, Ready, Refused}
 
--- a text spells a valid certificate, and this is the tree with the point that is loaded of it
+-- a text spells a valid certificate, and this is the tree with the point that is loaded of it, over the program with its cuts
 pub record IsStart (b : BlockedProgram) (text : List ℕ) (from : Loaded) : Type 0 where
   pub cert : Certificate
   pub spelled : IsCertText (frame_for b) (cert_of cert) text
   pub has_point : HasItsPoint (named_value cert.claim) cert.point
   pub valid : IsCertified b.named.program b.dec cert
-  pub loaded : IsLoadedOf b cert from
+  pub loaded : IsLoadedOf (with_cuts b cert.cuts) cert from
 
 -- the same, with where in the tree a search works
 pub record IsStartAt (b : BlockedProgram) (leaf : Option ℕ) (text : List ℕ) (from : Loaded) (below : Option (List Side)) : Type 0 where
@@ -49,15 +50,19 @@ pub data RefusesStart (b : BlockedProgram) (leaf : Option ℕ) (text : List ℕ)
       → HasItsPoint (named_value cert.claim) cert.point → IsFirstFault b.named.program b.dec cert line kind
       → status ≡ 6 → report ≡ rejected_report line kind → RefusesStart b leaf text status report
   too_deep : (cert : Certificate) (line : ℕ) → IsCertText (frame_for b) (cert_of cert) text
-      → HasItsPoint (named_value cert.claim) cert.point → IsCertified b.named.program b.dec cert → IsTooDeep b cert line
+      → HasItsPoint (named_value cert.claim) cert.point → IsCertified b.named.program b.dec cert → IsTooDeep (with_cuts b cert.cuts) cert line
       → status ≡ 3 → report ≡ from_refusal line → RefusesStart b leaf text status report
   no_leaf : (from : Loaded) (number : ℕ) (start : IsStart b text from) → leaf ≡ Some number → open_path start.cert.tree number ≡ None
       → status ≡ 3 → report ≡ leaf_refusal number → RefusesStart b leaf text status report
 
+-- a search goes on from a certificate over the program with its cuts
+abbrev pub GoesOnOver : BlockedProgram → Certificate → BlockedProgram → Type 0
+GoesOnOver b cert c = c ≡ with_cuts b cert.cuts
+
 -- what a text is as a start
 abbrev pub StartsBy : BlockedProgram → (leaf : Option ℕ) → List ℕ → Start → Type 0
 StartsBy b leaf text Fresh = ⊥
-StartsBy b leaf text (Ready from below) = IsStartAt b leaf text from below
+StartsBy b leaf text (Ready c from below) = (at : IsStartAt b leaf text from below) × GoesOnOver b at.start.cert c
 StartsBy b leaf text (Refused reply) = RefusesStart b leaf text reply.status reply.report.items
 
 -- what a certificate that was read is as a start, whatever text spells it
@@ -69,6 +74,17 @@ abbrev pub HasStart : Files → Option (List ℕ) → (leaf : Option ℕ) → Bl
 HasStart files None leaf b start = start ≡ Fresh
 HasStart files (Some name) leaf b start = (text : List ℕ) × (files name ≡ Some text) × StartsBy b leaf text start
 
+-- where a search begins, and over which program in blocks: at the start, over that which the files come to, or at what a named file is
+-- loaded as, over the same with the cuts of its certificate
+abbrev pub BeginsBy : Files → Option (List ℕ) → (b c : BlockedProgram) → Option Loaded → Type 0
+BeginsBy files None b c from = (from ≡ None) × (c ≡ b)
+BeginsBy files (Some name) b c from =
+    (text : List ℕ) × (loaded : Loaded) × (files name ≡ Some text) × (start : IsStart b text loaded) × GoesOnOver b start.cert c × (from ≡ Some loaded)
+
+-- the program in blocks that a search is over, from a named file or from the start
+abbrev pub SearchesOver : Files → Option (List ℕ) → (b c : BlockedProgram) → Type 0
+SearchesOver files from b c = (start : Option Loaded) × BeginsBy files from b c start
+
 -- the named file of a start isn't there
 abbrev pub LacksStart : Files → Option (List ℕ) → Type 0
 LacksStart files None = ⊥
@@ -77,7 +93,7 @@ LacksStart files (Some name) = files name ≡ None
 -- a search may begin there, everywhere in the tree where no leaf is named; or what is printed has its status
 abbrev pub CanBegin : BlockedProgram → (leaf : Option ℕ) → Start → Type 0
 CanBegin b leaf Fresh = Unit {0}
-CanBegin b leaf (Ready from below) = IsLoaded b from × (leaf ≡ None → below ≡ None)
+CanBegin b leaf (Ready c from below) = IsLoaded c from × (leaf ≡ None → below ≡ None)
 CanBegin b leaf (Refused reply) = (reply.status ≡ 3) ⊎ (reply.status ≡ 6)
 
 -- how a search ends that goes on from a tree, everywhere in it or at a path and below it alone, and how many steps its report

@@ -17,7 +17,7 @@ ghost use Rattle.cert_stream.specs.declared.stream.StreamStop.TheVariants.{NoMem
 ghost use Rattle.bp_front.specs.Answers.{AnswersBy, IsOnly, CutsOff, HasCauses, PutsReport, FailsToWrite, FilesStand};
 ghost use Rattle.cmd_solve.specs.Solves.{AnswersSolve, SolvesBy, SolvesAt, outcome_status};
 ghost use Rattle.cmd_solve.specs.Crews.{HasEventsFrom, EventsBy, HasEvents};
-ghost use Rattle.cmd_solve.specs.Saves.{IsSolved, IsSaved, TellsOf, SavesBlocked, HasCertificate, LeavesAt, LeavesBy, LeavesCertificate, IsUntouched, IsPartOf, HoldsPart, AsBeforeOr, LeavesPart};
+ghost use Rattle.cmd_solve.specs.Saves.{IsSolved, IsSaved, TellsOf, SavesBlocked, SavesBy, HasCertificate, LeavesAt, LeavesBy, LeavesCertificate, IsUntouched, IsPartOf, HoldsPart, HoldsPartBy, AsBeforeOr, LeavesPart};
 
 use crate::crew::{CrewOrder, Searched, crew_ordered, kept_events, search_from};
 use crate::start::{Start, begin};
@@ -65,7 +65,8 @@ pub fn solve<F: Shelf, O: Sink>(
         steps (option_map (λ name. name.now) from.entry) leaf result.kept) result.status }
     ensures saved { IsTrue (F.tells shelf.old) →
         HasCertificate (F.file shelf.old) lp.now (option_map (λ name. name.now) dec.entry)
-        (option_map (λ name. name.now) cert.entry) (F.file shelf.new) result.kept }
+        (option_map (λ name. name.now) cert.entry) (option_map (λ name. name.now) from.entry)
+        (F.file shelf.new) result.kept }
     ensures puts { PutsReport result.status (O.puts out.old) (O.puts out.new) }
     ensures failed { result.status ≡ 8 →
         FailsToWrite (IsTrue (F.tells shelf.old) →
@@ -121,6 +122,7 @@ fn solve_blocks<F: Shelf, O: Sink>(
     leaf: Option<u64>,
     crew: Option<CrewOrder>,
 ) -> Ended
+    requires uncut { b.now.cuts ≡ [] }
     requires few { IfSome steps (λ n. n ≤ 2 ^ 60) }
     requires some { IfSome crew (λ c. 1 ≤ c.workers) }
     requires alone { IfSome leaf (λ _. crew ≡ None) }
@@ -131,8 +133,8 @@ fn solve_blocks<F: Shelf, O: Sink>(
         IsOnly (SolvesBy (F.file shelf.old) (option_map (λ name. name.now) from.entry) leaf steps
         result.kept b.now) result.status }
     ensures saved { IsTrue (F.tells shelf.old) →
-        SavesBlocked b.now (option_map (λ name. name.now) cert.entry) (F.file shelf.new)
-        result.kept }
+        SavesBy (F.file shelf.old) (option_map (λ name. name.now) from.entry) b.now (option_map
+        (λ name. name.now) cert.entry) (F.file shelf.new) result.kept }
     ensures puts { PutsReport result.status (O.puts out.old) (O.puts out.new) }
     ensures failed { result.status ≡ 8 →
         FailsToWrite (IsTrue (F.tells shelf.old) →
@@ -156,9 +158,9 @@ fn solve_blocks<F: Shelf, O: Sink>(
     ensures untouched { IsTrue (F.tells shelf.old) → IsUntouched result.status →
         F.file shelf.new ≡ F.file shelf.old }
     ensures part { IsTrue (F.tells shelf.old) → result.status ≡ 9 →
-        AsBeforeOr (HoldsPart (λ kept. SolvesBy (F.file shelf.old) (option_map (λ name. name.now)
-        from.entry) leaf steps kept b.now) b.now) (option_map (λ name. name.now) cert.entry)
-        (F.file shelf.old) (F.file shelf.new) }
+        AsBeforeOr (HoldsPartBy (F.file shelf.old) (option_map (λ name. name.now) from.entry) leaf
+        steps b.now) (option_map (λ name. name.now) cert.entry) (F.file shelf.old)
+        (F.file shelf.new) }
     ensures silent { (result.status ≡ 7) ⊎ (result.status ≡ 9) ⊎ (result.status ≡ 11) →
         O.taken out.new ≡ O.taken out.old }
     ensures cut_off { IsTrue (F.tells shelf.old) → IsTrue (O.tells out.old) →
@@ -169,8 +171,18 @@ fn solve_blocks<F: Shelf, O: Sink>(
     let _ = b.blocks();
     match begin(alloc, shelf, b, from, leaf) {
         Ok(Start::Fresh) => answer(alloc, shelf, out, b, None, None, steps, cert, crew),
-        Ok(Start::Ready(from, below)) => {
-            answer(alloc, shelf, out, b, Some(from), below, steps, cert, crew)
+        Ok(Start::Ready(cut, from, below)) => {
+            answer(
+                alloc,
+                shelf,
+                out,
+                &cut,
+                Some(from),
+                below,
+                steps,
+                cert,
+                crew,
+            )
         }
         Ok(Start::Refused(reply)) => print(alloc, out, &reply, None),
         Err(fault) => stopped_by(alloc, fault),

@@ -1,5 +1,5 @@
 // From where a search goes on, and where in its tree it works: the tree of a certificate's file, or the start.
-ghost use Rattle.std.specs.Prelude.{◌≡◌, ◌⊎◌, IfOk, IsErrOf, IsTrue, Some};
+ghost use Rattle.std.specs.Prelude.{◌≡◌, ◌⊎◌, [], IfOk, IsErrOf, IsTrue, Some};
 ghost use Rattle.std.specs.Option.{option_map};
 ghost use Rattle.bp_theory.specs.Claims.{IsCertified};
 ghost use Rattle.bp_shelf.specs.Shelf.{CountsFailed};
@@ -7,13 +7,13 @@ ghost use Rattle.bp_shelf.specs.declared.shelf.ShelfFault.TheVariants.{Missing};
 ghost use Rattle.cert_text.specs.Kept.{certificate_of};
 ghost use Rattle.cert_text.specs.Programs.{GoesWith};
 ghost use Rattle.cert_load.specs.Loadings.{IsLoadedOf};
-ghost use Rattle.cmd_solve.specs.Starts.{StartsBy, StartsOf, HasStart, LacksStart, CanBegin};
+ghost use Rattle.cmd_solve.specs.Starts.{StartsBy, StartsOf, GoesOnOver, HasStart, LacksStart, CanBegin};
 
 use crate::leaf::open_path;
 use block_form::Blocked;
 use bp_front::{Reply, read_front};
 use bp_report::{cert_text, check_text, from_text, leaf_text};
-use bp_search::{LoadFault, load};
+use bp_search::{LoadFault, load, with_cuts_of};
 use bp_shelf::{Shelf, ShelfFault};
 use bp_theory::Items;
 use branch_tree::Loaded;
@@ -30,8 +30,9 @@ const MAX_FILE: usize = (1 << 62) - 1;
 pub enum Start {
     /// From the planted tree.
     Fresh,
-    /// From a tree that was loaded, everywhere in it, or at a path and below it alone where there is one.
-    Ready(Loaded, Option<Items<Side>>),
+    /// From a tree that was loaded, over the program with the cuts of its certificate: everywhere in the tree, or at a path and
+    /// below it alone where there is one.
+    Ready(Blocked, Loaded, Option<Items<Side>>),
     /// From nowhere: a file is no start, and this is printed for it.
     Refused(Reply),
 }
@@ -45,6 +46,7 @@ pub fn begin<F: Shelf>(
     from: Option<&str>,
     leaf: Option<u64>,
 ) -> Result<Start, ShelfFault>
+    requires uncut { b.now.cuts ≡ [] }
     ensures start { IsTrue (F.tells shelf.old) →
         IfOk result (HasStart (F.file shelf.old) (option_map (λ name. name.now) from.entry)
         leaf b.now) }
@@ -70,6 +72,7 @@ fn begin_from<F: Shelf>(
     name: &str,
     leaf: Option<u64>,
 ) -> Result<Start, ShelfFault>
+    requires uncut { b.now.cuts ≡ [] }
     ensures start { IsTrue (F.tells shelf.old) →
         IfOk result (HasStart (F.file shelf.old) (Some name.now) leaf b.now) }
     ensures usable { IfOk result (CanBegin b.now leaf) }
@@ -86,6 +89,7 @@ fn begin_from<F: Shelf>(
 
 // The start that a text gives.
 fn start_of(alloc: Global, b: &Blocked, text: &[u8], leaf: Option<u64>) -> Result<Start, AllocError>
+    requires { b.now.cuts ≡ [] }
     ensures start { IfOk result (StartsBy b.now leaf text.now) }
     ensures usable { IfOk result (CanBegin b.now leaf) }
 {
@@ -106,7 +110,8 @@ fn judged_start(
     cert: &Cert,
     leaf: Option<u64>,
 ) -> Result<Start, AllocError>
-    requires { GoesWith b.now (certificate_of cert.now) }
+    requires uncut { b.now.cuts ≡ [] }
+    requires goes_with { GoesWith b.now (certificate_of cert.now) }
     ensures start { IfOk result (StartsOf b.now leaf cert.now) }
     ensures usable { IfOk result (CanBegin b.now leaf) }
 {
@@ -128,13 +133,15 @@ fn loaded_start(
     cert: &Cert,
     leaf: Option<u64>,
 ) -> Result<Start, AllocError>
+    requires uncut { b.now.cuts ≡ [] }
     requires goes_with { GoesWith b.now (certificate_of cert.now) }
     requires valid { IsCertified b.now.named.program b.now.dec (certificate_of cert.now) }
     ensures start { IfOk result (StartsOf b.now leaf cert.now) }
     ensures usable { IfOk result (CanBegin b.now leaf) }
 {
-    match load(alloc, b, cert) {
-        Ok(from) => placed_start(alloc, b, cert, from, leaf),
+    let cut = with_cuts_of(alloc, b, cert)?;
+    match load(alloc, &cut, cert) {
+        Ok(from) => placed_start(alloc, b, cut, cert, from, leaf),
         Err(LoadFault::Deep(line)) => Ok(Start::Refused(Reply {
             status: 3,
             report: from_text(alloc, line)?,
@@ -147,21 +154,21 @@ fn loaded_start(
 fn placed_start(
     alloc: Global,
     b: &Blocked,
+    cut: Blocked,
     cert: &Cert,
     from: Loaded,
     leaf: Option<u64>,
 ) -> Result<Start, AllocError>
+    requires cut { GoesOnOver b.now (certificate_of cert.now) cut }
     requires valid { IsCertified b.now.named.program b.now.dec (certificate_of cert.now) }
-    requires loaded { IsLoadedOf b.now (certificate_of cert.now) from }
+    requires loaded { IsLoadedOf cut (certificate_of cert.now) from }
     ensures start { IfOk result (StartsOf b.now leaf cert.now) }
     ensures usable { IfOk result (CanBegin b.now leaf) }
 {
-    // For the proof alone: `b` is formed.
-    let _ = b.blocks();
     match leaf {
-        None => Ok(Start::Ready(from, None)),
+        None => Ok(Start::Ready(cut, from, None)),
         Some(number) => match open_path(alloc, cert.tree(), number)? {
-            Some(path) => Ok(Start::Ready(from, Some(path))),
+            Some(path) => Ok(Start::Ready(cut, from, Some(path))),
             None => Ok(Start::Refused(Reply {
                 status: 3,
                 report: leaf_text(alloc, number)?,

@@ -9,7 +9,7 @@ const ONE_LEAF: &str =
     "bpcert 1\nclaim optimal 8\npoint 2 1\nleaf 5 rows 2 1 -7 2 -1 priced 0\nend\n";
 
 // Two variables, two blocks, and two master rows.
-fn two_rows(alloc: Global) -> Result<Frame, AllocError> {
+pub fn two_rows(alloc: Global) -> Result<Frame, AllocError> {
     let mut masters = Items::new(alloc);
     masters.push(true)?;
     masters.push(true)?;
@@ -22,7 +22,7 @@ fn two_rows(alloc: Global) -> Result<Frame, AllocError> {
 }
 
 // Three variables, two blocks with a row each, a master row between these rows, and two link rows.
-fn two_links(alloc: Global) -> Result<Frame, AllocError> {
+pub fn two_links(alloc: Global) -> Result<Frame, AllocError> {
     let mut masters = Items::new(alloc);
     masters.push(false)?;
     masters.push(true)?;
@@ -36,7 +36,7 @@ fn two_links(alloc: Global) -> Result<Frame, AllocError> {
 }
 
 // The line and the kind of what was not read.
-fn fault_of(answer: Result<Cert, CertFault>) -> Option<(u64, CertKind)> {
+pub fn fault_of(answer: Result<Cert, CertFault>) -> Option<(u64, CertKind)> {
     match answer {
         Err(CertFault::At { line, kind }) => Some((line, kind)),
         _ => None,
@@ -77,7 +77,7 @@ fn full(alloc: Global, depth: u8) -> Result<Sketch, AllocError> {
 }
 
 // A text with so many copies of a line in the middle.
-fn repeated(
+pub fn repeated(
     alloc: Global,
     first: &str,
     line: &str,
@@ -281,7 +281,7 @@ fn report(alloc: Global, frame: &Frame, written: &str) -> Result<String, AllocEr
 }
 
 // The texts of which something else is said, with that; how many texts there are.
-fn wrong(alloc: Global, frame: &Frame, table: &str) -> Result<(String, usize), AllocError> {
+pub fn wrong(alloc: Global, frame: &Frame, table: &str) -> Result<(String, usize), AllocError> {
     let mut all = String::new(alloc);
     let mut count = 0usize;
     for line in table.lines() {
@@ -393,7 +393,7 @@ fn reads_and_writes_changes_between_leaves(rt: HostRuntime) -> Result<(), Fail> 
 
 // Texts at fault in their version or their changes, with the line and the kind of the first fault.
 const FAULTY: [(&str, u64, CertKind); 8] = [
-    ("bpcert 3\n", 1, CertKind::Syntax),
+    ("bpcert 3\n", 2, CertKind::Syntax),
     ("bpcert 12\n", 1, CertKind::Syntax),
     (
         "bpcert 2\nclaim infeasible\nleaf 0 rows 0 priced 0\nend\n",

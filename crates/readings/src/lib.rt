@@ -5,6 +5,8 @@
 #[cfg(test)]
 mod certificates;
 #[cfg(test)]
+mod cuts;
+#[cfg(test)]
 mod decompositions;
 #[cfg(test)]
 mod lp_texts;

@@ -1,5 +1,5 @@
 // Certificates that are fed in pieces, beside certificates that are read whole.
-ghost use Rattle.std.specs.Prelude.{ℕ, ◌+◌, ◌<◌, ◌^◌, List, Option, length, IfSome};
+ghost use Rattle.std.specs.Prelude.{◌≡◌, ℕ, ◌+◌, ◌<◌, ◌^◌, List, [], Option, length, IfSome};
 ghost use Rattle.bp_theory.specs.Decomposition.{HasPlaces};
 ghost use Rattle.bp_model.specs.Dec.{HasListed};
 ghost use Rattle.block_form.specs.Blocked.{BlockedProgram};
@@ -30,6 +30,14 @@ const LINKED_MODEL: &str =
 
 const LINKED_BLOCKS: &str = "NBLOCKS 2\nBLOCK 1\n c1\nBLOCK 2\n c2\nLINKINGVARS\n x\n";
 
+// Twice a whole number is 5: cuts show that no point is feasible.
+const CUT_MODEL: &str =
+    "Minimize\n obj: x + y\nSubject To\n c1: 2 x + 2 y = 5\nBounds\n x <= 3\n y <= 3\nGenerals\n x y\nEnd\n";
+
+// A row whose sums leave 62 bits where it is taken 2^20 times.
+const LARGE_MODEL: &str =
+    "Minimize\n obj: x\nSubject To\n c1: 8796093022208 x >= 0\nBounds\n x <= 1\nGenerals\n x\nEnd\n";
+
 // What an answer comes to.
 #[derive(Clone, Copy, PartialEq, Eq, Debug)]
 enum Answer {
@@ -49,7 +57,7 @@ fn kind_number(kind: CheckKind) -> u8 {
         CheckKind::Split => 4,
         CheckKind::Weak => 5,
         CheckKind::Open => 6,
-        _ => 7,
+        CheckKind::Cut => 7,
     }
 }
 
@@ -61,7 +69,9 @@ fn judged(found: &Judged) -> Answer {
     }
 }
 
-fn whole(alloc: Global, b: &Blocked, text: &[u8], visits: Option<u64>) -> Answer {
+fn whole(alloc: Global, b: &Blocked, text: &[u8], visits: Option<u64>) -> Answer
+    requires { b.now.cuts ≡ [] }
+{
     match read_cert(alloc, text, b) {
         Err(CertFault::At { line, kind }) => Answer::Fault(line, kind),
         Err(CertFault::NoMemory) => Answer::NoMemory,
@@ -80,11 +90,11 @@ fn faulty(fault: &FeedFault) -> Answer {
 }
 
 // What a checker answers at the end of its text.
-fn ended(alloc: Global, checker: Checker) -> Answer
+fn ended(checker: Checker) -> Answer
     requires { (b : BlockedProgram) × (visits : Option ℕ) × (text : List ℕ) × IsMadeFor b checker ×
         ChecksFor b visits checker text }
 {
-    match checker.finish(alloc) {
+    match checker.finish() {
         Err(fault) => faulty(&fault),
         Ok(found) => judged(&found),
     }
@@ -92,7 +102,8 @@ fn ended(alloc: Global, checker: Checker) -> Answer
 
 // A text that is fed in two parts.
 fn in_two(alloc: Global, b: &Blocked, first: &[u8], second: &[u8], visits: Option<u64>) -> Answer
-    requires { length first.now + length second.now < 2 ^ 63 }
+    requires uncut { b.now.cuts ≡ [] }
+    requires few { length first.now + length second.now < 2 ^ 63 }
 {
     match Checker::make(alloc, b, visits) {
         Err(_) => Answer::NoMemory,
@@ -100,14 +111,15 @@ fn in_two(alloc: Global, b: &Blocked, first: &[u8], second: &[u8], visits: Optio
             let mut checker = made;
             let _ = checker.feed(alloc, b, first);
             let _ = checker.feed(alloc, b, second);
-            ended(alloc, checker)
+            ended(checker)
         }
     }
 }
 
 // A text that is fed byte by byte.
 fn by_bytes(alloc: Global, b: &Blocked, text: &[u8], visits: Option<u64>) -> Answer
-    requires { length text.now < 2 ^ 63 }
+    requires uncut { b.now.cuts ≡ [] }
+    requires few { length text.now < 2 ^ 63 }
 {
     match Checker::make(alloc, b, visits) {
         Err(_) => Answer::NoMemory,
@@ -116,13 +128,15 @@ fn by_bytes(alloc: Global, b: &Blocked, text: &[u8], visits: Option<u64>) -> Ans
             for byte in text {
                 let _ = checker.feed(alloc, b, &[*byte]);
             }
-            ended(alloc, checker)
+            ended(checker)
         }
     }
 }
 
 // The program in blocks of a model, with this decomposition or the plain one.
-fn program(alloc: Global, model: &str, dec: Option<&str>) -> Option<Blocked> {
+fn program(alloc: Global, model: &str, dec: Option<&str>) -> Option<Blocked>
+    ensures { IfSome result (λ b. b.cuts ≡ []) }
+{
     let Ok(model) = read_lp(alloc, model.as_bytes()) else {
         return None;
     };
@@ -179,9 +193,38 @@ const LINKED_TEXTS: [&str; 5] = [
     "bpcert 1\nclaim optimal 4\npoint 0 1 1\nleaf 1 rows 1 4 -1 priced all\nend\n",
 ];
 
+const CUT_TEXTS: [&str; 10] = [
+    "bpcert 3\nclaim infeasible\ncut 2 rows 1 1 1\ncut 2 rows 1 1 -1\nleaf 0 change 2 2 1 3 1 priced 0\nend\n",
+    "bpcert 3\nclaim infeasible\ncut 2 rows 1 1 1\ncut 2 rows 1 1 1\nleaf 0 change 2 2 1 3 1 priced 0\nend\n",
+    "bpcert 3\nclaim infeasible\ncut 2 rows 1 1 1\ncut 2 rows 1 1 -1\ncut 1 rows 2 2 1 3 1\nleaf 0 change 1 4 1 priced 0\nend\n",
+    "bpcert 3\nclaim infeasible\ncut 2 rows 1 1 1\ncut 2 rows 1 1 -1\nsplit 1 1\nleaf 0 change 2 2 1 3 1 priced all\nleaf 0 change 0 priced all\nend\n",
+    "bpcert 3\nclaim infeasible\ncut 2 rows 1 1 1\ncut 1 rows 1 2 -1\nleaf 0 change 1 2 1 priced 0\nend\n",
+    "bpcert 3\nclaim infeasible\ncut 2 rows 1 1 1\ncut 2 rows 1 1 -1\nleaf 0 change 2 2 -1 3 1 priced 0\nend\n",
+    "bpcert 3\nclaim infeasible\ncut 0 rows 1 1 1\nleaf 0 change 0 priced 0\nend\n",
+    "bpcert 3\nclaim infeasible\ncut 2 rows 1 2 1\nleaf 0 change 0 priced 0\nend\n",
+    "bpcert 3\nclaim infeasible\nleaf 0 change 0 priced 0\nend\n",
+    "bpcert 3\nclaim infeasible\ncut 2 rows 1 1 1\ncut 1 rows 1 2 -1\nleaf 0 change 1 4 1 priced 0\nend\n",
+];
+
+// What the texts come to.
+const CUT_ANSWERS: [Answer; 10] = [
+    Answer::Accepted,
+    Answer::Rejected(5, 5),
+    Answer::Accepted,
+    Answer::Accepted,
+    Answer::Rejected(4, 3),
+    Answer::Rejected(5, 3),
+    Answer::Fault(3, CertKind::Number),
+    Answer::Fault(3, CertKind::Number),
+    Answer::Fault(3, CertKind::Syntax),
+    Answer::Fault(5, CertKind::Number),
+];
+
 // The first place in a text where pieces are judged otherwise than the whole: the text in two parts, or its beginning byte
 // by byte.
-fn other_place(alloc: Global, b: &Blocked, text: &[u8], visits: Option<u64>) -> Option<usize> {
+fn other_place(alloc: Global, b: &Blocked, text: &[u8], visits: Option<u64>) -> Option<usize>
+    requires { b.now.cuts ≡ [] }
+{
     if text.len() > LONGEST {
         return Some(text.len());
     }
@@ -266,18 +309,18 @@ fn pieces_are_judged_within_visits(rt: HostRuntime) -> Result<(), Fail> {
 
 // What a text comes to that is fed byte by byte.
 fn answer_of(alloc: Global, text: &str, visits: Option<u64>) -> Option<Answer> {
-    answer_in(alloc, MODEL, BLOCKS, text, visits)
+    answer_in(alloc, MODEL, Some(BLOCKS), text, visits)
 }
 
 // The same for a model and a decomposition.
 fn answer_in(
     alloc: Global,
     model: &str,
-    dec: &str,
+    dec: Option<&str>,
     text: &str,
     visits: Option<u64>,
 ) -> Option<Answer> {
-    let Some(b) = program(alloc, model, Some(dec)) else {
+    let Some(b) = program(alloc, model, dec) else {
         return None;
     };
     let bytes = text.as_bytes();
@@ -352,12 +395,60 @@ fn a_link_row_may_be_named(rt: HostRuntime) -> Result<(), Fail> {
             answer_in(
                 alloc,
                 LINKED_MODEL,
-                LINKED_BLOCKS,
+                Some(LINKED_BLOCKS),
                 LINKED_TEXTS[number],
                 None
             ),
             Some(answers[number])
         );
     }
+    Ok(())
+}
+
+#[test]
+fn pieces_are_judged_with_cuts(rt: HostRuntime) -> Result<(), Fail> {
+    assert_eq!(rt;
+        first_other(rt.alloc(), CUT_MODEL, None, &CUT_TEXTS, None),
+        None
+    );
+    Ok(())
+}
+
+// Each cut's line is judged over the rows and the cuts in front of it, and the leaves over all of them.
+#[test]
+fn cuts_are_judged(rt: HostRuntime) -> Result<(), Fail> {
+    let alloc = rt.alloc();
+    for number in 0..CUT_TEXTS.len() {
+        assert_eq!(rt;
+            answer_in(alloc, CUT_MODEL, None, CUT_TEXTS[number], None),
+            Some(CUT_ANSWERS[number])
+        );
+    }
+    Ok(())
+}
+
+#[test]
+fn signs_and_sizes_of_cuts_are_judged(rt: HostRuntime) -> Result<(), Fail> {
+    let alloc = rt.alloc();
+    assert_eq!(rt;
+        answer_in(
+            alloc,
+            MODEL,
+            None,
+            "bpcert 3\nclaim optimal 8\npoint 2 1\ncut 2 rows 1 1 1\nleaf 5 change 2 1 -7 2 -1 priced 0\nend\n",
+            None
+        ),
+        Some(Answer::Rejected(4, kind_number(CheckKind::Sign)))
+    );
+    assert_eq!(rt;
+        answer_in(
+            alloc,
+            LARGE_MODEL,
+            None,
+            "bpcert 3\nclaim bound 0\ncut 1 rows 1 1 1048576\nleaf 1 change 0 priced 0\nend\n",
+            None
+        ),
+        Some(Answer::Rejected(3, kind_number(CheckKind::Cut)))
+    );
     Ok(())
 }

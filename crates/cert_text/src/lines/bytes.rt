@@ -1,22 +1,28 @@
 // A reader of lines goes on by a byte, or ends.
-ghost use Rattle.std.specs.Prelude.{◌≡◌, ℕ, [], ◌∷◌, Bool, List, true, false, if◌then◌else◌, Ok, Some, None, IfOk, OnOk, length, slice_index_or, ◌+◌, ◌-◌, ◌<◌, ◌^◌};
+ghost use Rattle.std.specs.Prelude.{◌≡◌, ℕ, [], ◌∷◌, Bool, List, true, false, if◌then◌else◌, Ok, Some, None, IfOk, OnOk, IsErrOf, ℤ, pos, length, slice_index_or, ◌+◌, ◌-◌, ◌<◌, ◌^◌};
 ghost use Rattle.cert_text.specs.declared.frame.Frame.{Frame};
 ghost use Rattle.cert_text.specs.declared.words.Word.{Word};
-ghost use Rattle.cert_text.specs.Cert.{Tree};
-ghost use Rattle.cert_text.specs.Stages.{Wait, words, line_fault, is_deep_stage};
+ghost use Rattle.cert_text.specs.Cert.{Cut, Tree};
+ghost use Rattle.cert_text.specs.Stages.{Wait, words, line_fault, number_fault, is_deep_stage, deep_kind};
 ghost use Rattle.cert_text.specs.Readers.{HasHighs, stage_of};
 ghost use Rattle.cert_text.specs.Telling.{Stays, Tells};
 ghost use Rattle.cert_text.specs.Frames.{frame_of};
 ghost use Rattle.cert_text.specs.Words.{word_text, word_begins, word_token};
 ghost use Rattle.cert_text.specs.Text.{fault_of};
-ghost use Rattle.cert_text.specs.Standing.{StandsFor, Between, InWordAt, MayStand, Comes, Steps, EndsNumberAt, EndsTextAt, EndsWell, is_digit};
+ghost use Rattle.cert_text.specs.Fault.{IsFirstCertFault};
+ghost use Rattle.cert_text.specs.Signed.{signed};
+ghost use Rattle.cert_text.specs.Spots.{spot_sort};
+ghost use Rattle.cert_text.specs.declared.spots.Sort.TheVariants.{Natural, Whole};
+ghost use Rattle.cert_text.specs.Standing.{StandsFor, Between, InWordAt, MayStand, Comes, Steps, EndsNumberAt, EndsWell, is_digit};
 ghost use Rattle.cert_text.specs.declared.lines.Part.TheVariants.{Digits, Minus, DeepMinus};
 
 use crate::fault::{CertFault, CertKind};
 use crate::frame::Frame;
+use crate::judge::{MAX_DIVISOR, judge_block, judge_coordinate, judge_multiplier, judge_value};
 use crate::lines::{Event, Lines, Part};
 use crate::spots::{Sort, Spot, pick, sort_of, words_at};
 use crate::words::{Word, bytes_of, ends_line};
+use block_form::MAX_MULTIPLIER;
 use std::alloc::Global;
 
 // Whether a byte is a digit.
@@ -29,10 +35,10 @@ fn digit(byte: u8) -> bool
 impl Lines {
     // Whether a line's end would leave a point with too few values.
     fn is_short_point(&self, frame: &Frame) -> bool
-        ensures { (above : List Wait) (root : Tree) (n : ℕ) → (result ≡ true → line_fault (frame_of
-            frame.now) (stage_of above root self.now n) ≡
+        ensures { (above : List Wait) (root : Tree) (cuts : List Cut) (n : ℕ) → (result ≡ true → line_fault (frame_of
+            frame.now) (stage_of above root cuts self.now n) ≡
             Some CertKind.Length) × (result ≡ false →
-            line_fault (frame_of frame.now) (stage_of above root self.now n) ≡ None) }
+            line_fault (frame_of frame.now) (stage_of above root cuts self.now n) ≡ None) }
     {
         match self.spot {
             Spot::Values => self.point.len() < frame.variables as usize,
@@ -42,8 +48,8 @@ impl Lines {
 
     // Whether a word can't stand as a line's end would leave a point with too few values.
     fn is_faulty_end(&self, frame: &Frame, word: Word) -> bool
-        ensures { (above : List Wait) (root : Tree) (n : ℕ) → fault_of (word_token
-            (line_fault (frame_of frame.now) (stage_of above root self.now n)) word) ≡
+        ensures { (above : List Wait) (root : Tree) (cuts : List Cut) (n : ℕ) → fault_of (word_token
+            (line_fault (frame_of frame.now) (stage_of above root cuts self.now n)) word) ≡
             (if result then Some CertKind.Length else None) }
     {
         if ends_line(word) {
@@ -62,13 +68,10 @@ impl Lines {
         value: u64,
     ) -> Result<(), CertFault>
         requires { self.old.part ≡ Digits negative value }
-        ensures behind { (above : List Wait) (root : Tree) (text : List ℕ) (byte : ℕ) → length text
+        ensures behind { (above : List Wait) (root : Tree) (cuts : List Cut) (text : List ℕ) (byte : ℕ) → length text
             + 1 < 2 ^ 64 →
-            StandsFor above root frame.now self.old text → is_digit byte ≡ false →
-            EndsNumberAt above root frame.now self.new text byte result }
-        ensures at_end { (above : List Wait) (root : Tree) (text : List ℕ) → length text < 2 ^ 64 →
-            StandsFor above root frame.now self.old text → EndsTextAt above root frame.now self.new
-            text result }
+            StandsFor above root cuts frame.now self.old text → is_digit byte ≡ false →
+            EndsNumberAt above root cuts frame.now self.new text byte result }
         ensures stays { OnOk result (Stays self.old self.new) }
     {
         match sort_of(self.spot) {
@@ -85,11 +88,11 @@ impl Lines {
         frame: &Frame,
         word: Word,
     ) -> Result<Option<Event>, CertFault>
-        ensures steps { (above : List Wait) (root : Tree) (text : List ℕ) (byte count : ℕ) → length text +
+        ensures steps { (above : List Wait) (root : Tree) (cuts : List Cut) (text : List ℕ) (byte count : ℕ) → length text +
             1 < 2 ^ 64 →
-            InWordAt above root frame.now self.old word count text → slice_index_or (word_text word)
+            InWordAt above root cuts frame.now self.old word count text → slice_index_or (word_text word)
             count 0 ≡
-            byte → count + 1 ≡ length (word_text word) → Steps above root frame.now self.new text
+            byte → count + 1 ≡ length (word_text word) → Steps above root cuts frame.now self.new text
             byte result }
         ensures told { IfOk result (λ event. Tells self.old self.new event) }
     {
@@ -118,10 +121,10 @@ impl Lines {
         done: usize,
         byte: u8,
     ) -> Result<Option<Event>, CertFault>
-        ensures steps { (above : List Wait) (root : Tree) (text : List ℕ) → length text + 1 < 2 ^ 64 →
-            (done ≡ 0 → word_begins word byte ≡ true) → InWordAt above root frame.now self.old word
+        ensures steps { (above : List Wait) (root : Tree) (cuts : List Cut) (text : List ℕ) → length text + 1 < 2 ^ 64 →
+            (done ≡ 0 → word_begins word byte ≡ true) → InWordAt above root cuts frame.now self.old word
             done text →
-            Steps above root frame.now self.new text byte result }
+            Steps above root cuts frame.now self.new text byte result }
         ensures told { IfOk result (λ event. Tells self.old self.new event) }
     {
         let bytes = bytes_of(word);
@@ -141,29 +144,41 @@ impl Lines {
         self.end_word(alloc, frame, word)
     }
 
-    // Whether the number comes of a node that is too deep.
+    // Whether the number comes of a node that is too deep, or of a cut too many.
     fn awaits_deep(&self) -> bool
-        ensures { (above : List Wait) (root : Tree) (n : ℕ) → HasHighs above self.now → result ≡
-            is_deep_stage (stage_of above root self.now n) }
+        ensures { (above : List Wait) (root : Tree) (cuts : List Cut) (n : ℕ) → HasHighs above cuts self.now → result ≡
+            is_deep_stage (stage_of above root cuts self.now n) }
     {
         match self.spot {
             Spot::Scale | Spot::Variable => self.is_deep(),
+            Spot::Divisor => self.has_all_cuts(),
             _ => false,
         }
     }
 
-    // The number of a node that is too deep begins with a byte, or the text leaves the grammar.
+    // The kind of such a number's fault.
+    fn deep_kind(&self) -> CertKind
+        ensures { (above : List Wait) (root : Tree) (cuts : List Cut) (n : ℕ) →
+            result ≡ deep_kind (stage_of above root cuts self.now n) }
+    {
+        match self.spot {
+            Spot::Divisor => CertKind::Limit,
+            _ => CertKind::Depth,
+        }
+    }
+
+    // Such a number begins with a byte, or the text leaves the grammar.
     fn begin_deep(&mut self, byte: u8) -> Result<Option<Event>, CertFault>
-        ensures steps { (above : List Wait) (root : Tree) (frame : Frame) (text : List ℕ) (number : Bool)
+        ensures steps { (above : List Wait) (root : Tree) (cuts : List Cut) (frame : Frame) (text : List ℕ) (number : Bool)
             → length text + 1 < 2 ^ 64 →
-            (between : Between above root frame self.old number text) →
-            is_deep_stage (stage_of above root self.old between.count) ≡ true → MayStand number
+            (between : Between above root cuts frame self.old number text) →
+            is_deep_stage (stage_of above root cuts self.old between.count) ≡ true → MayStand number
             (byte ∷ []) →
-            Steps above root frame self.new text byte result }
+            Steps above root cuts frame self.new text byte result }
         ensures told { IfOk result (λ event. Tells self.old self.new event) }
     {
         if digit(byte) {
-            return Err(self.fault(CertKind::Depth));
+            return Err(self.fault(self.deep_kind()));
         }
         if byte == b'-' {
             self.part = Part::DeepMinus;
@@ -172,29 +187,29 @@ impl Lines {
         Err(self.fault(CertKind::Syntax))
     }
 
-    // The byte behind a minus, where the number comes of a node that is too deep.
+    // The byte behind a minus, where the number comes of a node that is too deep, or of a cut too many.
     fn behind_deep_minus(&self, byte: u8) -> Result<Option<Event>, CertFault>
         requires { self.now.part ≡ DeepMinus }
-        ensures steps { (above : List Wait) (root : Tree) (frame : Frame) (text : List ℕ) → length text +
+        ensures steps { (above : List Wait) (root : Tree) (cuts : List Cut) (frame : Frame) (text : List ℕ) → length text +
             1 < 2 ^ 64 →
-            StandsFor above root frame self.now text → Steps above root frame self.now text byte
+            StandsFor above root cuts frame self.now text → Steps above root cuts frame self.now text byte
             result }
         ensures told { IfOk result (λ event. Tells self.now self.now event) }
     {
         if digit(byte) {
-            return Err(self.fault(CertKind::Depth));
+            return Err(self.fault(self.deep_kind()));
         }
         Err(self.fault(CertKind::Syntax))
     }
 
     // A number begins with a byte, or the text leaves the grammar.
     fn begin_number(&mut self, byte: u8) -> Result<Option<Event>, CertFault>
-        ensures steps { (above : List Wait) (root : Tree) (frame : Frame) (text : List ℕ) (number : Bool)
+        ensures steps { (above : List Wait) (root : Tree) (cuts : List Cut) (frame : Frame) (text : List ℕ) (number : Bool)
             → length text + 1 < 2 ^ 64 →
-            (between : Between above root frame self.old number text) → MayStand number (byte ∷ [])
+            (between : Between above root cuts frame self.old number text) → MayStand number (byte ∷ [])
             →
-            ((v : Word) → Comes v (words (stage_of above root self.old between.count)) →
-            word_begins v byte ≡ false) → Steps above root frame self.new text byte result }
+            ((v : Word) → Comes v (words (stage_of above root cuts self.old between.count)) →
+            word_begins v byte ≡ false) → Steps above root cuts frame self.new text byte result }
         ensures told { IfOk result (λ event. Tells self.old self.new event) }
     {
         if self.awaits_deep() {
@@ -244,9 +259,9 @@ impl Lines {
     ) -> Result<Option<Event>, CertFault>
         requires part { self.old.part ≡ Digits negative value }
         requires digit { is_digit byte ≡ true }
-        ensures steps { (above : List Wait) (root : Tree) (frame : Frame) (text : List ℕ) → length text +
+        ensures steps { (above : List Wait) (root : Tree) (cuts : List Cut) (frame : Frame) (text : List ℕ) → length text +
             1 < 2 ^ 64 →
-            StandsFor above root frame self.old text → Steps above root frame self.new text byte
+            StandsFor above root cuts frame self.old text → Steps above root cuts frame self.new text byte
             result }
         ensures told { IfOk result (λ event. Tells self.old self.new event) }
     {
@@ -264,9 +279,9 @@ impl Lines {
     // The byte behind a minus.
     fn behind_minus(&mut self, byte: u8) -> Result<Option<Event>, CertFault>
         requires { self.old.part ≡ Minus }
-        ensures steps { (above : List Wait) (root : Tree) (frame : Frame) (text : List ℕ) → length text +
+        ensures steps { (above : List Wait) (root : Tree) (cuts : List Cut) (frame : Frame) (text : List ℕ) → length text +
             1 < 2 ^ 64 →
-            StandsFor above root frame self.old text → Steps above root frame self.new text byte
+            StandsFor above root cuts frame self.old text → Steps above root cuts frame self.new text byte
             result }
         ensures told { IfOk result (λ event. Tells self.old self.new event) }
     {
@@ -281,11 +296,11 @@ impl Lines {
 
     // A token begins with a byte.
     fn begin(&mut self, alloc: Global, frame: &Frame, byte: u8) -> Result<Option<Event>, CertFault>
-        ensures steps { (above : List Wait) (root : Tree) (text : List ℕ) (number : Bool) → length text +
+        ensures steps { (above : List Wait) (root : Tree) (cuts : List Cut) (text : List ℕ) (number : Bool) → length text +
             1 < 2 ^ 64 →
-            Between above root frame.now self.old number text → (number ≡ true → is_digit byte ≡
+            Between above root cuts frame.now self.old number text → (number ≡ true → is_digit byte ≡
             false) →
-            Steps above root frame.now self.new text byte result }
+            Steps above root cuts frame.now self.new text byte result }
         ensures told { IfOk result (λ event. Tells self.old self.new event) }
     {
         match pick(words_at(self.version, self.spot, self.left > 0), byte) {
@@ -302,9 +317,9 @@ impl Lines {
         frame: &Frame,
         byte: u8,
     ) -> Result<Option<Event>, CertFault>
-        ensures steps { (above : List Wait) (root : Tree) (text : List ℕ) → length text + 1 < 2 ^ 64 →
-            StandsFor above root frame.now self.old text →
-            Steps above root frame.now self.new text byte result }
+        ensures steps { (above : List Wait) (root : Tree) (cuts : List Cut) (text : List ℕ) → length text + 1 < 2 ^ 64 →
+            StandsFor above root cuts frame.now self.old text →
+            Steps above root cuts frame.now self.new text byte result }
         ensures told { IfOk result (λ event. Tells self.old self.new event) }
     {
         match self.part {
@@ -324,12 +339,67 @@ impl Lines {
         }
     }
 
-    /// The text ends here: it is a certificate's, or has a fault.
-    pub fn end(&mut self, alloc: Global, frame: &Frame) -> Result<(), CertFault>
-        ensures ends { (above : List Wait) (root : Tree) (text : List ℕ) → length text < 2 ^ 64 →
-            StandsFor above root frame.now self.old text →
-            EndsWell above root frame.now self.new text result }
-        ensures same { OnOk result (self.new ≡ self.old) }
+    // What a number without a sign is at fault for, if for anything.
+    fn natural_fault(&self, frame: &Frame, value: u64) -> Option<CertKind>
+        requires { spot_sort self.now.spot ≡ Natural }
+        ensures { (above : List Wait) (root : Tree) (cuts : List Cut) (n : ℕ) → HasHighs above cuts self.now → number_fault
+            (frame_of frame.now) (stage_of above root cuts self.now n) (pos value) ≡
+            result }
+    {
+        match self.spot {
+            Spot::Divisor => self.divisor_of(value).err(),
+            Spot::CutRow => self.combined_of(frame, value).err(),
+            Spot::Scale => self.scale_of(value).err(),
+            Spot::Row => self.row_of(frame, value).err(),
+            Spot::Block => judge_block(frame, self.last, value).err(),
+            Spot::Variable => self.variable_of(frame, value).err(),
+            _ => None,
+        }
+    }
+
+    // What a number with a sign is at fault for, if for anything.
+    fn whole_fault(&self, frame: &Frame, negative: bool, value: u64) -> Option<CertKind>
+        requires { spot_sort self.now.spot ≡ Whole }
+        ensures { (above : List Wait) (root : Tree) (cuts : List Cut) (n : ℕ) → HasHighs above cuts self.now → number_fault
+            (frame_of frame.now) (stage_of above root cuts self.now n) (signed negative value) ≡
+            result }
+    {
+        match self.spot {
+            Spot::Coordinate => judge_coordinate(frame, self.point.len(), negative, value).err(),
+            Spot::CutMultiplier => {
+                judge_multiplier(u64::from(MAX_DIVISOR), &0, negative, value).err()
+            }
+            Spot::Multiplier => {
+                judge_multiplier(MAX_MULTIPLIER, &self.had.get(self.row), negative, value).err()
+            }
+            Spot::OptimalValue | Spot::BoundValue | Spot::KnownValue | Spot::Place => {
+                judge_value(negative, value).err()
+            }
+            _ => None,
+        }
+    }
+
+    // What a text is at fault for that ends with a number: the number, or that no more comes.
+    fn last_kind(&self, frame: &Frame, negative: bool, value: u64) -> CertKind
+        requires { self.now.part ≡ Digits negative value }
+        ensures { (above : List Wait) (root : Tree) (cuts : List Cut) (text : List ℕ) → StandsFor above root cuts frame.now
+            self.now text → IsFirstCertFault (frame_of frame.now) text self.now.line result }
+    {
+        match sort_of(self.spot) {
+            Sort::Natural => self.natural_fault(frame, value).unwrap_or(CertKind::Syntax),
+            Sort::Whole => self
+                .whole_fault(frame, negative, value)
+                .unwrap_or(CertKind::Syntax),
+            Sort::Wordy => CertKind::Syntax,
+        }
+    }
+
+    /// The text ends here: it is a certificate's, or has a fault. This takes no memory.
+    pub fn end(&self, frame: &Frame) -> Result<(), CertFault>
+        ensures ends { (above : List Wait) (root : Tree) (cuts : List Cut) (text : List ℕ) →
+            StandsFor above root cuts frame.now self.now text →
+            EndsWell above root cuts frame.now self.now text result }
+        ensures no_memory { IsErrOf result CertFault.NoMemory → ⊥ }
     {
         match self.part {
             Part::Fresh => match self.spot {
@@ -340,10 +410,7 @@ impl Lines {
             Part::Minus => Err(self.fault(CertKind::Syntax)),
             Part::DeepMinus => Err(self.fault(CertKind::Syntax)),
             Part::Digits { negative, value } => {
-                match self.end_number(alloc, frame, negative, value) {
-                    Err(fault) => Err(fault),
-                    Ok(()) => Err(self.fault(CertKind::Syntax)),
-                }
+                Err(self.fault(self.last_kind(frame, negative, value)))
             }
         }
     }

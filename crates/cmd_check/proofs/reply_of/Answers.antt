@@ -10,7 +10,7 @@ use Rattle.cmd_check.proofs.reply_of.Goals as goal
 pub returns-in-Ok-clause-right : goal.returns-in-Ok-clause-right
 returns-in-Ok-clause-right c = λ b visits text made stands.
     let is = c.in-Ok.ensures.finishes b visits text made stands in
-    verdicts_reply visits b text (certificate is.0 is.1 is.2) c.in-Ok.judged c.verdict.result is.3 (kept_point is.0 is.1) is.5 is.6 c.verdict.ensures
+    verdicts_reply visits b text (certificate is.0 is.1 is.2 is.3) c.in-Ok.judged c.verdict.result is.4 (kept_point is.0 is.1) is.6 is.7 c.verdict.ensures
 
 -- a refusal of a line and a kind under their names
 named : (report : List ℕ) (line other : ℕ) (kind another : CertKind) → report ≡ cert_refusal line kind → line ≡ other → kind ≡ another → report ≡ cert_refusal other another

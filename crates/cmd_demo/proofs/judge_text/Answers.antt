@@ -21,7 +21,7 @@ feed-requires-clause-few c =
     let so_far = c.loop-piece.invariant.4 in
     let rest = ap length c.in-Some.ensures.steps.1.0 ∙ length-append c.in-Some.piece.now (chunks_rest c.next.new.self) in
     let all = sym (length-append so_far.0 (chunks_rest c.loop-piece.piece-iterator)) ∙ ap length so_far.3 in
-    omega (arith, rest, all, so_far.2, c.requires)
+    omega (arith, rest, all, so_far.2, c.requires.few)
 
 pub loop-piece-preserved : goal.loop-piece-preserved
 loop-piece-preserved c =

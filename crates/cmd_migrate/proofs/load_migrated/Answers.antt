@@ -3,8 +3,8 @@ use Rattle.std.specs.Option.{option_map}
 use Rattle.bp_shelf.specs.Shelf.{Files}
 use Rattle.bp_shelf.specs.declared.shelf.ShelfFault.TheVariants.{Missing}
 use Rattle.bp_front.specs.Written.{IsTextHalt}
-use Rattle.cmd_migrate.specs.Migrates.{TextMigrates, answer_of}
-use Rattle.cmd_migrate.proofs.Lifted.{front_halts, fault_halts, still_missing, read_whole, file_migrated, file_halted, text_counts}
+use Rattle.cmd_migrate.specs.Migrates.{TextMigrates, ReadsCert}
+use Rattle.cmd_migrate.proofs.Lifted.{front_halts, fault_halts, still_missing, read_whole, file_read, file_halted, text_counts}
 use Rattle.cmd_migrate.proofs.load_migrated.Goals as goal
 
 pub returns-in_err-b-clause-halted : goal.returns-in_err-b-clause-halted
@@ -19,15 +19,15 @@ returns-in_err-text-clause-halted g c = λ told.
     c.from_residual-in_err-text.result c.from_residual-in_err-text.ensures.1 (c.in_ok-b.ensures.blocked told)
     (λ (is : c.in_err-text.field-0.0 ≡ Missing). ap (λ (files : Files). files c.args.cert.now) (sym c.in_ok-b.ensures.files) ∙ c.in_err-text.ensures.missing still (still_missing c.in_err-text.field-0.0 is))
 
-pub returns-clause-migrated : goal.returns-clause-migrated
-returns-clause-migrated g c = λ told.
+pub returns-clause-read : goal.returns-clause-read
+returns-clause-read g c = λ told.
     let still : IsTrue (g.F.Shelf.tells c.load.new.shelf) = subst (λ (t : Bool). IsTrue t) (sym c.in_ok-b.ensures.told) told in
     let text = c.in_ok-text.text.items in
     let read : ◌≡◌ {A = Option (List ℕ)} (Some text) (g.F.Shelf.file c.load.new.shelf c.args.cert.now) =
     read_whole (g.F.Shelf.file c.load.new.shelf) c.args.cert.now text (g.met.F.Shelf.short c.load.new.shelf still) (c.in_ok-text.ensures.found still refl (lit< tt)) (c.in_ok-text.ensures.bytes still) in
-    file_migrated (g.F.Shelf.file c.args.shelf.now) c.args.lp.now c.args.cert.now (option_map (λ name. name.now) c.args.dec) c.in_ok-b.b text c.written_anew.result (c.in_ok-b.ensures.blocked told)
+    file_read (g.F.Shelf.file c.args.shelf.now) c.args.lp.now c.args.cert.now (option_map (λ name. name.now) c.args.dec) c.in_ok-b.b text c.read_text.result (c.in_ok-b.ensures.blocked told)
     (read ∙ ap (λ (files : Files). files c.args.cert.now) c.in_ok-b.ensures.files)
-    (subst (λ (t : List ℕ). IfOk c.written_anew.result (λ m. TextMigrates c.in_ok-b.b (Some t) (answer_of m))) c.deref.ensures.value c.written_anew.ensures.migrated)
+    (subst (λ (t : List ℕ). IfOk c.read_text.result (λ m. ReadsCert c.in_ok-b.b (Some t) m)) c.deref.ensures.value c.read_text.ensures.read)
 
 pub returns-clause-halted : goal.returns-clause-halted
 returns-clause-halted g c = λ told.
@@ -35,11 +35,11 @@ returns-clause-halted g c = λ told.
     let text = c.in_ok-text.text.items in
     let read : ◌≡◌ {A = Option (List ℕ)} (Some text) (g.F.Shelf.file c.load.new.shelf c.args.cert.now) =
     read_whole (g.F.Shelf.file c.load.new.shelf) c.args.cert.now text (g.met.F.Shelf.short c.load.new.shelf still) (c.in_ok-text.ensures.found still refl (lit< tt)) (c.in_ok-text.ensures.bytes still) in
-    file_halted (g.F.Shelf.file c.args.shelf.now) c.args.lp.now c.args.cert.now (option_map (λ name. name.now) c.args.dec) c.in_ok-b.b text c.written_anew.result (c.in_ok-b.ensures.blocked told)
+    file_halted (g.F.Shelf.file c.args.shelf.now) c.args.lp.now c.args.cert.now (option_map (λ name. name.now) c.args.dec) c.in_ok-b.b text c.read_text.result (c.in_ok-b.ensures.blocked told)
     (read ∙ ap (λ (files : Files). files c.args.cert.now) c.in_ok-b.ensures.files)
-    (subst (λ (t : List ℕ). IfErr c.written_anew.result (IsTextHalt (TextMigrates c.in_ok-b.b (Some t)))) c.deref.ensures.value c.written_anew.ensures.halted)
+    (subst (λ (t : List ℕ). IfErr c.read_text.result (IsTextHalt (TextMigrates c.in_ok-b.b (Some t)))) c.deref.ensures.value c.read_text.ensures.halted)
 
 pub returns-clause-cause : goal.returns-clause-cause
 returns-clause-cause g c =
-    text_counts (TextMigrates c.in_ok-b.b (Some c.deref.result.now)) c.written_anew.result (g.F.Shelf.read_faults c.args.shelf.now) (g.F.Shelf.read_faults c.read_front.new.shelf) c.written_anew.ensures.halted
+    text_counts (TextMigrates c.in_ok-b.b (Some c.deref.result.now)) c.read_text.result (g.F.Shelf.read_faults c.args.shelf.now) (g.F.Shelf.read_faults c.read_front.new.shelf) c.read_text.ensures.halted
     (c.in_ok-text.ensures.cause ∙ c.in_ok-b.ensures.cause)

@@ -5,7 +5,7 @@ use Rattle.branch_tree.specs.declared.outcome.Outcome.{Outcome}
 use Rattle.bp_front.specs.Answers.{stopped, AnswersBy, IsOnly, CutsOff}
 use Rattle.bp_front.proofs.Faults.{fails_as}
 use Rattle.bp_front.proofs.Lifts.{lift_answers, lift_only, lift_cut, stop_only, fault_only, printed_status}
-use Rattle.cmd_solve.specs.Saves.{LeavesBy, searched, HoldsPart, AsBeforeOr}
+use Rattle.cmd_solve.specs.Saves.{LeavesBy, SavesBy, searched, HoldsPartBy, AsBeforeOr}
 use Rattle.cmd_solve.specs.Saves as leaves
 use Rattle.cmd_solve.specs.Solves.{SolvesBy}
 use Rattle.cmd_solve.specs.declared.crew.CrewOrder.{CrewOrder}
@@ -115,8 +115,12 @@ returns-in-Ok-clause-untouched g c = λ told untouched. c.solve_blocks.ensures.u
 pub returns-in-Ok-clause-saved : goal.returns-in-Ok-clause-saved
 returns-in-Ok-clause-saved g c = λ told.
     let still : IsTrue (g.F.Shelf.tells c.load.new.shelf) = subst (λ (t : Bool). IsTrue t) (sym c.in-Ok.ensures.told) told in
-    lift_saved (g.F.Shelf.file c.args.shelf.now) c.args.lp.now (option_map (λ name. name.now) c.args.dec) (option_map (λ name. name.now) c.args.cert)
-    (g.F.Shelf.file c.solve_blocks.new.shelf) c.in-Ok.b c.solve_blocks.result.kept (c.in-Ok.ensures.blocked told) (c.solve_blocks.ensures.saved still)
+    let files = g.F.Shelf.file c.args.shelf.now in
+    let from : Option (List ℕ) = option_map (λ name. name.now) c.args.from in
+    let cert : Option (List ℕ) = option_map (λ name. name.now) c.args.cert in
+    lift_saved files c.args.lp.now (option_map (λ name. name.now) c.args.dec) cert from (g.F.Shelf.file c.solve_blocks.new.shelf) c.in-Ok.b c.solve_blocks.result.kept
+    (c.in-Ok.ensures.blocked told)
+    (subst (λ (fs : Files). SavesBy fs from c.in-Ok.b cert (g.F.Shelf.file c.solve_blocks.new.shelf) c.solve_blocks.result.kept) c.in-Ok.ensures.files (c.solve_blocks.ensures.saved still))
 
 pub returns-in-Ok-clause-part : goal.returns-in-Ok-clause-part
 returns-in-Ok-clause-part g c = λ told want.
@@ -126,7 +130,7 @@ returns-in-Ok-clause-part g c = λ told want.
     let still : IsTrue (g.F.Shelf.tells c.load.new.shelf) = subst (λ (t : Bool). IsTrue t) (sym c.in-Ok.ensures.told) told in
     lift_part files c.args.lp.now (option_map (λ name. name.now) c.args.dec) c.args.steps cert from c.args.leaf (g.F.Shelf.file c.solve_blocks.new.shelf) c.in-Ok.b
     (c.in-Ok.ensures.blocked told)
-    (subst (λ (fs : Files). AsBeforeOr (HoldsPart (λ (kept : Option Outcome). SolvesBy fs from c.args.leaf c.args.steps kept c.in-Ok.b) c.in-Ok.b) cert fs (g.F.Shelf.file c.solve_blocks.new.shelf))
+    (subst (λ (fs : Files). AsBeforeOr (HoldsPartBy fs from c.args.leaf c.args.steps c.in-Ok.b) cert fs (g.F.Shelf.file c.solve_blocks.new.shelf))
     c.in-Ok.ensures.files (c.solve_blocks.ensures.part still want))
 
 pub returns-in-Err-Stopped-clause-part : goal.returns-in-Err-Stopped-clause-part

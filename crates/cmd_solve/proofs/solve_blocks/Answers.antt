@@ -1,4 +1,4 @@
-use Rattle.std.proofs.Common.{None, ◌∙◌, inr, refl, sym, ap, subst, Option, List, ℕ, Err}
+use Rattle.std.proofs.Common.{None, Some, ◌∙◌, inr, refl, sym, ap, subst, Option, List, ℕ, Err}
 use Rattle.std.specs.Option.{option_map}
 use Rattle.bp_shelf.specs.Shelf.{Files}
 use Rattle.bp_shelf.specs.declared.shelf.ShelfFault.{ShelfFault}
@@ -6,10 +6,11 @@ use Rattle.branch_tree.specs.declared.outcome.Outcome.{Outcome}
 use Rattle.bp_front.specs.Answers.{AnswersBy, IsOnly, CutsOff}
 use Rattle.bp_front.proofs.Faults.{fails_as}
 use Rattle.cmd_solve.specs.Solves.{SolvesBy}
-use Rattle.cmd_solve.specs.Saves.{LeavesBy, HoldsPart, AsBeforeOr}
-use Rattle.cmd_solve.proofs.Starting.{can_begin, alone_at, fresh_from, ready_from, refused_from, ready_answers, ready_only, ready_cut, ready_leaves, refused_answers, refusal_only, refused_cut, refused_leaves, fault_answers, fault_only}
+use Rattle.cmd_solve.specs.Saves.{LeavesBy, HoldsPartBy, AsBeforeOr}
+use Rattle.cmd_solve.proofs.Starting.{can_begin, alone_at, fresh_from, ready_from, refused_from, ready_begins, fresh_begins, ready_answers, ready_only, ready_cut, ready_leaves, refused_answers, refusal_only, refused_cut, refused_leaves, fault_answers, fault_only}
 use Rattle.cmd_solve.proofs.CrewEvents.{fresh_events, ready_events, none_by, printed_none, refused_apart}
-use Rattle.cmd_solve.proofs.Parts.{nothing_left, ready_part}
+use Rattle.cmd_solve.proofs.Outcomes.{saved_by, none_saved}
+use Rattle.cmd_solve.proofs.Parts.{nothing_left, fresh_part, ready_part}
 use Rattle.cmd_solve.proofs.solve_blocks.Goals as goal
 
 -- ---- from the start
@@ -54,12 +55,12 @@ returns-in-Ok-Fresh-clause-cut_off g c = λ told heard.
 
 pub answer-requires-in-Ok-Ready-clause-loaded : goal.answer-requires-in-Ok-Ready-clause-loaded
 answer-requires-in-Ok-Ready-clause-loaded g c =
-    (can_begin c.args.b.now c.args.leaf c.in-Ok-Ready.field-0 c.in-Ok-Ready.from c.in-Ok-Ready.below c.in-Ok-Ready.field-0-is c.in-Ok-Ready.ensures.usable).0
+    (can_begin c.args.b.now c.in-Ok-Ready.cut c.args.leaf c.in-Ok-Ready.field-0 c.in-Ok-Ready.from c.in-Ok-Ready.below c.in-Ok-Ready.field-0-is c.in-Ok-Ready.ensures.usable).0
 
 pub answer-requires-in-Ok-Ready-clause-alone : goal.answer-requires-in-Ok-Ready-clause-alone
 answer-requires-in-Ok-Ready-clause-alone g c =
     alone_at c.args.leaf c.in-Ok-Ready.below c.args.crew
-    (can_begin c.args.b.now c.args.leaf c.in-Ok-Ready.field-0 c.in-Ok-Ready.from c.in-Ok-Ready.below c.in-Ok-Ready.field-0-is c.in-Ok-Ready.ensures.usable).1
+    (can_begin c.args.b.now c.in-Ok-Ready.cut c.args.leaf c.in-Ok-Ready.field-0 c.in-Ok-Ready.from c.in-Ok-Ready.below c.in-Ok-Ready.field-0-is c.in-Ok-Ready.ensures.usable).1
     c.requires.alone
 
 pub returns-in-Ok-Ready-clause-answered : goal.returns-in-Ok-Ready-clause-answered
@@ -67,16 +68,17 @@ returns-in-Ok-Ready-clause-answered g c = λ told.
     let files = g.F.Shelf.file c.args.shelf.now in
     let from : Option (List ℕ) = option_map (λ name. name.now) c.args.from in
     let start = c.in-Ok-Ready.ensures.start told in
-    ready_answers files from c.args.leaf c.args.steps c.answer-in-Ok-Ready.result.kept c.args.b.now c.in-Ok-Ready.from c.in-Ok-Ready.below c.answer-in-Ok-Ready.result.status (g.O.Sink.tells c.args.out.now) (g.O.Sink.taken c.args.out.now)
-    (g.O.Sink.taken c.answer-in-Ok-Ready.new.out) (ready_from files from c.args.leaf c.args.b.now c.in-Ok-Ready.from c.in-Ok-Ready.below (rw c.in-Ok-Ready.field-0-is at start)) c.answer-in-Ok-Ready.ensures.answered
+    ready_answers files from c.args.leaf c.args.steps c.answer-in-Ok-Ready.result.kept c.args.b.now c.in-Ok-Ready.cut c.in-Ok-Ready.from c.in-Ok-Ready.below c.answer-in-Ok-Ready.result.status (g.O.Sink.tells c.args.out.now) (g.O.Sink.taken c.args.out.now)
+    (g.O.Sink.taken c.answer-in-Ok-Ready.new.out) (ready_from files from c.args.leaf c.args.b.now c.in-Ok-Ready.cut c.in-Ok-Ready.from c.in-Ok-Ready.below (rw c.in-Ok-Ready.field-0-is at start)) c.answer-in-Ok-Ready.ensures.answered
 
 pub returns-in-Ok-Ready-clause-exact : goal.returns-in-Ok-Ready-clause-exact
 returns-in-Ok-Ready-clause-exact g c = λ told.
     let files = g.F.Shelf.file c.args.shelf.now in
     let from : Option (List ℕ) = option_map (λ name. name.now) c.args.from in
     let start = c.in-Ok-Ready.ensures.start told in
-    ready_only files from c.args.leaf c.args.steps c.answer-in-Ok-Ready.result.kept c.args.b.now c.in-Ok-Ready.from c.in-Ok-Ready.below c.answer-in-Ok-Ready.result.status c.blocks-2.ensures.formed
-    (ready_from files from c.args.leaf c.args.b.now c.in-Ok-Ready.from c.in-Ok-Ready.below (rw c.in-Ok-Ready.field-0-is at start)) c.answer-in-Ok-Ready.ensures.exact
+    ready_only files from c.args.leaf c.args.steps c.answer-in-Ok-Ready.result.kept c.args.b.now c.in-Ok-Ready.cut c.in-Ok-Ready.from c.in-Ok-Ready.below c.answer-in-Ok-Ready.result.status
+    (g.O.Sink.tells c.args.out.now) (g.O.Sink.taken c.args.out.now) (g.O.Sink.taken c.answer-in-Ok-Ready.new.out) c.blocks-2.ensures.formed
+    (ready_from files from c.args.leaf c.args.b.now c.in-Ok-Ready.cut c.in-Ok-Ready.from c.in-Ok-Ready.below (rw c.in-Ok-Ready.field-0-is at start)) c.answer-in-Ok-Ready.ensures.answered
 
 pub returns-in-Ok-Ready-clause-failed : goal.returns-in-Ok-Ready-clause-failed
 returns-in-Ok-Ready-clause-failed g c = λ is_fault.
@@ -86,8 +88,8 @@ returns-in-Ok-Ready-clause-failed g c = λ is_fault.
     (g.O.Sink.faults c.args.out.now) (g.O.Sink.faults c.answer-in-Ok-Ready.new.out) (g.O.Sink.puts c.args.out.now) (g.O.Sink.puts c.answer-in-Ok-Ready.new.out)
     (g.O.Sink.taken c.args.out.now) (g.O.Sink.taken c.answer-in-Ok-Ready.new.out) c.in-Ok-Ready.ensures.writes
     (λ stands told. let start = c.in-Ok-Ready.ensures.start told in
-    ready_leaves files from c.args.leaf c.args.steps (option_map (λ name. name.now) c.args.cert) (g.F.Shelf.file c.answer-in-Ok-Ready.new.shelf) c.args.b.now c.in-Ok-Ready.from c.in-Ok-Ready.below
-    (ready_from files from c.args.leaf c.args.b.now c.in-Ok-Ready.from c.in-Ok-Ready.below (rw c.in-Ok-Ready.field-0-is at start)) (stands (c.in-Ok-Ready.ensures.told ∙ told)))
+    ready_leaves files from c.args.leaf c.args.steps (option_map (λ name. name.now) c.args.cert) (g.F.Shelf.file c.answer-in-Ok-Ready.new.shelf) c.args.b.now c.in-Ok-Ready.cut c.in-Ok-Ready.from c.in-Ok-Ready.below
+    (ready_from files from c.args.leaf c.args.b.now c.in-Ok-Ready.cut c.in-Ok-Ready.from c.in-Ok-Ready.below (rw c.in-Ok-Ready.field-0-is at start)) (stands (c.in-Ok-Ready.ensures.told ∙ told)))
     (c.answer-in-Ok-Ready.ensures.failed is_fault)
 
 pub returns-in-Ok-Ready-clause-cut_off : goal.returns-in-Ok-Ready-clause-cut_off
@@ -95,8 +97,8 @@ returns-in-Ok-Ready-clause-cut_off g c = λ told heard.
     let files = g.F.Shelf.file c.args.shelf.now in
     let from : Option (List ℕ) = option_map (λ name. name.now) c.args.from in
     let start = c.in-Ok-Ready.ensures.start told in
-    ready_cut files from c.args.leaf c.args.steps c.args.b.now c.in-Ok-Ready.from c.in-Ok-Ready.below c.answer-in-Ok-Ready.result.status (g.O.Sink.taken c.args.out.now)
-    (g.O.Sink.taken c.answer-in-Ok-Ready.new.out) (ready_from files from c.args.leaf c.args.b.now c.in-Ok-Ready.from c.in-Ok-Ready.below (rw c.in-Ok-Ready.field-0-is at start)) (c.answer-in-Ok-Ready.ensures.cut_off heard)
+    ready_cut files from c.args.leaf c.args.steps c.args.b.now c.in-Ok-Ready.cut c.in-Ok-Ready.from c.in-Ok-Ready.below c.answer-in-Ok-Ready.result.status (g.O.Sink.taken c.args.out.now)
+    (g.O.Sink.taken c.answer-in-Ok-Ready.new.out) (ready_from files from c.args.leaf c.args.b.now c.in-Ok-Ready.cut c.in-Ok-Ready.from c.in-Ok-Ready.below (rw c.in-Ok-Ready.field-0-is at start)) (c.answer-in-Ok-Ready.ensures.cut_off heard)
 
 -- ---- refused as a start
 
@@ -169,8 +171,8 @@ returns-in-Ok-Ready-clause-events g c = λ told.
     let files = g.F.Shelf.file c.args.shelf.now in
     let from : Option (List ℕ) = option_map (λ name. name.now) c.args.from in
     let start = c.in-Ok-Ready.ensures.start told in
-    ready_events files from c.args.steps c.args.crew c.args.b.now c.in-Ok-Ready.from c.args.leaf c.in-Ok-Ready.below c.answer-in-Ok-Ready.result.kept c.answer-in-Ok-Ready.result.events.items
-    (ready_from files from c.args.leaf c.args.b.now c.in-Ok-Ready.from c.in-Ok-Ready.below (rw c.in-Ok-Ready.field-0-is at start)) c.answer-in-Ok-Ready.ensures.events
+    ready_events files from c.args.steps c.args.crew c.args.b.now c.in-Ok-Ready.cut c.in-Ok-Ready.from c.args.leaf c.in-Ok-Ready.below c.answer-in-Ok-Ready.result.kept c.answer-in-Ok-Ready.result.events.items
+    (ready_from files from c.args.leaf c.args.b.now c.in-Ok-Ready.cut c.in-Ok-Ready.from c.in-Ok-Ready.below (rw c.in-Ok-Ready.field-0-is at start)) c.answer-in-Ok-Ready.ensures.events
 
 pub returns-in-Ok-Refused-clause-events : goal.returns-in-Ok-Refused-clause-events
 returns-in-Ok-Refused-clause-events g c = λ told.
@@ -182,6 +184,41 @@ returns-in-Ok-Refused-clause-events g c = λ told.
     (refused_apart c.in-Ok-Refused.reply.status (rw c.in-Ok-Refused.field-0-is at usable)))
     c.print.ensures.events
 
+-- ---- what is saved
+
+pub returns-in-Ok-Fresh-clause-saved : goal.returns-in-Ok-Fresh-clause-saved
+returns-in-Ok-Fresh-clause-saved g c = λ told.
+    let files = g.F.Shelf.file c.args.shelf.now in
+    let from : Option (List ℕ) = option_map (λ name. name.now) c.args.from in
+    let start = c.in-Ok-Fresh.ensures.start told in
+    saved_by files from c.args.b.now c.args.b.now None (option_map (λ name. name.now) c.args.cert) (g.F.Shelf.file c.answer.new.shelf) c.answer.result.kept
+    (fresh_begins files from c.args.b.now (fresh_from files from c.args.leaf c.args.b.now (rw c.in-Ok-Fresh.field-0-is at start)))
+    (c.answer.ensures.saved (c.in-Ok-Fresh.ensures.told ∙ told))
+
+pub returns-in-Ok-Ready-clause-saved : goal.returns-in-Ok-Ready-clause-saved
+returns-in-Ok-Ready-clause-saved g c = λ told.
+    let files = g.F.Shelf.file c.args.shelf.now in
+    let from : Option (List ℕ) = option_map (λ name. name.now) c.args.from in
+    let start = c.in-Ok-Ready.ensures.start told in
+    saved_by files from c.args.b.now c.in-Ok-Ready.cut (Some c.in-Ok-Ready.from) (option_map (λ name. name.now) c.args.cert) (g.F.Shelf.file c.answer-in-Ok-Ready.new.shelf)
+    c.answer-in-Ok-Ready.result.kept
+    (ready_begins files from c.args.leaf c.args.b.now c.in-Ok-Ready.cut c.in-Ok-Ready.from c.in-Ok-Ready.below
+    (ready_from files from c.args.leaf c.args.b.now c.in-Ok-Ready.cut c.in-Ok-Ready.from c.in-Ok-Ready.below (rw c.in-Ok-Ready.field-0-is at start)))
+    (c.answer-in-Ok-Ready.ensures.saved (c.in-Ok-Ready.ensures.told ∙ told))
+
+pub returns-in-Ok-Refused-clause-saved : goal.returns-in-Ok-Refused-clause-saved
+returns-in-Ok-Refused-clause-saved g c = λ told.
+    let usable = c.in-Ok-Refused.ensures.usable in
+    none_saved (g.F.Shelf.file c.args.shelf.now) (option_map (λ name. name.now) c.args.from) c.args.b.now (option_map (λ name. name.now) c.args.cert) (g.F.Shelf.file c.begin.new.shelf)
+    c.print.result.kept
+    (printed_none c.print.result.status c.in-Ok-Refused.reply.status c.print.result.kept c.print.ensures.status c.print.ensures.kept c.print.ensures.none_kept
+    (refused_apart c.in-Ok-Refused.reply.status (rw c.in-Ok-Refused.field-0-is at usable)))
+
+pub returns-in-Err-clause-saved : goal.returns-in-Err-clause-saved
+returns-in-Err-clause-saved g c = λ told.
+    none_saved (g.F.Shelf.file c.args.shelf.now) (option_map (λ name. name.now) c.args.from) c.args.b.now (option_map (λ name. name.now) c.args.cert) (g.F.Shelf.file c.begin.new.shelf)
+    c.stopped_by.result.kept c.stopped_by.ensures.kept
+
 -- ---- what stands where memory was wanting
 
 pub returns-in-Ok-Fresh-clause-part : goal.returns-in-Ok-Fresh-clause-part
@@ -190,10 +227,9 @@ returns-in-Ok-Fresh-clause-part g c = λ told want.
     let from : Option (List ℕ) = option_map (λ name. name.now) c.args.from in
     let cert : Option (List ℕ) = option_map (λ name. name.now) c.args.cert in
     let start = c.in-Ok-Fresh.ensures.start told in
-    subst (λ (f : Option (List ℕ)). AsBeforeOr (HoldsPart (λ (kept : Option Outcome). SolvesBy files f c.args.leaf c.args.steps kept c.args.b.now) c.args.b.now) cert files (g.F.Shelf.file c.answer.new.shelf))
-    (sym (fresh_from files from c.args.leaf c.args.b.now (rw c.in-Ok-Fresh.field-0-is at start)))
-    (subst (λ (fs : Files). AsBeforeOr (HoldsPart (λ (kept : Option Outcome). SolvesBy files None c.args.leaf c.args.steps kept c.args.b.now) c.args.b.now) cert fs (g.F.Shelf.file c.answer.new.shelf))
-    c.in-Ok-Fresh.ensures.files (c.answer.ensures.part (c.in-Ok-Fresh.ensures.told ∙ told) want))
+    subst (λ (fs : Files). AsBeforeOr (HoldsPartBy files from c.args.leaf c.args.steps c.args.b.now) cert fs (g.F.Shelf.file c.answer.new.shelf)) c.in-Ok-Fresh.ensures.files
+    (fresh_part files from c.args.leaf c.args.steps c.args.b.now cert (g.F.Shelf.file c.begin.new.shelf) (g.F.Shelf.file c.answer.new.shelf)
+    (fresh_from files from c.args.leaf c.args.b.now (rw c.in-Ok-Fresh.field-0-is at start)) (c.answer.ensures.part (c.in-Ok-Fresh.ensures.told ∙ told) want))
 
 pub returns-in-Ok-Ready-clause-part : goal.returns-in-Ok-Ready-clause-part
 returns-in-Ok-Ready-clause-part g c = λ told want.
@@ -201,20 +237,17 @@ returns-in-Ok-Ready-clause-part g c = λ told want.
     let from : Option (List ℕ) = option_map (λ name. name.now) c.args.from in
     let cert : Option (List ℕ) = option_map (λ name. name.now) c.args.cert in
     let start = c.in-Ok-Ready.ensures.start told in
-    subst (λ (fs : Files). AsBeforeOr (HoldsPart (λ (kept : Option Outcome). SolvesBy files from c.args.leaf c.args.steps kept c.args.b.now) c.args.b.now) cert fs (g.F.Shelf.file c.answer-in-Ok-Ready.new.shelf))
-    c.in-Ok-Ready.ensures.files
-    (ready_part files from c.args.leaf c.args.steps c.args.b.now c.in-Ok-Ready.from c.in-Ok-Ready.below cert (g.F.Shelf.file c.begin.new.shelf) (g.F.Shelf.file c.answer-in-Ok-Ready.new.shelf)
-    (ready_from files from c.args.leaf c.args.b.now c.in-Ok-Ready.from c.in-Ok-Ready.below (rw c.in-Ok-Ready.field-0-is at start))
+    subst (λ (fs : Files). AsBeforeOr (HoldsPartBy files from c.args.leaf c.args.steps c.args.b.now) cert fs (g.F.Shelf.file c.answer-in-Ok-Ready.new.shelf)) c.in-Ok-Ready.ensures.files
+    (ready_part files from c.args.leaf c.args.steps c.args.b.now c.in-Ok-Ready.cut c.in-Ok-Ready.from c.in-Ok-Ready.below cert (g.F.Shelf.file c.begin.new.shelf) (g.F.Shelf.file c.answer-in-Ok-Ready.new.shelf)
+    (ready_from files from c.args.leaf c.args.b.now c.in-Ok-Ready.cut c.in-Ok-Ready.from c.in-Ok-Ready.below (rw c.in-Ok-Ready.field-0-is at start))
     (c.answer-in-Ok-Ready.ensures.part (c.in-Ok-Ready.ensures.told ∙ told) want))
 
 pub returns-in-Err-clause-part : goal.returns-in-Err-clause-part
 returns-in-Err-clause-part g c = λ told want.
-    nothing_left
-    (HoldsPart (λ (kept : Option Outcome). SolvesBy (g.F.Shelf.file c.args.shelf.now) (option_map (λ name. name.now) c.args.from) c.args.leaf c.args.steps kept c.args.b.now) c.args.b.now)
+    nothing_left (HoldsPartBy (g.F.Shelf.file c.args.shelf.now) (option_map (λ name. name.now) c.args.from) c.args.leaf c.args.steps c.args.b.now)
     (option_map (λ name. name.now) c.args.cert) (g.F.Shelf.file c.args.shelf.now) (g.F.Shelf.file c.begin.new.shelf) c.in-Err.ensures.files
 
 pub returns-in-Ok-Refused-clause-part : goal.returns-in-Ok-Refused-clause-part
 returns-in-Ok-Refused-clause-part g c = λ told want.
-    nothing_left
-    (HoldsPart (λ (kept : Option Outcome). SolvesBy (g.F.Shelf.file c.args.shelf.now) (option_map (λ name. name.now) c.args.from) c.args.leaf c.args.steps kept c.args.b.now) c.args.b.now)
+    nothing_left (HoldsPartBy (g.F.Shelf.file c.args.shelf.now) (option_map (λ name. name.now) c.args.from) c.args.leaf c.args.steps c.args.b.now)
     (option_map (λ name. name.now) c.args.cert) (g.F.Shelf.file c.args.shelf.now) (g.F.Shelf.file c.begin.new.shelf) c.in-Ok-Refused.ensures.files

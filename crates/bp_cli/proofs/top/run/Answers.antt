@@ -20,7 +20,7 @@ returns-clause-solves_decomposed g c = λ told.
 pub returns-clause-certified : goal.returns-clause-certified
 returns-clause-certified g c = λ told.
     certifies (map string_bytes c.args.words.now) (g.F.Shelf.file c.args.shelf.now) (g.F.Shelf.file c.answer_words.new.shelf) c.answer_words.result.kept c.answer_words.result.status
-    (g.O.Sink.tells c.args.out.now) (g.O.Sink.taken c.args.out.now) (g.O.Sink.taken c.answer_words.new.out) c.answer_words.ensures.kept (c.answer_words.ensures.answered told) (c.answer_words.ensures.written told)
+    (c.answer_words.ensures.written told)
 
 pub returns-clause-checked_truly : goal.returns-clause-checked_truly
 returns-clause-checked_truly g c = λ told heard.

@@ -7,7 +7,7 @@ use Rattle.bp_front.proofs.front.in_blocks.Goals as goal
 
 pub returns-in-Ok-clause-blocked : goal.returns-in-Ok-clause-blocked
 returns-in-Ok-clause-blocked c =
-    formed c.in-Ok.b c.in-Ok.ensures.model c.in-Ok.ensures.dec c.in-Ok.ensures.formed c.in-Ok.ensures.placed
+    formed c.in-Ok.b c.in-Ok.ensures.model c.in-Ok.ensures.dec c.in-Ok.ensures.cuts c.in-Ok.ensures.formed c.in-Ok.ensures.placed
 
 pub blocks_text-requires : goal.blocks_text-requires
 blocks_text-requires c =
@@ -23,4 +23,5 @@ returns c =
       blocked = tt;
       halted = subst (λ (r : List ℕ). BlocksCome c.args.model c.args.dec (ends 3 r)) (sym (printed ∙ named))
           (refused c.in-Err.refused.fault c.in_default.not-NoMemory c.in-Err.ensures.fault);
+      uncut = tt;
     }

@@ -14,7 +14,7 @@ pub load_node-requires-clause-may : goal.load_node-requires-clause-may
 load_node-requires-clause-may c =
     let at : Walk = record { zone = c.in_ok-zone.zone; depth = 0; line = c.root_line-line.result; deep = None } in
     subst (λ (u : theory). MayLoad c.args.b.now c.args.best.now at u) (sym c.tree.ensures)
-    (may_root c.args.b.now c.args.cert.now.claim c.args.cert.now.point (tree_of c.args.cert.now.tree) c.args.best.now at c.blocks-2.ensures.formed c.requires.goes_with
+    (may_root c.args.b.now (certificate_of c.args.cert.now) c.args.best.now at c.blocks-2.ensures.formed c.requires.cuts c.requires.goes_with
     c.requires.valid c.requires.best c.in_ok-zone.ensures.spans c.in_ok-zone.ensures.zone refl c.root_line-line.ensures)
 
 pub returns-clause-loads : goal.returns-clause-loads
@@ -27,7 +27,7 @@ returns-clause-loads c =
 pub returns-clause-deep : goal.returns-clause-deep
 returns-clause-deep c =
     let at : Walk = record { zone = c.in_ok-zone.zone; depth = 0; line = c.root_line-line.result; deep = None } in
-    subst (λ (t : Tree). FindsDeep (rooms (growing.tree_of t) 0 c.args.b.now.named.program.spans) (root_line (certificate_of c.args.cert.now).point) c.in_ok-tree.end.deep)
+    subst (λ (t : Tree). FindsDeep (rooms (growing.tree_of t) 0 c.args.b.now.named.program.spans) (root_line (certificate_of c.args.cert.now).point (certificate_of c.args.cert.now).cuts) c.in_ok-tree.end.deep)
     (sym c.into_inner.ensures)
     (root_loaded c.args.b.now (certificate_of c.args.cert.now) c.args.best.now at c.in_ok-tree.end (tree_of c.tree.result.now) (growing.tree_of c.in_ok-tree.tree.value)
     c.requires.best c.in_ok-zone.ensures.spans refl c.root_line-line.ensures refl c.tree.ensures c.in_ok-tree.ensures.loaded).found

@@ -1,4 +1,4 @@
-use Rattle.std.proofs.Common.{◌∙◌, ap, List, ℕ, ◌++◌}
+use Rattle.std.proofs.Common.{◌∙◌, ap, List, [], ℕ, ◌++◌}
 use Rattle.cert_text.proofs.PlainProof.{plain_lem}
 use Rattle.cert_text.specs.Text.{One}
 use Rattle.cert_text.specs.Plain.{plain_text}
@@ -10,4 +10,4 @@ returns c =
     let claim = c.args.claim.now in
     let point = c.args.point.now in
     let tree = tree_of c.args.tree.now in
-    λ frame. c.in_ok-put_cert.ensures ∙ ap (λ (xs : List ℕ). xs ++ plain_text One claim point tree) c.new-out.ensures.items ∙ plain_lem frame One claim point tree
+    λ frame. c.in_ok-put_cert.ensures ∙ ap (λ (xs : List ℕ). xs ++ plain_text One claim point [] tree) c.new-out.ensures.items ∙ plain_lem frame One claim point [] tree

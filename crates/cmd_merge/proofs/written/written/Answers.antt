@@ -1,4 +1,14 @@
-use Rattle.std.proofs.Common.{refl}
+use Rattle.std.proofs.Common.{◌≡◌, refl, sym, subst}
+use Rattle.block_form.specs.Blocked.{BlockedProgram}
+use Rattle.bp_report.specs.Report.{merged_report}
+use Rattle.bp_search.specs.Ends.{EndsWithin}
+use Rattle.cert_text.specs.Fault.{IsText}
+use Rattle.cert_text.specs.Plain.{version_with}
+use Rattle.cert_text.specs.Programs.{frame_for}
+use Rattle.cert_text.specs.Written.{cert_of}
+use Rattle.cmd_solve.specs.Solves.{outcome_certificate}
+use Rattle.cmd_merge.specs.Merges.{AnswersBoth, answer_of}
+use Rattle.cmd_merge.specs.declared.written.Merged.{Merged}
 use Rattle.cmd_merge.proofs.WrittenProof.{running, few_together, both_answered}
 use Rattle.cmd_merge.proofs.written.written.Goals as goal
 
@@ -9,8 +19,12 @@ pub conclude-outcome-requires : goal.conclude-outcome-requires
 conclude-outcome-requires c = running c.args.b.now c.in_ok-from.from.grove c.in_ok-from.from.best c.kept_from.result c.in_ok-from.ensures.loaded c.kept_from.ensures
 
 pub returns-clause-merged : goal.returns-clause-merged
-returns-clause-merged c = λ text more one other.
-    both_answered c.args.b.now text more c.args.first c.args.second c.in_ok-from.from c.kept_from.result c.conclude-outcome.result
-    (record { text = c.in_ok-text.text; reply = record { status = 0; report = c.in_ok-report.report } }) c.blocks-2.ensures.formed one other
-    c.in_ok-from.ensures.merged c.kept_from.ensures c.conclude-outcome.ensures.ends c.conclude-outcome.ensures.grove c.conclude-outcome.ensures.point
-    c.in_ok-text.ensures c.in_ok-report.ensures refl
+returns-clause-merged c = λ plain cuts text more formed over one other.
+    let o = c.conclude-outcome.result in
+    let m : Merged = record { text = c.in_ok-text.text; reply = record { status = 0; report = c.in_ok-report.report } } in
+    subst (λ (x : BlockedProgram). AnswersBoth x one.cert other.cert c.args.first c.args.second (answer_of m)) (sym over)
+    (both_answered plain cuts text more c.args.first c.args.second c.in_ok-from.from c.kept_from.result o m formed one other c.in_ok-from.ensures.merged c.kept_from.ensures
+    (λ most stopped. subst (λ (x : BlockedProgram). EndsWithin x most o) over (c.conclude-outcome.ensures.ends most stopped))
+    c.conclude-outcome.ensures.grove c.conclude-outcome.ensures.point
+    (subst (λ (x : BlockedProgram). IsText (frame_for x) (version_with x.cuts) (cert_of (outcome_certificate x o)) m.text.items) over c.in_ok-text.ensures)
+    (subst (λ (x : BlockedProgram). m.reply.report.items ≡ merged_report x.named.program.maximises o) over c.in_ok-report.ensures) refl)

@@ -16,13 +16,18 @@ worked_at tree sought leaf number below path is same found some =
 
 pub returns-in-Some-2-clause-start : goal.returns-in-Some-2-clause-start
 returns-in-Some-2-clause-start c =
-    start_ready c.args.b.now c.args.leaf c.args.cert.now c.args.from (Some c.in-Some-2.path) c.requires.valid c.requires.loaded
+    start_ready c.args.b.now c.args.cut c.args.leaf c.args.cert.now c.args.from (Some c.in-Some-2.path) c.requires.cut c.requires.valid c.requires.loaded
     (worked_at (certificate_of c.args.cert.now).tree (tree_of c.tree.result.now) c.args.leaf c.in-Some.number c.in_ok-path-in-Some.field-0 c.in-Some-2.path
     c.in-Some.is c.tree.ensures c.in_ok-path-in-Some.ensures c.in-Some-2.is)
 
 pub returns-in_ok-leaf_text-in-None-2-clause-start : goal.returns-in_ok-leaf_text-in-None-2-clause-start
 returns-in_ok-leaf_text-in-None-2-clause-start c = λ text spelled.
     subst (λ (l : Option ℕ). RefusesStart c.args.b.now l text 3 c.in_ok-leaf_text-in-None-2.field-0.items) (sym c.in-Some.is)
-    (start_without c.args.b.now c.in-Some.number c.args.cert.now c.args.from c.in_ok-leaf_text-in-None-2.field-0.items text c.requires.valid c.requires.loaded
+    (start_without c.args.b.now c.args.cut c.in-Some.number c.args.cert.now c.args.from c.in_ok-leaf_text-in-None-2.field-0.items text c.requires.cut c.requires.valid c.requires.loaded
     (ap (λ t. open_path t c.in-Some.number) (sym c.tree.ensures) ∙ sym c.in_ok-path-in-Some.ensures ∙ c.in-None-2.is)
     c.in_ok-leaf_text-in-None-2.ensures spelled)
+
+pub returns-in-None-clause-start : goal.returns-in-None-clause-start
+returns-in-None-clause-start c =
+    start_ready c.args.b.now c.args.cut c.args.leaf c.args.cert.now c.args.from None c.requires.cut c.requires.valid c.requires.loaded
+    (subst (λ (l : Option ℕ). IsWorkedOn (certificate_of c.args.cert.now).tree l None) (sym c.in-None.is) refl)

@@ -17,21 +17,21 @@ returns-in-Ok-None-clause-stands c = λ visits text h.
     let R : Option Event → Type 0 = λ o. Reads old c.step.new.self c.args.byte (Ok o) in
     let T : Option Event → Type 0 = λ o. Tells old.lines c.step.new.self o in
     quiet_on c.args.b.now visits old new text c.args.byte c.requires.made_for c.requires.none (subst R c.in-Ok-None.field-0-is c.in-Ok-None.ensures.steps)
-    (subst T c.in-Ok-None.field-0-is c.in-Ok-None.ensures.told) refl refl refl refl c.requires.none h
+    (subst T c.in-Ok-None.field-0-is c.in-Ok-None.ensures.told) refl refl refl refl refl c.requires.none h
 
 pub returns-in-Err-take-clause-made_for : goal.returns-in-Err-take-clause-made_for
 returns-in-Err-take-clause-made_for c =
     let old = c.args.self.now in
     let taken = c.take.new.self in
     let kept = c.keep_fault-in-Err-take.ensures.kept in
-    made_same c.args.b.now taken c.keep_fault-in-Err-take.new.self (ap (λ (x : Checker). x.frame) kept) (ap (λ (x : Checker). x.work) kept) (ap (λ (x : Checker). x.walk) kept)
+    made_same c.args.b.now taken c.keep_fault-in-Err-take.new.self (ap (λ (x : Checker). x.frame) kept) (ap (λ (x : Checker). x.cuts) kept) (ap (λ (x : Checker). x.work) kept) (ap (λ (x : Checker). x.walk) kept)
     (ap (λ (x : Checker). x.fed) kept)
-    (made_on c.args.b.now old taken (ap (λ (x : Checker). x.frame) c.take.ensures.rest) c.take.ensures.made_for c.take.ensures.inside (ap (λ (x : Checker). x.fed) c.take.ensures.rest)
+    (made_on c.args.b.now old taken (ap (λ (x : Checker). x.frame) c.take.ensures.rest) c.take.ensures.keeps (ap (λ (x : Checker). x.fed) c.take.ensures.rest)
     c.requires.few c.take.ensures.line c.requires.made_for)
 
 pub returns-in-Ok-clause-made_for : goal.returns-in-Ok-clause-made_for
 returns-in-Ok-clause-made_for c =
-    made_on c.args.b.now c.args.self.now c.take.new.self (ap (λ (x : Checker). x.frame) c.take.ensures.rest) c.take.ensures.made_for c.take.ensures.inside
+    made_on c.args.b.now c.args.self.now c.take.new.self (ap (λ (x : Checker). x.frame) c.take.ensures.rest) c.take.ensures.keeps
     (ap (λ (x : Checker). x.fed) c.take.ensures.rest) c.requires.few c.take.ensures.line c.requires.made_for
 
 pub returns-in-Ok-clause-stands : goal.returns-in-Ok-clause-stands

@@ -1,36 +1,51 @@
-use Rattle.std.proofs.Common.{sym, subst}
+use Rattle.std.proofs.Common.{ap, sym, subst}
+use Rattle.std.specs.Prelude.{OnOk}
 use Rattle.cert_text.specs.declared.lines.Event.{Event}
-use Rattle.cert_stream.specs.Walks.{IsWalkIn, IsWithin}
+use Rattle.cert_text.specs.declared.lines.Event.TheVariants as e
 use Rattle.cert_stream.specs.Checks.{TakesEvent}
-use Rattle.cert_stream.proofs.Stepping.{takes_claim, takes_split}
+use Rattle.cert_stream.specs.declared.checker.Checker.{Checker}
+use Rattle.cert_stream.proofs.Stepping.{keeps_walk}
 use Rattle.cert_stream.proofs.checker.Checker.take.Goals as goal
-
-pub returns-in-Claim-clause-line : goal.returns-in-Claim-clause-line
-returns-in-Claim-clause-line c = λ most more h. c.begin.ensures.line most more (subst (IsWithin most) (sym c.replace-walk.ensures.value) h)
 
 pub returns-in-Claim-clause-judged : goal.returns-in-Claim-clause-judged
 returns-in-Claim-clause-judged c =
     let r = c.args.self.now in
-    let P : Event → Type 0 = λ x. TakesEvent c.args.b.now r.lines.claim r.lines.point r.walk c.begin.result x in
-    subst P (sym c.in-Claim.is)
-    (takes_claim c.args.b.now r.lines.claim c.claim-claim.result r.lines.point c.point.result.now r.walk c.replace-walk.result c.begin.result c.replace-walk.ensures.value
-    c.claim-claim.ensures c.point.ensures c.begin.ensures.judged)
+    let new = c.take_claim.new.self in
+    let P : Event → Type 0 = λ x. TakesEvent c.args.b.now r.lines.claim r.lines.point r.cuts new.cuts r.walk new.walk x in
+    subst P (sym c.in-Claim.is) c.take_claim.ensures.judged
 
-pub returns-in_ok-self-in-Split-clause-inside : goal.returns-in_ok-self-in-Split-clause-inside
-returns-in_ok-self-in-Split-clause-inside c =
-    c.in_ok-self-in-Split.ensures.inside c.args.b.now.named.program.spans
-    (subst (IsWalkIn c.args.b.now.named.program.spans) (sym c.replace-walk.ensures.value) c.requires.inside)
-
-pub returns-in_ok-self-in-Split-clause-line : goal.returns-in_ok-self-in-Split-clause-line
-returns-in_ok-self-in-Split-clause-line c = λ most more h. c.in_ok-self-in-Split.ensures.line most (subst (IsWithin most) (sym c.replace-walk.ensures.value) h)
-
-pub returns-in_ok-self-in-Split-clause-judged : goal.returns-in_ok-self-in-Split-clause-judged
-returns-in_ok-self-in-Split-clause-judged c =
+pub returns-in-Cut-clause-judged : goal.returns-in-Cut-clause-judged
+returns-in-Cut-clause-judged c =
     let r = c.args.self.now in
-    let P : Event → Type 0 = λ x. TakesEvent c.args.b.now r.lines.claim r.lines.point r.walk c.in_ok-self-in-Split.field-0 x in
-    subst P (sym c.in-Split.is)
-    (takes_split c.args.b.now r.lines.claim r.lines.point r.walk c.replace-walk.result c.in_ok-self-in-Split.field-0 c.in-Split.split c.replace-walk.ensures.value
-    c.in_ok-self-in-Split.ensures.judged)
+    let new = c.take_cut.new.self in
+    let P : Event → Type 0 = λ x. OnOk c.take_cut.result (TakesEvent c.args.b.now r.lines.claim r.lines.point r.cuts new.cuts r.walk new.walk x) in
+    subst P (sym c.in-Cut.is) c.take_cut.ensures.judged
 
-pub returns-in_ok-self-in-Leaf-clause-line : goal.returns-in_ok-self-in-Leaf-clause-line
-returns-in_ok-self-in-Leaf-clause-line c = λ most more h. c.in_ok-self-in-Leaf.ensures.line most (subst (IsWithin most) (sym c.replace-walk.ensures.value) h)
+pub returns-in-Leaf-clause-judged : goal.returns-in-Leaf-clause-judged
+returns-in-Leaf-clause-judged c =
+    let r = c.args.self.now in
+    let new = c.take_leaf.new.self in
+    let P : Event → Type 0 = λ x. OnOk c.take_leaf.result (TakesEvent c.args.b.now r.lines.claim r.lines.point r.cuts new.cuts r.walk new.walk x) in
+    subst P (sym c.in-Leaf.is) c.take_leaf.ensures.judged
+
+pub returns-in-Cut-clause-line : goal.returns-in-Cut-clause-line
+returns-in-Cut-clause-line c = λ most more h. c.take_cut.ensures.line most h
+
+pub returns-in-Leaf-clause-line : goal.returns-in-Leaf-clause-line
+returns-in-Leaf-clause-line c = λ most more h. c.take_leaf.ensures.line most h
+
+pub returns-in-Split-clause-line : goal.returns-in-Split-clause-line
+returns-in-Split-clause-line c = λ most more h. c.take_split.ensures.line most h
+
+pub returns-in-Split-clause-keeps : goal.returns-in-Split-clause-keeps
+returns-in-Split-clause-keeps c =
+    let rest = c.take_split.ensures.rest in
+    keeps_walk c.args.b.now c.args.self.now c.take_split.new.self (ap (λ (x : Checker). x.cuts) rest) (ap (λ (x : Checker). x.work) rest)
+    (c.take_split.ensures.inside c.args.b.now.named.program.spans c.requires.keeps.inside) c.requires.keeps
+
+pub returns-in-Split-clause-judged : goal.returns-in-Split-clause-judged
+returns-in-Split-clause-judged c =
+    let r = c.args.self.now in
+    let new = c.take_split.new.self in
+    let P : Event → Type 0 = λ x. OnOk c.take_split.result (TakesEvent c.args.b.now r.lines.claim r.lines.point r.cuts new.cuts r.walk new.walk x) in
+    subst P (sym c.in-Split.is) (c.take_split.ensures.judged c.args.b.now)

@@ -15,12 +15,12 @@ returns-clause-place c =
     let changes = c.in_ok-mults.ensures.mults ∙ ap (λ (ps : List (ℕ × ℤ)). changed had ps) c.as_slice.ensures in
     let next = c.in_ok-mults.ensures.had ∙ ap (λ (ps : List (ℕ × ℤ)). had_behind r.version had ps) c.as_slice.ensures in
     let tree = leaf_of r.is_open (written_proof (record { scale = r.scale; mults = mults; picked = Every })) in
-    λ above root n highs.
-    c.leave_leaf.ensures.place above root tree n (record { depth = highs.depth; highs = highs.highs })
-    ∙ leaf_behind r.version (written_claim r.claim r.point) above r.is_open r.scale Every had r.mults c.next.new.self.pairs.items mults changes next
+    λ above root cuts n highs.
+    c.leave_leaf.ensures.place above root tree cuts n (record { depth = highs.depth; highs = highs.highs; cuts = highs.cuts; few = highs.few })
+    ∙ leaf_behind r.version (written_claim r.claim r.point) cuts above r.is_open r.scale Every had r.mults c.next.new.self.pairs.items mults changes next
 
 pub returns-clause-highs : goal.returns-clause-highs
 returns-clause-highs c =
     let r = c.args.self.now in
     let tree = leaf_of r.is_open (written_proof (record { scale = r.scale; mults = c.in_ok-mults.mults; picked = Every })) in
-    λ above highs. c.leave_leaf.ensures.highs above tree (record { depth = highs.depth; highs = highs.highs })
+    λ above cuts highs. c.leave_leaf.ensures.highs above tree cuts (record { depth = highs.depth; highs = highs.highs; cuts = highs.cuts; few = highs.few })

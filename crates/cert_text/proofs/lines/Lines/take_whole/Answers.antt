@@ -1,18 +1,7 @@
-use Rattle.std.proofs.Common.{rules, ◌≡◌, ◌+◌, ◌-◌, ◌++◌, ◌∷◌, [], None}
-use Rattle.cert_text.specs.Frames.{frame_of}
-use Rattle.cert_text.specs.Signed.{signed}
-use Rattle.cert_text.specs.Versions.{changed_fault}
-use Rattle.cert_text.specs.declared.spots.Spot.TheVariants as s
-use Rattle.cert_text.proofs.LineFacts.{multiplier_passes, multiplier_kept}
 use Rattle.cert_text.proofs.lines.Lines.take_whole.Goals as goal
 
-pub returns-in-Ok-keep_multiplier-clause-takes : goal.returns-in-Ok-keep_multiplier-clause-takes
-returns-in-Ok-keep_multiplier-clause-takes c =
-    let r = c.args.self.now in
-    let new = c.keep_multiplier.new.self in
-    let z = signed c.args.negative c.args.value in
-    let passes : changed_fault c.get.result z ≡ None = search rules in
-    let moved : new ≡ record r { spot = s.Pairs; mults = r.mults ++ (r.row, z) ∷ []; last = r.row + 1; left = r.left - 1 } = search rules in (
-      λ above root n highs. multiplier_passes (frame_of c.args.frame.now) above root r n c.get.result z c.in-Multiplier.is c.get.ensures passes,
-      multiplier_kept r new z c.args.value c.in-Multiplier.is moved,
-    )
+pub returns-in-CutMultiplier-clause-takes : goal.returns-in-CutMultiplier-clause-takes
+returns-in-CutMultiplier-clause-takes c = c.take_cut_multiplier.ensures.takes c.args.frame.now
+
+pub returns-in-Multiplier-clause-takes : goal.returns-in-Multiplier-clause-takes
+returns-in-Multiplier-clause-takes c = c.take_multiplier.ensures.takes c.args.frame.now

@@ -16,4 +16,5 @@ loop-pending-preserved c = (
   high_root c.loop-pending.self.pending.items c.pop.new.self.items c.in-Some.pending c.in-High.place c.in-High.low c.loop-pending.tree c.in_ok-tree-in-High.tree (root_of c.loop-pending.self.root) _ c.in-Some.ensures.items c.in-High.is c.in_ok-tree-in-High.ensures
       c.loop-pending.invariant.1,
   c.loop-pending.invariant.2,
+  c.loop-pending.invariant.3,
 )

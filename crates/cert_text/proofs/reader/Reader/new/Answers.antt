@@ -1,7 +1,8 @@
-use Rattle.std.proofs.Common.{[], refl, ap}
+use Rattle.std.proofs.Common.{[], refl, ap, map}
 use Rattle.cert_text.specs.Builders.{waits_of}
+use Rattle.cert_text.specs.Written.{written_cut}
 use Rattle.cert_text.proofs.ReaderFacts.{builds_on}
 use Rattle.cert_text.proofs.reader.Reader.new.Goals as goal
 
 pub returns : goal.returns
-returns c = λ frame. builds_on frame c.new.result c.new.result [] (waits_of c.new-2.result.items) _ _ [] refl (ap waits_of c.new-2.ensures.items) refl (c.new.ensures.stands _ frame)
+returns c = λ frame. builds_on frame c.new.result c.new.result [] (waits_of c.new-3.result.items) _ _ [] _ [] refl (ap waits_of c.new-3.ensures.items) refl (ap (map written_cut) c.new-2.ensures) (c.new.ensures.stands _ frame)

@@ -2,7 +2,7 @@ use Rattle.std.proofs.Common.{refl, Err, rules}
 use Rattle.cert_text.specs.Programs.{ReadsFor}
 use Rattle.cmd_merge.specs.Opens.{faulty}
 use Rattle.cmd_merge.proofs.OpenProof.{text_opened, text_usable, text_stopped}
-use Rattle.cmd_merge.proofs.opening.opened.Goals as goal
+use Rattle.cmd_merge.proofs.opening.open_text.Goals as goal
 
 pub returns-in-Ok-clause-opened : goal.returns-in-Ok-clause-opened
 returns-in-Ok-clause-opened c =
