@@ -53,11 +53,12 @@ blocks @ the rows beside these fall into more than 4096 blocks, the most; list f
 /// Certificates that can't be read.
 pub const CERT: &str = "\
 syntax @ this is not the form of a certificate's line (one spelling, single spaces, a line feed at each end, `end` last): % is what stands here
-too-large @ a number in % is past its limit: 1048576 for a scale, 1099511627776 for a multiplier, 4611686018427387903 for the others; write smaller ones in the same proportion
-number @ in % a variable, row or block is not there, or a row is no master row, or they do not ascend, or a multiplier is 0; was it written for this model and decomposition?
+syntax-end @ the line is empty, or the text ends before the line `end`; was the file cut off?
+too-large @ a number in % is past its limit: 1048576 for a scale and in the line of a cut, 1099511627776 for a multiplier of a leaf, 4611686018427387903 for the others; write smaller ones in the same proportion
+number @ in % a variable, row or block is not there, or a row is no master row, or they do not ascend, or a divisor or multiplier is 0; was it written for this model and decomposition?
 length @ the point has more or fewer numbers than the model has variables; was it written for this model?
 depth @ a node lies under more than 8256 splits, the most
-limit @ the certificate is too large
+limit @ there are more than 256 cuts, the most
 ";
 
 /// Certificates that are rejected.
@@ -66,17 +67,18 @@ point-bound @ a number of the point is outside its variable's bounds
 point-row @ the point misses a row of the model
 value @ the point's value is not the one that is claimed
 split @ one of the two parts of this split is empty, or its number is outside the variable's span there
-sign @ a multiplier of this leaf has the wrong sign: at least rows take positive ones, at most rows negative ones
+sign @ a multiplier of this line has the wrong sign: at least rows take positive ones, at most rows negative ones
 weak @ the bound that this leaf's multipliers prove does not reach what the claim needs
 open @ this leaf is open, which only a claim of a bound may have
-cut @ a cut of this line does not follow
+cut @ the sums of this cut's row may pass 4611686018427387903 (2^62 - 1) within the bounds
 ";
 
 /// What to do about a certificate that is rejected.
 pub const AFTER_REJECTED: &str =
     "; the claim is not proved by this file: check it with the model and decomposition that it was written for, or solve anew";
 
-/// Certificates to go on from.
+/// Certificates to go on from, or to merge.
 pub const FROM: &str = "\
 depth @ the certificate is valid, but this leaf lies too deep to be split on (its splits and its zone's binary digits pass 8256); begin anew, or from another certificate
+cuts @ the certificate is valid, but on this line it has another cut than the one that it is merged with; merge certificates of one search, or of searches without cuts
 ";

@@ -1,7 +1,8 @@
-//! Notes: why a run was refused or stopped, in words for people, on standard error, made of what a watched run has kept.
-//! Nothing rests on them: the run and its report are what they would be without.
+//! Notes: why a run was refused or stopped, in words for people, on standard error, made of what a watched run has kept and
+//! of its files, which are read again. Nothing rests on them: the run and its report are what they would be without.
 #![tactic(auto)]
 
+mod again;
 mod blocks;
 mod grammar;
 mod kinds;

@@ -1,25 +1,39 @@
 // The note on how a run ended.
+use crate::again::{line_of, text_of};
 use crate::kinds::{AFTER_REJECTED, CERT, DEC, FROM, LP, REJECTED, ROWS};
-use crate::place::{Spot, line_of, lp_spot, names_spot};
-use crate::text::{put, put_name, put_number, put_quoted, put_sentence, sentence_of, word_at};
+use crate::place::{Spot, lp_spot, names_spot};
+use crate::text::{
+    MOST_QUOTED, put, put_name, put_number, put_quoted, put_sentence, sentence_of, word_at,
+};
 use crate::usage::words_note;
-use bp_watch::{Files, Seen};
+use bp_shelf::Shelf;
+use bp_watch::Files;
 use std::alloc::{AllocError, Global};
 use std::str;
 
+// A refusal: the name of the file that was read last, and the line and the kind of the report.
+#[derive(Clone, Copy)]
+struct Refusal<'a> {
+    name: &'a str,
+    line: &'a str,
+    kind: &'a str,
+}
+
 /// The note on a run that ended with this status: why it was refused or stopped, in words, and what to do. It is empty for
 /// the other statuses. The words are those of the run, the program's name first; the report is what the run printed, of
-/// which the first line is read.
-pub fn explain(
+/// which the first line is read. The shelf has the files of the run: the place of a fault is looked up in the one at fault,
+/// and where that can't be read any more, the note does without.
+pub fn explain<F: Shelf>(
     alloc: Global,
     words: &[String],
     status: u8,
     report: &[u8],
     files: &Files,
+    shelf: &mut F,
 ) -> Result<Vec<u8>, AllocError> {
     match status {
         2 => words_note(alloc, words),
-        3 | 6 | 10 => refusal_note(alloc, report, files),
+        3 | 6 | 10 => refusal_note(alloc, report, files, shelf),
         7 | 8 | 11 => file_note(alloc, status, files),
         9 => {
             let mut note = Vec::new(alloc);
@@ -77,33 +91,47 @@ fn first_line(report: &[u8]) -> &str {
 }
 
 // The note on a refusal.
-fn refusal_note(alloc: Global, report: &[u8], files: &Files) -> Result<Vec<u8>, AllocError> {
+fn refusal_note<F: Shelf>(
+    alloc: Global,
+    report: &[u8],
+    files: &Files,
+    shelf: &mut F,
+) -> Result<Vec<u8>, AllocError> {
     let line = first_line(report);
     let mut note = Vec::new(alloc);
-    let Some(seen) = files.last() else {
+    let Some(name) = files.last() else {
         return Ok(note);
     };
     match word_at(line, 0) {
-        "rejected" => put_rejected(&mut note, seen, line)?,
-        "unknown" => put_unpriced(&mut note, seen, line)?,
-        "refused" => put_refused(alloc, &mut note, files, seen, line)?,
+        "rejected" => put_rejected(&mut note, name, line)?,
+        "unknown" => put_unpriced(&mut note, name, line)?,
+        "refused" => put_refused(alloc, &mut note, files, shelf, line)?,
         _ => {}
     }
     Ok(note)
 }
 
 // The note on a certificate that is rejected.
-fn put_rejected(note: &mut Vec<u8>, seen: &Seen, line: &str) -> Result<(), AllocError> {
-    let kind = word_at(line, 2);
-    put_head(note, seen, word_at(line, 1), None, kind)?;
-    put(note, sentence_of(REJECTED, kind).unwrap_or(""))?;
+fn put_rejected(note: &mut Vec<u8>, name: &str, line: &str) -> Result<(), AllocError> {
+    let refusal = Refusal {
+        name,
+        line: word_at(line, 1),
+        kind: word_at(line, 2),
+    };
+    put_head(note, &refusal, None)?;
+    put(note, sentence_of(REJECTED, refusal.kind).unwrap_or(""))?;
     put(note, AFTER_REJECTED)?;
     put(note, "\n")
 }
 
 // The note on a certificate of which a leaf asks for more visits than are left.
-fn put_unpriced(note: &mut Vec<u8>, seen: &Seen, line: &str) -> Result<(), AllocError> {
-    put_head(note, seen, word_at(line, 1), None, word_at(line, 0))?;
+fn put_unpriced(note: &mut Vec<u8>, name: &str, line: &str) -> Result<(), AllocError> {
+    let refusal = Refusal {
+        name,
+        line: word_at(line, 1),
+        kind: word_at(line, 0),
+    };
+    put_head(note, &refusal, None)?;
     put(
         note,
         "pricing the blocks of this leaf may take more visits than are left; give more behind --visits, or leave it out\n",
@@ -111,98 +139,129 @@ fn put_unpriced(note: &mut Vec<u8>, seen: &Seen, line: &str) -> Result<(), Alloc
 }
 
 // The note on a text that is refused.
-fn put_refused(
+fn put_refused<F: Shelf>(
     alloc: Global,
     note: &mut Vec<u8>,
     files: &Files,
-    seen: &Seen,
+    shelf: &mut F,
     line: &str,
 ) -> Result<(), AllocError> {
-    let number = word_at(line, 2);
-    let kind = word_at(line, 3);
+    let Some(name) = files.last() else {
+        return Ok(());
+    };
+    let refusal = Refusal {
+        name,
+        line: word_at(line, 2),
+        kind: word_at(line, 3),
+    };
     match word_at(line, 1) {
-        "lp" => {
-            let spot = lp_spot(alloc, seen, number, kind)?;
-            put_spot(note, seen, number, kind, LP, spot)
-        }
-        "dec" => {
-            let spot = names_spot(alloc, files, seen, number, kind, false)?;
-            put_spot(note, seen, number, kind, DEC, spot)
-        }
-        "rows" => {
-            let spot = names_spot(alloc, files, seen, number, kind, true)?;
-            put_spot(note, seen, number, kind, ROWS, spot)
-        }
-        "cert" => put_cert(note, seen, number, kind),
-        "from" => {
-            put_head(note, seen, number, None, kind)?;
-            put(note, sentence_of(FROM, kind).unwrap_or(""))?;
+        "lp" => put_model(alloc, note, shelf, &refusal),
+        "dec" => put_names(alloc, note, files, shelf, &refusal, false),
+        "rows" => put_names(alloc, note, files, shelf, &refusal, true),
+        "cert" => put_cert(alloc, note, shelf, &refusal),
+        "from" | "merge" => {
+            put_head(note, &refusal, None)?;
+            put(note, sentence_of(FROM, refusal.kind).unwrap_or(""))?;
             put(note, "\n")
         }
-        "leaf" => put_leaf(note, seen, number),
-        "blocks" => put_blocks(note, seen, line),
+        "leaf" => put_leaf(note, &refusal),
+        "blocks" => put_blocks(note, name, line),
         _ => Ok(()),
     }
 }
 
+// The note on a model.
+fn put_model<F: Shelf>(
+    alloc: Global,
+    note: &mut Vec<u8>,
+    shelf: &mut F,
+    refusal: &Refusal,
+) -> Result<(), AllocError> {
+    let Some(text) = text_of(alloc, shelf, refusal.name)? else {
+        return put_line_note(note, refusal, LP);
+    };
+    match lp_spot(alloc, &text, refusal.line, refusal.kind)? {
+        Some(spot) => put_spot(note, refusal, LP, &text, &spot),
+        None => put_line_note(note, refusal, LP),
+    }
+}
+
+// The note on a decomposition, or on a list of rows, beside the model of the file that was read first.
+fn put_names<F: Shelf>(
+    alloc: Global,
+    note: &mut Vec<u8>,
+    files: &Files,
+    shelf: &mut F,
+    refusal: &Refusal,
+    list: bool,
+) -> Result<(), AllocError> {
+    let table = if list { ROWS } else { DEC };
+    let model = match files.first() {
+        Some(name) => text_of(alloc, shelf, name)?,
+        None => None,
+    };
+    let (Some(model), Some(text)) = (model, text_of(alloc, shelf, refusal.name)?) else {
+        return put_line_note(note, refusal, table);
+    };
+    match names_spot(alloc, &text, &model, refusal.line, refusal.kind, list)? {
+        Some(spot) => put_spot(note, refusal, table, &text, &spot),
+        None => put_line_note(note, refusal, table),
+    }
+}
+
 // The note on a certificate to go on from that has no open leaf of a number.
-fn put_leaf(note: &mut Vec<u8>, seen: &Seen, number: &str) -> Result<(), AllocError> {
-    put_name(note, seen.name())?;
+fn put_leaf(note: &mut Vec<u8>, refusal: &Refusal) -> Result<(), AllocError> {
+    put_name(note, refusal.name)?;
     put(
         note,
         ": leaf: its lines that begin with `open` are fewer than ",
     )?;
-    put(note, number)?;
+    put(note, refusal.line)?;
     put(note, "; they count from 1, in their order\n")
 }
 
 // FILE:LINE:COLUMN: KIND: with a space behind it; no place for line 0, and no column where none is known.
-fn put_head(
-    note: &mut Vec<u8>,
-    seen: &Seen,
-    line: &str,
-    column: Option<u64>,
-    kind: &str,
-) -> Result<(), AllocError> {
-    put_name(note, seen.name())?;
-    if line != "0" && line != "" {
+fn put_head(note: &mut Vec<u8>, refusal: &Refusal, column: Option<u64>) -> Result<(), AllocError> {
+    put_name(note, refusal.name)?;
+    if refusal.line != "0" && refusal.line != "" {
         put(note, ":")?;
-        put(note, line)?;
+        put(note, refusal.line)?;
         if let Some(column) = column {
             put(note, ":")?;
             put_number(note, column)?;
         }
     }
     put(note, ": ")?;
-    put(note, kind)?;
+    put(note, refusal.kind)?;
     put(note, ": ")
 }
 
-// The note on a kind with the place and the token that are known of it.
+// The note on a kind of which no token is known.
+fn put_line_note(
+    note: &mut Vec<u8>,
+    refusal: &Refusal,
+    table: &'static str,
+) -> Result<(), AllocError> {
+    put_head(note, refusal, None)?;
+    put_kind(note, table, key_of(table, refusal.line, refusal.kind), None)?;
+    put(note, "\n")
+}
+
+// The note on a kind with the place and the token of a text that are known of it.
 fn put_spot(
     note: &mut Vec<u8>,
-    seen: &Seen,
-    line: &str,
-    kind: &str,
+    refusal: &Refusal,
     table: &'static str,
-    spot: Option<Spot>,
+    text: &[u8],
+    spot: &Spot,
 ) -> Result<(), AllocError> {
-    match spot {
-        None => {
-            put_head(note, seen, line, None, kind)?;
-            put_kind(note, table, key_of(table, line, kind), None)?;
-            put(note, "\n")
-        }
-        Some(spot) => {
-            put_head(note, seen, line, Some(spot.column), kind)?;
-            put_kind(note, table, spot.key, token_of(seen, &spot))?;
-            if spot.expected != "" {
-                put(note, ": ")?;
-                put(note, spot.expected)?;
-            }
-            put(note, "\n")
-        }
+    put_head(note, refusal, Some(spot.column))?;
+    put_kind(note, table, spot.key, token_of(text, spot))?;
+    if spot.expected != "" {
+        put(note, ": ")?;
+        put(note, spot.expected)?;
     }
+    put(note, "\n")
 }
 
 // The key of a kind's sentence where no token is known.
@@ -227,30 +286,51 @@ fn put_kind(
 }
 
 // The token of a spot.
-fn token_of<'a>(seen: &'a Seen, spot: &Spot) -> Option<&'a [u8]> {
-    let text = seen.text()?;
+fn token_of<'a>(text: &'a [u8], spot: &Spot) -> Option<&'a [u8]> {
     if spot.from < spot.to && spot.to <= text.len() {
         return Some(&text[spot.from..spot.to]);
     }
     None
 }
 
-// The note on a certificate that can't be read, with the line at fault.
-fn put_cert(note: &mut Vec<u8>, seen: &Seen, line: &str, kind: &str) -> Result<(), AllocError> {
-    put_head(note, seen, line, None, kind)?;
-    let bytes = match seen.text() {
-        Some(text) => line_of(text, line),
+// The note on a certificate that can't be read, with the line at fault: a byte more of it than is quoted tells that it goes
+// on.
+fn put_cert<F: Shelf>(
+    alloc: Global,
+    note: &mut Vec<u8>,
+    shelf: &mut F,
+    refusal: &Refusal,
+) -> Result<(), AllocError> {
+    put_head(note, refusal, None)?;
+    let line = match refusal.line.parse::<u64>() {
+        Ok(number) => line_of(alloc, shelf, refusal.name, number, MOST_QUOTED + 1)?,
+        Err(_) => None,
+    };
+    let quoted = match &line {
+        Some(bytes) => Some(bytes.as_slice()),
         None => None,
     };
-    put_kind(note, CERT, kind, bytes)?;
+    put_kind(note, CERT, cert_key(refusal.kind, quoted), quoted)?;
     put(note, "\n")
 }
 
+// The key of the sentence of a certificate's kind, by the line at fault, where that has bytes.
+fn cert_key<'a>(kind: &'a str, line: Option<&[u8]>) -> &'a str {
+    if kind == "syntax" && line.is_none() {
+        return "syntax-end";
+    }
+    kind
+}
+
 // The note on a decomposition that does not go with the model.
-fn put_blocks(note: &mut Vec<u8>, seen: &Seen, line: &str) -> Result<(), AllocError> {
-    let kind = word_at(line, 2);
-    put_head(note, seen, "", None, kind)?;
-    if kind == "links" {
+fn put_blocks(note: &mut Vec<u8>, name: &str, line: &str) -> Result<(), AllocError> {
+    let refusal = Refusal {
+        name,
+        line: "",
+        kind: word_at(line, 2),
+    };
+    put_head(note, &refusal, None)?;
+    if refusal.kind == "links" {
         return put(
             note,
             "a variable in rows of several blocks is linked by a row for each block but the first; these and the model's rows are more than 8192, or such a variable has a bound past 2305843009213693951; put rows of such variables under MASTERCONSS\n",

@@ -2,7 +2,6 @@
 use crate::blocks::{Names, first_wrong};
 use crate::grammar::expected;
 use crate::reading::{Found, Reading, read, uncut};
-use bp_watch::{Files, Seen};
 use std::alloc::{AllocError, Global};
 
 /// The place of a fault: its column, from 1, in bytes; the slice of its token; the key of its sentence; and what is
@@ -48,15 +47,6 @@ fn range_of(text: &[u8], number: u64) -> Option<(usize, usize)> {
     (line == number && from <= text.len()).then_some((from, text.len()))
 }
 
-/// The bytes of a line of a text, by its number in digits.
-pub fn line_of<'a>(text: &'a [u8], number: &str) -> Option<&'a [u8]> {
-    let (from, to) = range_of(text, number.parse::<u64>().ok()?)?;
-    if from < to && to <= text.len() {
-        return Some(&text[from..to]);
-    }
-    None
-}
-
 // The spot of a slice of a text, where that stands on the line.
 fn spot_at(
     text: &[u8],
@@ -82,21 +72,18 @@ fn spot_at(
 /// The spot of an LP text's fault, where it can be told.
 pub fn lp_spot(
     alloc: Global,
-    seen: &Seen,
+    text: &[u8],
     line: &str,
     kind: &str,
 ) -> Result<Option<Spot>, AllocError> {
     let Ok(number) = line.parse::<u64>() else {
         return Ok(None);
     };
-    match seen.text() {
-        None => Ok(None),
-        Some(text) => match kind {
-            "bad-byte" => Ok(uncut_spot(text, number, "bad-byte")),
-            "long-name" => Ok(uncut_spot(text, number, "long-name")),
-            "no-end" => Ok(None),
-            _ => read_spot(alloc, text, number, kind),
-        },
+    match kind {
+        "bad-byte" => Ok(uncut_spot(text, number, "bad-byte")),
+        "long-name" => Ok(uncut_spot(text, number, "long-name")),
+        "no-end" => Ok(None),
+        _ => read_spot(alloc, text, number, kind),
     }
 }
 
@@ -162,18 +149,16 @@ fn sums_spot(text: &[u8], number: u64, kind: &str, reading: &Reading) -> Option<
     spot_at(text, number, (token.from, token.to), "activity", "")
 }
 
-/// The spot of the fault of a decomposition, or of a list of rows, where it can be told: the names are those of the text
-/// that was read first.
+/// The spot of the fault of a decomposition, or of a list of rows, beside a model's text, where it can be told.
 pub fn names_spot(
     alloc: Global,
-    files: &Files,
-    seen: &Seen,
+    text: &[u8],
+    model: &[u8],
     line: &str,
     kind: &str,
     list: bool,
 ) -> Result<Option<Spot>, AllocError> {
-    let (Ok(number), Some(text), Some(model)) = (line.parse::<u64>(), seen.text(), model_of(files))
-    else {
+    let Ok(number) = line.parse::<u64>() else {
         return Ok(None);
     };
     let Some((reading, _)) = read(alloc, model)? else {
@@ -191,9 +176,4 @@ pub fn names_spot(
         }
         _ => Ok(None),
     }
-}
-
-// The model's text.
-fn model_of(files: &Files) -> Option<&[u8]> {
-    files.first()?.text()
 }

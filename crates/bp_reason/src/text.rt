@@ -2,8 +2,8 @@
 use itoa::Buffer;
 use std::alloc::AllocError;
 
-// The most bytes of a text that are quoted.
-const MOST_QUOTED: usize = 60;
+/// The most bytes of a text that are quoted.
+pub const MOST_QUOTED: usize = 60;
 
 const DIGITS: [u8; 16] = *b"0123456789abcdef";
 

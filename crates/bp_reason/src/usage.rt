@@ -13,7 +13,7 @@ show LP [--dec DEC] [--blocks] @ the blocks, and which are identical
 propose LP DEC @ writes a decomposition that it finds
 detect LP ROWS DEC @ writes the blocks beside the rows of a list
 merge LP A B NEW [--dec DEC] @ writes one certificate for two
-migrate LP CERT NEW [--dec DEC] @ writes a certificate anew, in version 2
+migrate LP CERT NEW [--dec DEC] @ writes a certificate anew, in version 2, with cuts 3
 gen SEED SIZE LP DEC @ writes an assignment problem and its blocks
 demo SEED SIZE @ makes one in memory, solves it, checks that
 ";

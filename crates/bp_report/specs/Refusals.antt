@@ -83,6 +83,10 @@ cert_refusal line kind = fault_line (codes "refused cert ") line (cert_kind_name
 abbrev pub from_refusal : (line : ℕ) → List ℕ
 from_refusal line = fault_line (codes "refused from ") line (codes "depth")
 
+-- the report on two certificates to merge, of which the second has another cut on this line than the first
+abbrev pub merge_refusal : (line : ℕ) → List ℕ
+merge_refusal line = fault_line (codes "refused merge ") line (codes "cuts")
+
 -- the report on a certificate to go on from that has no open leaf of this number
 abbrev pub leaf_refusal : (number : ℕ) → List ℕ
 leaf_refusal number = count_line (codes "refused leaf ") number

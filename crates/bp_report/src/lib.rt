@@ -19,7 +19,7 @@ pub use ended::{budget_text, ended_text, solve_text};
 pub use merged::merged_text;
 pub use migrated::migrated_text;
 pub use refused::{
-    Refusal, blocks_text, cert_text, dec_text, from_text, leaf_text, lp_text, refusal_text,
-    rows_text, words_text,
+    Refusal, blocks_text, cert_text, dec_text, from_text, leaf_text, lp_text, merge_text,
+    refusal_text, rows_text, words_text,
 };
 pub use sizes::{detected_text, made_text, proposed_text};

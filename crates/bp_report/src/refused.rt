@@ -1,7 +1,7 @@
 // The reports on words and texts that are refused.
 ghost use Rattle.std.specs.Prelude.{◌≡◌, ◌++◌, IfOk, OnOk};
 ghost use Rattle.std.specs.Option.{option_map};
-ghost use Rattle.bp_report.specs.Refusals.{words_refusal, lp_kind_name, lp_refusal, dec_kind_name, dec_refusal, cert_kind_name, cert_refusal, from_refusal, leaf_refusal, rows_kind_name, rows_refusal, links_refusal, var_place_line, blocks_refusal, HasNamed, CanName, refusal_report};
+ghost use Rattle.bp_report.specs.Refusals.{words_refusal, lp_kind_name, lp_refusal, dec_kind_name, dec_refusal, cert_kind_name, cert_refusal, from_refusal, merge_refusal, leaf_refusal, rows_kind_name, rows_refusal, links_refusal, var_place_line, blocks_refusal, HasNamed, CanName, refusal_report};
 
 use crate::lines::{fault_text, push_count_line};
 use block_form::BlockFault;
@@ -86,6 +86,13 @@ pub fn from_text(alloc: Global, line: u64) -> Result<Vec<u8>, AllocError>
     ensures { IfOk result (λ text. text.items ≡ from_refusal line) }
 {
     fault_text(alloc, b"refused from ", line, b"depth")
+}
+
+/// The report on two certificates to merge, of which the second has another cut on this line than the first.
+pub fn merge_text(alloc: Global, line: u64) -> Result<Vec<u8>, AllocError>
+    ensures { IfOk result (λ text. text.items ≡ merge_refusal line) }
+{
+    fault_text(alloc, b"refused merge ", line, b"cuts")
 }
 
 /// The report on a certificate to go on from that has no open leaf of this number.

@@ -7,71 +7,21 @@ ghost use Rattle.std.specs.Prelude.{◌≡◌};
 use bp_shelf::{Shelf, ShelfFault, Sink, SinkFault};
 use std::alloc::{AllocError, Global};
 
-/// The longest front of a text that is kept: a byte more than an LP text may have.
-const MOST_KEPT: usize = 16_777_217;
-
 /// How much of the report is kept.
 const MOST_TOLD: usize = 4096;
 
-/// The front of a file that was read.
-#[derive(Drop)]
-pub struct Seen {
-    name: String,
-    bytes: Vec<u8>,
-    whole: bool,
-}
-
-impl Seen {
-    // A file of which nothing is read.
-    fn new(alloc: Global, name: &str) -> Result<Seen, AllocError> {
-        let name = String::from_str(alloc, name)?;
-        Ok(Seen {
-            name,
-            bytes: Vec::new(alloc),
-            whole: true,
-        })
-    }
-
-    // Takes what was read from a place on. Where it does not follow what is kept, is too long, or memory is wanting,
-    // nothing is kept.
-    fn take(&mut self, alloc: Global, at: u64, more: &[u8]) {
-        if self.bytes.len() as u64 == at
-            && more.len() <= MOST_KEPT.saturating_sub(self.bytes.len())
-        {
-            if self.bytes.extend_from_slice(more).is_ok() {
-                return;
-            }
-        }
-        self.whole = false;
-        self.bytes = Vec::new(alloc);
-    }
-
-    /// The file's name.
-    pub fn name(&self) -> &str {
-        self.name.as_str()
-    }
-
-    /// What was read of it, where all of that is kept.
-    pub fn text(&self) -> Option<&[u8]> {
-        if self.whole {
-            return Some(&self.bytes);
-        }
-        None
-    }
-}
-
-/// What is kept of the files of a run.
+/// The names that are kept of the files of a run.
 #[derive(Drop)]
 pub struct Files {
     alloc: Global,
-    first: Option<Seen>,
-    last: Option<Seen>,
+    first: Option<String>,
+    last: Option<String>,
     failed: Option<String>,
     written: bool,
 }
 
 impl Files {
-    /// Nothing.
+    /// None.
     pub fn new(alloc: Global) -> Files {
         Files {
             alloc,
@@ -82,19 +32,13 @@ impl Files {
         }
     }
 
-    /// Keeps what was read of a file from a place on. A read from its front begins a text.
-    pub fn read(&mut self, name: &str, at: u64, bytes: &[u8]) {
-        if at == 0 {
-            self.begin(name);
+    /// Keeps the name of a file that was read from a place on. A read from its front begins a text: the one before becomes
+    /// the first, where there is none.
+    pub fn read(&mut self, name: &str, at: u64) {
+        if at > 0 {
+            return;
         }
-        if let Some(last) = &mut self.last {
-            last.take(self.alloc, at, bytes);
-        }
-    }
-
-    // Begins a text: the one before becomes the first, where there is none.
-    fn begin(&mut self, name: &str) {
-        let fresh = Seen::new(self.alloc, name).ok();
+        let fresh = String::from_str(self.alloc, name).ok();
         let before = std::mem::replace(&mut self.last, fresh);
         if self.first.is_none() {
             self.first = before;
@@ -107,22 +51,19 @@ impl Files {
         self.written = written;
     }
 
-    /// The text that was read first, where another was read behind it.
-    pub fn first(&self) -> Option<&Seen> {
-        self.first.as_ref()
+    /// The name of the file that was read first, where another was read behind it.
+    pub fn first(&self) -> Option<&str> {
+        name_in(&self.first)
     }
 
-    /// The text that was read last.
-    pub fn last(&self) -> Option<&Seen> {
-        self.last.as_ref()
+    /// The name of the file that was read last.
+    pub fn last(&self) -> Option<&str> {
+        name_in(&self.last)
     }
 
     /// The name of the file that could not be read or written.
     pub fn failed(&self) -> Option<&str> {
-        match &self.failed {
-            Some(name) => Some(name.as_str()),
-            None => None,
-        }
+        name_in(&self.failed)
     }
 
     /// Whether the call that failed was a write.
@@ -131,8 +72,16 @@ impl Files {
     }
 }
 
-/// A shelf that hands every call on to the shelf inside, and keeps what a note is made of: the texts that were read first
-/// and last, each of them at most 16,777,217 bytes, and the name of the file of the last call that failed.
+// The name that is kept, if there is one.
+fn name_in(kept: &Option<String>) -> Option<&str> {
+    match kept {
+        Some(name) => Some(name.as_str()),
+        None => None,
+    }
+}
+
+/// A shelf that hands every call on to the shelf inside, and keeps what a note is made of: the names of the files that were
+/// read first and last, and of the file of the last call that failed. It keeps none of their bytes, however many are read.
 #[derive(Drop)]
 pub struct Watched<F> {
     inside: F,
@@ -150,9 +99,11 @@ impl<F: Shelf> Watched<F> {
         }
     }
 
-    /// What is kept.
-    pub fn files(&self) -> &Files {
-        &self.files
+    /// The shelf inside, and what is kept.
+    pub fn into_parts(self) -> (F, Files)
+        ensures { result.0 ≡ self.inside }
+    {
+        (self.inside, self.files)
     }
 }
 
@@ -170,7 +121,7 @@ impl<F: Shelf> Shelf for Watched<F> {
     fn read_at(&mut self, name: &str, at: u64, into: &mut [u8]) -> Result<usize, ShelfFault> {
         match self.inside.read_at(name, at, into) {
             Ok(count) => {
-                self.files.read(name, at, &into[..count]);
+                self.files.read(name, at);
                 Ok(count)
             }
             Err(fault) => {

@@ -5,7 +5,7 @@
 use bp_cli::run;
 use bp_real::{FileShelf, OutSink};
 use bp_reason::explain;
-use bp_watch::{Files, Watched, WatchedSink};
+use bp_watch::{Watched, WatchedSink};
 use std::io::{ErrorKind, Write};
 use std::process::ExitCode;
 use std::rt::Env;
@@ -17,8 +17,15 @@ fn words_of<R: Env + AllocGlobal>(rt: &R) -> io::Result<Vec<String>> {
 }
 
 // Puts the note on a run on the standard error. Where there is no memory for it, or it can't be written, there is none.
-fn put_note(rt: &HostRuntime, words: &[String], status: u8, report: &[u8], files: &Files) {
-    if let Ok(note) = explain(rt.alloc(), words, status, report, files) {
+fn put_note(
+    rt: &HostRuntime,
+    words: &[String],
+    status: u8,
+    report: &[u8],
+    watched: Watched<FileShelf<HostRuntime>>,
+) {
+    let (mut shelf, files) = watched.into_parts();
+    if let Ok(note) = explain(rt.alloc(), words, status, report, &files, &mut shelf) {
         let _ = rt.stderr().write_all(&note);
     }
 }
@@ -28,7 +35,7 @@ fn run_words(rt: &HostRuntime, words: &[String]) -> u8 {
     let mut shelf = Watched::new(rt.alloc(), FileShelf::new(rt));
     let mut out = WatchedSink::new(rt.alloc(), OutSink::new(rt));
     let ended = run(rt.alloc(), words, &mut shelf, &mut out);
-    put_note(rt, words, ended.status, out.told(), shelf.files());
+    put_note(rt, words, ended.status, out.told(), shelf);
     ended.status
 }
 

@@ -1,8 +1,12 @@
 // Notes on runs, written by hand.
 use bp_reason::explain;
+use bp_shelf::MemShelf;
 use bp_watch::Files;
 use std::alloc::{AllocError, Global};
 use std::test::Fail;
+
+/// What the length of a file stays below.
+const LIMIT: usize = 1 << 40;
 
 /// Cases: the words behind the program's name, or a dash; the status and the first line of the report; the text that
 /// was read first, and the one behind it, or dashes; the note. Bars end the lines of texts and notes; a star stands for
@@ -59,6 +63,10 @@ solve m.lp --dec o @ 3 refused blocks var-place x @ Max| x|st| cap1: x <= 3|Bina
 show m.lp --dec o @ 3 refused blocks var-place x @ Max| x|st| cap1: x <= 3| job1: x <= 2|Binaries| x|End @ NBLOCKS 1|BLOCK 1| cap1|MASTERCONSS job1|MASTERVARS x @ o: var-place: the variable 'x' stands in a row of a block, and is listed with another block or with the master; list it with the block in whose rows it stands, or in no list|
 detect m.lp o d @ 3 refused rows 2 unknown-row @ Max| x|st| x <= 3|End @ c1|c2 @ o:2:1: unknown-row: no row of the model has the name 'c2' here; an unnamed row is called c and its place, as c3|
 check m.lp o @ 3 refused cert 3 syntax @ Max @ bpcert 1|claim infeasible|leaf 05 rows 0 priced 0|end| @ o:3: syntax: this is not the form*
+migrate m.lp o n @ 3 refused cert 3 number @ Max @ bpcert 1|claim infeasible|leaf 1 rows 1 2 3 priced 20 1 2 3 4 5 6 7 8 9 10 11 12 13 14 15 16|end| @ o:3: number: in 'leaf 1 rows 1 2 3 priced 20 1 2 3 4 5 6 7 8 9 10 11 12 13 14..' a variable*
+check m.lp o @ 3 refused cert 5 syntax @ Max @ bpcert 1|claim infeasible|leaf 1 rows 0 priced 0|end| @ o:5: syntax: the line is empty, or the text ends before the line `end`; was the file cut off?|
+check m.lp o @ 3 refused cert 259 limit @ Max @ bpcert 3| @ o:259: limit: there are more than 256 cuts, the most|
+check m.lp o @ 6 rejected 3 cut @ Max @ bpcert 3| @ o:3: cut: the sums of this cut's row may pass 4611686018427387903 (2^62 - 1) within the bounds; *
 check m.lp o @ 6 rejected 4 weak @ Max @ bpcert 1| @ o:4: weak: the bound that this leaf's multipliers prove does not reach what the claim needs; the claim is not proved*
 check m.lp o --visits 9 @ 10 unknown 4 @ Max @ bpcert 1| @ o:4: unknown: pricing the blocks of this leaf may take more visits than are left; *
 solve m.lp --from o @ 3 refused from 9 depth @ Max @ bpcert 1| @ o:9: depth: the certificate is valid, but*
@@ -85,22 +93,30 @@ fn text_of(alloc: Global, line: &str) -> Result<Vec<u8>, AllocError> {
     Ok(text)
 }
 
-/// What a shelf kept that read these texts, or none of a file.
-fn files_of(alloc: Global, first: &str, other: &str) -> Result<Files, AllocError> {
+/// What a shelf kept that read these texts, or none of a file, and the shelf.
+fn files_of(alloc: Global, first: &str, other: &str) -> Result<(Files, MemShelf), AllocError> {
     let mut files = Files::new(alloc);
+    let mut shelf = MemShelf::slow(alloc, &[], 7)?;
     if first == "-" {
         files.fail("m.lp", false);
-        return Ok(files);
+        return Ok((files, shelf));
     }
-    let text = text_of(alloc, first)?;
-    let half = text.len() / 2;
-    files.read("m.lp", 0, &text[..half]);
-    files.read("m.lp", half as u64, &text[half..]);
+    put_text(&mut shelf, "m.lp", &text_of(alloc, first)?)?;
+    files.read("m.lp", 0);
+    files.read("m.lp", 7);
     if other != "-" {
-        let text = text_of(alloc, other)?;
-        files.read("o", 0, &text);
+        put_text(&mut shelf, "o", &text_of(alloc, other)?)?;
+        files.read("o", 0);
     }
-    Ok(files)
+    Ok((files, shelf))
+}
+
+/// Puts a text on a shelf.
+fn put_text(shelf: &mut MemShelf, name: &str, text: &[u8]) -> Result<(), AllocError> {
+    if text.len() < LIMIT {
+        shelf.put_file(name, text)?;
+    }
+    Ok(())
 }
 
 /// Whether a note is as written; a star stands for its rest.
@@ -133,9 +149,10 @@ fn add_wrong(alloc: Global, all: &mut Vec<u8>, case: &str) -> Result<bool, Alloc
         None => (ended, ""),
     };
     let words = words_of(alloc, words)?;
-    let files = files_of(alloc, first, other)?;
+    let (files, mut shelf) = files_of(alloc, first, other)?;
     let status = status.parse::<u8>().unwrap_or(0);
-    let note = explain(alloc, words.as_slice(), status, report.as_bytes(), &files)?;
+    let report = report.as_bytes();
+    let note = explain(alloc, words.as_slice(), status, report, &files, &mut shelf)?;
     if !is_as(alloc, &note, wanted)? {
         all.extend_from_slice(case.as_bytes())?;
         all.extend_from_slice(b"\n     ")?;
@@ -154,6 +171,6 @@ fn notes_are_as_written(rt: HostRuntime) -> Result<(), Fail> {
         }
     }
     assert_eq!(rt; String::from_utf8_lossy(rt.alloc(), &wrong)?.as_str(), "");
-    assert_eq!(rt; count, 54);
+    assert_eq!(rt; count, 58);
     Ok(())
 }
