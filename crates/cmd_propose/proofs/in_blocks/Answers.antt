@@ -13,4 +13,4 @@ unreachable-requires c =
     never_refused c.args.model c.args.dec c.in-Err.refused.fault c.requires.kept c.requires.guess c.in-Err.ensures.fault c.in-VarPlace.is
 
 pub returns-in-Ok : goal.returns-in-Ok
-returns-in-Ok c = formed c.in-Ok.b c.in-Ok.ensures.model c.in-Ok.ensures.dec c.in-Ok.ensures.formed c.in-Ok.ensures.placed
+returns-in-Ok c = formed c.in-Ok.b c.in-Ok.ensures.model c.in-Ok.ensures.dec c.in-Ok.ensures.cuts c.in-Ok.ensures.formed c.in-Ok.ensures.placed
