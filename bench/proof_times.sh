@@ -6,9 +6,12 @@
 #     bench/proof_times.sh            every crate; it takes as long as the whole gate from nothing
 #     bench/proof_times.sh lp_read..  these crates alone, over what `rt ci` has proved on this machine of those below; with
 #                                     a kit whose `rt ci` keeps nothing, those below are proved and timed too
+#     bench/proof_times.sh --of PID   what the run of `rt ci` of that process proves from now on, as the gate's own run: it
+#                                     prints the table when that has ended
 #
-# `rt ci` runs on a copy, and once a second the time of each of its checks is read from /proc. So each check is measured
-# up to a second short. Linux, bash, awk and Rattle's command rt are needed.
+# But with --of, `rt ci` runs on a copy. Once a second the time of each of its checks is read from /proc, with that of the
+# processes that it has waited for. So each check is measured up to a second short, and of what is kept from earlier runs
+# nothing is told. Seconds that are lacking are told as 0. Linux, bash, awk and Rattle's command rt are needed.
 set -eu
 
 top=$(cd "$(dirname "$(readlink -f "${BASH_SOURCE[0]}")")/.." && pwd)
@@ -32,51 +35,58 @@ keep_crates() { # NAME..
     done
 }
 
-# Copies the repository without what rt made.
-mkdir "$room/repo" "$room/repo/.git"
-(cd "$top" && tar -c --exclude=out crates crates.txt HANDLES) | tar -x -C "$room/repo"
-cd "$room/repo"
-
-if ! grep -q -- --anew "$(readlink -f "$(command -v rt)")"; then
-    words=()
-    [ $# -eq 0 ] || keep_crates "$@"
-elif [ $# -eq 0 ]; then
-    words=(--anew $(sed -n 's/^\([a-z0-9_]*\).*:.*/\1/p' crates.txt))
-else
-    words=("$@")
-    # A last line that no earlier run has proved.
-    for it; do
-        for root in crates/"$it"/src/{lib,main}.rt; do
-            [ -f "$root" ] && echo "// Timed: $$ $RANDOM" >>"$root"
+# Starts `rt ci` on a copy of the repository without what rt made: the process is in run.
+start() { # NAME..
+    local words=() it root
+    mkdir "$room/repo" "$room/repo/.git"
+    (cd "$top" && tar -c --exclude=out crates crates.txt HANDLES) | tar -x -C "$room/repo"
+    cd "$room/repo"
+    if ! grep -q -- --anew "$(readlink -f "$(command -v rt)")"; then
+        [ $# -eq 0 ] || keep_crates "$@"
+    elif [ $# -eq 0 ]; then
+        words=(--anew $(sed -n 's/^\([a-z0-9_]*\).*:.*/\1/p' crates.txt))
+    else
+        words=("$@")
+        # A last line that no earlier run has proved.
+        for it; do
+            for root in crates/"$it"/src/{lib,main}.rt; do
+                [ -f "$root" ] && echo "// Timed: $$ $RANDOM" >>"$root"
+            done
         done
-    done
-fi
+    fi
+    rt ci "${words[@]}" >"$room/log" 2>&1 &
+    run=$!
+}
 
-# Prints a line for each check of that run of rt: its process, its crate, what it proves, its hundredths of a second. A
+# Prints a line for each check of that run of rt: its process and when that began, its crate, what it proves, its hundredths of a second. A
 # check is waited for with those that it starts, so these are in its time once they have ended.
 sample() { # PID
     local at words kind stat
-    for at in /proc/[0-9]*; do
+    for at in $(cat /proc/"$1"/task/*/children); do
+        at=/proc/$at
         { read -r stat <"$at/stat"; } 2>/dev/null || continue
         stat=(${stat##*) })
-        [ "${stat[1]}" = "$1" ] || continue
         mapfile -d '' words <"$at/cmdline" || continue
         [[ ${words[0]-} == */rattle && " ${words[*]} " =~ ' --crate-name '([a-z0-9_]+)' ' ]] || continue
         kind=proof
         [[ " ${words[*]} " == *' --test '* ]] && kind=tests
         [[ $(readlink "$at/cwd") == */rt-edit-* ]] && kind=edits
-        echo "${at#/proc/} ${BASH_REMATCH[1]} $kind $((stat[11] + stat[12] + stat[13] + stat[14]))"
+        echo "${at#/proc/}.${stat[19]} ${BASH_REMATCH[1]} $kind $((stat[11] + stat[12] + stat[13] + stat[14]))"
     done 2>/dev/null
 }
 
-rt ci "${words[@]}" >"$room/log" 2>&1 &
-run=$!
+if [ "${1-}" = --of ]; then
+    run=$2
+    cd "$top"
+else
+    start "$@"
+fi
 while kill -0 "$run" 2>/dev/null; do
     sample "$run"
     sleep 1
 done >"$room/samples"
 status=0
-wait "$run" || status=$?
+[ "${1-}" = --of ] || wait "$run" || status=$?
 
 # The crates, lowest first as crates.txt has them, with their lines.
 while read -r crate; do
@@ -117,6 +127,7 @@ awk -v ticks="$(getconf CLK_TCK)" -v all="$([ $# -eq 0 ] && echo 1)" '
         print ""
         print "Longest chain: " longest
     }' "$room/lines" "$room/samples" crates.txt
+[ "${1-}" != --of ] || exit 0
 tail -n 1 "$room/log"
 [ "$status" -eq 0 ] || grep '^rt: .*\(NOT\|FAILED\)' "$room/log"
 exit "$status"

@@ -66,5 +66,7 @@ checks assignment 'optimal 92' model.lp model.cert
 solves shared-machine
 solves shared-machine --dec model.dec
 checks shared-machine 'optimal 18' model.lp model.cert --dec model.dec
+checks odd-order infeasible model.lp model.cert
+checks odd-order 'optimal 33' at-least.lp at-least.cert
 
 exit $failed

@@ -8,11 +8,12 @@ are exact. A block that a leaf prices is solved variable by variable, over the s
 takes more than N states (5,000,000 without the option) it prints `unknown LINE`, with status 10: then a greater N may judge the certificate.
 The limits on sizes of models and a decomposition's lists of variables are not looked at: no claim rests on these."""
 import argparse
+import math
 import re
 import sys
-from collections import namedtuple
+from collections import Counter, namedtuple
 
-LARGEST, BLOCKS, DEPTH, SCALE, MULTIPLIER = 2**62 - 1, 4_096, 8_256, 2**20, 2**40
+LARGEST, BLOCKS, DEPTH, CUTS, SCALE, MULTIPLIER = 2**62 - 1, 4_096, 8_256, 256, 2**20, 2**40
 INFINITE = 2**200  # all sums of finite numbers are below 2^116
 SECTIONS = {word: section for section, words in {
     "objective": "maximize,maximum,max,minimize,minimum,min", "rows": "subject to,such that,st,s.t.,st.", "bounds": "bounds,bound",
@@ -23,8 +24,7 @@ NAME = rb"[" + LETTER + rb"][" + LETTER + rb"0-9.]*"
 TOKEN = re.compile(rb"(?P<blank>[ \t\r]+|\\[^\n]*)|(?P<line>\n)|(?P<number>([0-9]+(\.[0-9]*)?|\.[0-9]+)([eE][+-]?[0-9]+)?)|(?P<name>"
                    + NAME + rb")|(?P<feature>->|[\[\]^*])|(?P<compare><=|=<|>=|=>|<|>|=)|(?P<sign>[+-])|(?P<colon>:)")
 SECTION = re.compile(rb"(?i:(?:subject|such|lazy|user)[ \t\r]+)?" + NAME + rb"(?![" + LETTER + rb"0-9.]|[ \t]*:)")
-ONCE, NAMING, LISTS = (words.split() for words in (
-    "NBLOCKS CONSDEFAULTMASTER PRESOLVED", "BLOCK BLOCKCONSS BLOCKVARS", "MASTERCONSS MASTERVARS LINKINGVARS"))
+ONCE, NAMING, LISTS = "NBLOCKS CONSDEFAULTMASTER PRESOLVED".split(), "BLOCK BLOCKCONSS BLOCKVARS".split(), "MASTERCONSS MASTERVARS LINKINGVARS".split()
 INTEGER, SPELLED = re.compile(rb"-?[0-9]+"), re.compile(rb"0|-?[1-9][0-9]*")
 Row = namedtuple("Row", "terms sides")  # terms: a coefficient for each variable; sides: the least and the greatest sum
 Token, Block = namedtuple("Token", "kind value line"), namedtuple("Block", "variables rows")
@@ -46,26 +46,25 @@ def whole(text, in_bounds):
     before, _, behind = digits.partition(".")
     figures, size = (before + behind).rstrip("0"), power.lstrip("+-").lstrip("0")
     zeros = (-1 if power[:1] == "-" else 1) * (int(size or 0) if len(size) < 12 else 10**12) + len(before) - len(figures)
-    if figures.strip("0") and zeros < 0:
+    if (figures := figures.lstrip("0")) and zeros < 0:
         return "not-whole"
-    figures = figures.lstrip("0")
     value = 0 if not figures else int(figures) * 10**zeros if len(figures) + zeros <= 20 else INFINITE
     return value if value <= LARGEST or in_bounds and value == INFINITE else "too-large"
 
 
 def cut(text):
     """The tokens of an LP text. The kind of a section word is its section; signs are 1 and -1, comparisons `<`, `>` and `=`."""
-    tokens, at, line, is_first, section = [], 0, 1, True, None
+    tokens, at, line, section = [], 0, 1, None
     while at < len(text) and section != "end":
         found = TOKEN.match(text, at)
         need(found, "refused lp", line, "bad-byte")
         at, kind, value = found.end(), found.lastgroup, found.group().decode("latin-1")
         if kind in ("line", "blank"):
-            line, is_first = line + (kind == "line"), is_first or kind == "line"
+            line += kind == "line"
             continue
         if kind == "name":
             need(len(value) <= 255, "refused lp", line, "long-name")
-            word = is_first and SECTION.match(text, found.start())
+            word = (not tokens or tokens[-1].line < line) and SECTION.match(text, found.start())
             word = word and (SECTIONS.get(" ".join(word[0].decode().lower().split())), word.end())
             if word and word[0]:
                 (kind, at), section = word, word[0]
@@ -74,14 +73,13 @@ def cut(text):
         elif kind in ("number", "sign", "compare"):
             value = whole(value, section == "bounds") if kind == "number" else {"+": 1, "-": -1}.get(value) or value.strip("=") or "="
         tokens.append(Token(kind, value, line))
-        is_first = False
     return tokens + [Token("none", None, line)] * 2
 
 
 class Model:
     """What an LP text means: spans by variable, costs of the form that minimises, rows."""
     def __init__(self, text):
-        self.tokens, self.at, self.constant, costs = cut(text), 0, 0, {}
+        self.tokens, self.at, costs = cut(text), 0, Counter()
         self.names, self.born, self.spans, self.listed, self.rows, self.row_names = {}, [], [], [], [], {}
         self.sign = -1 if self.take("objective").lower().startswith("max") else 1
         self.at += 2 * self.is_labelled()
@@ -98,12 +96,11 @@ class Model:
             while section != "bounds" and self.next.kind == "name":
                 self.listed[self.variable()].add(section)
         for born, span, listed in zip(self.born, self.spans, self.listed):
-            if "binaries" in listed:
-                span[:] = [max(span[0], 0), min(span[1], 1)]
+            span[:] = [max(span[0], 0), min(span[1], 1)] if "binaries" in listed else span
             need(span[0] <= span[1], "refused lp", born, "crossed")
             need(INFINITE not in map(abs, span), "refused lp", born, "unbounded")
             need(listed or span[0] == span[1], "refused lp", born, "continuous")
-        self.costs = [self.sign * costs.get(j, 0) for j in range(len(self.names))]
+        self.costs, self.constant = [self.sign * costs[j] for j in range(len(self.names))], costs[None]
 
     @property
     def next(self):
@@ -123,10 +120,7 @@ class Model:
         return self.next.kind == "name" and self.tokens[self.at + 1].kind == "colon"
 
     def signs(self):
-        sign = 1
-        while self.next.kind == "sign":
-            sign *= self.take("sign")
-        return sign
+        return math.prod(iter(lambda: self.next.kind == "sign" and self.take("sign"), False))
 
     def variable(self):
         if self.next.kind == "name" and self.next.value not in self.names:
@@ -139,14 +133,10 @@ class Model:
         while is_first or self.next.kind == "sign":
             is_first, factor, is_number = False, self.signs(), self.next.kind == "number"
             factor *= self.take("number") if is_number else 1
-            if has_constants and is_number and self.next.kind != "name":
-                self.constant += factor
-            else:
-                variable = self.variable()
-                terms[variable] = terms.get(variable, 0) + factor
+            terms[None if has_constants and is_number and self.next.kind != "name" else self.variable()] += factor
 
     def read_row(self):
-        row = Row({}, [-INFINITE, INFINITE])
+        row = Row(Counter(), [-INFINITE, INFINITE])
         name = self.next.value if self.is_labelled() else f"c{len(self.rows) + 1}"
         self.need(name not in self.row_names, "row-twice")
         self.row_names[name] = len(self.rows)
@@ -161,12 +151,11 @@ class Model:
 
     def read_bound(self):
         if self.next.kind != "name":
-            return self.read_between(self.signs() * self.take("number"), lambda: self.spans[self.variable()])
-        span = self.spans[self.variable()]
-        if self.next.kind == "name" and self.next.value.lower() == "free":
+            self.read_between(self.signs() * self.take("number"), lambda: self.spans[self.variable()])
+        elif (span := self.spans[self.variable()]) and self.next.kind == "name" and self.next.value.lower() == "free":
             self.at, span[:] = self.at + 1, [-INFINITE, INFINITE]
-            return None
-        return set_side(span, self.take("compare"), self.signs() * self.take("number"))
+        else:
+            set_side(span, self.take("compare"), self.signs() * self.take("number"))
 
     def read_between(self, value, read):
         mark, sides = self.take("compare"), read()
@@ -214,7 +203,7 @@ def read_dec(text, model):
 
 
 def form_blocks(model, block_of, count):
-    """The blocks, and behind them each variable that stands in no block's row; the link rows, by the variable and block of a further copy."""
+    """Each row's block, -1 for link rows; the blocks, at last the variables that are in none; the link rows, by variable and block of a further copy."""
     blocks, links, home = [Block([], []) for _ in range(count)], [], {}
     for k, row in ((k - 1, row) for k, row in zip(block_of, model.rows) if k):
         blocks[k].rows.append(row)
@@ -225,34 +214,37 @@ def form_blocks(model, block_of, count):
         for k in sorted(home.get(j, [-1])):
             blocks[k].variables.append(j)
         links += [(j, k) for k in sorted(home.get(j, []))[1:]]
-    return block_of + [0] * len(links), blocks, links
+    return block_of + [-1] * len(links), blocks, links
 
 
 class Certificate:
-    """A claim, its point if it has one, and the tree's nodes in the order of their lines; while it is read, the last leaf's multipliers."""
+    """A claim, its point if it has one, its cuts, and the tree's nodes in the order of their lines."""
     def __init__(self, text, variables, block_of, blocks):
-        self.text, self.at, self.line, self.value, self.bound, self.nodes, self.had = text, 0, 1, None, None, [], {}
-        self.take(b"bpcert 1\n", b"bpcert 2\n"), self.take(b"claim ")
-        begin, self.word = self.at, self.take(b"optimal ", b"infeasible", b"bound ")
-        if self.word == b"bound ":
-            self.bound = self.number(LARGEST)
-        if self.word == b"optimal " or self.word == b"bound " and self.take(b" value ", b""):
-            self.value = self.number(LARGEST)
+        self.text, self.at, self.line, self.block_of, self.cuts, self.nodes, depths, had = text, 0, 1, block_of + [0] * CUTS, [], [], [0], {}
+        version = int(self.take(b"bpcert 1\n", b"bpcert 2\n", b"bpcert 3\n")[7:8])
+        begin, self.word = self.at + len(self.take(b"claim ")), self.take(b"optimal ", b"infeasible", b"bound ")
+        self.bound = self.number(LARGEST) if self.word == b"bound " else None
+        self.value = self.number(LARGEST) if self.word == b"optimal " or self.word == b"bound " and self.take(b" value ", b"") else None
         self.claim = text[begin:self.at].decode()
         self.take(b"\n")
         self.point = None if self.value is None else self.read_point(variables)
-        depths = [0]
-        while depths:
-            line, word, depth = self.line, self.take(b"split", b"leaf ", b"open "), depths.pop()
-            need(depth <= DEPTH or not re.match(b" " * (word == b"split") + INTEGER.pattern, self.text[self.at:self.at + 32]), "refused cert", line, "depth")
-            number = next(self.ascending(1, variables)) if word == b"split" else self.number(SCALE, 0)
-            at = self.take(b" ") and self.number(LARGEST) if word == b"split" else None
-            proof = (None, None) if word == b"split" else self.read_proof(block_of, blocks)
-            self.nodes.append(Node(line, word, number, at, *proof))
-            depths += [depth + 1] * 2 * (word == b"split")
+        while version == 3 and (not self.cuts or text.startswith(b"cut ", self.at)):
+            divisor = self.take(b"cut ") and self.number(SCALE, 1, first_kind=len(self.cuts) == CUTS and "limit")
+            self.cuts.append((self.line, divisor, self.take(b" rows ") and self.read_rows({}, SCALE, 0)))
             self.take(b"\n")
-        self.take(b"end\n")
-        need(self.at == len(text), "refused cert", self.line, "syntax")
+        while depths:
+            line, word, depth = self.line, self.take(b"split ", b"leaf ", b"open "), depths.pop()
+            if word == b"split ":
+                number = self.number(INFINITE, 1, variables, depth > DEPTH and "depth") - 1
+                self.nodes.append(Node(line, word, number, self.take(b" ") and self.number(LARGEST), None, None))
+                depths += [depth + 1] * 2
+            else:
+                scale = self.number(SCALE, 0, first_kind=depth > DEPTH and "depth")
+                had = self.read_rows({} if self.take(b" rows " if version == 1 else b" change ") == b" rows " else had, MULTIPLIER, -1)
+                is_all = self.take(b" priced ") and self.take(b"all", b"")
+                self.nodes.append(Node(line, word, scale, None, had, set(range(blocks) if is_all else self.ascending(blocks))))
+            self.take(b"\n")
+        need(self.take(b"end\n") and self.at == len(text), "refused cert", self.line, "syntax")
 
     def take(self, *words):
         word = next((word for word in words if self.text.startswith(word, self.at)), None)
@@ -260,78 +252,89 @@ class Certificate:
         self.at, self.line = self.at + len(word), self.line + word.count(b"\n")
         return word
 
-    def number(self, most, least=-INFINITE):
+    def number(self, largest, least=-INFINITE, most=INFINITE, first_kind=None):
         found = INTEGER.match(self.text, self.at)
-        need(found and SPELLED.fullmatch(found[0]) and (least < 0 or found[0][:1] != b"-"), "refused cert", self.line, "syntax")
+        is_right = found and not first_kind and SPELLED.fullmatch(found[0]) and (least < 0 or found[0][:1] != b"-")
+        need(is_right, "refused cert", self.line, found and first_kind or "syntax")
         self.at, value = found.end(), int(found[0][:30])  # thirty digits are past each limit, and no text has so many numbers
-        need(abs(value) <= most, "refused cert", self.line, "too-large")
+        need(abs(value) <= largest, "refused cert", self.line, "too-large")
+        need(least <= value <= most, "refused cert", self.line, "number")
         return value
 
-    def ascending(self, count, most):
-        """So many numbers of variables, rows or blocks, each above the one before it. Here they count from 0."""
+    def ascending(self, most):
+        """A count, and so many numbers of rows or blocks, each above the one before it. Here they count from 0."""
         last = 0
-        for _ in range(count):
-            self.take(b" ")
-            number = self.number(INFINITE, 0)
-            need(last < number <= most, "refused cert", self.line, "number")
-            yield (last := number) - 1
+        for _ in range(self.number(INFINITE, 0)):
+            last = self.take(b" ") and self.number(INFINITE, last + 1, most)
+            yield last - 1
 
     def read_point(self, variables):
         point = []
         self.take(b"point")
-        while not self.text.startswith(b"\n", self.at):
-            self.take(b" ")
+        while self.take(b" ", b"\n") == b" ":
             point.append(self.number(LARGEST))
-            need(len(point) <= variables, "refused cert", self.line, "length")
-        need(len(point) == variables, "refused cert", self.line, "length")
-        self.take(b"\n")
+            need(len(point) <= variables, "refused cert 3 length")
+        need(len(point) == variables, "refused cert 3 length")
         return point
 
-    def read_proof(self, block_of, blocks):
-        had = self.had if self.take(b" change " if self.text.startswith(b"bpcert 2") else b" rows ") == b" change " else {}
+    def read_rows(self, had, largest, least_block):
+        """The multipliers by row: those before, and another one for each row that is named; none is 0."""
         rows = dict(had)
-        for row in self.ascending(self.number(INFINITE, 0), len(block_of)):
-            need(block_of[row] == 0, "refused cert", self.line, "number")
-            rows[row] = self.take(b" ") and self.number(MULTIPLIER)
+        for row in self.ascending(len(self.block_of) - CUTS + len(self.cuts)):
+            need(least_block <= self.block_of[row] <= 0, "refused cert", self.line, "number")
+            rows[row] = self.take(b" ") and self.number(largest)
             need(rows[row] != had.get(row, 0), "refused cert", self.line, "number")
-        self.take(b" priced ")
-        self.had = {row: p for row, p in rows.items() if p}
-        return self.had, set(range(blocks) if self.take(b"all", b"") else self.ascending(self.number(INFINITE, 0), blocks))
+        return {row: p for row, p in rows.items() if p}
 
 
 class Judge:
     def __init__(self, model, blocks, links, most_states):
         self.model, self.blocks, self.links, self.most_states, self.known = model, blocks, links, most_states, {}
-        self.rows = model.rows + [Row({j: 1}, [0, 0]) for j, _ in links]  # of a link row the term of the first copy
+        self.rows = model.rows + [Row({j: 1}, [0, 0]) for j, _ in links]  # of a link row the term of the first copy; the cuts come behind
 
     def judge(self, cert):
         zones, model = [[tuple(span) for span in self.model.spans]], self.model
         if cert.point is not None:
-            value = model.constant + model.sign * sum(c * x for c, x in zip(model.costs, cert.point))
             need(all(low <= x <= high for x, (low, high) in zip(cert.point, zones[0])), "rejected 3 point-bound")
             need(all(row.sides[0] <= sum(a * cert.point[j] for j, a in row.terms.items()) <= row.sides[1] for row in model.rows), "rejected 3 point-row")
-            need(value == cert.value, "rejected 3 value")
+            need(cert.value == model.constant + model.sign * sum(c * x for c, x in zip(model.costs, cert.point)), "rejected 3 value")
+        self.add_cuts(cert.cuts)
         claimed = cert.value if cert.bound is None else cert.bound
         for node in cert.nodes:
             zone = zones.pop()
-            if node.word == b"split":
+            if node.word == b"split ":
                 low, high = zone[node.number]
                 need(low <= node.at < high, "rejected", node.line, "split")
                 zones += [zone[:node.number] + [part] + zone[node.number + 1:] for part in ((node.at + 1, high), (low, node.at))]
-                continue
-            bound = self.bound(node, zone)
-            is_empty = bound > INFINITE // 2 or node.number == 0 and bound > 0
-            need(is_empty if claimed is None else bound > node.number * (model.sign * claimed - 1), "rejected", node.line, "weak")
-            need(node.word == b"leaf " or cert.word == b"bound ", "rejected", node.line, "open")
+            else:
+                bound = self.bound(node, zone)
+                is_empty = bound > INFINITE // 2 or node.number == 0 and bound > 0
+                need(is_empty if claimed is None else bound > node.number * (model.sign * claimed - 1), "rejected", node.line, "weak")
+                need(node.word == b"leaf " or cert.word == b"bound ", "rejected", node.line, "open")
+
+    def combined(self, rows, line):
+        """The sum of rows, each times its multiplier: its side, and its coefficients by variable."""
+        side, sums = 0, Counter()
+        for row, p in ((self.rows[i], p) for i, p in rows.items()):
+            need(abs(row.sides[p < 0]) != INFINITE, "rejected", line, "sign")
+            side += p * row.sides[p < 0]
+            for j, a in row.terms.items():
+                sums[j] += p * a
+        return side, sums
+
+    def add_cuts(self, cuts):
+        """The rows of cuts, each divided and rounded up from a sum of rows before it."""
+        for line, divisor, rows in cuts:
+            (side, sums), spans = self.combined(rows, line), self.model.spans
+            terms = {j: -(-a // divisor) for j, a in sums.items()}
+            low = sum(g * spans[j][0] for j, g in terms.items()) - (sum(a * spans[j][0] for j, a in sums.items()) - side) // divisor
+            need(abs(low) + sum(abs(g) * max(1, *map(abs, spans[j])) for j, g in terms.items()) <= LARGEST, "rejected", line, "cut")
+            self.rows.append(Row(terms, [low, INFINITE]))
 
     def bound(self, leaf, zone):
-        bound, reduced = leaf.number * self.model.sign * self.model.constant, [leaf.number * cost for cost in self.model.costs]
-        for row, p in ((self.rows[i], p) for i, p in leaf.rows.items()):
-            need(abs(row.sides[p < 0]) != INFINITE, "rejected", leaf.line, "sign")
-            bound += p * row.sides[p < 0]
-            for j, a in row.terms.items():
-                reduced[j] -= p * a
-        further = {link: leaf.rows.get(i, 0) for i, link in enumerate(self.links, len(self.model.rows))}  # of copies that are not the first
+        (side, sums), model = self.combined(leaf.rows, leaf.line), self.model
+        bound, reduced = side + leaf.number * model.sign * model.constant, [leaf.number * cost - sums[j] for j, cost in enumerate(model.costs)]
+        further = {link: leaf.rows.get(i, 0) for i, link in enumerate(self.links, len(model.rows))}  # of copies that are not the first
         for k, block in enumerate(self.blocks):
             key = (k, k in leaf.priced, tuple((further.get((j, k), reduced[j]), zone[j]) for j in block.variables))
             if key not in self.known:
@@ -345,7 +348,7 @@ class Judge:
             return None if total is None or row.sides[0] <= total + rest[0] and total + rest[1] <= row.sides[1] else total
         rests, states = [[(0, 0)] * len(rows)], 0  # what the variables behind each place can add to each row
         for j, (_, span) in reversed([*zip(variables, priced)]):
-            ends = [sorted(row.terms.get(j, 0) * end for end in span) for row in rows]
+            ends = (sorted(row.terms[j] * end for end in span) for row in rows)
             rests.append([(rest[0] + end[0], rest[1] + end[1]) for rest, end in zip(rests[-1], ends)])
         rest = rests.pop()
         can_meet = all(row.sides[0] <= most and least <= row.sides[1] for row, (least, most) in zip(rows, rest))
@@ -374,8 +377,7 @@ def check(lp, cert, dec=None, most_states=5_000_000):
     try:
         model = Model(lp)
         block_of, blocks, links = form_blocks(model, *read_dec(b"NBLOCKS 0" if dec is None else dec, model))
-        cert = Certificate(cert, len(model.names), block_of, len(blocks))
-        Judge(model, blocks, links, most_states).judge(cert)
+        Judge(model, blocks, links, most_states).judge(cert := Certificate(cert, len(model.names), block_of, len(blocks)))
     except Stop as stop:
         return str(stop)
     return f"accepted {cert.claim}"
@@ -383,16 +385,14 @@ def check(lp, cert, dec=None, most_states=5_000_000):
 
 def main():
     words = argparse.ArgumentParser(description=__doc__.split("\n\n", 1)[0])
-    for word, options in (("lp", {}), ("cert", {}), ("--dec", {}), ("--states", {"type": int, "default": 5_000_000})):
-        words.add_argument(word, **options)
+    words.add_argument("lp"), words.add_argument("cert"), words.add_argument("--dec"), words.add_argument("--states", type=int, default=5_000_000)
     words = words.parse_args()
     try:
         texts = [open(name, "rb").read() for name in (words.lp, words.cert, words.dec) if name]
     except OSError as fault:
         print(f"check_certificate.py: {fault}", file=sys.stderr)
         return 11 if isinstance(fault, FileNotFoundError) else 7
-    report = check(*texts, most_states=words.states)
-    print(report)
+    print(report := check(*texts, most_states=words.states))
     return {"accepted": 0, "refused": 3, "rejected": 6, "unknown": 10}[report.split(" ", 1)[0]]
 
 

@@ -17,7 +17,7 @@ PICTURE = TOP / "docs/pictures/layers.svg"
 ROOMS = {  # a room's title: its colour, and its crates
     "theory: definitions and laws": ("#fff3c4", "bp_theory search_laws"),
     "texts and models": ("#d9ead3", "lp_token bp_model lp_read dec_read dec_find dec_guess bp_gen"),
-    "blocks": ("#cfe2f3", "block_form block_class disagg"),
+    "blocks": ("#cfe2f3", "block_form round_cut block_class disagg"),
     "pricing and bounds": ("#d0e0e3", "pricing search_price knap_price state_price lagr_bound"),
     "hints: nothing proved rests on how good they are": (
         "#eeeeee", "col_pool master_lp lp_factor lp_core column_lp lone_leaf point_hint hint_pools column_hint node_hint"),
@@ -26,7 +26,7 @@ ROOMS = {  # a room's title: its colour, and its crates
     "files, words and reports": ("#fce5cd", "bp_shelf bp_real bp_watch bp_reason bp_words bp_report bp_front"),
     "commands": ("#d9d2e9", "cmd_show cmd_solve cmd_check cmd_gen cmd_detect cmd_propose cmd_merge cmd_migrate cmd_demo bp_cli bprice"),
 }
-TESTS = "readings streamings filings pricings guesses engines wordings reportings worked calls".split()  # not drawn
+TESTS = "readings streamings filings pricings guesses cuttings engines wordings reportings worked calls".split()  # not drawn
 
 
 def crates():

@@ -55,7 +55,9 @@ def tree_of(folder, cert):
     model = draw.texts.Model((EXAMPLES / folder / "model.lp").read_bytes())
     block_of, blocks, links = draw.texts.form_blocks(model, *draw.texts.read_dec(b"NBLOCKS 0", model))
     cert = draw.texts.Certificate(cert, len(model.names), block_of, len(blocks))
-    return draw.Tree(model, cert, draw.texts.Judge(model, blocks, links, 1000))
+    judge = draw.texts.Judge(model, blocks, links, 1000)
+    judge.add_cuts(cert.cuts)
+    return draw.Tree(model, cert, judge)
 
 
 def test_tree(tmp_path):
@@ -70,6 +72,14 @@ def test_tree(tmp_path):
     for name in ("t.svg", "t.png"):
         assert told("tree", EXAMPLES / "routing/model.lp", EXAMPLES / "routing/model.cert", tmp_path / name) == ("", 0)
     assert "bay_n1" in (tmp_path / "t.svg").read_text()
+
+
+def test_cuts(tmp_path):
+    """A leaf's bound is over the rows of cuts too."""
+    cert = (EXAMPLES / "odd-order/model.cert").read_bytes()
+    assert 'n0 [label="no point", ' in tree_of("odd-order", cert).dot(10)
+    assert 'n0 [label="bound 0", ' in tree_of("odd-order", cert.replace(b"leaf 0 change 2 2 1 3 1", b"leaf 1 change 0")).dot(10)
+    assert told("tree", EXAMPLES / "odd-order/model.lp", EXAMPLES / "odd-order/model.cert", tmp_path / "t.svg") == ("", 0)
 
 
 def test_open_leaves(tmp_path):

@@ -20,6 +20,7 @@ EXAMPLES = [
     ("rostering/three.lp", "rostering/three.cert", "rostering/three.dec"),
     ("routing/model.lp", "routing/model.cert", None),
     ("assignment/model.lp", "assignment/model.cert", None),
+    ("odd-order/at-least.lp", "odd-order/at-least.cert", None),
 ]
 
 
@@ -179,7 +180,7 @@ def mutated(draw, text):
     return text
 
 
-WORDS = [b"leaf", b"open", b"split", b"optimal", b"infeasible", b"bound", b"value", b"rows", b"change", b"priced all", b"priced 0", b" ", b"<=", b">=", b"=",
+WORDS = [b"leaf", b"open", b"cut", b"bpcert 2", b"bpcert 3", b"split", b"optimal", b"infeasible", b"bound", b"value", b"rows", b"change", b"priced all", b"priced 0", b" ", b"<=", b">=", b"=",
          b"Bounds", b"Generals", b"Binaries", b"+", b"-", b"BLOCK", b"MASTERCONSS", b"NBLOCKS", b"free", b"inf"]
 
 
@@ -214,6 +215,90 @@ def test_further_copies(room):
                          ("2 6 1 7 1", "accepted optimal 1"), ("1 8 1", "refused cert 4 number"), ("1 4 1", "rejected 4 sign")):
         cert = f"bpcert 1\nclaim optimal 1\npoint 1 0\nleaf 1 rows {rows} priced all\nend\n".encode()
         assert room.agree(lp, cert, dec) == answer
+
+
+ODD = b"Minimize\n obj: x + y\nSubject To\n c1: 2 x + 2 y = 5\nBounds\n x <= 3\n y <= 3\nGenerals\n x y\nEnd\n"
+BOTH = "cut 2 rows 1 1 1\ncut 2 rows 1 1 -1\n"
+
+
+@pytest.mark.parametrize("lines, answer", [
+    (BOTH + "leaf 0 change 2 2 1 3 1 priced 0", "accepted infeasible"),
+    (BOTH + "split 1 1\nleaf 0 change 2 2 1 3 1 priced 0\nleaf 0 change 0 priced all", "accepted infeasible"),
+    ("cut 2 rows 1 1 1\ncut 2 rows 1 1 1\nleaf 0 change 2 2 1 3 1 priced 0", "rejected 5 weak"),
+    ("cut 2 rows 1 1 1\ncut 1 rows 2 1 -1 2 2\nleaf 0 change 1 3 1 priced 0", "accepted infeasible"),
+    ("cut 2 rows 1 1 1\ncut 1 rows 1 2 -1\nleaf 0 change 1 3 1 priced 0", "rejected 4 sign"),
+    (BOTH + "leaf 0 change 1 2 -1 priced 0", "rejected 5 sign"),
+    (BOTH + "leaf 0 change 1 4 1 priced 0", "refused cert 5 number"),
+    ("cut 0 rows 1 1 1\nleaf 0 change 0 priced 0", "refused cert 3 number"),
+    ("cut 1048577 rows 1 1 1\nleaf 0 change 0 priced 0", "refused cert 3 too-large"),
+    ("cut 2 rows 1 1 -1048577\nleaf 0 change 0 priced 0", "refused cert 3 too-large"),
+    ("cut 2 rows 1 1 0\nleaf 0 change 0 priced 0", "refused cert 3 number"),
+    ("cut 2 rows 1 2 1\nleaf 0 change 0 priced 0", "refused cert 3 number"),
+    ("cut -2 rows 1 1 1\nleaf 0 change 0 priced 0", "refused cert 3 syntax"),
+    ("leaf 0 change 0 priced 0", "refused cert 3 syntax"),
+    (BOTH * 128 + "leaf 0 change 2 2 1 257 1 priced 0", "accepted infeasible"),
+    (BOTH * 128 + "cut 02 rows 1 1 1\nleaf 0 change 2 2 1 3 1 priced 0", "refused cert 259 limit"),
+    (BOTH * 128 + "cut rows\nleaf 0 change 2 2 1 3 1 priced 0", "refused cert 259 syntax"),
+])
+def test_cuts(room, lines, answer):
+    """No even number is 5: by the first cut x + y is at least 3, and by the second at most 2."""
+    assert room.agree(ODD, f"bpcert 3\nclaim infeasible\n{lines}\nend\n".encode()) == answer
+
+
+def test_cuts_of_versions_1_and_2(room):
+    for version, word in ((1, "rows"), (2, "change")):
+        cert = f"bpcert {version}\nclaim infeasible\ncut 2 rows 1 1 1\nleaf 0 {word} 1 2 1 priced 0\nend\n"
+        assert room.agree(ODD, cert.encode()) == "refused cert 3 syntax"
+
+
+def test_large_cuts(room):
+    """The sums of a cut's row may be as large as those of a model's row: 2^61 x >= 1 once, and not twice."""
+    lp = b"min\n x\nst\n 2305843009213693952 x >= 1\nbin\n x\nend\n"
+    for line, answer in (("cut 1 rows 1 1 1", "rejected 5 weak"), ("cut 1 rows 1 1 2", "rejected 4 cut"), ("cut 3 rows 1 1 2", "rejected 5 weak")):
+        assert room.agree(lp, f"bpcert 3\nclaim optimal 1\npoint 1\n{line}\nleaf 1 change 0 priced 0\nend\n".encode()) == answer
+
+
+def test_rows_of_cuts():
+    """3 x >= 1 from -1 on: 2 x >= 0 in halves, and x >= 1 in thirds."""
+    model = checker.Model(b"min\n x\nst\n 3 x >= 1\nbounds\n -1 <= x <= 5\ngen\n x\nend\n")
+    for divisor, row in ((2, ({0: 2}, [0, checker.INFINITE])), (3, ({0: 1}, [1, checker.INFINITE]))):
+        judge = checker.Judge(model, [checker.Block([0], [])], [], 1)
+        judge.add_cuts([(3, divisor, {0: 1})])
+        assert judge.rows[1:] == [row]
+
+
+def with_cuts(draw, cert, model, block_of):
+    """A certificate of version 2 with one to four cuts, of which each multiplier mostly fits, and one of them at its first leaf or not."""
+    sides = {i: row.sides for i, (k, row) in enumerate(zip(block_of, model.rows), 1) if k == 0}
+    lines = []
+    for number in range(len(block_of) + 1, len(block_of) + draw.randint(2, 5)):
+        pairs = ""
+        for row in sorted(draw.sample([*sides], draw.randint(0, min(3, len(sides))))):
+            fits = [sign for sign, side in zip((1, -1), sides[row]) if abs(side) != checker.INFINITE]
+            pairs += f" {row} {draw.choice([1, 1, 2, 7]) * draw.choice(fits if draw.random() < 0.95 else [1, -1])}"
+        lines.append(f"cut {draw.randint(1, 7)} rows {len(pairs.split()) // 2}{pairs}\n")
+        sides[number] = (0, checker.INFINITE)
+    if draw.random() < 0.5:
+        cert = re.sub(r"change ([0-9]+)((?: -?[0-9]+)*)", lambda found: f"change {int(found[1]) + 1}{found[2]} {number} {draw.randint(1, 3)}", cert, count=1)
+    place = re.search(r"^(?:leaf|open|split)", cert, re.MULTILINE).start()
+    return cert[:place].replace("bpcert 2", "bpcert 3") + "".join(lines) + cert[place:]
+
+
+def test_random_cuts(room):
+    """Cuts at whose rows no leaf looks change nothing, where they are right."""
+    draw, kinds = random.Random(18), set()
+    for _ in range(60):
+        lp, dec = random_model(draw)
+        if room.agree(lp, b"", dec).startswith("refused blocks"):
+            continue
+        model = checker.Model(lp)
+        block_of = checker.form_blocks(model, *checker.read_dec(dec or b"NBLOCKS 0", model))[0]
+        cert = solved(room, lp, dec, draw.choice([None, 0, 1, 5]))
+        for _ in range(3):
+            cut = with_cuts(draw, cert.decode(), model, block_of).encode()
+            kinds.add(room.agree(lp, cut, dec).split(" ")[0])
+            kinds.add(room.agree(lp, mutated(draw, cut), dec).split(" ")[0])
+    assert kinds == {"accepted", "rejected", "refused"}
 
 
 @pytest.mark.parametrize("seed, example", enumerate(EXAMPLES))

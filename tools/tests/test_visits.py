@@ -26,7 +26,7 @@ class Count:
         self.leaves, zones = [], [list(map(tuple, self.model.spans))]
         for node in checker.Certificate(cert, len(self.model.names), self.block_of, len(self.blocks)).nodes:
             zone = zones.pop()
-            if node.word != b"split":
+            if node.word != b"split ":
                 self.leaves.append((node.line, self.visits(node.priced, zone)))
                 continue
             low, high = zone[node.number]

@@ -1,0 +1,8 @@
+Minimize
+ obj: p1
+Subject To
+ pieces: 2 p1 + 2 p2 + 2 p3 + 2 p4 + 2 p5 + 2 p6 + 2 p7 + 2 p8 + 2 p9 + 2 p10 +
+  2 p11 + 2 p12 + 2 p13 + 2 p14 + 2 p15 + 2 p16 + 2 p17 + 2 p18 + 2 p19 + 2 p20 = 21
+Binaries
+ p1 p2 p3 p4 p5 p6 p7 p8 p9 p10 p11 p12 p13 p14 p15 p16 p17 p18 p19 p20
+End
