@@ -2,9 +2,10 @@
 // no point.
 use crate::numbers::product;
 use crate::relaxation::LoneLeaves;
+use crate::rows::row_of;
 use block_form::{Blocked, MAX_MULTIPLIER, MAX_SCALE};
-use bp_theory::{Row, Sense, Span};
-use lp_factor::put;
+use bp_theory::{MasterRow, Row, Sense, Span};
+use lp_factor::{place, put};
 use std::alloc::{AllocError, Global};
 use std::num::{nearest_i64_to_f64, nearest_u64_to_f64, saturating_f64_to_i64};
 
@@ -92,12 +93,14 @@ impl LoneLeaves {
             put(self.rests.as_mut_slice(), term.var as usize, cost);
         }
         let mut sum = nearest_i64_to_f64(model.constant()) * unit;
-        for (row, mult) in model.all_rows().iter().zip(mults) {
+        for (number, mult) in mults.iter().enumerate() {
             let mult = at_scale(*mult, scale);
             if mult != 0 {
-                let factor = nearest_i64_to_f64(mult);
-                sum += factor * nearest_i64_to_f64(side(row, mult));
-                take_about(self.rests.as_mut_slice(), row, factor);
+                if let Some(row) = row_of(b, self.cuts.as_slice(), place(number)) {
+                    let factor = nearest_i64_to_f64(mult);
+                    sum += factor * nearest_i64_to_f64(side(row, mult));
+                    take_about(self.rests.as_mut_slice(), row, factor);
+                }
             }
         }
         for (rest, span) in self.rests.iter().zip(spans) {
@@ -111,10 +114,12 @@ impl LoneLeaves {
     fn least_value(&mut self, b: &Blocked, mults: &[i64], spans: &[Span]) -> i128 {
         self.whole.fill(0);
         let mut sum: i128 = 0;
-        for (row, mult) in b.model().all_rows().iter().zip(mults) {
+        for (number, mult) in mults.iter().enumerate() {
             if *mult != 0 {
-                sum = sum.saturating_add(product(mult, &side(row, *mult)));
-                take_row(self.whole.as_mut_slice(), row, *mult);
+                if let Some(row) = row_of(b, self.cuts.as_slice(), place(number)) {
+                    sum = sum.saturating_add(product(mult, &side(row, *mult)));
+                    take_row(self.whole.as_mut_slice(), row, *mult);
+                }
             }
         }
         for (reduced, span) in self.whole.iter().zip(spans) {
@@ -198,17 +203,28 @@ fn side(row: &Row, mult: i64) -> i64 {
 // Numbers times a factor, rounded, by row; 0 where the sign is none of the row's.
 fn whole(alloc: Global, b: &Blocked, numbers: &[f64], factor: f64) -> Result<Vec<i64>, AllocError> {
     let mut mults = Vec::new(alloc);
-    for (row, number) in b.model().all_rows().iter().zip(numbers) {
+    for (row, number) in numbers.iter().enumerate() {
         let mult = saturating_f64_to_i64((*number * factor).round());
-        let fits = match row.sense {
+        mults.push(if fits(b.master_row(place(row)), mult) {
+            mult
+        } else {
+            0
+        })?;
+    }
+    Ok(mults)
+}
+
+// Whether a multiplier's sign is one of a row's.
+fn fits(row: Option<MasterRow>, mult: i64) -> bool {
+    match row {
+        None => false,
+        Some(row) => match row.sense {
             Sense::Le => mult < 0,
             Sense::Ge => mult > 0,
             Sense::Eq => true,
             Sense::In => true,
-        };
-        mults.push(if fits { mult } else { 0 })?;
+        },
     }
-    Ok(mults)
 }
 
 // The greatest magnitude.

@@ -1,6 +1,6 @@
 // Numbers, their places, and what is whole of them.
-use bp_theory::{Row, Sense, Span};
-use lp_core::{ENDLESS, Range};
+use bp_theory::Span;
+use lp_core::Range;
 use std::num::{nearest_i64_to_f64, saturating_f64_to_i64};
 
 /// How far from whole a value is to be, so that it counts as fractional.
@@ -27,30 +27,6 @@ pub fn range_of_span(span: &Span) -> Range {
     Range {
         lower: nearest_i64_to_f64(span.lo),
         upper: nearest_i64_to_f64(span.hi),
-    }
-}
-
-/// The range of a row's sum.
-pub fn range_of_row(row: &Row) -> Range {
-    let low = nearest_i64_to_f64(row.low);
-    let high = nearest_i64_to_f64(row.rhs);
-    match row.sense {
-        Sense::Le => Range {
-            lower: -ENDLESS,
-            upper: high,
-        },
-        Sense::Ge => Range {
-            lower: low,
-            upper: ENDLESS,
-        },
-        Sense::Eq => Range {
-            lower: low,
-            upper: high,
-        },
-        Sense::In => Range {
-            lower: low,
-            upper: high,
-        },
     }
 }
 

@@ -3,15 +3,15 @@ ghost use Rattle.std.specs.Prelude.{IsTrue};
 ghost use Rattle.lone_leaf.specs.Rowless.{AreRowless};
 
 use crate::bases::Bases;
-use crate::numbers::{at, part_of, range_of_row, range_of_span, span_at};
+use crate::numbers::{part_of, range_of_span, span_at};
+use crate::rows::cut_rows;
 use crate::scores::Scores;
 use block_form::Blocked;
-use bp_model::Model;
-use bp_theory::Span;
+use bp_theory::{Row, Span};
 use lp_core::{ENDLESS, Effort, End, Lp, Snapshot};
-use lp_factor::{Entry, Vectors, put};
+use row_lp::relaxation_of;
 use std::alloc::{AllocError, Global};
-use std::num::{nearest_i64_to_f64, nearest_u64_to_f64};
+use std::num::nearest_i64_to_f64;
 
 // How much work an iteration may take in all, in numbers of the relaxation, and the least and greatest count of
 // iterations of a leaf.
@@ -24,9 +24,9 @@ const MOST_ITERATIONS: u64 = 100_000;
 /// How far below a whole cost the objective may be that counts as that cost.
 pub const SLACK: f64 = 1e-4;
 
-/// The relaxation of a program's rows with the basis of the last leaf, the bases of the leaves that were forked, the
-/// scores of variables, and how many iterations dives took. Kept bases take 64 MB at most; the rest grows with the
-/// program alone.
+/// The relaxation of a program's rows and cuts with the basis of the last leaf, the bases of the leaves that were
+/// forked, the scores of variables, and how many iterations dives took. Kept bases take 64 MB at most; the rest grows
+/// with the program alone.
 pub struct LoneLeaves {
     pub(crate) lp: Lp,
     pub(crate) bases: Bases,
@@ -34,6 +34,7 @@ pub struct LoneLeaves {
     pub(crate) snapshot: Snapshot,
     pub(crate) constant: f64,
     pub(crate) root: Vec<Span>,
+    pub(crate) cuts: Vec<Row>,
     pub(crate) most: u32,
     pub(crate) leaves: u32,
     pub(crate) dived: u64,
@@ -53,6 +54,7 @@ impl Drop for LoneLeaves {
             snapshot: _,
             constant: _,
             root: _,
+            cuts: _,
             most: _,
             leaves: _,
             dived: _,
@@ -78,7 +80,7 @@ pub fn serves(b: &Blocked) -> bool
 }
 
 impl LoneLeaves {
-    /// The relaxation of a program's rows, where nothing is known of leaves.
+    /// The relaxation of a program's rows and cuts, where nothing is known of leaves.
     pub fn make(alloc: Global, b: &Blocked) -> Result<LoneLeaves, AllocError> {
         let model = b.model();
         let vars = model.vars() as usize;
@@ -87,8 +89,10 @@ impl LoneLeaves {
         let whole = Vec::from_elem(alloc, 0i128, vars)?;
         let rests = Vec::from_elem(alloc, 0.0, vars)?;
         let is_queued = Vec::from_elem(alloc, false, model.rows() as usize)?;
+        let cuts = cut_rows(alloc, b)?;
+        let most = most_iterations(b, cuts.as_slice());
         // What takes most comes last: no call behind it fails, so nothing has to let it go.
-        let lp = relaxation_of(alloc, model)?;
+        let lp = relaxation_of(alloc, b)?;
         Ok(LoneLeaves {
             lp,
             bases: Bases::make(alloc),
@@ -96,7 +100,8 @@ impl LoneLeaves {
             snapshot: Snapshot::make(alloc),
             constant: nearest_i64_to_f64(model.constant()),
             root,
-            most: most_iterations(model),
+            cuts,
+            most,
             leaves: 0,
             dived: 0,
             last: None,
@@ -229,48 +234,14 @@ fn is_above(value: f64, cutoff: Option<f64>) -> bool {
     }
 }
 
-// The relaxation of a model's rows.
-fn relaxation_of(alloc: Global, model: &Model) -> Result<Lp, AllocError> {
-    let vars = model.vars() as usize;
-    let mut by_rows = Vectors::make(alloc);
-    let mut ranges = Vec::new(alloc);
-    for row in model.all_rows() {
-        for term in row.terms.as_slice() {
-            by_rows.add(Entry {
-                place: term.var,
-                value: nearest_i64_to_f64(term.coef),
-            })?;
-        }
-        by_rows.close()?;
-        ranges.push(range_of_row(row))?;
-    }
-    let mut by_columns = Vectors::make(alloc);
-    by_rows.transpose(vars, &mut by_columns)?;
-    let mut costs = Vec::from_elem(alloc, 0.0, vars)?;
-    for term in model.costs() {
-        put(
-            costs.as_mut_slice(),
-            term.var as usize,
-            nearest_i64_to_f64(term.coef),
-        );
-    }
-    let mut spans = Vec::new(alloc);
-    for span in model.spans() {
-        spans.push(range_of_span(span))?;
-    }
-    Lp::make(
-        alloc,
-        by_columns,
-        ranges.as_slice(),
-        spans.as_slice(),
-        costs.as_slice(),
-    )
-}
-
 // How many iterations a leaf's relaxation may take.
-fn most_iterations(model: &Model) -> u32 {
+fn most_iterations(b: &Blocked, cuts: &[Row]) -> u32 {
+    let model = b.model();
     let mut size = u64::from(model.rows()).saturating_add(u64::from(model.vars()));
     for row in model.all_rows() {
+        size = size.saturating_add(row.terms.len() as u64);
+    }
+    for row in cuts {
         size = size.saturating_add(row.terms.len() as u64);
     }
     let many = (WORK / size.saturating_mul(4).max(1))
