@@ -1,0 +1,19 @@
+use Rattle.std.proofs.Common.{◌≡◌, List, [], ◌∷◌, ◌++◌, sym, subst, All, Option, IfSome}
+use Rattle.std.proofs.lemmas.List.Elements.{All-push}
+use Rattle.bp_theory.specs.declared.Cut.{Cut}
+use Rattle.bp_theory.specs.declared.Row.{Row}
+use Rattle.round_cut.specs.Cutting.{IsEarlierCut}
+use Rattle.cut_hint.specs.Taken.{IsTaken}
+use Rattle.cut_hint.proofs.search.take_cuts.Goals as goal
+
+pub loop-one-preserved-in-Some-branch-3 : goal.loop-one-preserved-in-Some-branch-3
+loop-one-preserved-in-Some-branch-3 c =
+    let p = c.args.b.now.named.program in
+    let d = c.args.b.now.dec in
+    let cut : Cut = c.in_ok-cut.cut in
+    let row : Row = c.in-Some-2.row in
+    let rows : List Row = c.loop-one.rows.items in
+    let taken : IsTaken p d c.as_slice.result.now cut row =
+    subst (λ (found : Option Row). IfSome found (IsTaken p d c.as_slice.result.now cut)) c.in-Some-2.is c.in_ok-row.ensures in
+    let pushed : c.push.new.self.items ≡ rows ++ row ∷ [] = c.in_ok-push.ensures.items in
+    subst (All (IsEarlierCut p)) (sym pushed) (All-push (IsEarlierCut p) rows row c.loop-one.invariant taken.kept)

@@ -1,0 +1,27 @@
+use Rattle.std.proofs.Common.{◌+◌, List, take, get_or, sym, subst, Option, IfSome}
+use Rattle.bp_theory.specs.declared.Cut.{Cut}
+use Rattle.bp_theory.specs.declared.Row.{Row}
+use Rattle.round_cut.specs.Several.{AreRowsOfCuts}
+use Rattle.round_cut.proofs.SeveralLemmas.{no_rows_yet}
+use Rattle.cut_hint.specs.Taken.{IsTaken}
+use Rattle.cut_hint.proofs.TakenLemmas.{next_taken}
+use Rattle.cut_hint.proofs.taken.rows_of_cuts.Goals as goal
+
+pub loop-cut-init : goal.loop-cut-init
+loop-cut-init c =
+    subst (AreRowsOfCuts c.args.b.now.named.program c.args.b.now.dec (take 0 c.args.cuts.now)) (sym c.new-rows.ensures.items)
+    (no_rows_yet c.args.b.now.named.program c.args.b.now.dec c.args.cuts.now)
+
+pub loop-cut-preserved : goal.loop-cut-preserved
+loop-cut-preserved c =
+    let p = c.args.b.now.named.program in
+    let d = c.args.b.now.dec in
+    let cut : Cut = c.cut-item.result in
+    let rows : List Row = c.loop-cut.rows.items in
+    let row : Row = c.in-Some.row in
+    let taken : IsTaken p d rows (get_or c.args.cuts.now c.loop-cut.cut-index cut) row =
+    subst (λ (k : Cut). IsTaken p d rows k row) c.cut-item.is
+    (subst (λ (rs : List Row). IsTaken p d rs cut row) c.as_slice.ensures.value
+    (subst (λ (found : Option Row). IfSome found (IsTaken p d c.as_slice.result.now cut)) c.in-Some.is c.in_ok-found.ensures)) in
+    subst (AreRowsOfCuts p d (take (c.loop-cut.cut-index + 1) c.args.cuts.now)) (sym c.in_ok-push-in-Some.ensures.items)
+    (next_taken p d c.args.cuts.now rows c.loop-cut.cut-index cut row c.loop-cut-test.true c.loop-cut.invariant taken)

@@ -1,0 +1,2 @@
+-- Other crates cite Taken.
+pub mod Taken

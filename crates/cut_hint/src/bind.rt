@@ -1,0 +1,87 @@
+// Which of the cuts that were made are given: those that bind, and those that these were made of.
+use crate::numbers::{is_set, set};
+use bp_theory::{Cut, Items};
+use lp_factor::{NONE, place};
+use std::alloc::{AllocError, Global};
+
+/// A cut that was made: its divisor, and its multipliers by the places of rows, those of cuts behind the program's.
+#[derive(Drop)]
+pub struct Made {
+    pub q: u32,
+    pub mults: Vec<(u32, i64)>,
+}
+
+/// The rows in front of the cuts that were made: how many the program has, the number of its first cut, and how many cuts there
+/// were before.
+#[derive(Clone, Copy)]
+pub struct Front {
+    pub own: u32,
+    pub first: u32,
+    pub given: u32,
+}
+
+impl Front {
+    /// The number of a row by its place.
+    pub fn number(&self, row: u32) -> u32 {
+        if row < self.own {
+            row
+        } else {
+            self.first.saturating_add(row - self.own)
+        }
+    }
+
+    // The place of the row of a cut that was made.
+    fn place(&self, made: usize) -> u32 {
+        self.own
+            .saturating_add(self.given)
+            .saturating_add(place(made))
+    }
+}
+
+/// The cuts that bind, and those that these were made of, with the numbers that they then have. Flags are by the places of rows.
+pub fn bound_cuts(
+    alloc: Global,
+    front: Front,
+    made: &[Made],
+    is_wanted: &mut [bool],
+) -> Result<Vec<Cut>, AllocError> {
+    for (k, cut) in made.iter().enumerate().rev() {
+        if is_set(is_wanted, front.place(k)) {
+            for mult in &cut.mults {
+                set(is_wanted, mult.0);
+            }
+        }
+    }
+    let mut places = Vec::from_elem(alloc, NONE, made.len())?;
+    let mut cuts = Vec::new(alloc);
+    for (k, cut) in made.iter().enumerate() {
+        if is_set(is_wanted, front.place(k)) {
+            if let Some(kept) = places.get_mut(k) {
+                *kept = front.place(cuts.len());
+            }
+            cuts.push(renumbered(alloc, front, cut, places.as_slice())?)?;
+        }
+    }
+    Ok(cuts)
+}
+
+// A cut with the numbers of rows, where the cuts that were made have other places.
+fn renumbered(alloc: Global, front: Front, cut: &Made, places: &[u32]) -> Result<Cut, AllocError> {
+    let mut rows = Items::with_capacity(alloc, cut.mults.len())?;
+    for mult in &cut.mults {
+        rows.push((front.number(moved(front, mult.0, places)), mult.1))?;
+    }
+    Ok(Cut { q: cut.q, rows })
+}
+
+// The new place of a row.
+fn moved(front: Front, row: u32, places: &[u32]) -> u32 {
+    let behind = front.own.saturating_add(front.given);
+    if row < behind {
+        return row;
+    }
+    match places.get((row - behind) as usize) {
+        Some(place) => *place,
+        None => NONE,
+    }
+}

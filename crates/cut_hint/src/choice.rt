@@ -1,0 +1,38 @@
+// Which cuts a program gets.
+ghost use Rattle.std.specs.Prelude.{IfOk};
+ghost use Rattle.cut_hint.specs.Taken.{GoesOn};
+
+use crate::search::search_cuts;
+use crate::taken::{MOST_CUTS, copies_of, extended, rows_of_cuts};
+use block_form::Blocked;
+use bp_theory::Cut;
+use std::alloc::{AllocError, Global};
+
+/// The cuts of a program in blocks, and behind these what the search finds, so many in all at most; its own alone where it has as
+/// many, or a block has rows. The program may have them in place of its own.
+pub fn choose(alloc: Global, b: &Blocked, most: u32) -> Result<Vec<Cut>, AllocError>
+    ensures { IfOk result (λ cuts. GoesOn b.now.named.program b.now.dec b.now.cuts most cuts.items) }
+{
+    let own = copies_of(alloc, b.cuts())?;
+    if own.len() >= most as usize || !is_rowless(b) {
+        return Ok(own);
+    }
+    let Some(rows) = rows_of_cuts(alloc, b, own.as_slice())? else {
+        return Ok(own);
+    };
+    let more = search_cuts(alloc, b, rows, (most as usize).min(MOST_CUTS))?;
+    let Some(rows) = rows_of_cuts(alloc, b, own.as_slice())? else {
+        return Ok(own);
+    };
+    extended(alloc, b, own, rows, more, most)
+}
+
+// Whether no block of a program has rows.
+fn is_rowless(b: &Blocked) -> bool {
+    for number in 0..b.blocks() {
+        if !b.block(number).rows().is_empty() {
+            return false;
+        }
+    }
+    true
+}

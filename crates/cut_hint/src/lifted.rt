@@ -1,0 +1,189 @@
+// Cuts from single rows over their coefficients (G. Cornuejols and M. Dawande, A class of hard small 0-1 programs, 1999, use
+// such of knapsacks): to a multiple of a row those equations with coefficients 1 and -1 are added that leave least to be lost by
+// rounding, so that a variable near its upper end counts as the rest of its equation.
+use crate::numbers::{is_set, remainder, set, whole_at};
+use crate::state::{Fit, State};
+use crate::trial::Trial;
+use bp_theory::Term;
+use std::alloc::{AllocError, Global};
+use std::num::nearest_i64_to_f64;
+
+// How many divisors of a row are tried, the greatest first, and which multiples of the row.
+const MOST_DIVISORS: usize = 12;
+
+const MULTIPLES: [i64; 3] = [1, 2, 3];
+
+const GREATEST: u64 = 1 << 20;
+
+// How far above the lower end of its span a value counts.
+const NOTHING: f64 = 1e-6;
+
+// By how much a loss is to be smaller.
+const SMALLER: f64 = 1e-9;
+
+// An equation with coefficients 1 and -1: its place, and its terms whose variables are above the lower ends of their spans.
+#[derive(Drop)]
+struct Equation {
+    row: u32,
+    terms: Vec<Term>,
+}
+
+/// Tries the rows that aren't such equations themselves.
+pub fn try_lifted(alloc: Global, state: &State, trial: &mut Trial) -> Result<(), AllocError> {
+    let mut is_equation = Vec::from_elem(alloc, false, state.own.len())?;
+    let equations = equations_of(alloc, state, is_equation.as_mut_slice())?;
+    for row in 0..state.rows() {
+        if trial.is_spent() {
+            break;
+        }
+        if !is_set(is_equation.as_slice(), row) {
+            try_row(alloc, state, equations.as_slice(), row, trial)?;
+        }
+    }
+    Ok(())
+}
+
+// The equations with coefficients 1 and -1, whose places are set.
+fn equations_of(
+    alloc: Global,
+    state: &State,
+    is_equation: &mut [bool],
+) -> Result<Vec<Equation>, AllocError> {
+    let mut equations = Vec::new(alloc);
+    for row in 0..state.rows() {
+        let (Some(side), Some(terms)) = (state.side(row), terms_of(state, row)) else {
+            continue;
+        };
+        if side.fit == Fit::Either && terms.iter().all(is_unit) {
+            set(is_equation, row);
+            let terms = standing(alloc, state, terms)?;
+            equations.push(Equation { row, terms })?;
+        }
+    }
+    Ok(equations)
+}
+
+// The terms of a row, where it is there.
+fn terms_of<'a>(state: &State<'a>, row: u32) -> Option<&'a [Term]> {
+    match state.row(row) {
+        Some(row) => Some(row.terms.as_slice()),
+        None => None,
+    }
+}
+
+// Whether a coefficient is 1 or -1.
+fn is_unit(term: &Term) -> bool {
+    term.coef == 1 || term.coef == -1
+}
+
+// The terms whose variables are above the lower ends of their spans.
+fn standing(alloc: Global, state: &State, terms: &[Term]) -> Result<Vec<Term>, AllocError> {
+    let mut standing = Vec::new(alloc);
+    for term in terms {
+        if state.above(term.var) > NOTHING {
+            standing.push(*term)?;
+        }
+    }
+    Ok(standing)
+}
+
+// Tries a row over its coefficients.
+fn try_row(
+    alloc: Global,
+    state: &State,
+    equations: &[Equation],
+    row: u32,
+    trial: &mut Trial,
+) -> Result<(), AllocError> {
+    let (Some(side), Some(terms)) = (state.side(row), terms_of(state, row)) else {
+        return Ok(());
+    };
+    let divisors = divisors_of(alloc, state, terms)?;
+    for q in &divisors {
+        for multiple in MULTIPLES {
+            for mult in [multiple, multiple.saturating_neg()] {
+                if side.admits(mult) {
+                    trial.clear();
+                    trial.add(state, row, mult)?;
+                    lift(state, equations, *q, trial)?;
+                    trial.judge(alloc, state, *q)?;
+                }
+            }
+        }
+    }
+    Ok(())
+}
+
+// The greatest magnitudes of coefficients of variables that are above the lower ends of their spans.
+fn divisors_of(alloc: Global, state: &State, terms: &[Term]) -> Result<Vec<u32>, AllocError> {
+    let mut sizes: Vec<u32> = Vec::new(alloc);
+    for term in terms {
+        let size = term.coef.unsigned_abs();
+        if size > 1 && size <= GREATEST && state.above(term.var) > NOTHING {
+            sizes.push(size as u32)?;
+        }
+    }
+    sizes.sort()?;
+    let mut divisors = Vec::new(alloc);
+    let mut last = 0;
+    for size in sizes.iter().rev() {
+        if *size != last && divisors.len() < MOST_DIVISORS {
+            last = *size;
+            divisors.push(*size)?;
+        }
+    }
+    Ok(divisors)
+}
+
+// Adds equations to a combination, one by one, where less is then lost when it is divided and rounded.
+fn lift(
+    state: &State,
+    equations: &[Equation],
+    q: u32,
+    trial: &mut Trial,
+) -> Result<(), AllocError> {
+    for equation in equations {
+        let terms = equation.terms.as_slice();
+        let mult = best_mult(state, terms, trial.sums(), q);
+        trial.spend(terms.len().saturating_mul(terms.len()));
+        if mult != 0 {
+            trial.add(state, equation.row, mult)?;
+        }
+    }
+    Ok(())
+}
+
+// The multiplier of an equation at which least is lost.
+fn best_mult(state: &State, terms: &[Term], sums: &[i64], q: u32) -> i64 {
+    let mut best = 0;
+    let mut least = loss(state, terms, sums, q, 0);
+    if least < SMALLER {
+        return 0;
+    }
+    for term in terms {
+        let sum = whole_at(sums, term.var).saturating_mul(term.coef);
+        let up = remainder(sum.saturating_neg(), q);
+        if up != 0 {
+            for mult in [up, up.saturating_sub(i64::from(q))] {
+                let next = loss(state, terms, sums, q, mult);
+                if next < least - SMALLER {
+                    least = next;
+                    best = mult;
+                }
+            }
+        }
+    }
+    best
+}
+
+// What is lost at the values when coefficients are rounded up to multiples of a divisor, an equation times a multiplier added.
+fn loss(state: &State, terms: &[Term], sums: &[i64], q: u32, mult: i64) -> f64 {
+    let mut lost = 0.0;
+    for term in terms {
+        let more = term.coef.saturating_mul(mult);
+        let sum = whole_at(sums, term.var).saturating_add(more);
+        let rest = remainder(sum.saturating_neg(), q);
+        lost += nearest_i64_to_f64(rest) * state.above(term.var);
+    }
+    lost
+}

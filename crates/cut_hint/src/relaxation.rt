@@ -1,0 +1,168 @@
+// The relaxation of a program's rows while cuts are added to it.
+use crate::numbers::set;
+use block_form::Blocked;
+use bp_theory::Row;
+use lp_core::{ENDLESS, Effort, End, Lp, Range};
+use lp_factor::{Basic, Entry, Factor, Vectors, place};
+use row_lp::relaxation_of;
+use std::alloc::{AllocError, Global};
+use std::num::nearest_i64_to_f64;
+
+// How many times the iterations of the first optimum, and how many more, all together may take.
+const TIMES: u64 = 10;
+
+const FURTHER: u64 = 3000;
+
+// How many iterations the first optimum may take.
+const FIRST: u32 = 100_000;
+
+// From which part to which a value is fractional enough to be cut off.
+const LEAST_PART: f64 = 0.01;
+
+const MOST_PART: f64 = 0.99;
+
+// The least number of a ray that counts.
+const NOTHING: f64 = 1e-9;
+
+/// A program's relaxation while cuts are added to it.
+pub struct Relaxation {
+    lp: Lp,
+    first: u64,
+    is_first: bool,
+}
+
+impl Drop for Relaxation {
+    fn drop(self) {
+        let Relaxation {
+            lp: _,
+            first: _,
+            is_first: _,
+        } = self;
+    }
+}
+
+impl Relaxation {
+    /// The relaxation of a program with its cuts.
+    pub fn make(alloc: Global, b: &Blocked) -> Result<Relaxation, AllocError> {
+        Ok(Relaxation {
+            lp: relaxation_of(alloc, b)?,
+            first: 0,
+            is_first: true,
+        })
+    }
+
+    /// Adds the row of a cut.
+    pub fn add(&mut self, alloc: Global, row: &Row) -> Result<(), AllocError> {
+        let mut entries = Vec::with_capacity(alloc, row.terms.len())?;
+        for term in row.terms.as_slice() {
+            entries.push(Entry {
+                place: term.var,
+                value: nearest_i64_to_f64(term.coef),
+            })?;
+        }
+        let range = Range {
+            lower: nearest_i64_to_f64(row.low),
+            upper: ENDLESS,
+        };
+        self.lp.add_row(entries.as_slice(), &range)
+    }
+
+    /// Solves from the basis that there is.
+    pub fn solve(&mut self) -> Result<End, AllocError> {
+        let end = self.lp.solve(Effort {
+            iterations: FIRST,
+            cutoff: None,
+            keeps_factors: false,
+        })?;
+        if self.is_first {
+            self.first = self.lp.iterations();
+            self.is_first = false;
+        }
+        Ok(end)
+    }
+
+    /// Whether the iterations are spent.
+    pub fn is_spent(&self) -> bool {
+        let most = self.first.saturating_mul(TIMES).saturating_add(FURTHER);
+        self.lp.iterations() > most
+    }
+
+    /// What the values cost.
+    pub fn objective(&self) -> f64 {
+        self.lp.objective()
+    }
+
+    /// The values of the variables.
+    pub fn values(&self, alloc: Global) -> Result<Vec<f64>, AllocError> {
+        let mut values = Vec::with_capacity(alloc, self.lp.columns())?;
+        for var in 0..self.lp.columns() {
+            values.push(self.lp.value(var))?;
+        }
+        Ok(values)
+    }
+
+    /// How many rows there are.
+    pub fn rows(&self) -> usize {
+        self.lp.rows()
+    }
+
+    /// The factors of the basis.
+    pub fn factored(&self, alloc: Global) -> Result<Factor, AllocError> {
+        let many = self.lp.columns();
+        let mut columns = Vectors::make(alloc);
+        for column in 0..many {
+            columns.push(self.lp.column(column))?;
+        }
+        let mut basis = Vec::with_capacity(alloc, self.lp.rows())?;
+        for basic in self.lp.head() {
+            let index = *basic as usize;
+            basis.push(if index < many {
+                Basic::Column(*basic)
+            } else {
+                Basic::Logical(place(index - many))
+            })?;
+        }
+        let mut factor = Factor::make(alloc, place(self.lp.rows()))?;
+        let _ = factor.factor(&columns, basis.as_slice())?;
+        Ok(factor)
+    }
+
+    /// The positions of the basis at which a variable has a value that is to be cut off.
+    pub fn fractional(&self, alloc: Global) -> Result<Vec<usize>, AllocError> {
+        let mut positions = Vec::new(alloc);
+        for (position, basic) in self.lp.head().iter().enumerate() {
+            let var = *basic as usize;
+            if var < self.lp.columns() {
+                let value = self.lp.value(var);
+                let part = value - value.floor();
+                if part > LEAST_PART && part < MOST_PART {
+                    positions.push(position)?;
+                }
+            }
+        }
+        Ok(positions)
+    }
+
+    /// Which rows hold with equality by the basis, or, where there are no values, show that there are none.
+    pub fn binding(&self, alloc: Global, end: End) -> Result<Vec<bool>, AllocError> {
+        let mut binds = Vec::from_elem(alloc, end != End::Empty, self.lp.rows())?;
+        if end == End::Empty {
+            for (row, number) in self.lp.ray().iter().enumerate() {
+                if number.abs() > NOTHING {
+                    set(binds.as_mut_slice(), place(row));
+                }
+            }
+            return Ok(binds);
+        }
+        let many = self.lp.columns();
+        for basic in self.lp.head() {
+            let index = *basic as usize;
+            if many <= index {
+                if let Some(flag) = binds.get_mut(index - many) {
+                    *flag = false;
+                }
+            }
+        }
+        Ok(binds)
+    }
+}

@@ -1,0 +1,215 @@
+// The search for cuts: rounds of finding, taking and solving anew, while the bound rises.
+ghost use Rattle.std.specs.Prelude.{All, OnOk};
+ghost use Rattle.round_cut.specs.Cutting.{IsEarlierCut};
+
+use crate::bind::{Front, Made, bound_cuts};
+use crate::halves::try_halves;
+use crate::lifted::try_lifted;
+use crate::relaxation::Relaxation;
+use crate::select::chosen;
+use crate::state::{State, above_of, sides_of};
+use crate::tableau::try_tableau;
+use crate::taken::row_of_cut;
+use crate::trial::{Found, Trial};
+use block_form::Blocked;
+use bp_theory::{Cut, Items, Row};
+use lp_core::End;
+use lp_factor::place;
+use std::alloc::{AllocError, Global};
+
+// How many rounds there are, the least count of cuts of a round, and its part of all.
+const ROUNDS: u32 = 20;
+
+const LEAST_CUTS: usize = 8;
+
+const PART: usize = 6;
+
+// The part of what the bound rose in all by which it is to rise in a round, and how many rounds may rise by less.
+const LEAST_RISE: f64 = 1e-3;
+
+const PATIENCE: u32 = 4;
+
+// How the bound rises.
+#[derive(Clone, Copy)]
+struct Rise {
+    first: f64,
+    last: f64,
+    idle: u32,
+}
+
+impl Rise {
+    // No round yet, at a bound.
+    fn make(bound: f64) -> Rise {
+        Rise {
+            first: bound,
+            last: bound,
+            idle: 0,
+        }
+    }
+
+    // Takes the bound of a round; whether the bound has stood for too long.
+    fn is_over(&mut self, bound: f64) -> bool {
+        let least = LEAST_RISE * f64::max((bound - self.first).abs(), 1e-6);
+        if bound - self.last < least {
+            self.idle = self.idle.saturating_add(1);
+        } else {
+            self.idle = 0;
+        }
+        self.last = bound;
+        self.idle >= PATIENCE
+    }
+}
+
+// What the rounds go on with: the relaxation, the combinations, the cuts that were made, the rows in front of these, and how many
+// cuts there may be.
+struct Rounds {
+    relaxation: Relaxation,
+    trial: Trial,
+    made: Vec<Made>,
+    front: Front,
+    most: usize,
+}
+
+impl Drop for Rounds {
+    fn drop(self) {
+        let Rounds {
+            relaxation: _,
+            trial: _,
+            made: _,
+            front: _,
+            most: _,
+        } = self;
+    }
+}
+
+impl Rounds {
+    // No round yet, of a program with so many cuts.
+    fn make(alloc: Global, b: &Blocked, most: usize) -> Result<Rounds, AllocError> {
+        let given = place(b.cuts().len());
+        Ok(Rounds {
+            trial: Trial::make(alloc, b.model().vars() as usize)?,
+            relaxation: Relaxation::make(alloc, b)?,
+            made: Vec::new(alloc),
+            front: Front {
+                own: b.model().rows(),
+                first: b.named_rows().saturating_sub(given),
+                given,
+            },
+            most,
+        })
+    }
+
+    // Whether another round may come behind so many cuts.
+    fn may_go_on(&self, cuts: usize) -> bool {
+        cuts < self.most && !self.relaxation.is_spent() && !self.trial.is_spent()
+    }
+
+    // The cuts of a round behind the rows of others.
+    fn found(
+        &mut self,
+        alloc: Global,
+        b: &Blocked,
+        rows: &[Row],
+    ) -> Result<Vec<Found>, AllocError> {
+        let model = b.model();
+        let values = self.relaxation.values(alloc)?;
+        let above = above_of(alloc, model.spans(), values.as_slice())?;
+        let sides = sides_of(alloc, model.all_rows(), rows, values.as_slice())?;
+        let state = State {
+            own: model.all_rows(),
+            cuts: rows,
+            spans: model.spans(),
+            above: above.as_slice(),
+            sides: sides.as_slice(),
+        };
+        try_tableau(alloc, &self.relaxation, &state, &mut self.trial)?;
+        try_lifted(alloc, &state, &mut self.trial)?;
+        try_halves(alloc, &state, &mut self.trial)?;
+        self.trial.clear();
+        let found = self.trial.take_found(alloc)?;
+        let room = self.most.saturating_sub(rows.len());
+        let many = (self.most / PART).max(LEAST_CUTS).min(room);
+        chosen(alloc, found, many, model.vars() as usize)
+    }
+
+    // Takes a cut with its row.
+    fn take(&mut self, alloc: Global, row: &Row, found: Found) -> Result<(), AllocError> {
+        self.relaxation.add(alloc, row)?;
+        let Found { q, mults, .. } = found;
+        self.made.push(Made { q, mults })?;
+        Ok(())
+    }
+
+    // The cuts that are wanted in the end.
+    fn wanted(&self, alloc: Global, end: End) -> Result<Vec<Cut>, AllocError> {
+        let mut is_wanted = self.relaxation.binding(alloc, end)?;
+        bound_cuts(
+            alloc,
+            self.front,
+            self.made.as_slice(),
+            is_wanted.as_mut_slice(),
+        )
+    }
+}
+
+/// Cuts behind those of a program, whose rows are given, so many in all at most: those that bind in the end, and those that
+/// these were made of.
+pub fn search_cuts(
+    alloc: Global,
+    b: &Blocked,
+    rows: Vec<Row>,
+    most: usize,
+) -> Result<Vec<Cut>, AllocError>
+    requires { All (IsEarlierCut b.now.named.program) rows.items }
+{
+    let mut rows = rows;
+    let mut rounds = Rounds::make(alloc, b, most)?;
+    let mut end = rounds.relaxation.solve()?;
+    let mut rise = Rise::make(rounds.relaxation.objective());
+    for _ in 0..ROUNDS {
+        if end != End::Optimum || !rounds.may_go_on(rows.len()) {
+            break;
+        }
+        let found = rounds.found(alloc, b, rows.as_slice())?;
+        if !take_cuts(alloc, b, &mut rows, &mut rounds, found)? {
+            break;
+        }
+        end = rounds.relaxation.solve()?;
+        if rise.is_over(rounds.relaxation.objective()) {
+            break;
+        }
+    }
+    rounds.wanted(alloc, end)
+}
+
+// Takes the cuts of a round that keep the rules; whether there is one.
+fn take_cuts(
+    alloc: Global,
+    b: &Blocked,
+    rows: &mut Vec<Row>,
+    rounds: &mut Rounds,
+    found: Vec<Found>,
+) -> Result<bool, AllocError>
+    requires { All (IsEarlierCut b.now.named.program) rows.old.items }
+    ensures { OnOk result (All (IsEarlierCut b.now.named.program) rows.new.items) }
+{
+    let mut is_taken = false;
+    for one in found {
+        let cut = numbered(alloc, rounds.front, &one)?;
+        if let Some(row) = row_of_cut(alloc, b, rows.as_slice(), &cut)? {
+            rounds.take(alloc, &row, one)?;
+            rows.push(row)?;
+            is_taken = true;
+        }
+    }
+    Ok(is_taken)
+}
+
+// What was found as a cut.
+fn numbered(alloc: Global, front: Front, found: &Found) -> Result<Cut, AllocError> {
+    let mut rows = Items::with_capacity(alloc, found.mults.len())?;
+    for mult in &found.mults {
+        rows.push((front.number(mult.0), mult.1))?;
+    }
+    Ok(Cut { q: found.q, rows })
+}
