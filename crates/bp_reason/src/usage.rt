@@ -7,7 +7,7 @@ const KIT: &str = "rattle-kit-13, logic dac8208d650f15bf";
 
 // Each command with its words and options, and what it does.
 const COMMANDS: &str = "\
-solve LP [--dec DEC] [--steps N] [--cert CERT] [--from FILE] [--leaf K] [--workers W] [--order SEED] @ a best point, and a certificate of it
+solve LP [--dec DEC] [--steps N] [--cert CERT] [--from FILE] [--leaf K] [--workers W] [--order SEED] [--cuts C] @ a best point, and a certificate of it
 check LP CERT [--dec DEC] [--visits M] @ whether a certificate is valid
 show LP [--dec DEC] [--blocks] @ the blocks, and which are identical
 propose LP DEC @ writes a decomposition that it finds
@@ -28,6 +28,7 @@ const OPTIONS: &str = "\
 --visits @ M     price no leaf that asks for more than is left of M visits
 --workers @ W    search in the order of W workers, 1 to 64
 --order @ SEED   the seed of that order
+--cuts @ C       add at most C rounding cuts, 0 to 256, before the first step
 --blocks @       tell the rows and variables of each block
 ";
 
@@ -416,6 +417,7 @@ fn range_of(name: &str) -> Option<(u64, u64)> {
         "K" => Some((1, u64::MAX)),
         "M" => Some((0, u64::MAX)),
         "W" => Some((1, 64)),
+        "C" => Some((0, 256)),
         "SEED" => Some((0, u64::MAX)),
         "SIZE" => Some((1, 1024)),
         _ => None,

@@ -5,8 +5,8 @@ use Rattle.clap.specs.Words.{App, Row, Text, first_of, fault_of, is_simple_and_f
 use Rattle.bp_words.specs.declared.order.Order.{Order}
 use Rattle.bp_words.specs.declared.order.WordFault.{WordFault}
 use Rattle.bp_words.specs.declared.order.Order.TheVariants.{Solve, Check, Show, Gen, Demo, Detect, Propose, Merge, Migrate}
-use Rattle.bp_words.specs.CommandLine.{command_line, most_leaf, most_seed, most_size, most_steps, most_workers}
-use Rattle.bp_words.specs.Orders.{HasNumber, MayHaveNumber, GoTogether, HasValues, IsInRange, IsStated, IsOrderOf}
+use Rattle.bp_words.specs.CommandLine.{command_line, most_leaf, most_seed, most_cuts, most_size, most_steps, most_workers}
+use Rattle.bp_words.specs.Orders.{HasNumber, MayHaveNumber, HasCount, GoTogether, HasValues, IsInRange, IsStated, IsOrderOf}
 use Rattle.bp_words.proofs.Line.{line_is_free}
 
 -- words that begin differently differ
@@ -51,6 +51,11 @@ within : (given : Option Text) (low high : ℕ) (n : Option ℕ) → MayHaveNumb
 within given low high None has = tt
 within given low high (Some n) has = (has.2.least, has.2.most)
 
+-- a count is in its range
+counted : (given : Option Text) (high n : ℕ) → HasCount given high n → n ≤ high
+counted None high n has = omega arith
+counted (Some text) high n has = has.most
+
 -- a number is not there without its text
 none_without : (given : Option Text) (low high : ℕ) (n : Option ℕ) → given ≡ None → MayHaveNumber given low high n → n ≡ None
 none_without given low high None none has = refl
@@ -76,6 +81,7 @@ in_range met (Solve given) stated = (
   within (first_of (codes "workers") stated.rows) 1 most_workers given.workers stated.values.7,
   together (first_of (codes "leaf") stated.rows) (first_of (codes "from") stated.rows) (first_of (codes "workers") stated.rows)
       (first_of (codes "order") stated.rows) given.leaf given.from given.workers given.order stated.values.6 stated.values.5 stated.values.7 stated.values.8 stated.values.9,
+  counted (first_of (codes "cuts") stated.rows) most_cuts given.cuts stated.values.10,
 ) where
   at_most : (n : Option ℕ) → IfSome n (λ k. (0 ≤ k) × (k ≤ most_steps)) → IfSome n (λ k. k ≤ most_steps)
   at_most None is = tt

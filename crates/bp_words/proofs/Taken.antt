@@ -15,8 +15,8 @@ use Rattle.clap.specs.declared.builder.value_parser.ValueParser.TheVariants.{Uns
 use Rattle.clap.proofs.ValueTestLemmas.{accepts-Accepts}
 use Rattle.bp_words.specs.declared.order.Order.{Order}
 use Rattle.bp_words.specs.declared.order.Order.TheVariants.{Solve, Check, Show, Gen, Demo, Detect, Propose, Merge, Migrate}
-use Rattle.bp_words.specs.CommandLine.{command_line, solve_words, check_words, show_words, gen_words, demo_words, detect_words, propose_words, merge_words, migrate_words, most_steps, most_leaf, most_visits, most_seed, most_size, most_workers}
-use Rattle.bp_words.specs.Orders.{IsNumber, MayHaveNumber, is_set, GoTogether, IsLeafPlaced, IsStated, MisplacesLeaf, AreRefused}
+use Rattle.bp_words.specs.CommandLine.{command_line, solve_words, check_words, show_words, gen_words, demo_words, detect_words, propose_words, merge_words, migrate_words, most_steps, most_leaf, most_visits, most_seed, most_size, most_workers, most_cuts}
+use Rattle.bp_words.specs.Orders.{IsNumber, MayHaveNumber, HasCount, is_set, GoTogether, IsLeafPlaced, IsStated, MisplacesLeaf, AreRefused}
 use Rattle.bp_words.proofs.Presence.{Checks, both_parts, full_level, given_has, first_good}
 
 -- the command and its subcommands as they are built
@@ -61,7 +61,8 @@ good id text = if bytes_eq id (codes "seed") then is_unsigned_in 0 most_seed tex
     else (if bytes_eq id (codes "leaf") then is_unsigned_in 1 most_leaf text
     else (if bytes_eq id (codes "workers") then is_unsigned_in 1 most_workers text
     else (if bytes_eq id (codes "order") then is_unsigned_in 0 most_seed text
-    else (if bytes_eq id (codes "visits") then is_unsigned_in 0 most_visits text else true))))))
+    else (if bytes_eq id (codes "visits") then is_unsigned_in 0 most_visits text
+    else (if bytes_eq id (codes "cuts") then is_unsigned_in 0 most_cuts text else true)))))))
 
 solve_checks : AllByRecursion (Checks good) solve_level.rules
 solve_checks = (
@@ -78,7 +79,10 @@ solve_checks = (
             record { wants = inl refl; plain = tt; passes = λ v e. e },
             (
               record { wants = inl refl; plain = tt; passes = λ v e. e },
-              (record { wants = inl refl; plain = tt; passes = λ v e. e }, tt),
+              (
+                record { wants = inl refl; plain = tt; passes = λ v e. e },
+                (record { wants = inl refl; plain = tt; passes = λ v e. e }, tt),
+              ),
             ),
           ),
         ),
@@ -211,6 +215,12 @@ number_stated low high None passes = (None, refl)
 number_stated low high (Some text) passes =
     (Some (digits_value 10 (without_leading_plus text)), (text, refl, number_meant low high text (passes text refl)))
 
+-- a count, or 0 where none is given
+count_stated : (high : ℕ) (given : Option Text) → ((text : Text) → given ≡ Some text → is_unsigned_in 0 high text ≡ true)
+    → (n : ℕ) × HasCount given high n
+count_stated high None passes = (0, refl)
+count_stated high (Some text) passes = (digits_value 10 (without_leading_plus text), number_meant 0 high text (passes text refl))
+
 -- a leaf is where it may be named, or not
 placed : (leaf from workers order : Option Text) → GoTogether leaf from workers order ⊎ (GoTogether leaf from workers order → ⊥)
 placed None from workers order = inl tt
@@ -233,6 +243,7 @@ solve_states words e =
     let leaf = number_stated 1 most_leaf (first_of (codes "leaf") rows) (λ text is. first_good good (codes "leaf") rows text level.0 is) in
     let workers = number_stated 1 most_workers (first_of (codes "workers") rows) (λ text is. first_good good (codes "workers") rows text level.0 is) in
     let order = number_stated 0 most_seed (first_of (codes "order") rows) (λ text is. first_good good (codes "order") rows text level.0 is) in
+    let cuts = count_stated most_cuts (first_of (codes "cuts") rows) (λ text is. first_good good (codes "cuts") rows text level.0 is) in
     ⊎_elim
     (λ (well : IsLeafPlaced rows). inl (
       Solve (record {
@@ -244,12 +255,13 @@ solve_states words e =
         leaf = leaf.0;
         workers = workers.0;
         order = order.0;
+        cuts = cuts.0;
       }),
       record {
         name = codes "solve";
         rows = rows;
         subcommand = refl;
-        values = (refl, lp.1, refl, steps.1, refl, refl, leaf.1, workers.1, order.1, well);
+        values = (refl, lp.1, refl, steps.1, refl, refl, leaf.1, workers.1, order.1, well, cuts.1);
       },
     ))
     (λ astray. inr (rows, refl, astray))

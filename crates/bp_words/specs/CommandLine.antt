@@ -27,7 +27,7 @@ from_option = record (new_rule (codes "from")) { long = Some (codes "from") }
 abbrev pub blocks_flag : Rule
 blocks_flag = record (new_rule (codes "blocks")) { long = Some (codes "blocks"); action = Some SetTrue }
 
--- the greatest number of steps, of a leaf, of visits, of a seed, of a size and of workers
+-- the greatest number of steps, of a leaf, of visits, of a seed, of a size, of workers and of cuts
 abbrev pub most_steps : ℕ
 most_steps = 2 ^ 60
 
@@ -45,6 +45,9 @@ most_size = 1024
 
 abbrev pub most_workers : ℕ
 most_workers = 64
+
+abbrev pub most_cuts : ℕ
+most_cuts = 256
 
 -- the steps, behind `--steps`
 abbrev pub steps_option : Rule
@@ -64,6 +67,10 @@ workers_option = record (new_rule (codes "workers")) { long = Some (codes "worke
 
 abbrev pub order_option : Rule
 order_option = record (new_rule (codes "order")) { long = Some (codes "order"); parser = Some (Unsigned 0 most_seed) }
+
+-- how many cuts may be added, behind `--cuts`
+abbrev pub cuts_option : Rule
+cuts_option = record (new_rule (codes "cuts")) { long = Some (codes "cuts"); parser = Some (Unsigned 0 most_cuts) }
 
 -- the seed and the size, by their places
 abbrev pub seed_word : Rule
@@ -103,9 +110,15 @@ abbrev pub kept_words : Shape
 kept_words = record (new_shape (codes "solve")) { rules = lp_word ∷ dec_option ∷ steps_option ∷ cert_option ∷ from_option ∷ [] }
 
 -- `solve LP [--dec FILE] [--steps N] [--cert FILE] [--from CERT] [--leaf K] [--workers W] [--order SEED]`
+abbrev pub crewed_words : Shape
+crewed_words = record (new_shape (codes "solve")) {
+  rules = lp_word ∷ dec_option ∷ steps_option ∷ cert_option ∷ from_option ∷ leaf_option ∷ workers_option ∷ order_option ∷ [];
+}
+
+-- `solve LP [--dec FILE] [--steps N] [--cert FILE] [--from CERT] [--leaf K] [--workers W] [--order SEED] [--cuts C]`
 abbrev pub solve_words : Shape
 solve_words = record (new_shape (codes "solve")) {
-  rules = lp_word ∷ dec_option ∷ steps_option ∷ cert_option ∷ from_option ∷ leaf_option ∷ workers_option ∷ order_option ∷ [];
+  rules = lp_word ∷ dec_option ∷ steps_option ∷ cert_option ∷ from_option ∷ leaf_option ∷ workers_option ∷ order_option ∷ cuts_option ∷ [];
 }
 
 -- `check LP CERT [--dec FILE] [--visits M]`

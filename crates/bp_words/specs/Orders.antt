@@ -4,7 +4,7 @@ use Rattle.std.specs.Option.{option_map_or}
 use Rattle.std.specs.Str.{bytes_eq}
 use Rattle.std.specs.Str.Parse.{IsNumeral, digits_value, without_leading_plus}
 use Rattle.clap.specs.Words.{Row, Text, first_of, subcommand_of, fault_of}
-use Rattle.bp_words.specs.CommandLine.{command_line, most_steps, most_leaf, most_visits, most_seed, most_size, most_workers}
+use Rattle.bp_words.specs.CommandLine.{command_line, most_steps, most_leaf, most_visits, most_seed, most_size, most_workers, most_cuts}
 use Rattle.bp_words.specs.declared.order.Order.{Order}
 use Rattle.bp_words.specs.declared.order.Order.TheVariants.{Solve, Check, Show, Gen, Demo, Detect, Propose, Merge, Migrate}
 
@@ -23,6 +23,11 @@ HasNumber given low high n = (text : Text) × (given ≡ Some text) × IsNumber 
 abbrev pub MayHaveNumber : Option Text → (low high : ℕ) → Option ℕ → Type 0
 MayHaveNumber given low high None = given ≡ None
 MayHaveNumber given low high (Some n) = HasNumber given low high n
+
+-- a value means a number up to `high` where it is there, and else the number is 0
+abbrev pub HasCount : Option Text → (high n : ℕ) → Type 0
+HasCount None high n = n ≡ 0
+HasCount (Some text) high n = IsNumber text 0 high n
 
 -- a flag is given: its value is then `true`
 abbrev pub is_set : Option Text → Bool
@@ -46,6 +51,7 @@ HasValues name rows (Solve given) =
     × (first_of (codes "from") rows ≡ given.from) × MayHaveNumber (first_of (codes "leaf") rows) 1 most_leaf given.leaf
     × MayHaveNumber (first_of (codes "workers") rows) 1 most_workers given.workers
     × MayHaveNumber (first_of (codes "order") rows) 0 most_seed given.order × IsLeafPlaced rows
+    × HasCount (first_of (codes "cuts") rows) most_cuts given.cuts
 HasValues name rows (Check given) =
     (name ≡ codes "check") × (first_of (codes "lp") rows ≡ Some given.lp) × (first_of (codes "cert") rows ≡ Some given.cert)
     × (first_of (codes "dec") rows ≡ given.dec) × MayHaveNumber (first_of (codes "visits") rows) 0 most_visits given.visits
@@ -77,6 +83,7 @@ abbrev pub IsInRange : Order → Type 0
 IsInRange (Solve given) =
     IfSome given.steps (λ n. n ≤ most_steps) × IfSome given.workers (λ n. (1 ≤ n) × (n ≤ most_workers))
     × IfSome given.leaf (λ n. (1 ≤ n) × IsSome given.from × (given.workers ≡ None) × (given.order ≡ None))
+    × (given.cuts ≤ most_cuts)
 IsInRange (Check given) = Unit {0}
 IsInRange (Show lp dec blocks) = Unit {0}
 IsInRange (Gen seed size lp dec) = (1 ≤ size) × (size ≤ most_size)

@@ -1,7 +1,7 @@
 // The command of the program, for the crate that reads words.
 ghost use Rattle.std.specs.Prelude.{◌≡◌, Some, true, false, codes, IfOk};
 ghost use Rattle.clap.specs.Words.{app_of, new_rule, rule_of};
-ghost use Rattle.bp_words.specs.CommandLine.{search_words, kept_words, solve_words, check_words, show_words, gen_words, demo_words, detect_words, propose_words, both_words, merge_words, migrate_words, program_words, reading_line, making_line, parting_line, command_line, IsShaped};
+ghost use Rattle.bp_words.specs.CommandLine.{search_words, kept_words, crewed_words, solve_words, check_words, show_words, gen_words, demo_words, detect_words, propose_words, both_words, merge_words, migrate_words, program_words, reading_line, making_line, parting_line, command_line, IsShaped};
 
 use clap::builder::ValueParser;
 use clap::{Arg, ArgAction, Command};
@@ -21,6 +21,9 @@ pub const MOST_VISITS: u64 = u64::MAX;
 
 /// The greatest number of workers.
 pub const MOST_WORKERS: u64 = 64;
+
+/// The greatest number of cuts.
+pub const MOST_CUTS: u64 = 256;
 
 /// The command: its subcommands, one of which is required, without help or version words.
 pub fn make_command<'a>(alloc: Global) -> Result<Command<'a>, AllocError>
@@ -75,9 +78,16 @@ fn program<'a>(alloc: Global) -> Command<'a>
         .subcommand_required(true)
 }
 
-// `solve LP [--dec FILE] [--steps N] [--cert FILE] [--from CERT] [--leaf K] [--workers W] [--order SEED]`
+// `solve LP [--dec FILE] [--steps N] [--cert FILE] [--from CERT] [--leaf K] [--workers W] [--order SEED] [--cuts C]`
 fn solve_command<'a>(alloc: Global) -> Result<Command<'a>, AllocError>
     ensures { IfOk result (λ command. IsShaped command solve_words) }
+{
+    crewed_command(alloc)?.arg(number_option(alloc, "cuts", 0, MOST_CUTS))
+}
+
+// `solve LP [--dec FILE] [--steps N] [--cert FILE] [--from CERT] [--leaf K] [--workers W] [--order SEED]`
+fn crewed_command<'a>(alloc: Global) -> Result<Command<'a>, AllocError>
+    ensures { IfOk result (λ command. IsShaped command crewed_words) }
 {
     kept_command(alloc)?
         .arg(number_option(alloc, "leaf", 1, MOST_LEAF))?

@@ -25,6 +25,8 @@ pub struct SolveOrder {
     pub workers: Option<u32>,
     /// The seed of the order in which the workers have their turns, where one is given.
     pub order: Option<u64>,
+    /// How many rounding cuts may be added at most, 0 to 256: none where no number is given.
+    pub cuts: u32,
 }
 
 /// The files and the number of an order to check.
@@ -59,8 +61,8 @@ pub struct MergeOrder {
 #[derive(Drop)]
 pub enum Order {
     /// Solve the LP file by a decomposition, from the start or from where a certificate stopped, by a crew where workers or
-    /// their order are given, and write a certificate where a file is named for it. A leaf goes with a certificate to go on
-    /// from, and without a crew.
+    /// their order are given, with rounding cuts where a number of them is given, and write a certificate where a file is
+    /// named for it. A leaf goes with a certificate to go on from, and without a crew.
     Solve(SolveOrder),
     /// Check a certificate of the LP file.
     Check(CheckOrder),

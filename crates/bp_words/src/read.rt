@@ -2,10 +2,12 @@
 ghost use Rattle.std.specs.Prelude.{◌≡◌, ◌≢◌, ◌↔◌, ◌<◌, ◌^◌, ℕ, [], map, length, string_bytes, Ok, Err, None, Some, Option, option_map, codes, IfOk, IfErr, IfSome, IfNone, IsTrue};
 ghost use Rattle.clap.specs.Words.{app_of, fault_of, found_of, rows_of, first_of, kind_of, subcommand_rows_of};
 ghost use Rattle.bp_words.specs.CommandLine.{command_line};
-ghost use Rattle.bp_words.specs.Orders.{IsNumber, HasNumber, MayHaveNumber, is_set, IsLeafPlaced, HasValues, IsInRange, IsStated, IsOrderOf, AreRefused};
+ghost use Rattle.bp_words.specs.Orders.{IsNumber, HasNumber, MayHaveNumber, HasCount, is_set, IsLeafPlaced, HasValues, IsInRange, IsStated, IsOrderOf, AreRefused};
 ghost use Rattle.bp_words.specs.declared.order.Order.{Order};
 
-use crate::command::{MOST_LEAF, MOST_SIZE, MOST_STEPS, MOST_VISITS, MOST_WORKERS, make_command};
+use crate::command::{
+    MOST_CUTS, MOST_LEAF, MOST_SIZE, MOST_STEPS, MOST_VISITS, MOST_WORKERS, make_command,
+};
 use crate::order::{CheckOrder, MergeOrder, Order, SolveOrder, WordFault};
 use crate::text::Text;
 use clap::ArgMatches;
@@ -88,6 +90,7 @@ fn solve_order(alloc: Global, solve: &ArgMatches) -> Result<Order, WordFault>
     let leaf = optional_number(solve, "leaf", 1, MOST_LEAF)?;
     let workers = optional_count(solve, "workers", 1, MOST_WORKERS)?;
     let order = optional_number(solve, "order", 0, u64::MAX)?;
+    let cuts = count_or_none(solve, "cuts", MOST_CUTS)?;
     let lp = given(alloc, solve, "lp")?;
     let dec = optional(alloc, solve, "dec")?;
     let cert = optional(alloc, solve, "cert")?;
@@ -101,6 +104,7 @@ fn solve_order(alloc: Global, solve: &ArgMatches) -> Result<Order, WordFault>
         leaf,
         workers,
         order,
+        cuts,
     }))
 }
 
@@ -283,6 +287,22 @@ fn optional_count(
     match optional_number(matches, id, low, high)? {
         Some(n) => Ok(Some(n as u32)),
         None => Ok(None),
+    }
+}
+
+// The number of an argument, of 32 bits; 0 where it isn't given.
+fn count_or_none(matches: &ArgMatches, id: &str, high: u64) -> Result<u32, WordFault>
+    requires { high < 2 ^ 32 }
+    ensures number { IfOk result (HasCount (first_of id.now (rows_of (found_of matches.now))) high) }
+    ensures refused { result ≡ Err WordFault.Refused → (n : ℕ) →
+        HasCount (first_of id.now (rows_of (found_of matches.now))) high n → ⊥ }
+{
+    match value_of(matches, id) {
+        Some(text) => match number_in(text, 0, high) {
+            Some(n) => Ok(n as u32),
+            None => Err(WordFault::Refused),
+        },
+        None => Ok(0),
     }
 }
 

@@ -7,11 +7,11 @@ use std::test::Fail;
 /// `''` for a word without letters. Other lines are headings.
 const LINES: &str = "\
 # Files, joined to their options and apart.
-solve a.lp - - - - - - - @ solve a.lp
-solve a.lp - - c - - - - @ solve --cert=c a.lp
-solve a.lp d - c - - - - @ solve a.lp --cert c --dec d
-solve a.lp - - c c - - - @ solve a.lp --from=c --cert c
-solve --cert - - - - - - - @ solve -- --cert
+solve a.lp - - - - - - - 0 @ solve a.lp
+solve a.lp - - c - - - - 0 @ solve --cert=c a.lp
+solve a.lp d - c - - - - 0 @ solve a.lp --cert c --dec d
+solve a.lp - - c c - - - 0 @ solve a.lp --from=c --cert c
+solve --cert - - - - - - - 0 @ solve -- --cert
 check a.lp c - - @ check a.lp c
 check a.lp c d - @ check --dec=d a.lp c
 show a.lp - - @ show a.lp
@@ -28,14 +28,19 @@ merge a.lp c c c e @ merge a.lp c --dec e c c
 migrate a.lp c n - @ migrate a.lp c n
 migrate a.lp c c e @ migrate a.lp c --dec=e c
 # Numbers.
-solve a.lp - 7 - - - - - @ solve a.lp --steps 007
-solve a.lp - 1152921504606846976 - - - - - @ solve --steps=1152921504606846976 a.lp
-solve a.lp - - - - - 1 - @ solve a.lp --workers 1
-solve a.lp - - - - - 64 0 @ solve a.lp --workers=64 --order=0
-solve a.lp - - - - - - 18446744073709551615 @ solve --order 18446744073709551615 a.lp
-solve a.lp d 0 c f - 3 19 @ solve a.lp --order 19 --workers +3 --from f --cert c --steps 0 --dec d
-solve a.lp - - - f 1 - - @ solve a.lp --from f --leaf 1
-solve a.lp d 5 c f 18446744073709551615 - - @ solve --leaf=18446744073709551615 --from=f a.lp --steps 5 --dec d --cert c
+solve a.lp - 7 - - - - - 0 @ solve a.lp --steps 007
+solve a.lp - 1152921504606846976 - - - - - 0 @ solve --steps=1152921504606846976 a.lp
+solve a.lp - - - - - 1 - 0 @ solve a.lp --workers 1
+solve a.lp - - - - - 64 0 0 @ solve a.lp --workers=64 --order=0
+solve a.lp - - - - - - 18446744073709551615 0 @ solve --order 18446744073709551615 a.lp
+solve a.lp d 0 c f - 3 19 0 @ solve a.lp --order 19 --workers +3 --from f --cert c --steps 0 --dec d
+solve a.lp - - - f 1 - - 0 @ solve a.lp --from f --leaf 1
+solve a.lp d 5 c f 18446744073709551615 - - 0 @ solve --leaf=18446744073709551615 --from=f a.lp --steps 5 --dec d --cert c
+solve a.lp - - - - - - - 0 @ solve a.lp --cuts 0
+solve a.lp - - - - - - - 256 @ solve --cuts=256 a.lp
+solve a.lp d - - - - - - 7 @ solve a.lp --cuts +007 --dec d
+solve a.lp - - - - - 2 5 9 @ solve a.lp --workers 2 --cuts 9 --order 5
+solve a.lp - - - f 1 - - 3 @ solve a.lp --from f --leaf 1 --cuts 3
 check a.lp c - 0 @ check a.lp c --visits 0
 check a.lp c - 9 @ check --visits=+9 a.lp c
 check a.lp c d 18446744073709551615 @ check a.lp --visits 18446744073709551615 c --dec d
@@ -60,6 +65,12 @@ refused @ solve a.lp --from f --leaf 0
 refused @ solve a.lp --from f --leaf=-1
 refused @ solve a.lp --from f --leaf 18446744073709551616
 refused @ solve a.lp --from f --leaf 1 --leaf 2
+refused @ solve a.lp --cuts
+refused @ solve a.lp --cuts=-1
+refused @ solve a.lp --cuts 257
+refused @ solve a.lp --cuts 1.5
+refused @ solve a.lp --cuts 4294967296
+refused @ solve a.lp --cuts 1 --cuts 1
 refused @ check a.lp c --visits
 refused @ check a.lp c --visits=-1
 refused @ check a.lp c --visits 1.5
@@ -104,6 +115,8 @@ refused @ solve a.lp --blocks
 refused @ check a.lp c --workers 2
 refused @ solve a.lp --visits 2
 refused @ migrate a.lp c n --visits 2
+refused @ check a.lp c --cuts 2
+refused @ merge a.lp c d n --cuts 2
 refused @ detect a.lp r
 refused @ detect a.lp --dec d r
 refused @ propose
@@ -146,7 +159,7 @@ fn number_of(alloc: Global, number: Option<u64>) -> Result<String, AllocError> {
     }
 }
 
-/// An order to solve in short: the files, the steps, the leaf, the workers and their order.
+/// An order to solve in short: the files, the steps, the leaf, the workers and their order, the cuts.
 fn solve_line(alloc: Global, given: &SolveOrder) -> Result<String, AllocError> {
     let lp = given.lp.as_str();
     let dec = name_of(&given.dec);
@@ -156,7 +169,8 @@ fn solve_line(alloc: Global, given: &SolveOrder) -> Result<String, AllocError> {
     let leaf = number_of(alloc, given.leaf)?;
     let workers = number_of(alloc, given.workers.map(u64::from))?;
     let order = number_of(alloc, given.order)?;
-    format!(in alloc; "solve {lp} {dec} {steps} {cert} {from} {leaf} {workers} {order}")
+    let cuts = given.cuts;
+    format!(in alloc; "solve {lp} {dec} {steps} {cert} {from} {leaf} {workers} {order} {cuts}")
 }
 
 /// An order in short.
@@ -243,7 +257,7 @@ fn wrong(alloc: Global) -> Result<(String, usize), AllocError> {
 fn each_line_gives_its_order_or_is_refused(rt: HostRuntime) -> Result<(), Fail> {
     let (wrong, count) = wrong(rt.alloc())?;
     assert_eq!(rt; wrong.as_str(), "");
-    assert_eq!(rt; count, 108);
+    assert_eq!(rt; count, 121);
     Ok(())
 }
 
