@@ -34,7 +34,7 @@ pub solved : (words : List (List ℕ)) (files : Files) (kept : Option Outcome) (
 solved words files kept status tells before now answers heard = λ order is. by order (of_words words order files kept status tells before now is answers)
   where
     by : (order : Order) → AnswersBy (AnswersOrder order files kept) status tells before now → SolvesTruly order files kept status before now
-    by (Solve given) right = solves_truly files given.lp given.dec given.steps given.from given.leaf kept status tells before now right heard
+    by (Solve given) right = solves_truly files given.lp given.dec given.steps given.from given.leaf given.cuts kept status tells before now right heard
     by (Check given) right = tt
     by (Show lp dec blocks) right = tt
     by (Gen seed size lp dec) right = tt
@@ -49,9 +49,9 @@ pub accepts : (words : List (List ℕ)) (files : Files) (kept : Option Outcome) 
 accepts words files kept status tells before now known answers = λ order is. by order (of_words words order files kept status tells before now is answers)
   where
     by : (order : Order) → AnswersBy (AnswersOrder order files kept) status tells before now → SolvesAccepted order files status
-    by (Solve given) right = λ plain anew. solves_accepted files given.lp given.steps given.leaf kept status tells before now known
-        (subst (λ (from : Option (List ℕ)). AnswersBy (AnswersSolve files given.lp None given.steps from given.leaf kept) status tells before now) anew
-        (subst (λ (dec : Option (List ℕ)). AnswersBy (AnswersSolve files given.lp dec given.steps given.from given.leaf kept) status tells before now) plain right))
+    by (Solve given) right = λ plain anew. solves_accepted files given.lp given.steps given.leaf given.cuts kept status tells before now known
+        (subst (λ (from : Option (List ℕ)). AnswersBy (AnswersSolve files given.lp None given.steps from given.leaf given.cuts kept) status tells before now) anew
+        (subst (λ (dec : Option (List ℕ)). AnswersBy (AnswersSolve files given.lp dec given.steps given.from given.leaf given.cuts kept) status tells before now) plain right))
     by (Check given) right = tt
     by (Show lp dec blocks) right = tt
     by (Gen seed size lp dec) right = tt
@@ -66,8 +66,8 @@ pub decomposes : (words : List (List ℕ)) (files : Files) (kept : Option Outcom
 decomposes words files kept status tells before now known answers = λ order is. by order (of_words words order files kept status tells before now is answers)
   where
     by : (order : Order) → AnswersBy (AnswersOrder order files kept) status tells before now → SolvesDecomposed order files status
-    by (Solve given) right = λ anew. solves_decomposed files given.lp given.dec given.steps given.leaf kept status tells before now known
-        (subst (λ (from : Option (List ℕ)). AnswersBy (AnswersSolve files given.lp given.dec given.steps from given.leaf kept) status tells before now) anew right)
+    by (Solve given) right = λ anew. solves_decomposed files given.lp given.dec given.steps given.leaf given.cuts kept status tells before now known
+        (subst (λ (from : Option (List ℕ)). AnswersBy (AnswersSolve files given.lp given.dec given.steps from given.leaf given.cuts kept) status tells before now) anew right)
     by (Check given) right = tt
     by (Show lp dec blocks) right = tt
     by (Gen seed size lp dec) right = tt
@@ -81,10 +81,10 @@ pub certifies : (words : List (List ℕ)) (files left : Files) (kept : Option Ou
     → OfOrder words (λ order. WritesCertificate order left kept)
 certifies words files left kept status written = λ order is. by order kept (written order is)
   where
-    saved : (given : SolveOrder) (cert : Option (List ℕ)) (k : Option Outcome) → HasCertificate files given.lp given.dec cert given.from left k → FilesStand cert files left
+    saved : (given : SolveOrder) (cert : Option (List ℕ)) (k : Option Outcome) → HasCertificate files given.lp given.dec cert given.from given.cuts left k → FilesStand cert files left
         → IfSome cert (λ name. IfSome k (λ outcome.
         name ≢ given.lp → given.dec ≢ Some name → (claim : Claim) × AnswersCheck left given.lp name given.dec None 0 (accepted_report claim)))
-    saved given (Some cert) (Some o) has stands = writes_certificate files left given.lp cert given.dec given.from o has stands
+    saved given (Some cert) (Some o) has stands = writes_certificate files left given.lp cert given.dec given.from given.cuts o has stands
     saved given (Some cert) None has stands = tt
     saved given None k has stands = tt
 

@@ -4,8 +4,8 @@ use Rattle.std.specs.Prelude.{codes}
 use Rattle.std.specs.Str.{bytes_eq}
 use Rattle.std.specs.Str.Parse.{digits_value, without_leading_plus}
 use Rattle.clap.specs.Words.{Row, Text, first_of}
-use Rattle.bp_words.specs.CommandLine.{most_steps, most_leaf, most_visits, most_seed, most_size, most_workers}
-use Rattle.bp_words.specs.Orders.{HasNumber, MayHaveNumber, IsLeafPlaced, HasValues, IsOrderOf, AreRefused}
+use Rattle.bp_words.specs.CommandLine.{most_steps, most_leaf, most_visits, most_seed, most_size, most_workers, most_cuts}
+use Rattle.bp_words.specs.Orders.{HasNumber, MayHaveNumber, HasCount, IsLeafPlaced, HasValues, IsOrderOf, AreRefused}
 use Rattle.bp_words.specs.declared.order.Order.{Order}
 use Rattle.bp_words.specs.declared.order.SolveOrder.{SolveOrder}
 use Rattle.bp_words.specs.declared.order.CheckOrder.{CheckOrder}
@@ -33,6 +33,10 @@ may_be_one given low high None (Some n) a b = absurd (there_is given low high n 
 may_be_one given low high (Some m) None a b = absurd (there_is given low high m b a)
 may_be_one given low high (Some m) (Some n) a b = ap (λ (k : ℕ). Some k) (one_number given low high m n a b)
 
+one_count : (given : Option Text) (high m n : ℕ) → HasCount given high m → HasCount given high n → m ≡ n
+one_count None high m n a b = a ∙ sym b
+one_count (Some text) high m n a b = a.value ∙ sym b.value
+
 -- two names of a subcommand
 apart : {A : Type 0} (name s t : Text) → name ≡ s → name ≡ t → bytes_eq s s ≡ true → bytes_eq s t ≡ false → A
 apart name s t a b same other =
@@ -40,8 +44,8 @@ apart name s t a b same other =
     absurd (cc)
 
 -- the words of an order to solve, one by one
-abbrev solve_of : (lp : Text) (dec : Option Text) (steps : Option ℕ) (cert from : Option Text) (leaf workers order : Option ℕ) → Order
-solve_of lp dec steps cert from leaf workers order = Solve (record {
+abbrev solve_of : (lp : Text) (dec : Option Text) (steps : Option ℕ) (cert from : Option Text) (leaf workers order : Option ℕ) (cuts : ℕ) → Order
+solve_of lp dec steps cert from leaf workers order cuts = Solve (record {
   lp = lp;
   dec = dec;
   steps = steps;
@@ -50,16 +54,17 @@ solve_of lp dec steps cert from leaf workers order = Solve (record {
   leaf = leaf;
   workers = workers;
   order = order;
+  cuts = cuts;
 })
 
-solves_of : (a b : Text) (c d : Option Text) (m n : Option ℕ) (e f g h : Option Text) (i j k l x y : Option ℕ) → a ≡ b → c ≡ d → m ≡ n → e ≡ f → g ≡ h
-    → i ≡ j → k ≡ l → x ≡ y → solve_of a c m e g i k x ≡ solve_of b d n f h j l y
-solves_of a b c d m n e f g h i j k l x y p q r s t u v w = rw (p, q, r, s, t, u, v, w) refl
+solves_of : (a b : Text) (c d : Option Text) (m n : Option ℕ) (e f g h : Option Text) (i j k l x y : Option ℕ) (few many : ℕ) → a ≡ b → c ≡ d → m ≡ n → e ≡ f → g ≡ h
+    → i ≡ j → k ≡ l → x ≡ y → few ≡ many → solve_of a c m e g i k x few ≡ solve_of b d n f h j l y many
+solves_of a b c d m n e f g h i j k l x y few many p q r s t u v w z = rw (p, q, r, s, t, u, v, w, z) refl
 
 solves : (a b : SolveOrder) → a.lp ≡ b.lp → a.dec ≡ b.dec → a.steps ≡ b.steps → a.cert ≡ b.cert → a.from ≡ b.from → a.leaf ≡ b.leaf
-    → a.workers ≡ b.workers → a.order ≡ b.order → Solve a ≡ Solve b
-solves a b p q r s t u v w =
-    solves_of a.lp b.lp a.dec b.dec a.steps b.steps a.cert b.cert a.from b.from a.leaf b.leaf a.workers b.workers a.order b.order p q r s t u v w
+    → a.workers ≡ b.workers → a.order ≡ b.order → a.cuts ≡ b.cuts → Solve a ≡ Solve b
+solves a b p q r s t u v w z =
+    solves_of a.lp b.lp a.dec b.dec a.steps b.steps a.cert b.cert a.from b.from a.leaf b.leaf a.workers b.workers a.order b.order a.cuts b.cuts p q r s t u v w z
 
 -- those of an order to check
 abbrev check_of : (lp cert : Text) (dec : Option Text) (visits : Option ℕ) → Order
@@ -107,6 +112,7 @@ one_stated name rows (Solve a) (Solve b) x y =
     (one_given (first_of (codes "from") rows) a.from b.from x.5 y.5) (may_be_one (first_of (codes "leaf") rows) 1 most_leaf a.leaf b.leaf x.6 y.6)
     (may_be_one (first_of (codes "workers") rows) 1 most_workers a.workers b.workers x.7 y.7)
     (may_be_one (first_of (codes "order") rows) 0 most_seed a.order b.order x.8 y.8)
+    (one_count (first_of (codes "cuts") rows) most_cuts a.cuts b.cuts x.10 y.10)
 one_stated name rows (Solve a) (Check e) x y = apart name (codes "solve") (codes "check") x.0 y.0 refl refl
 one_stated name rows (Solve a) (Show e f g) x y = apart name (codes "solve") (codes "show") x.0 y.0 refl refl
 one_stated name rows (Solve a) (Gen e f g h) x y = apart name (codes "solve") (codes "gen") x.0 y.0 refl refl
@@ -236,7 +242,7 @@ not_both words order (inr astray) is =
 -- an order with its parts as other values that are the same
 pub as_solve : (order : Order) (given : SolveOrder) (a : Text) (b c d : Option Text) → order ≡ Solve given → a ≡ given.lp → b ≡ given.dec → c ≡ given.cert
     → d ≡ given.from → Solve (record given { lp = a; dec = b; cert = c; from = d }) ≡ order
-as_solve order given a b c d is p q r s = solves (record given { lp = a; dec = b; cert = c; from = d }) given p q refl r s refl refl refl ∙ sym is
+as_solve order given a b c d is p q r s = solves (record given { lp = a; dec = b; cert = c; from = d }) given p q refl r s refl refl refl refl ∙ sym is
 
 pub as_check : (order : Order) (given : CheckOrder) (a b : Text) (c : Option Text) → order ≡ Check given → a ≡ given.lp → b ≡ given.cert → c ≡ given.dec
     → Check (record given { lp = a; cert = b; dec = c }) ≡ order

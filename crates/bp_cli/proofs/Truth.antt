@@ -26,7 +26,6 @@ use Rattle.cert_text.specs.Fault.{IsCertText}
 use Rattle.cert_text.specs.Written.{cert_of}
 use Rattle.cert_text.specs.Programs.{frame_for}
 use Rattle.cert_load.specs.Recut.{with_cuts}
-use Rattle.cert_load.proofs.CutPrograms.{uncut_is}
 use Rattle.cert_load.proofs.Frames.{same_frame}
 use Rattle.branch_tree.specs.declared.outcome.Outcome.{Outcome}
 use Rattle.branch_tree.specs.declared.outcome.Outcome.TheVariants.{Optimal, Infeasible, Budget}
@@ -38,6 +37,7 @@ use Rattle.bp_front.specs.Answers.{AnswersBy, stopped, went_on, IsStatus}
 use Rattle.bp_front.proofs.OneFront.{one_front, plain_front}
 use Rattle.cmd_check.specs.Checks as checks
 use Rattle.cmd_check.specs.Checks.{ChecksBlocked, ChecksWithin, ChecksVisiting, AnswersCheck}
+use Rattle.cmd_solve.specs.Cuttings.{HasCuts}
 use Rattle.cmd_solve.specs.Starts as starts
 use Rattle.cmd_solve.specs.Starts.{RefusesStart, IsStartAt, SearchesOver}
 use Rattle.cmd_solve.specs.Leaves.{IsWorkedOn}
@@ -215,21 +215,25 @@ refuses_status b leaf text status report (starts.rejected cert line kind spells 
 refuses_status b leaf text status report (starts.too_deep cert line spells has valid deep is printed) = inl is
 refuses_status b leaf text status report (starts.no_leaf from number start named none is printed) = inl is
 
+-- the program with cuts is of the same model
+same_model : (files : Files) (lp : List ℕ) (b c : BlockedProgram) (own : List Cut) (cuts : ℕ) → HasCuts b own cuts c → HasProgram (files lp) b.named → HasProgram (files lp) c.named
+same_model files lp b c own cuts over has = subst (λ (x : BlockedProgram). HasProgram (files lp) x.named) (sym over.is) has
+
 -- what is answered under an outcome's status is told truly
-solves_told : (files : Files) (lp : List ℕ) (steps : Option ℕ) (from : Option (List ℕ)) (leaf : Option ℕ) (kept : Option Outcome) (b : BlockedProgram) (status : ℕ) (report before now : List ℕ)
-    → HasProgram (files lp) b.named → SolvesBy files from leaf steps kept b status report → IsOutcomeStatus status → now ≡ before ++ report
+solves_told : (files : Files) (lp : List ℕ) (steps : Option ℕ) (from : Option (List ℕ)) (leaf : Option ℕ) (cuts : ℕ) (kept : Option Outcome) (b : BlockedProgram) (status : ℕ) (report before now : List ℕ)
+    → HasProgram (files lp) b.named → SolvesBy files from leaf steps cuts kept b status report → IsOutcomeStatus status → now ≡ before ++ report
     → TellsTruly (files lp) leaf (given_steps steps) (is_none from) kept status before now
-solves_told files lp steps None leaf kept b status report before now has right is printed =
-    tells_true files lp leaf b (given_steps steps) steps true kept status report before now has right (λ begun. refl) printed
-solves_told files lp steps (Some name) leaf kept b status report before now has (solves.missing gone none eleven empty) is printed =
+solves_told files lp steps None leaf cuts kept b status report before now has right is printed =
+    tells_true files lp leaf right.over (given_steps steps) steps true kept status report before now (same_model files lp b right.over [] cuts right.has_cuts has)
+    right.solves (λ begun. refl) printed
+solves_told files lp steps (Some name) leaf cuts kept b status report before now has (solves.missing gone none eleven empty) is printed =
     absurd (not_outcome status is (inr (inr eleven)))
-solves_told files lp steps (Some name) leaf kept b status report before now has (solves.refused text there none refuses) is printed =
+solves_told files lp steps (Some name) leaf cuts kept b status report before now has (solves.refused text there none refuses) is printed =
     absurd (not_outcome status is (refuses_status b leaf text status report refuses))
-solves_told files lp steps (Some name) leaf kept b status report before now has (solves.went_on text from below c there start over right) is printed = on below start right
+solves_told files lp steps (Some name) leaf cuts kept b status report before now has (solves.went_on text from below c there start over right) is printed = on below start right
   where
-    -- the program with cuts is of the same model
     same : HasProgram (files lp) c.named
-    same = subst (λ (x : BlockedProgram). HasProgram (files lp) x.named) (sym over) has
+    same = same_model files lp b c start.start.cert.cuts cuts over has
 
     on : (below : Option (List Side)) → IsStartAt b leaf text from below → SolvesOn from.grove.tree below steps kept c status report
         → TellsTruly (files lp) leaf (given_steps steps) false kept status before now
@@ -239,34 +243,34 @@ solves_told files lp steps (Some name) leaf kept b status report before now has 
         tells_below files lp leaf c from.grove.tree path steps kept status report before now same right
         (λ told few. count_below start.start.cert.tree leaf path (given_steps steps) told start.worked_on few) printed
 
-pub solves_truly : (files : Files) (lp : List ℕ) (dec : Option (List ℕ)) (steps : Option ℕ) (from : Option (List ℕ)) (leaf : Option ℕ) (kept : Option Outcome) (status : ℕ) (tells : Bool) (before now : List ℕ)
-    → AnswersBy (AnswersSolve files lp dec steps from leaf kept) status tells before now → IsTrue tells → IsOutcomeStatus status
+pub solves_truly : (files : Files) (lp : List ℕ) (dec : Option (List ℕ)) (steps : Option ℕ) (from : Option (List ℕ)) (leaf : Option ℕ) (cuts : ℕ) (kept : Option Outcome) (status : ℕ) (tells : Bool) (before now : List ℕ)
+    → AnswersBy (AnswersSolve files lp dec steps from leaf cuts kept) status tells before now → IsTrue tells → IsOutcomeStatus status
     → TellsTruly (files lp) leaf (given_steps steps) (is_none from) kept status before now
-solves_truly files lp dec steps from leaf kept status tells before now answers heard is =
+solves_truly files lp dec steps from leaf cuts kept status tells before now answers heard is =
     let through = went_through status is in
     let answer = answers through.0 through.1 through.2 in
     by answer.0 answer.1 (answer.2 heard)
   where
-    by : (report : List ℕ) → AnswersSolve files lp dec steps from leaf kept status report → now ≡ before ++ report
+    by : (report : List ℕ) → AnswersSolve files lp dec steps from leaf cuts kept status report → now ≡ before ++ report
         → TellsTruly (files lp) leaf (given_steps steps) (is_none from) kept status before now
     by report (stopped come stops) printed =
         absurd (not_outcome status is (as_refusal status (files_come files lp dec (ends status report) come)))
     by report (went_on b come right) printed =
-        solves_told files lp steps from leaf kept b status report before now (files_come files lp dec (blocked b) come) right is printed
+        solves_told files lp steps from leaf cuts kept b status report before now (files_come files lp dec (blocked b) come) right is printed
 
 -- ---- accepted files are told an outcome
 
 solved_status : (b : BlockedProgram) (most : ℕ) (steps : Option ℕ) (kept : Option Outcome) (status : ℕ) (report : List ℕ) → SolvesBlocked most steps kept b status report → IsOutcomeStatus status
 solved_status b most steps kept status report right = subst IsOutcomeStatus (sym right.has_status) (outcome_statuses right.outcome)
 
-solves_unless : (files : Files) (lp : List ℕ) (dec : Option (List ℕ)) (steps leaf : Option ℕ) (kept : Option Outcome) (status : ℕ) (tells : Bool) (before now : List ℕ)
-    → IsStatus status → AnswersBy (AnswersSolve files lp dec steps None leaf kept) status tells before now → ((s : ℕ) (r : List ℕ) → FilesCome files lp dec (ends s r) → ⊥)
+solves_unless : (files : Files) (lp : List ℕ) (dec : Option (List ℕ)) (steps leaf : Option ℕ) (cuts : ℕ) (kept : Option Outcome) (status : ℕ) (tells : Bool) (before now : List ℕ)
+    → IsStatus status → AnswersBy (AnswersSolve files lp dec steps None leaf cuts kept) status tells before now → ((s : ℕ) (r : List ℕ) → FilesCome files lp dec (ends s r) → ⊥)
     → IsOutcomeStatus status ⊎ WasStopped status
-solves_unless files lp dec steps leaf kept status tells before now known answers accepted = by known
+solves_unless files lp dec steps leaf cuts kept status tells before now known answers accepted = by known
   where
-    told_right : (report : List ℕ) → AnswersSolve files lp dec steps None leaf kept status report → IsOutcomeStatus status
+    told_right : (report : List ℕ) → AnswersSolve files lp dec steps None leaf cuts kept status report → IsOutcomeStatus status
     told_right report (stopped come stops) = absurd (accepted status report come)
-    told_right report (went_on b come right) = solved_status b (given_steps steps) steps kept status report right
+    told_right report (went_on b come right) = solved_status right.over (given_steps steps) steps kept status report right.solves
 
     going : (status ≢ 7) → (status ≢ 8) → (status ≢ 9) → IsOutcomeStatus status ⊎ WasStopped status
     going a b c = let answer = answers a b c in inl (told_right answer.0 answer.1)
@@ -284,24 +288,24 @@ solves_unless files lp dec steps leaf kept status tells before now known answers
     by (inr (inr (inr (inr (inr (inr (inr (inr (inr (inl is)))))))))) = going (λ e. absurd (cc)) (λ e. absurd (cc)) (λ e. absurd (cc))
     by (inr (inr (inr (inr (inr (inr (inr (inr (inr (inr is)))))))))) = going (λ e. absurd (cc)) (λ e. absurd (cc)) (λ e. absurd (cc))
 
-pub solves_accepted : (files : Files) (lp : List ℕ) (steps leaf : Option ℕ) (kept : Option Outcome) (status : ℕ) (tells : Bool) (before now : List ℕ)
-    → IsStatus status → AnswersBy (AnswersSolve files lp None steps None leaf kept) status tells before now → (m : NamedProgram) → HasProgram (files lp) m
+pub solves_accepted : (files : Files) (lp : List ℕ) (steps leaf : Option ℕ) (cuts : ℕ) (kept : Option Outcome) (status : ℕ) (tells : Bool) (before now : List ℕ)
+    → IsStatus status → AnswersBy (AnswersSolve files lp None steps None leaf cuts kept) status tells before now → (m : NamedProgram) → HasProgram (files lp) m
     → IsOutcomeStatus status ⊎ WasStopped status
-solves_accepted files lp steps leaf kept status tells before now known answers m has =
-    solves_unless files lp None steps leaf kept status tells before now known answers (λ s r come. plain_files files lp m (ends s r) has come)
+solves_accepted files lp steps leaf cuts kept status tells before now known answers m has =
+    solves_unless files lp None steps leaf cuts kept status tells before now known answers (λ s r come. plain_files files lp m (ends s r) has come)
 
-pub solves_decomposed : (files : Files) (lp : List ℕ) (dec : Option (List ℕ)) (steps leaf : Option ℕ) (kept : Option Outcome) (status : ℕ) (tells : Bool) (before now : List ℕ)
-    → IsStatus status → AnswersBy (AnswersSolve files lp dec steps None leaf kept) status tells before now → (b : BlockedProgram) → FilesCome files lp dec (blocked b)
+pub solves_decomposed : (files : Files) (lp : List ℕ) (dec : Option (List ℕ)) (steps leaf : Option ℕ) (cuts : ℕ) (kept : Option Outcome) (status : ℕ) (tells : Bool) (before now : List ℕ)
+    → IsStatus status → AnswersBy (AnswersSolve files lp dec steps None leaf cuts kept) status tells before now → (b : BlockedProgram) → FilesCome files lp dec (blocked b)
     → IsOutcomeStatus status ⊎ WasStopped status
-solves_decomposed files lp dec steps leaf kept status tells before now known answers b come =
-    solves_unless files lp dec steps leaf kept status tells before now known answers (λ s r other. one_front files lp dec (ends s r) (blocked b) other come)
+solves_decomposed files lp dec steps leaf cuts kept status tells before now known answers b come =
+    solves_unless files lp dec steps leaf cuts kept status tells before now known answers (λ s r other. one_front files lp dec (ends s r) (blocked b) other come)
 
 -- ---- the certificate that is written is accepted
 
 -- a search is over the program in blocks that the files come to, with cuts
-over_cuts : (files : Files) (from : Option (List ℕ)) (b c : BlockedProgram) → IsFormed b → b.cuts ≡ [] → SearchesOver files from b c → (cuts : List Cut) × (c ≡ with_cuts b cuts)
-over_cuts files None b c made uncut over = ([], over.1.1 ∙ uncut_is b made uncut)
-over_cuts files (Some name) b c made uncut over = (over.1.3.cert.cuts, over.1.4)
+over_cuts : (files : Files) (from : Option (List ℕ)) (cuts : ℕ) (b c : BlockedProgram) → SearchesOver files from cuts b c → (all : List Cut) × (c ≡ with_cuts b all)
+over_cuts files None cuts b c over = (over.1.1.added, over.1.1.is)
+over_cuts files (Some name) cuts b c over = (over.1.3.cert.cuts ++ over.1.4.added, over.1.4.is)
 
 -- the text of a valid certificate of a program with cuts is one of the program without them
 spelled_over : (b : BlockedProgram) (cuts : List Cut) (o : Outcome) (text : List ℕ) → IsFormed b → IsSpelledOut (with_cuts b cuts) o text
@@ -309,12 +313,12 @@ spelled_over : (b : BlockedProgram) (cuts : List Cut) (o : Outcome) (text : List
 spelled_over b cuts o text made out =
     subst (λ (frame : Frame). IsCertText frame (cert_of (outcome_certificate (with_cuts b cuts) o)) text) (same_frame b cuts made) (_, out.spelled)
 
-pub writes_certificate : (before now : Files) (lp cert : List ℕ) (dec from : Option (List ℕ)) (o : Outcome) → HasCertificate before lp dec (Some cert) from now (Some o)
+pub writes_certificate : (before now : Files) (lp cert : List ℕ) (dec from : Option (List ℕ)) (cuts : ℕ) (o : Outcome) → HasCertificate before lp dec (Some cert) from cuts now (Some o)
     → OthersAsBefore cert before now → cert ≢ lp → dec ≢ Some cert → (claim : Claim) × AnswersCheck now lp cert dec None 0 (accepted_report claim)
-writes_certificate before now lp cert dec from o has others apart away =
+writes_certificate before now lp cert dec from cuts o has others apart away =
     let b = has.0 in
     let plain = plain_front before lp dec (blocked b) has.1 in
-    let over = over_cuts before from b has.2.0 plain.0 plain.1 has.2.1 in
+    let over = over_cuts before from cuts b has.2.0 has.2.1 in
     let c : BlockedProgram = with_cuts b over.0 in
     let saved : IsSaved c o (Some cert) now = subst (λ (x : BlockedProgram). IsSaved x o (Some cert) now) over.1 has.2.2 in
     let written = outcome_certificate c o in (

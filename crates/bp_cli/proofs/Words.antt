@@ -66,7 +66,7 @@ refused_two status (inr (inr want)) no_write no_want = absurd (no_want want)
 -- an order that was not begun left nothing
 pub nothing_written : (files : Files) (order : Order) → HasWritten order files files None 9
 nothing_written files (Solve given) =
-    (tt, stands given.cert, (λ _. refl), λ _. untouched_part files given.lp given.dec given.steps given.cert given.from given.leaf files refl) where
+    (tt, stands given.cert, (λ _. refl), λ _. untouched_part files given.lp given.dec given.steps given.cert given.from given.leaf given.cuts files refl) where
       stands : (cert : Option (List ℕ)) → FilesStand cert files files
       stands None = refl
       stands (Some name) = λ other apart. refl

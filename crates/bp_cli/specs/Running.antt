@@ -26,7 +26,7 @@ use Rattle.cmd_migrate.specs.Files.{MigrateLeaves, MigrateWrites}
 
 -- what an order is answered by the files, with what is kept
 abbrev pub AnswersOrder : Order → Files → Option Outcome → (status : ℕ) → (report : List ℕ) → Type 0
-AnswersOrder (Solve given) files kept status report = AnswersSolve files given.lp given.dec given.steps given.from given.leaf kept status report
+AnswersOrder (Solve given) files kept status report = AnswersSolve files given.lp given.dec given.steps given.from given.leaf given.cuts kept status report
 AnswersOrder (Check given) files kept status report = (kept ≡ None) × AnswersCheck files given.lp given.cert given.dec given.visits status report
 AnswersOrder (Show lp dec blocks) files kept status report = (kept ≡ None) × AnswersShow files lp dec blocks status report
 AnswersOrder (Gen seed size lp dec) files kept status report = (kept ≡ None) × AnswersGen size status report
@@ -47,8 +47,8 @@ pub data Answers (words : List (List ℕ)) (files : Files) (kept : Option Outcom
 -- every other order changes no file.
 abbrev pub HasWritten : Order → (before now : Files) → Option Outcome → (status : ℕ) → Type 0
 HasWritten (Solve given) before now kept status =
-    HasCertificate before given.lp given.dec given.cert given.from now kept × FilesStand given.cert before now × (IsUntouched status → now ≡ before)
-    × (status ≡ 9 → LeavesPart before given.lp given.dec given.steps given.cert given.from given.leaf now)
+    HasCertificate before given.lp given.dec given.cert given.from given.cuts now kept × FilesStand given.cert before now × (IsUntouched status → now ≡ before)
+    × (status ≡ 9 → LeavesPart before given.lp given.dec given.steps given.cert given.from given.leaf given.cuts now)
 HasWritten (Check given) before now kept status = now ≡ before
 HasWritten (Show lp dec blocks) before now kept status = now ≡ before
 HasWritten (Gen seed size lp dec) before now kept status = GenLeaves seed size lp dec before now status
@@ -61,7 +61,7 @@ HasWritten (Migrate lp cert new dec) before now kept status = MigrateLeaves lp c
 -- What stands where the report could not be put: it is put last, behind the certificate of an outcome of the search, both
 -- made texts, the text of the decomposition that was found or chosen or the certificate that was merged or written anew, and nothing is written where the file to go on from is no start.
 abbrev pub HasPutLast : Order → (before now : Files) → Type 0
-HasPutLast (Solve given) before now = LeavesCertificate before given.lp given.dec given.steps given.cert given.from given.leaf now
+HasPutLast (Solve given) before now = LeavesCertificate before given.lp given.dec given.steps given.cert given.from given.leaf given.cuts now
 HasPutLast (Check given) before now = now ≡ before
 HasPutLast (Show lp dec blocks) before now = now ≡ before
 HasPutLast (Gen seed size lp dec) before now = GenWrites seed size lp dec before now
@@ -74,7 +74,7 @@ HasPutLast (Migrate lp cert new dec) before now = MigrateWrites lp cert dec new 
 -- The events of an order, beside what is kept: those of the crew that solved, where one was ordered and its outcome is kept; and
 -- else none.
 abbrev pub ListsEvents : Order → (before : Files) → Option Outcome → List Event → Type 0
-ListsEvents (Solve given) before kept events = HasEvents before given.lp given.dec given.steps given.from given.workers given.order kept events
+ListsEvents (Solve given) before kept events = HasEvents before given.lp given.dec given.steps given.from given.workers given.order given.cuts kept events
 ListsEvents (Check given) before kept events = events ≡ []
 ListsEvents (Show lp dec blocks) before kept events = events ≡ []
 ListsEvents (Gen seed size lp dec) before kept events = events ≡ []

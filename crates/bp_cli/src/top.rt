@@ -31,7 +31,8 @@ use std::alloc::Global;
 /// a bound that no such point betters; the certificate that it writes is valid, and whatever `check` accepts is true,
 /// whoever wrote it. From a valid certificate it goes on, whoever wrote that, with the given steps beside those of its tree,
 /// or below one of its open leaves alone with no more than the given steps.
-/// All this holds for a crew of any number of workers in any order too, whose events are listed.
+/// All this holds for a crew of any number of workers in any order too, whose events are listed, and with any number of cuts
+/// that are added, which the certificate has.
 pub fn run<F: Shelf, O: Sink>(alloc: Global, words: &[String], shelf: &mut F, out: &mut O) -> Ended
     // The headline, for told files and a sink that tells. What `solve` prints is true of the program that the LP text
     // means: `optimal` with a best point, `infeasible`, or `budget` after exactly the given steps with a bound that no
@@ -213,6 +214,7 @@ fn obey<F: Shelf, O: Sink>(alloc: Global, order: &Order, shelf: &mut F, out: &mu
             given.leaf,
             given.workers,
             given.order,
+            given.cuts,
         ),
         Order::Check(given) => check(
             alloc,

@@ -9,7 +9,7 @@ use Rattle.branch_tree.specs.declared.outcome.Outcome.{Outcome}
 use Rattle.bp_front.specs.Front.{FilesCome, blocked}
 use Rattle.cmd_solve.specs.declared.crew.CrewOrder.{CrewOrder}
 use Rattle.cmd_solve.specs.Crews.{ordered_crew, IsSearchOf, HasEventsFrom, events_with, EventsBy, HasEvents}
-use Rattle.cmd_solve.proofs.Starting.{ComesFrom, ready_begins, fresh_begins}
+use Rattle.cmd_solve.proofs.Starting.{ComesFrom, begins}
 
 -- the events of a search beside the outcome that is kept of it, or beside nothing
 pub kept_with : (b : BlockedProgram) (from : Option Loaded) (steps : Option ℕ) (crew : Option CrewOrder) (outcome : Outcome) (kept : Option Outcome) (events : List Event)
@@ -21,17 +21,12 @@ kept_with b from steps crew outcome (Some other) events is (inr same) = subst (�
     one : (o p : Outcome) → (let x : Option Outcome = Some o in x) ≡ Some p → o ≡ p
     one o p e = cc
 
--- the events of a search from the start
-pub fresh_events : (files : Files) (from : Option (List ℕ)) (steps : Option ℕ) (crew : Option CrewOrder) (b : BlockedProgram) (kept : Option Outcome) (events : List Event)
-    → from ≡ None → HasEventsFrom b None steps crew kept events → EventsBy files from steps crew b kept events
-fresh_events files from steps crew b None events is has = has
-fresh_events files from steps crew b (Some outcome) events is has = (b, None, fresh_begins files from b is, has)
-
--- the events of a search from a loaded tree
-pub ready_events : (files : Files) (from : Option (List ℕ)) (steps : Option ℕ) (crew : Option CrewOrder) (b c : BlockedProgram) (loaded : Loaded) (leaf : Option ℕ)
-    (below : Option (List Side)) (kept : Option Outcome) (events : List Event) → ComesFrom files from leaf b c loaded below → HasEventsFrom c (Some loaded) steps crew kept events → EventsBy files from steps crew b kept events
-ready_events files from steps crew b c loaded leaf below None events come has = has
-ready_events files from steps crew b c loaded leaf below (Some outcome) events come has = (c, Some loaded, ready_begins files from leaf b c loaded below come, has)
+-- the events of a search from where it begins
+pub started_events : (files : Files) (from : Option (List ℕ)) (leaf steps : Option ℕ) (crew : Option CrewOrder) (cuts : ℕ) (b c : BlockedProgram) (start : Option Loaded)
+    (below : Option (List Side)) (kept : Option Outcome) (events : List Event) → ComesFrom files from leaf cuts b c start below → HasEventsFrom c start steps crew kept events
+    → EventsBy files from steps crew cuts b kept events
+started_events files from leaf steps crew cuts b c start below None events come has = has
+started_events files from leaf steps crew cuts b c start below (Some outcome) events come has = (c, start, begins files from leaf cuts b c start below come, has)
 
 -- nothing is kept of a reply whose status is no fault of the sink
 pub printed_none : (status end : ℕ) (kept : Option Outcome) → (status ≡ end) ⊎ (status ≡ 8) → (status ≢ 8 → kept ≡ None) → (status ≡ 8 → kept ≡ None) → end ≢ 8 → kept ≡ None
@@ -44,18 +39,18 @@ refused_apart end (inl is) = λ e. absurd (cc)
 refused_apart end (inr is) = λ e. absurd (cc)
 
 -- there are no events where nothing is kept
-pub none_by : (files : Files) (from : Option (List ℕ)) (steps : Option ℕ) (crew : Option CrewOrder) (b : BlockedProgram) (kept : Option Outcome) (events : List Event)
-    → kept ≡ None → events ≡ [] → EventsBy files from steps crew b kept events
-none_by files from steps crew b None events none is = is
-none_by files from steps crew b (Some outcome) events none is = absurd (cc)
+pub none_by : (files : Files) (from : Option (List ℕ)) (steps : Option ℕ) (crew : Option CrewOrder) (cuts : ℕ) (b : BlockedProgram) (kept : Option Outcome) (events : List Event)
+    → kept ≡ None → events ≡ [] → EventsBy files from steps crew cuts b kept events
+none_by files from steps crew cuts b None events none is = is
+none_by files from steps crew cuts b (Some outcome) events none is = absurd (cc)
 
-pub none_of : (files : Files) (lp : List ℕ) (dec : Option (List ℕ)) (steps : Option ℕ) (from : Option (List ℕ)) (workers order : Option ℕ) (kept : Option Outcome) (events : List Event)
-    → kept ≡ None → events ≡ [] → HasEvents files lp dec steps from workers order kept events
-none_of files lp dec steps from workers order None events none is = is
-none_of files lp dec steps from workers order (Some outcome) events none is = absurd (cc)
+pub none_of : (files : Files) (lp : List ℕ) (dec : Option (List ℕ)) (steps : Option ℕ) (from : Option (List ℕ)) (workers order : Option ℕ) (cuts : ℕ) (kept : Option Outcome) (events : List Event)
+    → kept ≡ None → events ≡ [] → HasEvents files lp dec steps from workers order cuts kept events
+none_of files lp dec steps from workers order cuts None events none is = is
+none_of files lp dec steps from workers order cuts (Some outcome) events none is = absurd (cc)
 
 -- the events of the program in blocks that files come to
-pub lift_events : (files : Files) (lp : List ℕ) (dec : Option (List ℕ)) (steps : Option ℕ) (from : Option (List ℕ)) (workers order : Option ℕ) (b : BlockedProgram) (kept : Option Outcome) (events : List Event)
-    → FilesCome files lp dec (blocked b) → EventsBy files from steps (ordered_crew workers order) b kept events → HasEvents files lp dec steps from workers order kept events
-lift_events files lp dec steps from workers order b None events come has = has
-lift_events files lp dec steps from workers order b (Some outcome) events come has = (b, come, has)
+pub lift_events : (files : Files) (lp : List ℕ) (dec : Option (List ℕ)) (steps : Option ℕ) (from : Option (List ℕ)) (workers order : Option ℕ) (cuts : ℕ) (b : BlockedProgram) (kept : Option Outcome) (events : List Event)
+    → FilesCome files lp dec (blocked b) → EventsBy files from steps (ordered_crew workers order) cuts b kept events → HasEvents files lp dec steps from workers order cuts kept events
+lift_events files lp dec steps from workers order cuts b None events come has = has
+lift_events files lp dec steps from workers order cuts b (Some outcome) events come has = (b, come, has)

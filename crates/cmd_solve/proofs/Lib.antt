@@ -1,3 +1,4 @@
+pub mod CutLemmas
 pub mod Outcomes
 pub mod Told
 pub mod Starting

@@ -1,5 +1,5 @@
 -- The certificate of a search's outcome is valid, and what is told of the outcome.
-use Rattle.std.proofs.Common.{◌≡◌, refl, sym, subst, inl, inr, ℕ, List, [], Option, Some, None, Result, Ok, Err}
+use Rattle.std.proofs.Common.{◌≡◌, refl, sym, subst, inl, inr, ℕ, List, Option, Some, None, Result, Ok, Err}
 use Rattle.std.specs.Prelude.{IsOk, IsErrOf}
 use Rattle.std.proofs.lemmas.Bool.{true≢false}
 use Rattle.std.proofs.Math.IntN.{ℤ}
@@ -19,7 +19,7 @@ use Rattle.search_laws.specs.Outcomes.{read_off}
 use Rattle.bp_front.specs.declared.ending.Reply.{Reply}
 use Rattle.branch_tree.specs.declared.loaded.Loaded.{Loaded}
 use Rattle.cmd_solve.specs.Starts.{BeginsBy}
-use Rattle.cmd_solve.specs.Solves.{outcome_certificate, IsSpelledOut}
+use Rattle.cmd_solve.specs.Solves.{outcome_certificate}
 use Rattle.cmd_solve.specs.Saves.{IsSolved, TellsOf, IsSaved, SavesBlocked, SavesBy, HasCertificate, IsPartOf, AsBeforeOr}
 
 -- the certificate of an outcome of a search is valid
@@ -58,18 +58,19 @@ is_part b most o name before now (Err NoMemory) ends streams want = by streams.h
     by (inr part) = inr (part.0, part.1, part.3, record { spelled = part.2; valid = outcome_certified b most o ends })
 
 -- what is saved of a search from the start, or from a loaded tree
-pub saved_by : (files : Files) (from : Option (List ℕ)) (b c : BlockedProgram) (start : Option Loaded) (cert : Option (List ℕ)) (now : Files) (kept : Option Outcome)
-    → BeginsBy files from b c start → SavesBlocked c cert now kept → SavesBy files from b cert now kept
-saved_by files from b c start cert now None begins saved = tt
-saved_by files from b c start cert now (Some outcome) begins saved = (c, (start, begins), saved)
+pub saved_by : (files : Files) (from : Option (List ℕ)) (cuts : ℕ) (b c : BlockedProgram) (start : Option Loaded) (cert : Option (List ℕ)) (now : Files) (kept : Option Outcome)
+    → BeginsBy files from cuts b c start → SavesBlocked c cert now kept → SavesBy files from cuts b cert now kept
+saved_by files from cuts b c start cert now None begins saved = tt
+saved_by files from cuts b c start cert now (Some outcome) begins saved = (c, (start, begins), saved)
 
 -- where nothing is kept, nothing is saved
-pub none_saved : (files : Files) (from : Option (List ℕ)) (b : BlockedProgram) (cert : Option (List ℕ)) (now : Files) (kept : Option Outcome) → kept ≡ None → SavesBy files from b cert now kept
-none_saved files from b cert now None none = tt
-none_saved files from b cert now (Some outcome) none = absurd (cc)
+pub none_saved : (files : Files) (from : Option (List ℕ)) (cuts : ℕ) (b : BlockedProgram) (cert : Option (List ℕ)) (now : Files) (kept : Option Outcome) → kept ≡ None
+    → SavesBy files from cuts b cert now kept
+none_saved files from cuts b cert now None none = tt
+none_saved files from cuts b cert now (Some outcome) none = absurd (cc)
 
 -- what is saved of a program in blocks is so of the files that come to it
-pub lift_saved : (before : Files) (lp : List ℕ) (dec cert from : Option (List ℕ)) (now : Files) (b : BlockedProgram) (kept : Option Outcome) → FilesCome before lp dec (blocked b)
-    → SavesBy before from b cert now kept → HasCertificate before lp dec cert from now kept
-lift_saved before lp dec cert from now b None come saved = tt
-lift_saved before lp dec cert from now b (Some outcome) come saved = (b, come, saved)
+pub lift_saved : (before : Files) (lp : List ℕ) (dec cert from : Option (List ℕ)) (cuts : ℕ) (now : Files) (b : BlockedProgram) (kept : Option Outcome)
+    → FilesCome before lp dec (blocked b) → SavesBy before from cuts b cert now kept → HasCertificate before lp dec cert from cuts now kept
+lift_saved before lp dec cert from cuts now b None come saved = tt
+lift_saved before lp dec cert from cuts now b (Some outcome) come saved = (b, come, saved)

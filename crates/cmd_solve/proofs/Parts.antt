@@ -1,5 +1,5 @@
 -- What stands of a certificate where memory was wanting.
-use Rattle.std.proofs.Common.{◌≡◌, refl, sym, ap, subst, inl, inr, ℕ, List, Option, Some, None}
+use Rattle.std.proofs.Common.{◌≡◌, ap, inl, inr, ℕ, List, Option, Some, None}
 use Rattle.bp_shelf.specs.Shelf.{Files}
 use Rattle.block_form.specs.Blocked.{BlockedProgram}
 use Rattle.search_laws.specs.declared.Side.{Side}
@@ -8,11 +8,11 @@ use Rattle.branch_tree.specs.declared.outcome.Outcome.{Outcome}
 use Rattle.bp_front.specs.Front.{FilesCome, blocked}
 use Rattle.bp_front.specs.declared.ending.Reply.{Reply}
 use Rattle.cmd_solve.specs.Starts.{EndsAt}
-use Rattle.cmd_solve.specs.Solves.{SolvesOn, SolvesAt, SolvesBy, went_on}
+use Rattle.cmd_solve.specs.Solves.{SolvesAt}
 use Rattle.cmd_solve.specs.Saves.{IsSolved, TellsOf, IsPartOf, HoldsPart, HoldsPartBy, AsBeforeOr, LeavesPart}
 use Rattle.cmd_solve.proofs.Outcomes.{tells}
 use Rattle.cmd_solve.proofs.Told.{solves_at}
-use Rattle.cmd_solve.proofs.Starting.{ComesFrom, ready_begins, fresh_begins}
+use Rattle.cmd_solve.proofs.Starting.{ComesFrom, begins, solves_from}
 
 -- where nothing was written
 pub nothing_left : (Part : Option (List ℕ) → Type 0) (cert : Option (List ℕ)) (before now : Files) → now ≡ before → AsBeforeOr Part cert before now
@@ -57,56 +57,36 @@ part_at b from below given o told cert before now ends left =
     part_as (TellsOf b told o) (λ kept. SolvesAt from below given kept b) b cert before now
     (λ kept status report right. solves_at b from below given o told kept status report ends right) left
 
--- of one from the start
-pub fresh_part : (files : Files) (from : Option (List ℕ)) (leaf given : Option ℕ) (b : BlockedProgram) (cert : Option (List ℕ)) (before now : Files)
-    → from ≡ None → AsBeforeOr (HoldsPart (λ kept. SolvesAt None None given kept b) b) cert before now → AsBeforeOr (HoldsPartBy files from leaf given b) cert before now
-fresh_part files from leaf given b cert before now is left =
-    left_as (HoldsPart (λ kept. SolvesAt None None given kept b) b) (HoldsPartBy files from leaf given b) cert before now by left
+-- of one from where it begins
+pub started_part : (files : Files) (from : Option (List ℕ)) (leaf given : Option ℕ) (cuts : ℕ) (b c : BlockedProgram) (start : Option Loaded) (below : Option (List Side)) (cert : Option (List ℕ)) (before now : Files)
+    → ComesFrom files from leaf cuts b c start below → AsBeforeOr (HoldsPart (λ kept. SolvesAt start below given kept c) c) cert before now
+    → AsBeforeOr (HoldsPartBy files from leaf given cuts b) cert before now
+started_part files from leaf given cuts b c start below cert before now come left =
+    left_as (HoldsPart (λ kept. SolvesAt start below given kept c) c) (HoldsPartBy files from leaf given cuts b) cert before now by left
   where
-    by : (file : Option (List ℕ)) → HoldsPart (λ kept. SolvesAt None None given kept b) b file → HoldsPartBy files from leaf given b file
-    by file h = (
-      b,
-      (None, fresh_begins files from b is),
-      record {
-        outcome = h.outcome;
-        status = h.status;
-        report = h.report;
-        right = subst (λ (f : Option (List ℕ)). SolvesBy files f leaf given (Some h.outcome) b h.status h.report) (sym is) h.right;
-        part = h.part;
-      },
-    )
-
--- of one from a named file
-pub ready_part : (files : Files) (from : Option (List ℕ)) (leaf given : Option ℕ) (b c : BlockedProgram) (loaded : Loaded) (below : Option (List Side)) (cert : Option (List ℕ)) (before now : Files)
-    → ComesFrom files from leaf b c loaded below → AsBeforeOr (HoldsPart (λ kept. SolvesOn loaded.grove.tree below given kept c) c) cert before now
-    → AsBeforeOr (HoldsPartBy files from leaf given b) cert before now
-ready_part files from leaf given b c loaded below cert before now come left =
-    left_as (HoldsPart (λ kept. SolvesOn loaded.grove.tree below given kept c) c) (HoldsPartBy files from leaf given b) cert before now by left
-  where
-    by : (file : Option (List ℕ)) → HoldsPart (λ kept. SolvesOn loaded.grove.tree below given kept c) c file → HoldsPartBy files from leaf given b file
+    by : (file : Option (List ℕ)) → HoldsPart (λ kept. SolvesAt start below given kept c) c file → HoldsPartBy files from leaf given cuts b file
     by file h = (
       c,
-      (Some loaded, ready_begins files from leaf b c loaded below come),
+      (start, begins files from leaf cuts b c start below come),
       record {
         outcome = h.outcome;
         status = h.status;
         report = h.report;
-        right = subst (λ (f : Option (List ℕ)). SolvesBy files f leaf given (Some h.outcome) b h.status h.report) (sym come.named)
-            (went_on come.text loaded below c come.there come.start come.over h.right);
+        right = solves_from files from leaf given cuts (Some h.outcome) b c start below h.status h.report come h.right;
         part = h.part;
       },
     )
 
 -- of one of the program in blocks that the files come to
-pub lift_part : (before : Files) (lp : List ℕ) (dec : Option (List ℕ)) (given : Option ℕ) (cert from : Option (List ℕ)) (leaf : Option ℕ) (now : Files) (b : BlockedProgram)
-    → FilesCome before lp dec (blocked b) → AsBeforeOr (HoldsPartBy before from leaf given b) cert before now → LeavesPart before lp dec given cert from leaf now
-lift_part before lp dec given cert from leaf now b come left =
-    left_as (HoldsPartBy before from leaf given b)
-    (λ file. (d : BlockedProgram) × FilesCome before lp dec (blocked d) × HoldsPartBy before from leaf given d file) cert before now
+pub lift_part : (before : Files) (lp : List ℕ) (dec : Option (List ℕ)) (given : Option ℕ) (cert from : Option (List ℕ)) (leaf : Option ℕ) (cuts : ℕ) (now : Files) (b : BlockedProgram)
+    → FilesCome before lp dec (blocked b) → AsBeforeOr (HoldsPartBy before from leaf given cuts b) cert before now → LeavesPart before lp dec given cert from leaf cuts now
+lift_part before lp dec given cert from leaf cuts now b come left =
+    left_as (HoldsPartBy before from leaf given cuts b)
+    (λ file. (d : BlockedProgram) × FilesCome before lp dec (blocked d) × HoldsPartBy before from leaf given cuts d file) cert before now
     (λ file part. (b, come, part)) left
 
 -- where the files come to none, or nothing was searched
-pub untouched_part : (before : Files) (lp : List ℕ) (dec : Option (List ℕ)) (given : Option ℕ) (cert from : Option (List ℕ)) (leaf : Option ℕ) (now : Files) → now ≡ before
-    → LeavesPart before lp dec given cert from leaf now
-untouched_part before lp dec given cert from leaf now same =
-    nothing_left (λ file. (d : BlockedProgram) × FilesCome before lp dec (blocked d) × HoldsPartBy before from leaf given d file) cert before now same
+pub untouched_part : (before : Files) (lp : List ℕ) (dec : Option (List ℕ)) (given : Option ℕ) (cert from : Option (List ℕ)) (leaf : Option ℕ) (cuts : ℕ) (now : Files) → now ≡ before
+    → LeavesPart before lp dec given cert from leaf cuts now
+untouched_part before lp dec given cert from leaf cuts now same =
+    nothing_left (λ file. (d : BlockedProgram) × FilesCome before lp dec (blocked d) × HoldsPartBy before from leaf given cuts d file) cert before now same

@@ -1,5 +1,5 @@
 -- A file is one start, or refused as one in one way.
-use Rattle.std.proofs.Common.{◌≡◌, ◌≢◌, ◌⊎◌, ◌∙◌, ◌+◌, ◌<◌, ◌^◌, ◌-◌, refl, sym, ap, subst, ℕ, Bool, IsTrue, List, [], Option, Some, None, Result, Ok, Err, IsSome, IfSome, IfOk, take, length, arith, inl, inr, append-nil, ◌++◌, if◌then◌else◌}
+use Rattle.std.proofs.Common.{◌≡◌, ◌≢◌, ◌⊎◌, ◌∙◌, ◌<◌, ◌^◌, ◌-◌, refl, sym, ap, subst, ℕ, Bool, IsTrue, List, [], Option, Some, None, Result, Ok, Err, IsSome, IfSome, IfOk, take, length, arith, inl, inr, append-nil, ◌++◌, if◌then◌else◌}
 use Rattle.std.specs.Prelude.{nat_eq}
 use Rattle.bp_theory.specs.Trees.{Tree}
 use Rattle.bp_theory.specs.Claims.{Certificate, IsCertified}
@@ -36,16 +36,19 @@ use Rattle.bp_front.specs.declared.ending.Reply.{Reply}
 use Rattle.cmd_check.specs.Checks as checks
 use Rattle.cmd_check.proofs.OneAnswer.{one_check}
 use Rattle.cmd_check.proofs.Certificates.{one_written, kept_point}
-use Rattle.cmd_solve.specs.Starts.{IsStart, IsStartAt, RefusesStart, faulty, rejected, too_deep, no_leaf, StartsBy, StartsOf, GoesOnOver, BeginsBy, HasStart, LacksStart, CanBegin}
+use Rattle.cmd_solve.specs.Cuttings.{HasCuts}
+use Rattle.cmd_solve.specs.Starts.{IsStartAt, RefusesStart, faulty, rejected, too_deep, no_leaf, IsReady, StartsBy, StartsOf, StartsAfresh, BeginsBy, HasStart, LacksStart, CanBegin}
 use Rattle.branch_tree.specs.Loads.{IsLoaded}
+use Rattle.bp_search.specs.Ends.{given_steps}
 use Rattle.cmd_solve.specs.Crews.{ordered_crew}
 use Rattle.cmd_solve.specs.declared.crew.CrewOrder.{CrewOrder}
 use Rattle.cmd_solve.specs.Leaves.{open_path, IsWorkedOn}
-use Rattle.cmd_solve.specs.Solves.{SolvesOn, SolvesBy, SolvesFrom, missing, refused, went_on}
+use Rattle.cmd_solve.specs.Solves.{SolvesBlocked, SolvesOn, SolvesAt, SolvesBy, SolvesFrom, missing, refused, went_on}
 use Rattle.cmd_solve.specs.Saves as saves
-use Rattle.cmd_solve.specs.Saves.{LeavesOn, LeavesBy}
-use Rattle.cmd_solve.specs.declared.start.Start.TheVariants.{Fresh, Ready, Refused}
+use Rattle.cmd_solve.specs.Saves.{LeavesAt, LeavesBy}
+use Rattle.cmd_solve.specs.declared.start.Start.TheVariants.{Ready, Refused}
 use Rattle.cmd_solve.specs.declared.start.Start.{Start}
+use Rattle.cmd_solve.proofs.CutLemmas.{added_over}
 use Rattle.cmd_solve.proofs.Told.{HasStatusOf, status_on, same_status}
 
 -- one text in one file, whatever its name
@@ -138,14 +141,14 @@ no_text file t a b = absurd (cc)
 -- ---- one status
 
 -- where a file is a start, the status of the search alone is right: it is that of the outcome that is kept
-pub went_only : (files : Files) (name : List ℕ) (leaf given : Option ℕ) (kept : Option Outcome) (b c : BlockedProgram) (text : List ℕ) (from : Loaded) (below : Option (List Side)) (status : ℕ)
+pub went_only : (files : Files) (name : List ℕ) (leaf given : Option ℕ) (cuts : ℕ) (kept : Option Outcome) (b c : BlockedProgram) (text : List ℕ) (from : Loaded) (below : Option (List Side)) (status : ℕ)
     (tells : Bool) (before now : List ℕ) → IsFormed b → files name ≡ Some text → IsStartAt b leaf text from below
-    → AnswersBy (SolvesOn from.grove.tree below given kept c) status tells before now → IsOnly (SolvesFrom files name leaf given kept b) status
-went_only files name leaf given kept b c text from below status tells before now formed there start answers = λ no_read no_write no_want meant report right.
+    → AnswersBy (SolvesOn from.grove.tree below given kept c) status tells before now → IsOnly (SolvesFrom files name leaf given cuts kept b) status
+went_only files name leaf given cuts kept b c text from below status tells before now formed there start answers = λ no_read no_write no_want meant report right.
     let answer = answers no_read no_write no_want in
     by meant report (status_on c from.grove.tree below given kept status answer.0 answer.1) right
   where
-    by : (meant : ℕ) (report : List ℕ) → HasStatusOf kept status → SolvesFrom files name leaf given kept b meant report → status ≡ meant
+    by : (meant : ℕ) (report : List ℕ) → HasStatusOf kept status → SolvesFrom files name leaf given cuts kept b meant report → status ≡ meant
     by meant report here (missing none nothing is told) = absurd (no_text (files name) text none there)
     by meant report here (refused text' there' nothing refuses) =
         absurd (start_or_refused b leaf text from below meant report formed start
@@ -153,16 +156,23 @@ went_only files name leaf given kept b c text from below status tells before now
     by meant report here (went_on text' from' below' other there' start' over' solves) =
         same_status kept status meant here (status_on other from'.grove.tree below' given kept meant report solves)
 
+-- the same from the start
+pub fresh_only : (files : Files) (leaf given : Option ℕ) (cuts : ℕ) (kept : Option Outcome) (b c : BlockedProgram) (status : ℕ) (tells : Bool) (before now : List ℕ)
+    → AnswersBy (SolvesBlocked (given_steps given) given kept c) status tells before now → IsOnly (SolvesBy files None leaf given cuts kept b) status
+fresh_only files leaf given cuts kept b c status tells before now answers = λ no_read no_write no_want meant report right.
+    let answer = answers no_read no_write no_want in
+    same_status kept status meant (answer.1.outcome, answer.1.is_kept, answer.1.has_status) (right.solves.outcome, right.solves.is_kept, right.solves.has_status)
+
 -- where a file is refused as a start, the status of the refusal alone is right
-pub refused_only : (files : Files) (name : List ℕ) (leaf given : Option ℕ) (kept : Option Outcome) (b : BlockedProgram) (text : List ℕ) (status end : ℕ) (report : List ℕ) → IsFormed b
-    → files name ≡ Some text → RefusesStart b leaf text end report → (status ≡ end) ⊎ (status ≡ 8) → IsOnly (SolvesFrom files name leaf given kept b) status
-refused_only files name leaf given kept b text status end report formed there refuses printed = λ no_read no_write no_want meant other right. ended printed no_write ∙ by meant other right
+pub refused_only : (files : Files) (name : List ℕ) (leaf given : Option ℕ) (cuts : ℕ) (kept : Option Outcome) (b : BlockedProgram) (text : List ℕ) (status end : ℕ) (report : List ℕ) → IsFormed b
+    → files name ≡ Some text → RefusesStart b leaf text end report → (status ≡ end) ⊎ (status ≡ 8) → IsOnly (SolvesFrom files name leaf given cuts kept b) status
+refused_only files name leaf given cuts kept b text status end report formed there refuses printed = λ no_read no_write no_want meant other right. ended printed no_write ∙ by meant other right
   where
     ended : (status ≡ end) ⊎ (status ≡ 8) → status ≢ 8 → status ≡ end
     ended (inl is) no_write = is
     ended (inr is) no_write = absurd (no_write is)
 
-    by : (meant : ℕ) (other : List ℕ) → SolvesFrom files name leaf given kept b meant other → end ≡ meant
+    by : (meant : ℕ) (other : List ℕ) → SolvesFrom files name leaf given cuts kept b meant other → end ≡ meant
     by meant other (missing none nothing is told) = absurd (no_text (files name) text none there)
     by meant other (refused text' there' nothing refuses') =
         one_refusal b leaf text end meant report other formed refuses
@@ -172,11 +182,11 @@ refused_only files name leaf given kept b text status end report formed there re
         (subst (λ (t : List ℕ). IsStartAt b leaf t from below) (one_text (files name) text' text there' there) start) refuses)
 
 -- where a file isn't there, the status for that alone is right
-pub missing_only : (files : Files) (name : List ℕ) (leaf given : Option ℕ) (kept : Option Outcome) (b : BlockedProgram) (status : ℕ)
-    → files name ≡ None → status ≡ 11 → IsOnly (SolvesFrom files name leaf given kept b) status
-missing_only files name leaf given kept b status none ended = λ no_read no_write no_want meant other right. ended ∙ by meant other right
+pub missing_only : (files : Files) (name : List ℕ) (leaf given : Option ℕ) (cuts : ℕ) (kept : Option Outcome) (b : BlockedProgram) (status : ℕ)
+    → files name ≡ None → status ≡ 11 → IsOnly (SolvesFrom files name leaf given cuts kept b) status
+missing_only files name leaf given cuts kept b status none ended = λ no_read no_write no_want meant other right. ended ∙ by meant other right
   where
-    by : (meant : ℕ) (other : List ℕ) → SolvesFrom files name leaf given kept b meant other → 11 ≡ meant
+    by : (meant : ℕ) (other : List ℕ) → SolvesFrom files name leaf given cuts kept b meant other → 11 ≡ meant
     by meant other (missing none' nothing is told) = sym is
     by meant other (refused text there nothing refuses) = absurd (no_text (files name) text none there)
     by meant other (went_on text from below over there start goes solves) = absurd (no_text (files name) text none there)
@@ -184,45 +194,59 @@ missing_only files name leaf given kept b status none ended = λ no_read no_writ
 -- ---- the start that a text gives
 
 -- what is loaded over the program with the certificate's cuts
-over_cuts : (b c : BlockedProgram) (cert : Certificate) (from : Loaded) → GoesOnOver b cert c → IsLoadedOf c cert from → IsLoadedOf (with_cuts b cert.cuts) cert from
+over_cuts : (b c : BlockedProgram) (cert : Certificate) (from : Loaded) → c ≡ with_cuts b cert.cuts → IsLoadedOf c cert from → IsLoadedOf (with_cuts b cert.cuts) cert from
 over_cuts b c cert from over loaded = subst (λ (x : BlockedProgram). IsLoadedOf x cert from) over loaded
 
-pub start_ready : (b c : BlockedProgram) (leaf : Option ℕ) (cert : Kept) (from : Loaded) (below : Option (List Side)) → GoesOnOver b (certificate_of cert) c
-    → IsCertified b.named.program b.dec (certificate_of cert)
-    → IsLoadedOf c (certificate_of cert) from → IsWorkedOn (certificate_of cert).tree leaf below → StartsOf b leaf cert (Ready c from below)
-start_ready b c leaf cert from below over valid loaded worked = λ text spelled. (
+pub start_ready : (b e : BlockedProgram) (leaf : Option ℕ) (cuts : ℕ) (cert : Kept) (from : Loaded) (below : Option (List Side)) (start : Start) → e ≡ with_cuts b (certificate_of cert).cuts
+    → IsCertified b.named.program b.dec (certificate_of cert) → IsLoadedOf e (certificate_of cert) from → IsWorkedOn (certificate_of cert).tree leaf below
+    → IsReady e from below cuts start → StartsOf b leaf cuts cert start
+start_ready b e leaf cuts cert from below (Ready c loaded place) over valid loads worked ready = λ text spelled. (
+  from,
+  ready.2,
   record {
     start = record {
       cert = certificate_of cert;
       spelled = spelled;
       has_point = kept_point cert.claim cert.point;
       valid = valid;
-      loaded = over_cuts b c (certificate_of cert) from over loaded;
+      loaded = over_cuts b e (certificate_of cert) from over loads;
     };
-    worked_on = worked;
+    worked_on = subst (λ (at : Option (List Side)). IsWorkedOn (certificate_of cert).tree leaf at) (sym ready.3) worked;
   },
-  over,
+  added_over b e c (certificate_of cert).cuts cuts over ready.0,
 )
+start_ready b e leaf cuts cert from below (Refused reply) over valid loads worked ready = absurd ready
 
-pub start_without : (b c : BlockedProgram) (number : ℕ) (cert : Kept) (from : Loaded) (report text : List ℕ) → GoesOnOver b (certificate_of cert) c
+-- a search may begin there
+pub ready_can : (e : BlockedProgram) (leaf : Option ℕ) (cuts : ℕ) (from : Loaded) (below : Option (List Side)) (start : Start) → (leaf ≡ None → below ≡ None)
+    → IsReady e from below cuts start → CanBegin leaf start
+ready_can e leaf cuts from below (Ready c loaded place) placed ready =
+    (subst (λ (l : Option Loaded). IfSome l (IsLoaded c)) (sym ready.2) ready.1, λ none. ready.3 ∙ placed none)
+ready_can e leaf cuts from below (Refused reply) placed ready = absurd ready
+
+pub afresh_can : (b : BlockedProgram) (leaf : Option ℕ) (cuts : ℕ) (start : Start) → StartsAfresh b cuts start → CanBegin leaf start
+afresh_can b leaf cuts (Ready c from below) h = (subst (λ (l : Option Loaded). IfSome l (IsLoaded c)) (sym h.0) tt, λ none. h.1)
+afresh_can b leaf cuts (Refused reply) h = absurd h
+
+pub start_without : (b e : BlockedProgram) (number : ℕ) (cert : Kept) (from : Loaded) (report text : List ℕ) → e ≡ with_cuts b (certificate_of cert).cuts
     → IsCertified b.named.program b.dec (certificate_of cert)
-    → IsLoadedOf c (certificate_of cert) from → open_path (certificate_of cert).tree number ≡ None → report ≡ leaf_refusal number
+    → IsLoadedOf e (certificate_of cert) from → open_path (certificate_of cert).tree number ≡ None → report ≡ leaf_refusal number
     → IsCertText (frame_for b) (kept_cert cert) text → RefusesStart b (Some number) text 3 report
-start_without b c number cert from report text over valid loaded none told spelled =
+start_without b e number cert from report text over valid loaded none told spelled =
     no_leaf from number
     (record {
       cert = certificate_of cert;
       spelled = spelled;
       has_point = kept_point cert.claim cert.point;
       valid = valid;
-      loaded = over_cuts b c (certificate_of cert) from over loaded;
+      loaded = over_cuts b e (certificate_of cert) from over loaded;
     })
     refl none refl told
 
-pub start_deep : (b c : BlockedProgram) (leaf : Option ℕ) (cert : Kept) (line : ℕ) (report text : List ℕ) → GoesOnOver b (certificate_of cert) c
+pub start_deep : (b e : BlockedProgram) (leaf : Option ℕ) (cert : Kept) (line : ℕ) (report text : List ℕ) → e ≡ with_cuts b (certificate_of cert).cuts
     → IsCertified b.named.program b.dec (certificate_of cert)
-    → IsTooDeep c (certificate_of cert) line → report ≡ from_refusal line → IsCertText (frame_for b) (kept_cert cert) text → RefusesStart b leaf text 3 report
-start_deep b c leaf cert line report text over valid deep told spelled =
+    → IsTooDeep e (certificate_of cert) line → report ≡ from_refusal line → IsCertText (frame_for b) (kept_cert cert) text → RefusesStart b leaf text 3 report
+start_deep b e leaf cert line report text over valid deep told spelled =
     too_deep (certificate_of cert) line spelled (kept_point cert.claim cert.point) valid
     (subst (λ (x : BlockedProgram). IsTooDeep x (certificate_of cert) line) over deep) refl told
 
@@ -241,29 +265,29 @@ pub start_known : (b : BlockedProgram) (cert : Kept) (judged : Judged) (line : �
 start_known b cert judged line is judges = subst (IsJudged b (certificate_of cert)) is judges
 
 -- the start that a certificate gives is that of its text
-pub text_starts : {E : Type 0} (b : BlockedProgram) (leaf : Option ℕ) (text : List ℕ) (cert : Kept) (start : Result Start E) → IsCertText (frame_for b) (kept_cert cert) text
-    → IfOk start (StartsOf b leaf cert) → IfOk start (StartsBy b leaf text)
-text_starts b leaf text cert (Ok start) spelled starts = starts text spelled
-text_starts b leaf text cert (Err e) spelled starts = tt
+pub text_starts : {E : Type 0} (b : BlockedProgram) (leaf : Option ℕ) (cuts : ℕ) (text : List ℕ) (cert : Kept) (start : Result Start E) → IsCertText (frame_for b) (kept_cert cert) text
+    → IfOk start (StartsOf b leaf cuts cert) → IfOk start (StartsBy b leaf cuts text)
+text_starts b leaf cuts text cert (Ok start) spelled starts = starts text spelled
+text_starts b leaf cuts text cert (Err e) spelled starts = tt
 
 -- the first bytes of a short file, one fewer than no file may have, are the file
 whole : (all front : List ℕ) → length all < 2 ^ 62 → front ≡ take (2 ^ 62 - 1) all → front ≡ all
 whole all front short is = is ∙ take_all (2 ^ 62 - 1) all (omega (arith, short))
 
 -- the start that the front of a file gives is the file's
-pub front_starts : (files : Files) (name front : List ℕ) (leaf : Option ℕ) (b : BlockedProgram) (start : Start) → AllShort files → IsSome (files name)
-    → IfSome (files name) (λ all. front ≡ take (2 ^ 62 - 1) all) → StartsBy b leaf front start → HasStart files (Some name) leaf b start
-front_starts files name front leaf b start short found is_front starts = by (files name) refl found is_front
+pub front_starts : (files : Files) (name front : List ℕ) (leaf : Option ℕ) (cuts : ℕ) (b : BlockedProgram) (start : Start) → AllShort files → IsSome (files name)
+    → IfSome (files name) (λ all. front ≡ take (2 ^ 62 - 1) all) → StartsBy b leaf cuts front start → HasStart files (Some name) leaf cuts b start
+front_starts files name front leaf cuts b start short found is_front starts = by (files name) refl found is_front
   where
-    by : (file : Option (List ℕ)) → files name ≡ file → IsSome file → IfSome file (λ all. front ≡ take (2 ^ 62 - 1) all) → HasStart files (Some name) leaf b start
+    by : (file : Option (List ℕ)) → files name ≡ file → IsSome file → IfSome file (λ all. front ≡ take (2 ^ 62 - 1) all) → HasStart files (Some name) leaf cuts b start
     by None is found is_front = let none : ⊥ = cc in absurd none
-    by (Some all) is found is_front = (all, is, subst (λ (t : List ℕ). StartsBy b leaf t start) (whole all front (short name all is) is_front) starts)
+    by (Some all) is found is_front = (all, is, subst (λ (t : List ℕ). StartsBy b leaf cuts t start) (whole all front (short name all is) is_front) starts)
 
 -- ---- that a search may begin
 
-pub can_begin : (b c : BlockedProgram) (leaf : Option ℕ) (start : Start) (from : Loaded) (below : Option (List Side)) → start ≡ Ready c from below → CanBegin b leaf start
-    → IsLoaded c from × (leaf ≡ None → below ≡ None)
-can_begin b c leaf start from below is can = subst (CanBegin b leaf) is can
+pub can_begin : (c : BlockedProgram) (leaf : Option ℕ) (start : Start) (from : Option Loaded) (below : Option (List Side)) → start ≡ Ready c from below → CanBegin leaf start
+    → IfSome from (IsLoaded c) × (leaf ≡ None → below ≡ None)
+can_begin c leaf start from below is can = subst (CanBegin leaf) is can
 
 -- a search works at a path only without a crew
 pub alone_at : (leaf : Option ℕ) (below : Option (List Side)) (crew : Option CrewOrder) → (leaf ≡ None → below ≡ None) → IfSome leaf (λ _. crew ≡ None) → IfSome below (λ _. crew ≡ None)
@@ -278,26 +302,71 @@ no_crew None workers order crew is alone = tt
 no_crew (Some number) workers order crew is alone =
     is ∙ ap (λ (w : Option ℕ). ordered_crew w order) alone.0 ∙ ap (λ (o : Option ℕ). ordered_crew None o) alone.1
 
--- ---- answers from a start
+-- ---- answers from where a search begins
 
--- without a file a search begins at the start
-pub fresh_from : (files : Files) (from : Option (List ℕ)) (leaf : Option ℕ) (b : BlockedProgram) → HasStart files from leaf b Fresh → from ≡ None
-fresh_from files None leaf b h = refl
-fresh_from files (Some name) leaf b h = absurd h.2
+-- where a search begins: at the start, or at what is loaded of a file; and the program that it is over
+pub data ComesFrom (files : Files) (from : Option (List ℕ)) (leaf : Option ℕ) (cuts : ℕ) (b c : BlockedProgram) (start : Option Loaded) (below : Option (List Side)) : Type 0 where
+  afresh : from ≡ None → start ≡ None → HasCuts b [] cuts c → ComesFrom files from leaf cuts b c start below
+  resumed : (name text : List ℕ) (loaded : Loaded) → from ≡ Some name → files name ≡ Some text → start ≡ Some loaded → (at : IsStartAt b leaf text loaded below)
+      → HasCuts b at.start.cert.cuts cuts c → ComesFrom files from leaf cuts b c start below
 
--- the file that a loaded tree comes from, and the program that a search of it is over
-pub record ComesFrom (files : Files) (from : Option (List ℕ)) (leaf : Option ℕ) (b c : BlockedProgram) (loaded : Loaded) (below : Option (List Side)) : Type 0 where
-  pub name : List ℕ
-  pub text : List ℕ
-  pub named : from ≡ Some name
-  pub there : files name ≡ Some text
-  pub start : IsStartAt b leaf text loaded below
-  pub over : GoesOnOver b start.start.cert c
+pub comes_from : (files : Files) (from : Option (List ℕ)) (leaf : Option ℕ) (cuts : ℕ) (b c : BlockedProgram) (start : Option Loaded) (below : Option (List Side))
+    → HasStart files from leaf cuts b (Ready c start below) → ComesFrom files from leaf cuts b c start below
+comes_from files None leaf cuts b c start below h = afresh refl h.0 h.2
+comes_from files (Some name) leaf cuts b c start below h = resumed name h.0 h.2.0 refl h.1 h.2.1 h.2.2 h.2.3
 
-pub ready_from : (files : Files) (from : Option (List ℕ)) (leaf : Option ℕ) (b c : BlockedProgram) (loaded : Loaded) (below : Option (List Side)) → HasStart files from leaf b (Ready c loaded below)
-    → ComesFrom files from leaf b c loaded below
-ready_from files None leaf b c loaded below h = let none : ⊥ = cc in absurd none
-ready_from files (Some name) leaf b c loaded below h = record { name = name; text = h.0; named = refl; there = h.1; start = h.2.0; over = h.2.1 }
+-- the program that the search is over
+pub begins : (files : Files) (from : Option (List ℕ)) (leaf : Option ℕ) (cuts : ℕ) (b c : BlockedProgram) (start : Option Loaded) (below : Option (List Side))
+    → ComesFrom files from leaf cuts b c start below → BeginsBy files from cuts b c start
+begins files from leaf cuts b c start below (afresh no_file none has) =
+    subst (λ (f : Option (List ℕ)). BeginsBy files f cuts b c start) (sym no_file) (none, has)
+begins files from leaf cuts b c start below (resumed name text loaded named there is at has) =
+    subst (λ (f : Option (List ℕ)). BeginsBy files f cuts b c start) (sym named) (text, loaded, there, at.start, has, is)
+
+-- what the search is answered is what the program in blocks is
+pub solves_from : (files : Files) (from : Option (List ℕ)) (leaf given : Option ℕ) (cuts : ℕ) (kept : Option Outcome) (b c : BlockedProgram) (start : Option Loaded) (below : Option (List Side)) (status : ℕ) (report : List ℕ)
+    → ComesFrom files from leaf cuts b c start below → SolvesAt start below given kept c status report → SolvesBy files from leaf given cuts kept b status report
+solves_from files from leaf given cuts kept b c start below status report (afresh no_file none has) solves =
+    subst (λ (f : Option (List ℕ)). SolvesBy files f leaf given cuts kept b status report) (sym no_file)
+    (record { over = c; has_cuts = has; solves = subst (λ (s : Option Loaded). SolvesAt s below given kept c status report) none solves })
+solves_from files from leaf given cuts kept b c start below status report (resumed name text loaded named there is at has) solves =
+    subst (λ (f : Option (List ℕ)). SolvesBy files f leaf given cuts kept b status report) (sym named)
+    (went_on text loaded below c there at has (subst (λ (s : Option Loaded). SolvesAt s below given kept c status report) is solves))
+
+pub started_answers : (files : Files) (from : Option (List ℕ)) (leaf given : Option ℕ) (cuts : ℕ) (kept : Option Outcome) (b c : BlockedProgram) (start : Option Loaded) (below : Option (List Side)) (status : ℕ)
+    (tells : Bool) (before now : List ℕ) → ComesFrom files from leaf cuts b c start below → AnswersBy (SolvesAt start below given kept c) status tells before now
+    → AnswersBy (SolvesBy files from leaf given cuts kept b) status tells before now
+started_answers files from leaf given cuts kept b c start below status tells before now come answers = λ no_read no_write no_want.
+    let x = answers no_read no_write no_want in
+    (x.0, solves_from files from leaf given cuts kept b c start below status x.0 come x.1, x.2)
+
+pub started_only : (files : Files) (from : Option (List ℕ)) (leaf given : Option ℕ) (cuts : ℕ) (kept : Option Outcome) (b c : BlockedProgram) (start : Option Loaded) (below : Option (List Side)) (status : ℕ)
+    (tells : Bool) (before now : List ℕ) → IsFormed b → ComesFrom files from leaf cuts b c start below → AnswersBy (SolvesAt start below given kept c) status tells before now
+    → IsOnly (SolvesBy files from leaf given cuts kept b) status
+started_only files from leaf given cuts kept b c start below status tells before now formed (afresh no_file none has) answers =
+    subst (λ (f : Option (List ℕ)). IsOnly (SolvesBy files f leaf given cuts kept b) status) (sym no_file)
+    (fresh_only files leaf given cuts kept b c status tells before now
+    (subst (λ (s : Option Loaded). AnswersBy (SolvesAt s below given kept c) status tells before now) none answers))
+started_only files from leaf given cuts kept b c start below status tells before now formed (resumed name text loaded named there is at has) answers =
+    subst (λ (f : Option (List ℕ)). IsOnly (SolvesBy files f leaf given cuts kept b) status) (sym named)
+    (went_only files name leaf given cuts kept b c text loaded below status tells before now formed there at
+    (subst (λ (s : Option Loaded). AnswersBy (SolvesAt s below given kept c) status tells before now) is answers))
+
+pub started_cut : (files : Files) (from : Option (List ℕ)) (leaf given : Option ℕ) (cuts : ℕ) (b c : BlockedProgram) (start : Option Loaded) (below : Option (List Side)) (status : ℕ) (before now : List ℕ)
+    → ComesFrom files from leaf cuts b c start below → CutsOff (λ kept. SolvesAt start below given kept c) status before now
+    → CutsOff (λ kept. SolvesBy files from leaf given cuts kept b) status before now
+started_cut files from leaf given cuts b c start below status before now come cut = λ is_fault.
+    let x = cut is_fault in
+    (x.0, x.1, x.2, x.3, solves_from files from leaf given cuts x.0 b c start below x.1 x.2 come x.4, x.5)
+
+pub started_leaves : (files : Files) (from : Option (List ℕ)) (leaf given : Option ℕ) (cuts : ℕ) (cert : Option (List ℕ)) (now : Files) (b c : BlockedProgram) (start : Option Loaded) (below : Option (List Side))
+    → ComesFrom files from leaf cuts b c start below → LeavesAt start below given cert now c → LeavesBy files from leaf given cuts cert now b
+started_leaves files from leaf given cuts cert now b c start below (afresh no_file none has) leaves =
+    subst (λ (f : Option (List ℕ)). LeavesBy files f leaf given cuts cert now b) (sym no_file)
+    (record { over = c; has_cuts = has; leaves = subst (λ (s : Option Loaded). LeavesAt s below given cert now c) none leaves })
+started_leaves files from leaf given cuts cert now b c start below (resumed name text loaded named there is at has) leaves =
+    subst (λ (f : Option (List ℕ)). LeavesBy files f leaf given cuts cert now b) (sym named)
+    (saves.went_on text loaded below c there at has (subst (λ (s : Option Loaded). LeavesAt s below given cert now c) is leaves))
 
 -- the file that is refused as a start
 pub record IsRefusedFrom (files : Files) (from : Option (List ℕ)) (leaf : Option ℕ) (b : BlockedProgram) (reply : Reply) : Type 0 where
@@ -307,110 +376,67 @@ pub record IsRefusedFrom (files : Files) (from : Option (List ℕ)) (leaf : Opti
   pub there : files name ≡ Some text
   pub refuses : RefusesStart b leaf text reply.status reply.report.items
 
-pub refused_from : (files : Files) (from : Option (List ℕ)) (leaf : Option ℕ) (b : BlockedProgram) (reply : Reply) → HasStart files from leaf b (Refused reply) → IsRefusedFrom files from leaf b reply
-refused_from files None leaf b reply h = let none : ⊥ = cc in absurd none
-refused_from files (Some name) leaf b reply h = record { name = name; text = h.0; named = refl; there = h.1; refuses = h.2 }
-
--- answers of a search from a loaded tree
-pub ready_answers : (files : Files) (from : Option (List ℕ)) (leaf given : Option ℕ) (kept : Option Outcome) (b c : BlockedProgram) (loaded : Loaded) (below : Option (List Side)) (status : ℕ) (tells : Bool) (before now : List ℕ)
-    → ComesFrom files from leaf b c loaded below → AnswersBy (SolvesOn loaded.grove.tree below given kept c) status tells before now → AnswersBy (SolvesBy files from leaf given kept b) status tells before now
-ready_answers files from leaf given kept b c loaded below status tells before now come answers = λ no_read no_write no_want.
-    let x = answers no_read no_write no_want in
-    (x.0, subst (λ (f : Option (List ℕ)). SolvesBy files f leaf given kept b status x.0) (sym come.named) (went_on come.text loaded below c come.there come.start come.over x.1), x.2)
-
-pub ready_only : (files : Files) (from : Option (List ℕ)) (leaf given : Option ℕ) (kept : Option Outcome) (b c : BlockedProgram) (loaded : Loaded) (below : Option (List Side)) (status : ℕ)
-    (tells : Bool) (before now : List ℕ) → IsFormed b
-    → ComesFrom files from leaf b c loaded below → AnswersBy (SolvesOn loaded.grove.tree below given kept c) status tells before now → IsOnly (SolvesBy files from leaf given kept b) status
-ready_only files from leaf given kept b c loaded below status tells before now formed come answers =
-    subst (λ (f : Option (List ℕ)). IsOnly (SolvesBy files f leaf given kept b) status) (sym come.named)
-    (went_only files come.name leaf given kept b c come.text loaded below status tells before now formed come.there come.start answers)
-
-pub ready_cut : (files : Files) (from : Option (List ℕ)) (leaf given : Option ℕ) (b c : BlockedProgram) (loaded : Loaded) (below : Option (List Side)) (status : ℕ) (before now : List ℕ)
-    → ComesFrom files from leaf b c loaded below → CutsOff (λ kept. SolvesOn loaded.grove.tree below given kept c) status before now
-    → CutsOff (λ kept. SolvesBy files from leaf given kept b) status before now
-ready_cut files from leaf given b c loaded below status before now come cuts = λ is_fault.
-    let x = cuts is_fault in (
-      x.0,
-      x.1,
-      x.2,
-      x.3,
-      subst (λ (f : Option (List ℕ)). SolvesBy files f leaf given x.0 b x.1 x.2) (sym come.named) (went_on come.text loaded below c come.there come.start come.over x.4),
-      x.5,
-    )
-
-pub ready_leaves : (files : Files) (from : Option (List ℕ)) (leaf given : Option ℕ) (cert : Option (List ℕ)) (now : Files) (b c : BlockedProgram) (loaded : Loaded) (below : Option (List Side))
-    → ComesFrom files from leaf b c loaded below → LeavesOn loaded.grove.tree below given cert now c → LeavesBy files from leaf given cert now b
-ready_leaves files from leaf given cert now b c loaded below come leaves =
-    subst (λ (f : Option (List ℕ)). LeavesBy files f leaf given cert now b) (sym come.named) (saves.went_on come.text loaded below c come.there come.start come.over leaves)
-
--- the program that the search is over
-pub ready_begins : (files : Files) (from : Option (List ℕ)) (leaf : Option ℕ) (b c : BlockedProgram) (loaded : Loaded) (below : Option (List Side)) → ComesFrom files from leaf b c loaded below
-    → BeginsBy files from b c (Some loaded)
-ready_begins files from leaf b c loaded below come =
-    let begun : BeginsBy files (Some come.name) b c (Some loaded) = (come.text, loaded, come.there, come.start.start, come.over, refl) in
-    subst (λ (f : Option (List ℕ)). BeginsBy files f b c (Some loaded)) (sym come.named) begun
-
-pub fresh_begins : (files : Files) (from : Option (List ℕ)) (b : BlockedProgram) → from ≡ None → BeginsBy files from b b None
-fresh_begins files from b is =
-    let begun : BeginsBy files None b b None = (refl, refl) in
-    subst (λ (f : Option (List ℕ)). BeginsBy files f b b None) (sym is) begun
+pub refused_from : (files : Files) (from : Option (List ℕ)) (leaf : Option ℕ) (cuts : ℕ) (b : BlockedProgram) (reply : Reply) → HasStart files from leaf cuts b (Refused reply)
+    → IsRefusedFrom files from leaf b reply
+refused_from files None leaf cuts b reply h = absurd h
+refused_from files (Some name) leaf cuts b reply h = record { name = name; text = h.0; named = refl; there = h.1; refuses = h.2 }
 
 -- answers where a file is refused as a start
-pub refused_answers : (files : Files) (from : Option (List ℕ)) (leaf given : Option ℕ) (kept : Option Outcome) (b : BlockedProgram) (reply : Reply) (status : ℕ) (tells : Bool) (before now : List ℕ)
+pub refused_answers : (files : Files) (from : Option (List ℕ)) (leaf given : Option ℕ) (cuts : ℕ) (kept : Option Outcome) (b : BlockedProgram) (reply : Reply) (status : ℕ) (tells : Bool) (before now : List ℕ)
     → IsRefusedFrom files from leaf b reply → (status ≡ reply.status) ⊎ (status ≡ 8) → (status ≢ 8 → kept ≡ None) → (IsTrue tells → status ≢ 8 → now ≡ before ++ reply.report.items)
-    → AnswersBy (SolvesBy files from leaf given kept b) status tells before now
-refused_answers files from leaf given kept b reply status tells before now come is is_kept whole = λ no_read no_write no_want. (
+    → AnswersBy (SolvesBy files from leaf given cuts kept b) status tells before now
+refused_answers files from leaf given cuts kept b reply status tells before now come is is_kept whole = λ no_read no_write no_want. (
   reply.report.items,
-  subst (λ (f : Option (List ℕ)). SolvesBy files f leaf given kept b status reply.report.items) (sym come.named)
+  subst (λ (f : Option (List ℕ)). SolvesBy files f leaf given cuts kept b status reply.report.items) (sym come.named)
       (refused come.text come.there (is_kept no_write)
       (subst (λ (s : ℕ). RefusesStart b leaf come.text s reply.report.items) (sym (printed_status status reply.status is no_write)) come.refuses)),
   λ told. whole told no_write,
 )
 
-pub refusal_only : (files : Files) (from : Option (List ℕ)) (leaf given : Option ℕ) (kept : Option Outcome) (b : BlockedProgram) (reply : Reply) (status : ℕ) → IsFormed b
-    → IsRefusedFrom files from leaf b reply → (status ≡ reply.status) ⊎ (status ≡ 8) → IsOnly (SolvesBy files from leaf given kept b) status
-refusal_only files from leaf given kept b reply status formed come is =
-    subst (λ (f : Option (List ℕ)). IsOnly (SolvesBy files f leaf given kept b) status) (sym come.named)
-    (refused_only files come.name leaf given kept b come.text status reply.status reply.report.items formed come.there come.refuses is)
+pub refusal_only : (files : Files) (from : Option (List ℕ)) (leaf given : Option ℕ) (cuts : ℕ) (kept : Option Outcome) (b : BlockedProgram) (reply : Reply) (status : ℕ) → IsFormed b
+    → IsRefusedFrom files from leaf b reply → (status ≡ reply.status) ⊎ (status ≡ 8) → IsOnly (SolvesBy files from leaf given cuts kept b) status
+refusal_only files from leaf given cuts kept b reply status formed come is =
+    subst (λ (f : Option (List ℕ)). IsOnly (SolvesBy files f leaf given cuts kept b) status) (sym come.named)
+    (refused_only files come.name leaf given cuts kept b come.text status reply.status reply.report.items formed come.there come.refuses is)
 
-pub refused_cut : (files : Files) (from : Option (List ℕ)) (leaf given : Option ℕ) (b : BlockedProgram) (reply : Reply) (status : ℕ) (before now : List ℕ)
+pub refused_cut : (files : Files) (from : Option (List ℕ)) (leaf given : Option ℕ) (cuts : ℕ) (b : BlockedProgram) (reply : Reply) (status : ℕ) (before now : List ℕ)
     → IsRefusedFrom files from leaf b reply → (status ≡ 8 → (count : ℕ) × (now ≡ before ++ take count reply.report.items))
-    → CutsOff (λ kept. SolvesBy files from leaf given kept b) status before now
-refused_cut files from leaf given b reply status before now come partly = λ is_fault.
+    → CutsOff (λ kept. SolvesBy files from leaf given cuts kept b) status before now
+refused_cut files from leaf given cuts b reply status before now come partly = λ is_fault.
     let part = partly is_fault in (
       None,
       reply.status,
       reply.report.items,
       part.0,
-      subst (λ (f : Option (List ℕ)). SolvesBy files f leaf given None b reply.status reply.report.items) (sym come.named) (refused come.text come.there refl come.refuses),
+      subst (λ (f : Option (List ℕ)). SolvesBy files f leaf given cuts None b reply.status reply.report.items) (sym come.named) (refused come.text come.there refl come.refuses),
       part.1,
     )
 
-pub refused_leaves : (files : Files) (from : Option (List ℕ)) (leaf given : Option ℕ) (cert : Option (List ℕ)) (now : Files) (b : BlockedProgram) (reply : Reply)
-    → IsRefusedFrom files from leaf b reply → now ≡ files → LeavesBy files from leaf given cert now b
-refused_leaves files from leaf given cert now b reply come same =
-    subst (λ (f : Option (List ℕ)). LeavesBy files f leaf given cert now b) (sym come.named) (saves.refused come.text reply.status reply.report.items come.there come.refuses same)
+pub refused_leaves : (files : Files) (from : Option (List ℕ)) (leaf given : Option ℕ) (cuts : ℕ) (cert : Option (List ℕ)) (now : Files) (b : BlockedProgram) (reply : Reply)
+    → IsRefusedFrom files from leaf b reply → now ≡ files → LeavesBy files from leaf given cuts cert now b
+refused_leaves files from leaf given cuts cert now b reply come same =
+    subst (λ (f : Option (List ℕ)). LeavesBy files f leaf given cuts cert now b) (sym come.named) (saves.refused come.text reply.status reply.report.items come.there come.refuses same)
 
 -- the file isn't there, or couldn't be read
 lacks_name : (files : Files) (from : Option (List ℕ)) → LacksStart files from → (name : List ℕ) × (from ≡ Some name) × (files name ≡ None)
 lacks_name files None h = absurd h
 lacks_name files (Some name) h = (name, refl, h)
 
-pub fault_answers : (files : Files) (from : Option (List ℕ)) (leaf given : Option ℕ) (kept : Option Outcome) (b : BlockedProgram) (fault : ShelfFault) (status : ℕ) (tells : Bool) (before now : List ℕ)
-    → (fault ≡ Missing → LacksStart files from) → status ≡ status_of fault → kept ≡ None → now ≡ before → AnswersBy (SolvesBy files from leaf given kept b) status tells before now
-fault_answers files from leaf given kept b Missing status tells before now lacks is none same = λ no_read no_write no_want.
+pub fault_answers : (files : Files) (from : Option (List ℕ)) (leaf given : Option ℕ) (cuts : ℕ) (kept : Option Outcome) (b : BlockedProgram) (fault : ShelfFault) (status : ℕ) (tells : Bool) (before now : List ℕ)
+    → (fault ≡ Missing → LacksStart files from) → status ≡ status_of fault → kept ≡ None → now ≡ before → AnswersBy (SolvesBy files from leaf given cuts kept b) status tells before now
+fault_answers files from leaf given cuts kept b Missing status tells before now lacks is none same = λ no_read no_write no_want.
     let found = lacks_name files from (lacks refl) in (
       [],
-      subst (λ (f : Option (List ℕ)). SolvesBy files f leaf given kept b status []) (sym found.1) (missing found.2 none is refl),
+      subst (λ (f : Option (List ℕ)). SolvesBy files f leaf given cuts kept b status []) (sym found.1) (missing found.2 none is refl),
       λ told. same ∙ sym (append-nil before),
     )
-fault_answers files from leaf given kept b Failed status tells before now lacks is none same = λ no_read no_write no_want. absurd (no_read is)
-fault_answers files from leaf given kept b NoMemory status tells before now lacks is none same = λ no_read no_write no_want. absurd (no_want is)
+fault_answers files from leaf given cuts kept b Failed status tells before now lacks is none same = λ no_read no_write no_want. absurd (no_read is)
+fault_answers files from leaf given cuts kept b NoMemory status tells before now lacks is none same = λ no_read no_write no_want. absurd (no_want is)
 
-pub fault_only : (files : Files) (from : Option (List ℕ)) (leaf given : Option ℕ) (kept : Option Outcome) (b : BlockedProgram) (fault : ShelfFault) (status : ℕ)
-    → (fault ≡ Missing → LacksStart files from) → status ≡ status_of fault → IsOnly (SolvesBy files from leaf given kept b) status
-fault_only files from leaf given kept b Missing status lacks is =
+pub fault_only : (files : Files) (from : Option (List ℕ)) (leaf given : Option ℕ) (cuts : ℕ) (kept : Option Outcome) (b : BlockedProgram) (fault : ShelfFault) (status : ℕ)
+    → (fault ≡ Missing → LacksStart files from) → status ≡ status_of fault → IsOnly (SolvesBy files from leaf given cuts kept b) status
+fault_only files from leaf given cuts kept b Missing status lacks is =
     let found = lacks_name files from (lacks refl) in
-    subst (λ (f : Option (List ℕ)). IsOnly (SolvesBy files f leaf given kept b) status) (sym found.1) (missing_only files found.0 leaf given kept b status found.2 is)
-fault_only files from leaf given kept b Failed status lacks is = λ no_read no_write no_want meant report right. absurd (no_read is)
-fault_only files from leaf given kept b NoMemory status lacks is = λ no_read no_write no_want meant report right. absurd (no_want is)
+    subst (λ (f : Option (List ℕ)). IsOnly (SolvesBy files f leaf given cuts kept b) status) (sym found.1) (missing_only files found.0 leaf given cuts kept b status found.2 is)
+fault_only files from leaf given cuts kept b Failed status lacks is = λ no_read no_write no_want meant report right. absurd (no_read is)
+fault_only files from leaf given cuts kept b NoMemory status lacks is = λ no_read no_write no_want meant report right. absurd (no_want is)

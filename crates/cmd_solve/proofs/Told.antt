@@ -1,5 +1,5 @@
 -- What is told of the outcome of a search is what is answered by `solve`.
-use Rattle.std.proofs.Common.{◌≡◌, ◌≢◌, ◌⊎◌, ◌∙◌, inl, inr, refl, sym, ap, subst, ℕ, Bool, List, Option, Some, None, ◌+◌, ◌-◌, arith}
+use Rattle.std.proofs.Common.{◌≡◌, ◌⊎◌, ◌∙◌, inl, inr, refl, sym, ap, subst, ℕ, Bool, List, Option, Some, None, ◌+◌, ◌-◌, arith}
 use Rattle.bp_theory.specs.Trees.{steps}
 use Rattle.bp_shelf.specs.Shelf.{Files}
 use Rattle.block_form.specs.Blocked.{BlockedProgram}
@@ -12,8 +12,8 @@ use Rattle.bp_search.specs.Below.{EndsBelow, steps_in}
 use Rattle.bp_report.specs.Report.{solve_report}
 use Rattle.bp_front.specs.Answers.{AnswersBy, IsOnly, CutsOff}
 use Rattle.cmd_solve.specs.Starts.{EndsOn, EndsAt}
-use Rattle.cmd_solve.specs.Solves.{SolvesBlocked, SolvesBelow, SolvesOn, SolvesAt, outcome_status}
-use Rattle.cmd_solve.specs.Saves.{TellsOf, IsSaved, LeavesBlocked, LeavesOn, LeavesAt}
+use Rattle.cmd_solve.specs.Solves.{SolvesBlocked, SolvesOn, SolvesAt, outcome_status}
+use Rattle.cmd_solve.specs.Saves.{TellsOf, IsSaved, LeavesOn, LeavesAt}
 
 one_outcome : (o p : Outcome) → (let x : Option Outcome = Some o in x) ≡ Some p → o ≡ p
 one_outcome o p e = cc

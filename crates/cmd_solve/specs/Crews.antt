@@ -45,14 +45,14 @@ abbrev pub events_with : Option Outcome → List Event → List Event
 events_with None events = []
 events_with (Some outcome) events = events
 
--- the events of a program in blocks, beside what is kept
-abbrev pub EventsBy : Files → (from : Option (List ℕ)) → (steps : Option ℕ) → Option CrewOrder → BlockedProgram → Option Outcome → List Event → Type 0
-EventsBy files from steps crew b None events = events ≡ []
-EventsBy files from steps crew b (Some outcome) events =
-    (c : BlockedProgram) × (start : Option Loaded) × BeginsBy files from b c start × IsSearchOf c start steps crew outcome events
+-- the events of a program in blocks, beside what is kept: those of the search over the program with its cuts
+abbrev pub EventsBy : Files → (from : Option (List ℕ)) → (steps : Option ℕ) → Option CrewOrder → (cuts : ℕ) → BlockedProgram → Option Outcome → List Event → Type 0
+EventsBy files from steps crew cuts b None events = events ≡ []
+EventsBy files from steps crew cuts b (Some outcome) events =
+    (c : BlockedProgram) × (start : Option Loaded) × BeginsBy files from cuts b c start × IsSearchOf c start steps crew outcome events
 
 -- the events of `solve`: none where nothing is kept, and else those of the program in blocks that the files come to
-abbrev pub HasEvents : Files → (lp : List ℕ) → (dec : Option (List ℕ)) → (steps : Option ℕ) → (from : Option (List ℕ)) → (workers order : Option ℕ) → Option Outcome → List Event → Type 0
-HasEvents files lp dec steps from workers order None events = events ≡ []
-HasEvents files lp dec steps from workers order (Some outcome) events =
-    (b : BlockedProgram) × FilesCome files lp dec (blocked b) × EventsBy files from steps (ordered_crew workers order) b (Some outcome) events
+abbrev pub HasEvents : Files → (lp : List ℕ) → (dec : Option (List ℕ)) → (steps : Option ℕ) → (from : Option (List ℕ)) → (workers order : Option ℕ) → (cuts : ℕ) → Option Outcome → List Event → Type 0
+HasEvents files lp dec steps from workers order cuts None events = events ≡ []
+HasEvents files lp dec steps from workers order cuts (Some outcome) events =
+    (b : BlockedProgram) × FilesCome files lp dec (blocked b) × EventsBy files from steps (ordered_crew workers order) cuts b (Some outcome) events

@@ -1,4 +1,5 @@
 -- Other crates cite all of these.
+pub mod Cuttings
 pub mod Starts
 pub mod Solves
 pub mod Saves

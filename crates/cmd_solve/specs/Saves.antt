@@ -1,5 +1,5 @@
 -- What `solve` prints and writes for an outcome.
-use Rattle.std.specs.Prelude.{◌≡◌, ℕ, ◌+◌, ◌⊎◌, List, ◌++◌, Option, Some, None}
+use Rattle.std.specs.Prelude.{◌≡◌, ℕ, ◌+◌, ◌⊎◌, List, [], ◌++◌, Option, Some, None}
 use Rattle.bp_shelf.specs.Shelf.{Files}
 use Rattle.block_form.specs.Blocked.{BlockedProgram}
 use Rattle.branch_tree.specs.declared.outcome.Outcome.{Outcome}
@@ -12,7 +12,8 @@ use Rattle.bp_search.specs.Below.{EndsBelow}
 use Rattle.bp_report.specs.Report.{solve_report}
 use Rattle.bp_front.specs.Front.{FilesCome, blocked, ends}
 use Rattle.bp_front.specs.declared.ending.Reply.{Reply}
-use Rattle.cmd_solve.specs.Starts.{IsStartAt, RefusesStart, GoesOnOver, SearchesOver}
+use Rattle.cmd_solve.specs.Cuttings.{HasCuts}
+use Rattle.cmd_solve.specs.Starts.{IsStartAt, RefusesStart, SearchesOver}
 use Rattle.cmd_solve.specs.Solves.{IsSpelledOut, outcome_status, SolvesBy}
 
 -- what is kept of an outcome, and printed for it: its status, and the report that tells so many steps
@@ -36,16 +37,16 @@ abbrev pub SavesBlocked : BlockedProgram → Option (List ℕ) → Files → Opt
 SavesBlocked b cert files None = Unit {0}
 SavesBlocked b cert files (Some outcome) = IsSaved b outcome cert files
 
--- the same of a search from a named file, with the cuts of its certificate, or from the start
-abbrev pub SavesBy : (before : Files) → (from : Option (List ℕ)) → BlockedProgram → (cert : Option (List ℕ)) → (now : Files) → Option Outcome → Type 0
-SavesBy before from b cert now None = Unit {0}
-SavesBy before from b cert now (Some outcome) = (c : BlockedProgram) × SearchesOver before from b c × IsSaved c outcome cert now
+-- the same of a search from a named file or from the start, over the program with its cuts
+abbrev pub SavesBy : (before : Files) → (from : Option (List ℕ)) → (cuts : ℕ) → BlockedProgram → (cert : Option (List ℕ)) → (now : Files) → Option Outcome → Type 0
+SavesBy before from cuts b cert now None = Unit {0}
+SavesBy before from cuts b cert now (Some outcome) = (c : BlockedProgram) × SearchesOver before from cuts b c × IsSaved c outcome cert now
 
 -- the same of the program in blocks that the files come to
-abbrev pub HasCertificate : Files → List ℕ → Option (List ℕ) → (cert from : Option (List ℕ)) → Files → Option Outcome → Type 0
-HasCertificate before lp dec cert from now None = Unit {0}
-HasCertificate before lp dec cert from now (Some outcome) =
-    (b : BlockedProgram) × FilesCome before lp dec (blocked b) × SavesBy before from b cert now (Some outcome)
+abbrev pub HasCertificate : Files → List ℕ → Option (List ℕ) → (cert from : Option (List ℕ)) → (cuts : ℕ) → Files → Option Outcome → Type 0
+HasCertificate before lp dec cert from cuts now None = Unit {0}
+HasCertificate before lp dec cert from cuts now (Some outcome) =
+    (b : BlockedProgram) × FilesCome before lp dec (blocked b) × SavesBy before from cuts b cert now (Some outcome)
 
 -- an outcome of a search whose tree has at most so many steps has its certificate in the file that is named for it
 abbrev pub LeavesBlocked : (most : ℕ) → Option (List ℕ) → Files → BlockedProgram → Type 0
@@ -65,25 +66,31 @@ abbrev pub LeavesAt : Option Loaded → (below : Option (List Side)) → (given 
 LeavesAt None below given cert files b = LeavesBlocked (given_steps given) cert files b
 LeavesAt (Some from) below given cert files b = LeavesOn from.grove.tree below given cert files b
 
--- the same of a search that goes on from a named file, over the program with the cuts of its certificate; where the file is no start
--- nothing is written
-pub data LeavesFrom (before : Files) (name : List ℕ) (leaf : Option ℕ) (given : Option ℕ) (cert : Option (List ℕ)) (now : Files) (b : BlockedProgram) : Type 0 where
+-- the same of a search from the start, over the program with the cuts that are added
+pub record LeavesAfresh (given : Option ℕ) (cuts : ℕ) (cert : Option (List ℕ)) (now : Files) (b : BlockedProgram) : Type 0 where
+  pub over : BlockedProgram
+  pub has_cuts : HasCuts b [] cuts over
+  pub leaves : LeavesBlocked (given_steps given) cert now over
+
+-- the same of a search that goes on from a named file, over the program with the cuts of its certificate and those that are added behind them; where
+-- the file is no start nothing is written
+pub data LeavesFrom (before : Files) (name : List ℕ) (leaf : Option ℕ) (given : Option ℕ) (cuts : ℕ) (cert : Option (List ℕ)) (now : Files) (b : BlockedProgram) : Type 0 where
   refused : (text : List ℕ) (status : ℕ) (report : List ℕ) → before name ≡ Some text → RefusesStart b leaf text status report → now ≡ before
-      → LeavesFrom before name leaf given cert now b
+      → LeavesFrom before name leaf given cuts cert now b
   went_on : (text : List ℕ) (from : Loaded) (below : Option (List Side)) (c : BlockedProgram) → before name ≡ Some text
-      → (at : IsStartAt b leaf text from below) → GoesOnOver b at.start.cert c
-      → LeavesOn from.grove.tree below given cert now c → LeavesFrom before name leaf given cert now b
+      → (at : IsStartAt b leaf text from below) → HasCuts b at.start.cert.cuts cuts c
+      → LeavesOn from.grove.tree below given cert now c → LeavesFrom before name leaf given cuts cert now b
 
 -- the same of a search from a named file or from the start
-abbrev pub LeavesBy : (before : Files) → (from : Option (List ℕ)) → (leaf : Option ℕ) → (given : Option ℕ) → (cert : Option (List ℕ)) → (now : Files) → BlockedProgram → Type 0
-LeavesBy before None leaf given cert now b = LeavesBlocked (given_steps given) cert now b
-LeavesBy before (Some name) leaf given cert now b = LeavesFrom before name leaf given cert now b
+abbrev pub LeavesBy : (before : Files) → (from : Option (List ℕ)) → (leaf : Option ℕ) → (given : Option ℕ) → (cuts : ℕ) → (cert : Option (List ℕ)) → (now : Files) → BlockedProgram → Type 0
+LeavesBy before None leaf given cuts cert now b = LeavesAfresh given cuts cert now b
+LeavesBy before (Some name) leaf given cuts cert now b = LeavesFrom before name leaf given cuts cert now b
 
 -- What stands where the report on the files could not be put: where they are refused, every file is as before, and where they come
 -- to a program in blocks, what its search left.
-pub data LeavesCertificate (before : Files) (lp : List ℕ) (dec : Option (List ℕ)) (given : Option ℕ) (cert from : Option (List ℕ)) (leaf : Option ℕ) (now : Files) : Type 0 where
-  stopped : (status : ℕ) (report : List ℕ) → FilesCome before lp dec (ends status report) → now ≡ before → LeavesCertificate before lp dec given cert from leaf now
-  searched : (b : BlockedProgram) → FilesCome before lp dec (blocked b) → LeavesBy before from leaf given cert now b → LeavesCertificate before lp dec given cert from leaf now
+pub data LeavesCertificate (before : Files) (lp : List ℕ) (dec : Option (List ℕ)) (given : Option ℕ) (cert from : Option (List ℕ)) (leaf : Option ℕ) (cuts : ℕ) (now : Files) : Type 0 where
+  stopped : (status : ℕ) (report : List ℕ) → FilesCome before lp dec (ends status report) → now ≡ before → LeavesCertificate before lp dec given cert from leaf cuts now
+  searched : (b : BlockedProgram) → FilesCome before lp dec (blocked b) → LeavesBy before from leaf given cuts cert now b → LeavesCertificate before lp dec given cert from leaf cuts now
 
 -- statuses after which no file is changed
 abbrev pub IsUntouched : ℕ → Type 0
@@ -107,11 +114,12 @@ AsBeforeOr Part None before now = Unit {0}
 AsBeforeOr Part (Some name) before now = (now name ≡ before name) ⊎ Part (now name)
 
 -- a file holds a beginning of the certificate of an outcome that is a right answer, over the program in blocks of the search
-abbrev pub HoldsPartBy : (before : Files) → (from : Option (List ℕ)) → (leaf given : Option ℕ) → BlockedProgram → Option (List ℕ) → Type 0
-HoldsPartBy before from leaf given b file = (c : BlockedProgram) × SearchesOver before from b c × HoldsPart (λ kept. SolvesBy before from leaf given kept b) c file
+abbrev pub HoldsPartBy : (before : Files) → (from : Option (List ℕ)) → (leaf given : Option ℕ) → (cuts : ℕ) → BlockedProgram → Option (List ℕ) → Type 0
+HoldsPartBy before from leaf given cuts b file =
+    (c : BlockedProgram) × SearchesOver before from cuts b c × HoldsPart (λ kept. SolvesBy before from leaf given cuts kept b) c file
 
 -- What stands where memory was wanting: the file for a certificate, where one is named, is as before, or holds a beginning of the
 -- certificate of an outcome of the program in blocks that the files come to.
-abbrev pub LeavesPart : (before : Files) → (lp : List ℕ) → (dec : Option (List ℕ)) → (given : Option ℕ) → (cert from : Option (List ℕ)) → (leaf : Option ℕ) → (now : Files) → Type 0
-LeavesPart before lp dec given cert from leaf now =
-    AsBeforeOr (λ file. (b : BlockedProgram) × FilesCome before lp dec (blocked b) × HoldsPartBy before from leaf given b file) cert before now
+abbrev pub LeavesPart : (before : Files) → (lp : List ℕ) → (dec : Option (List ℕ)) → (given : Option ℕ) → (cert from : Option (List ℕ)) → (leaf : Option ℕ) → (cuts : ℕ) → (now : Files) → Type 0
+LeavesPart before lp dec given cert from leaf cuts now =
+    AsBeforeOr (λ file. (b : BlockedProgram) × FilesCome before lp dec (blocked b) × HoldsPartBy before from leaf given cuts b file) cert before now

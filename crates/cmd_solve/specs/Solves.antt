@@ -19,7 +19,8 @@ use Rattle.cert_text.specs.Programs.{frame_for}
 use Rattle.cert_text.specs.Outcomes.{grove_of, claim_of, point_of}
 use Rattle.bp_report.specs.Report.{solve_report}
 use Rattle.bp_front.specs.Answers.{AnswersFront}
-use Rattle.cmd_solve.specs.Starts.{IsStartAt, RefusesStart, GoesOnOver}
+use Rattle.cmd_solve.specs.Cuttings.{HasCuts}
+use Rattle.cmd_solve.specs.Starts.{IsStartAt, RefusesStart}
 
 -- the status of an outcome: optimal, infeasible, or out of steps
 abbrev pub outcome_status : Outcome → ℕ
@@ -59,22 +60,28 @@ abbrev pub SolvesOn : (start : GrowingTree) → (below : Option (List Side)) →
 SolvesOn start None given kept b status report = SolvesBlocked (steps (certificate_tree start) + given_steps given) given kept b status report
 SolvesOn start (Some path) given kept b status report = SolvesBelow start path given kept b status report
 
+-- what a program in blocks is answered by `solve` from the start: the outcome of a search over the program with the cuts that are added
+pub record SolvesAfresh (given : Option ℕ) (cuts : ℕ) (kept : Option Outcome) (b : BlockedProgram) (status : ℕ) (report : List ℕ) : Type 0 where
+  pub over : BlockedProgram
+  pub has_cuts : HasCuts b [] cuts over
+  pub solves : SolvesBlocked (given_steps given) given kept over status report
+
 -- what a program in blocks is answered by `solve` that goes on from a named file: what `check` answers where the file isn't
 -- there or has no valid certificate, the line of a leaf that is too deep, the number of an open leaf that isn't there, or else
--- the outcome of a search that goes on from what is loaded, over the program with the certificate's cuts, at and below the named leaf
--- alone where one is named
-pub data SolvesFrom (files : Files) (name : List ℕ) (leaf : Option ℕ) (given : Option ℕ) (kept : Option Outcome) (b : BlockedProgram) (status : ℕ) (report : List ℕ) : Type 0 where
-  missing : files name ≡ None → kept ≡ None → status ≡ 11 → report ≡ [] → SolvesFrom files name leaf given kept b status report
+-- the outcome of a search that goes on from what is loaded, over the program with the certificate's cuts and those that are added behind them,
+-- at and below the named leaf alone where one is named
+pub data SolvesFrom (files : Files) (name : List ℕ) (leaf : Option ℕ) (given : Option ℕ) (cuts : ℕ) (kept : Option Outcome) (b : BlockedProgram) (status : ℕ) (report : List ℕ) : Type 0 where
+  missing : files name ≡ None → kept ≡ None → status ≡ 11 → report ≡ [] → SolvesFrom files name leaf given cuts kept b status report
   refused : (text : List ℕ) → files name ≡ Some text → kept ≡ None → RefusesStart b leaf text status report
-      → SolvesFrom files name leaf given kept b status report
+      → SolvesFrom files name leaf given cuts kept b status report
   went_on : (text : List ℕ) (from : Loaded) (below : Option (List Side)) (c : BlockedProgram) → files name ≡ Some text
-      → (at : IsStartAt b leaf text from below) → GoesOnOver b at.start.cert c
-      → SolvesOn from.grove.tree below given kept c status report → SolvesFrom files name leaf given kept b status report
+      → (at : IsStartAt b leaf text from below) → HasCuts b at.start.cert.cuts cuts c
+      → SolvesOn from.grove.tree below given kept c status report → SolvesFrom files name leaf given cuts kept b status report
 
 -- what a program in blocks is answered by `solve`, from a named file or from the start
-abbrev pub SolvesBy : Files → (from : Option (List ℕ)) → (leaf : Option ℕ) → (given : Option ℕ) → Option Outcome → BlockedProgram → (status : ℕ) → (report : List ℕ) → Type 0
-SolvesBy files None leaf given kept b status report = SolvesBlocked (given_steps given) given kept b status report
-SolvesBy files (Some name) leaf given kept b status report = SolvesFrom files name leaf given kept b status report
+abbrev pub SolvesBy : Files → (from : Option (List ℕ)) → (leaf : Option ℕ) → (given : Option ℕ) → (cuts : ℕ) → Option Outcome → BlockedProgram → (status : ℕ) → (report : List ℕ) → Type 0
+SolvesBy files None leaf given cuts kept b status report = SolvesAfresh given cuts kept b status report
+SolvesBy files (Some name) leaf given cuts kept b status report = SolvesFrom files name leaf given cuts kept b status report
 
 -- what a program in blocks is answered by `solve` from a tree that was loaded, or from the start
 abbrev pub SolvesAt : Option Loaded → (below : Option (List Side)) → (given : Option ℕ) → Option Outcome → BlockedProgram → (status : ℕ) → (report : List ℕ) → Type 0
@@ -82,5 +89,5 @@ SolvesAt None below given kept b status report = SolvesBlocked (given_steps give
 SolvesAt (Some from) below given kept b status report = SolvesOn from.grove.tree below given kept b status report
 
 -- what `solve` answers; nothing is kept where it is stopped
-abbrev pub AnswersSolve : Files → (lp : List ℕ) → (dec : Option (List ℕ)) → (steps : Option ℕ) → (from : Option (List ℕ)) → (leaf : Option ℕ) → Option Outcome → (status : ℕ) → (report : List ℕ) → Type 0
-AnswersSolve files lp dec steps from leaf kept status report = AnswersFront files lp dec (kept ≡ None) (SolvesBy files from leaf steps kept) status report
+abbrev pub AnswersSolve : Files → (lp : List ℕ) → (dec : Option (List ℕ)) → (steps : Option ℕ) → (from : Option (List ℕ)) → (leaf : Option ℕ) → (cuts : ℕ) → Option Outcome → (status : ℕ) → (report : List ℕ) → Type 0
+AnswersSolve files lp dec steps from leaf cuts kept status report = AnswersFront files lp dec (kept ≡ None) (SolvesBy files from leaf steps cuts kept) status report

@@ -1,5 +1,5 @@
 -- From where a search goes on, and where in its tree it works.
-use Rattle.std.specs.Prelude.{◌≡◌, ◌⊎◌, ℕ, ◌+◌, List, Option, Some, None}
+use Rattle.std.specs.Prelude.{◌≡◌, ◌⊎◌, ℕ, ◌+◌, List, [], Option, Some, None, IfSome}
 use Rattle.bp_theory.specs.Trees.{steps}
 use Rattle.bp_theory.specs.Claims.{Certificate, IsCertified}
 use Rattle.bp_theory.specs.Judgement.{IsFirstFault, HasItsPoint, named_value}
@@ -24,9 +24,10 @@ use Rattle.cert_text.specs.Programs.{frame_for}
 use Rattle.cert_text.specs.declared.fault.CertKind.{CertKind}
 use Rattle.bp_report.specs.Report.{rejected_report}
 use Rattle.bp_report.specs.Refusals.{cert_refusal, from_refusal, leaf_refusal}
+use Rattle.cmd_solve.specs.Cuttings.{HasCuts}
 use Rattle.cmd_solve.specs.Leaves.{open_path, IsWorkedOn}
 use Rattle.cmd_solve.specs.declared.start.Start.{Start}
-use Rattle.cmd_solve.specs.declared.start.Start.TheVariants.{Fresh, Ready, Refused}
+use Rattle.cmd_solve.specs.declared.start.Start.TheVariants.{Ready, Refused}
 
 -- a text spells a valid certificate, and this is the tree with the point that is loaded of it, over the program with its cuts
 pub record IsStart (b : BlockedProgram) (text : List ℕ) (from : Loaded) : Type 0 where
@@ -55,35 +56,42 @@ pub data RefusesStart (b : BlockedProgram) (leaf : Option ℕ) (text : List ℕ)
   no_leaf : (from : Loaded) (number : ℕ) (start : IsStart b text from) → leaf ≡ Some number → open_path start.cert.tree number ≡ None
       → status ≡ 3 → report ≡ leaf_refusal number → RefusesStart b leaf text status report
 
--- a search goes on from a certificate over the program with its cuts
-abbrev pub GoesOnOver : BlockedProgram → Certificate → BlockedProgram → Type 0
-GoesOnOver b cert c = c ≡ with_cuts b cert.cuts
+-- what is loaded as a start, over the program with the cuts that are added behind its own
+abbrev pub IsReady : BlockedProgram → (from : Loaded) → (below : Option (List Side)) → (cuts : ℕ) → Start → Type 0
+IsReady b from below cuts (Ready c loaded place) = HasCuts b b.cuts cuts c × IsLoaded c from × (loaded ≡ Some from) × (place ≡ below)
+IsReady b from below cuts (Refused reply) = ⊥
 
--- what a text is as a start
-abbrev pub StartsBy : BlockedProgram → (leaf : Option ℕ) → List ℕ → Start → Type 0
-StartsBy b leaf text Fresh = ⊥
-StartsBy b leaf text (Ready c from below) = (at : IsStartAt b leaf text from below) × GoesOnOver b at.start.cert c
-StartsBy b leaf text (Refused reply) = RefusesStart b leaf text reply.status reply.report.items
+-- what a text is as a start: what is loaded of it, over the program with the cuts of its certificate and those that are added behind them
+abbrev pub StartsBy : BlockedProgram → (leaf : Option ℕ) → (cuts : ℕ) → List ℕ → Start → Type 0
+StartsBy b leaf cuts text (Ready c from below) =
+    (loaded : Loaded) × (from ≡ Some loaded) × (at : IsStartAt b leaf text loaded below) × HasCuts b at.start.cert.cuts cuts c
+StartsBy b leaf cuts text (Refused reply) = RefusesStart b leaf text reply.status reply.report.items
 
 -- what a certificate that was read is as a start, whatever text spells it
-abbrev pub StartsOf : BlockedProgram → (leaf : Option ℕ) → Cert → Start → Type 0
-StartsOf b leaf cert start = (text : List ℕ) → IsCertText (frame_for b) (kept_cert cert) text → StartsBy b leaf text start
+abbrev pub StartsOf : BlockedProgram → (leaf : Option ℕ) → (cuts : ℕ) → Cert → Start → Type 0
+StartsOf b leaf cuts cert start = (text : List ℕ) → IsCertText (frame_for b) (kept_cert cert) text → StartsBy b leaf cuts text start
+
+-- the start without a file: nothing is loaded, and the program has the cuts that are added
+abbrev pub StartsAfresh : BlockedProgram → (cuts : ℕ) → Start → Type 0
+StartsAfresh b cuts (Ready c from below) = (from ≡ None) × (below ≡ None) × HasCuts b [] cuts c
+StartsAfresh b cuts (Refused reply) = ⊥
 
 -- the start that a named file gives, or that of no file
-abbrev pub HasStart : Files → Option (List ℕ) → (leaf : Option ℕ) → BlockedProgram → Start → Type 0
-HasStart files None leaf b start = start ≡ Fresh
-HasStart files (Some name) leaf b start = (text : List ℕ) × (files name ≡ Some text) × StartsBy b leaf text start
+abbrev pub HasStart : Files → Option (List ℕ) → (leaf : Option ℕ) → (cuts : ℕ) → BlockedProgram → Start → Type 0
+HasStart files None leaf cuts b start = StartsAfresh b cuts start
+HasStart files (Some name) leaf cuts b start = (text : List ℕ) × (files name ≡ Some text) × StartsBy b leaf cuts text start
 
--- where a search begins, and over which program in blocks: at the start, over that which the files come to, or at what a named file is
--- loaded as, over the same with the cuts of its certificate
-abbrev pub BeginsBy : Files → Option (List ℕ) → (b c : BlockedProgram) → Option Loaded → Type 0
-BeginsBy files None b c from = (from ≡ None) × (c ≡ b)
-BeginsBy files (Some name) b c from =
-    (text : List ℕ) × (loaded : Loaded) × (files name ≡ Some text) × (start : IsStart b text loaded) × GoesOnOver b start.cert c × (from ≡ Some loaded)
+-- where a search begins, and over which program in blocks: at the start, over that which the files come to with the cuts that are added; or at
+-- what a named file is loaded as, over the same with the cuts of its certificate and those that are added behind them
+abbrev pub BeginsBy : Files → Option (List ℕ) → (cuts : ℕ) → (b c : BlockedProgram) → Option Loaded → Type 0
+BeginsBy files None cuts b c from = (from ≡ None) × HasCuts b [] cuts c
+BeginsBy files (Some name) cuts b c from =
+    (text : List ℕ) × (loaded : Loaded) × (files name ≡ Some text) × (start : IsStart b text loaded) × HasCuts b start.cert.cuts cuts c
+    × (from ≡ Some loaded)
 
 -- the program in blocks that a search is over, from a named file or from the start
-abbrev pub SearchesOver : Files → Option (List ℕ) → (b c : BlockedProgram) → Type 0
-SearchesOver files from b c = (start : Option Loaded) × BeginsBy files from b c start
+abbrev pub SearchesOver : Files → Option (List ℕ) → (cuts : ℕ) → (b c : BlockedProgram) → Type 0
+SearchesOver files from cuts b c = (start : Option Loaded) × BeginsBy files from cuts b c start
 
 -- the named file of a start isn't there
 abbrev pub LacksStart : Files → Option (List ℕ) → Type 0
@@ -91,10 +99,9 @@ LacksStart files None = ⊥
 LacksStart files (Some name) = files name ≡ None
 
 -- a search may begin there, everywhere in the tree where no leaf is named; or what is printed has its status
-abbrev pub CanBegin : BlockedProgram → (leaf : Option ℕ) → Start → Type 0
-CanBegin b leaf Fresh = Unit {0}
-CanBegin b leaf (Ready c from below) = IsLoaded c from × (leaf ≡ None → below ≡ None)
-CanBegin b leaf (Refused reply) = (reply.status ≡ 3) ⊎ (reply.status ≡ 6)
+abbrev pub CanBegin : (leaf : Option ℕ) → Start → Type 0
+CanBegin leaf (Ready c from below) = IfSome from (IsLoaded c) × (leaf ≡ None → below ≡ None)
+CanBegin leaf (Refused reply) = (reply.status ≡ 3) ⊎ (reply.status ≡ 6)
 
 -- how a search ends that goes on from a tree, everywhere in it or at a path and below it alone, and how many steps its report
 -- tells: the given ones, or those that were taken

@@ -4,6 +4,7 @@
 #![tactic(auto)]
 
 mod crew;
+mod cuts;
 mod leaf;
 mod start;
 
@@ -38,8 +39,11 @@ use std::alloc::{AllocError, Global};
 /// from 1 in the order of its lines, the search works at that leaf and below it alone: it ends when the steps are taken
 /// or no leaf there is live, the certificate and the report are those of the whole tree, and `budget` tells the steps
 /// that were taken. Where a number of workers or the seed of their order is given, a crew searches, whose events are
-/// handed out beside the outcome. The certificate is written line by line before the report: where only the report could
-/// not be put, it stands whole, and where memory was wanting, a beginning of it may stand.
+/// handed out beside the outcome. Before the search at most so many rounding cuts are added as `cuts` says, behind those of
+/// the certificate to go on from, and no more than 256 in all: first the plain ones, none of which is left out while there
+/// is room, and behind them such as are thought to serve. The certificate has all of them. It is written line by line before
+/// the report: where only the report could not be put, it stands whole, and where memory was wanting, a beginning of it may
+/// stand.
 pub fn solve<F: Shelf, O: Sink>(
     alloc: Global,
     shelf: &mut F,
@@ -52,28 +56,30 @@ pub fn solve<F: Shelf, O: Sink>(
     leaf: Option<u64>,
     workers: Option<u32>,
     order: Option<u64>,
+    cuts: u32,
 ) -> Ended
     requires few { IfSome steps (λ n. n ≤ 2 ^ 60) }
     requires some { IfSome workers (λ w. 1 ≤ w) }
     requires alone { IfSome leaf (λ _. (workers ≡ None) × (order ≡ None)) }
     ensures answered { IsTrue (F.tells shelf.old) →
         AnswersBy (AnswersSolve (F.file shelf.old) lp.now (option_map (λ name. name.now) dec.entry)
-        steps (option_map (λ name. name.now) from.entry) leaf result.kept) result.status
+        steps (option_map (λ name. name.now) from.entry) leaf cuts result.kept) result.status
         (O.tells out.old) (O.taken out.old) (O.taken out.new) }
     ensures exact { IsTrue (F.tells shelf.old) →
         IsOnly (AnswersSolve (F.file shelf.old) lp.now (option_map (λ name. name.now) dec.entry)
-        steps (option_map (λ name. name.now) from.entry) leaf result.kept) result.status }
+        steps (option_map (λ name. name.now) from.entry) leaf cuts result.kept) result.status }
     ensures saved { IsTrue (F.tells shelf.old) →
         HasCertificate (F.file shelf.old) lp.now (option_map (λ name. name.now) dec.entry)
-        (option_map (λ name. name.now) cert.entry) (option_map (λ name. name.now) from.entry)
+        (option_map (λ name. name.now) cert.entry) (option_map (λ name. name.now) from.entry) cuts
         (F.file shelf.new) result.kept }
     ensures puts { PutsReport result.status (O.puts out.old) (O.puts out.new) }
     ensures failed { result.status ≡ 8 →
         FailsToWrite (IsTrue (F.tells shelf.old) →
         LeavesCertificate (F.file shelf.old) lp.now (option_map (λ name. name.now) dec.entry) steps
         (option_map (λ name. name.now) cert.entry) (option_map (λ name. name.now) from.entry) leaf
-        (F.file shelf.new)) (F.write_faults shelf.old) (F.write_faults shelf.new) (O.faults out.old)
-        (O.faults out.new) (O.puts out.old) (O.puts out.new) (O.taken out.old) (O.taken out.new) }
+        cuts (F.file shelf.new)) (F.write_faults shelf.old) (F.write_faults shelf.new)
+        (O.faults out.old) (O.faults out.new) (O.puts out.old) (O.puts out.new) (O.taken out.old)
+        (O.taken out.new) }
     ensures causes { HasCauses result.status (F.read_faults shelf.old) (F.read_faults shelf.new)
         (F.write_faults shelf.old) (F.write_faults shelf.new) (O.faults out.old)
         (O.faults out.new) }
@@ -81,7 +87,8 @@ pub fn solve<F: Shelf, O: Sink>(
         ((result.status ≡ 0) ⊎ (result.status ≡ 4) ⊎ (result.status ≡ 5)) }
     ensures events { IsTrue (F.tells shelf.old) →
         HasEvents (F.file shelf.old) lp.now (option_map (λ name. name.now) dec.entry) steps
-        (option_map (λ name. name.now) from.entry) workers order result.kept result.events.items }
+        (option_map (λ name. name.now) from.entry) workers order cuts result.kept
+        result.events.items }
     ensures no_events { result.kept ≡ None → result.events.items ≡ [] }
     ensures words { result.status ≢ 2 }
     ensures files { IsTrue (F.tells shelf.old) →
@@ -92,54 +99,56 @@ pub fn solve<F: Shelf, O: Sink>(
     ensures part { IsTrue (F.tells shelf.old) → result.status ≡ 9 →
         LeavesPart (F.file shelf.old) lp.now (option_map (λ name. name.now) dec.entry) steps
         (option_map (λ name. name.now) cert.entry) (option_map (λ name. name.now) from.entry) leaf
-        (F.file shelf.new) }
+        cuts (F.file shelf.new) }
     ensures silent { (result.status ≡ 7) ⊎ (result.status ≡ 9) ⊎ (result.status ≡ 11) →
         O.taken out.new ≡ O.taken out.old }
     ensures cut_off { IsTrue (F.tells shelf.old) → IsTrue (O.tells out.old) →
         CutsOff (AnswersSolve (F.file shelf.old) lp.now (option_map (λ name. name.now) dec.entry)
-        steps (option_map (λ name. name.now) from.entry) leaf) result.status (O.taken out.old)
+        steps (option_map (λ name. name.now) from.entry) leaf cuts) result.status (O.taken out.old)
         (O.taken out.new) }
 {
     match load(alloc, shelf, lp, dec) {
         Ok(b) => {
             let crew = crew_ordered(workers, order);
-            solve_blocks(alloc, shelf, out, &b, steps, cert, from, leaf, crew)
+            solve_blocks(alloc, shelf, out, b, steps, cert, from, leaf, crew, cuts)
         }
         Err(Halt::Refused(report)) => print(alloc, out, &Reply { status: 3, report }, None),
         Err(Halt::Stopped(fault)) => stopped_by(alloc, fault),
     }
 }
 
-// Solves a program in blocks, from the start or from where the certificate of a named file stopped.
+// Solves a program in blocks without cuts, from the start or from where the certificate of a named file stopped, over the program
+// with the cuts of that certificate and at most so many further ones.
 fn solve_blocks<F: Shelf, O: Sink>(
     alloc: Global,
     shelf: &mut F,
     out: &mut O,
-    b: &Blocked,
+    b: Blocked,
     steps: Option<u64>,
     cert: Option<&str>,
     from: Option<&str>,
     leaf: Option<u64>,
     crew: Option<CrewOrder>,
+    cuts: u32,
 ) -> Ended
-    requires uncut { b.now.cuts ≡ [] }
+    requires uncut { b.cuts ≡ [] }
     requires few { IfSome steps (λ n. n ≤ 2 ^ 60) }
     requires some { IfSome crew (λ c. 1 ≤ c.workers) }
     requires alone { IfSome leaf (λ _. crew ≡ None) }
     ensures answered { IsTrue (F.tells shelf.old) →
         AnswersBy (SolvesBy (F.file shelf.old) (option_map (λ name. name.now) from.entry) leaf steps
-        result.kept b.now) result.status (O.tells out.old) (O.taken out.old) (O.taken out.new) }
+        cuts result.kept b) result.status (O.tells out.old) (O.taken out.old) (O.taken out.new) }
     ensures exact { IsTrue (F.tells shelf.old) →
         IsOnly (SolvesBy (F.file shelf.old) (option_map (λ name. name.now) from.entry) leaf steps
-        result.kept b.now) result.status }
+        cuts result.kept b) result.status }
     ensures saved { IsTrue (F.tells shelf.old) →
-        SavesBy (F.file shelf.old) (option_map (λ name. name.now) from.entry) b.now (option_map
+        SavesBy (F.file shelf.old) (option_map (λ name. name.now) from.entry) cuts b (option_map
         (λ name. name.now) cert.entry) (F.file shelf.new) result.kept }
     ensures puts { PutsReport result.status (O.puts out.old) (O.puts out.new) }
     ensures failed { result.status ≡ 8 →
         FailsToWrite (IsTrue (F.tells shelf.old) →
-        LeavesBy (F.file shelf.old) (option_map (λ name. name.now) from.entry) leaf steps
-        (option_map (λ name. name.now) cert.entry) (F.file shelf.new) b.now)
+        LeavesBy (F.file shelf.old) (option_map (λ name. name.now) from.entry) leaf steps cuts
+        (option_map (λ name. name.now) cert.entry) (F.file shelf.new) b)
         (F.write_faults shelf.old) (F.write_faults shelf.new) (O.faults out.old) (O.faults out.new)
         (O.puts out.old) (O.puts out.new) (O.taken out.old) (O.taken out.new) }
     ensures causes { HasCauses result.status (F.read_faults shelf.old) (F.read_faults shelf.new)
@@ -148,7 +157,7 @@ fn solve_blocks<F: Shelf, O: Sink>(
     ensures kept { (result.kept ≡ None) ⊎
         ((result.status ≡ 0) ⊎ (result.status ≡ 4) ⊎ (result.status ≡ 5)) }
     ensures events { IsTrue (F.tells shelf.old) →
-        EventsBy (F.file shelf.old) (option_map (λ name. name.now) from.entry) steps crew b.now
+        EventsBy (F.file shelf.old) (option_map (λ name. name.now) from.entry) steps crew cuts b
         result.kept result.events.items }
     ensures no_events { result.kept ≡ None → result.events.items ≡ [] }
     ensures words { result.status ≢ 2 }
@@ -159,30 +168,19 @@ fn solve_blocks<F: Shelf, O: Sink>(
         F.file shelf.new ≡ F.file shelf.old }
     ensures part { IsTrue (F.tells shelf.old) → result.status ≡ 9 →
         AsBeforeOr (HoldsPartBy (F.file shelf.old) (option_map (λ name. name.now) from.entry) leaf
-        steps b.now) (option_map (λ name. name.now) cert.entry) (F.file shelf.old)
+        steps cuts b) (option_map (λ name. name.now) cert.entry) (F.file shelf.old)
         (F.file shelf.new) }
     ensures silent { (result.status ≡ 7) ⊎ (result.status ≡ 9) ⊎ (result.status ≡ 11) →
         O.taken out.new ≡ O.taken out.old }
     ensures cut_off { IsTrue (F.tells shelf.old) → IsTrue (O.tells out.old) →
         CutsOff (λ kept. SolvesBy (F.file shelf.old) (option_map (λ name. name.now) from.entry) leaf
-        steps kept b.now) result.status (O.taken out.old) (O.taken out.new) }
+        steps cuts kept b) result.status (O.taken out.old) (O.taken out.new) }
 {
     // For the proof alone: `b` is formed.
     let _ = b.blocks();
-    match begin(alloc, shelf, b, from, leaf) {
-        Ok(Start::Fresh) => answer(alloc, shelf, out, b, None, None, steps, cert, crew),
-        Ok(Start::Ready(cut, from, below)) => {
-            answer(
-                alloc,
-                shelf,
-                out,
-                &cut,
-                Some(from),
-                below,
-                steps,
-                cert,
-                crew,
-            )
+    match begin(alloc, shelf, b, from, leaf, cuts) {
+        Ok(Start::Ready(c, from, below)) => {
+            answer(alloc, shelf, out, &c, from, below, steps, cert, crew)
         }
         Ok(Start::Refused(reply)) => print(alloc, out, &reply, None),
         Err(fault) => stopped_by(alloc, fault),

@@ -1,4 +1,4 @@
-use Rattle.std.proofs.Common.{sym, subst, Option, Some, List, ℕ, Bor}
+use Rattle.std.proofs.Common.{sym, subst, Option, List, ℕ, Bor}
 use Rattle.std.specs.Option.{option_map}
 use Rattle.cmd_solve.specs.Saves.{IsSaved, IsPartOf, AsBeforeOr}
 use Rattle.cmd_solve.proofs.Outcomes.{is_saved, is_part}

@@ -21,9 +21,9 @@ returns-in-Ok-clause-answered g c = λ told.
     let from : Option (List ℕ) = option_map (λ name. name.now) c.args.from in
     let still : IsTrue (g.F.Shelf.tells c.load.new.shelf) = subst (λ (t : Bool). IsTrue t) (sym c.in-Ok.ensures.told) told in
     lift_answers files c.args.lp.now (option_map (λ name. name.now) c.args.dec) (c.solve_blocks.result.kept ≡ None)
-    (SolvesBy files from c.args.leaf c.args.steps c.solve_blocks.result.kept) c.in-Ok.b c.solve_blocks.result.status (g.O.Sink.tells c.args.out.now) (g.O.Sink.taken c.args.out.now) (g.O.Sink.taken c.solve_blocks.new.out)
+    (SolvesBy files from c.args.leaf c.args.steps c.args.cuts c.solve_blocks.result.kept) c.in-Ok.b c.solve_blocks.result.status (g.O.Sink.tells c.args.out.now) (g.O.Sink.taken c.args.out.now) (g.O.Sink.taken c.solve_blocks.new.out)
     (c.in-Ok.ensures.blocked told)
-    (subst (λ (fs : Files). AnswersBy (SolvesBy fs from c.args.leaf c.args.steps c.solve_blocks.result.kept c.in-Ok.b) c.solve_blocks.result.status (g.O.Sink.tells c.args.out.now) (g.O.Sink.taken c.args.out.now) (g.O.Sink.taken c.solve_blocks.new.out))
+    (subst (λ (fs : Files). AnswersBy (SolvesBy fs from c.args.leaf c.args.steps c.args.cuts c.solve_blocks.result.kept c.in-Ok.b) c.solve_blocks.result.status (g.O.Sink.tells c.args.out.now) (g.O.Sink.taken c.args.out.now) (g.O.Sink.taken c.solve_blocks.new.out))
     c.in-Ok.ensures.files (c.solve_blocks.ensures.answered still))
 
 pub returns-in-Ok-clause-exact : goal.returns-in-Ok-clause-exact
@@ -32,8 +32,8 @@ returns-in-Ok-clause-exact g c = λ told.
     let from : Option (List ℕ) = option_map (λ name. name.now) c.args.from in
     let still : IsTrue (g.F.Shelf.tells c.load.new.shelf) = subst (λ (t : Bool). IsTrue t) (sym c.in-Ok.ensures.told) told in
     lift_only files c.args.lp.now (option_map (λ name. name.now) c.args.dec) (c.solve_blocks.result.kept ≡ None)
-    (SolvesBy files from c.args.leaf c.args.steps c.solve_blocks.result.kept) c.in-Ok.b c.solve_blocks.result.status (c.in-Ok.ensures.blocked told)
-    (subst (λ (fs : Files). IsOnly (SolvesBy fs from c.args.leaf c.args.steps c.solve_blocks.result.kept c.in-Ok.b) c.solve_blocks.result.status) c.in-Ok.ensures.files (c.solve_blocks.ensures.exact still))
+    (SolvesBy files from c.args.leaf c.args.steps c.args.cuts c.solve_blocks.result.kept) c.in-Ok.b c.solve_blocks.result.status (c.in-Ok.ensures.blocked told)
+    (subst (λ (fs : Files). IsOnly (SolvesBy fs from c.args.leaf c.args.steps c.args.cuts c.solve_blocks.result.kept c.in-Ok.b) c.solve_blocks.result.status) c.in-Ok.ensures.files (c.solve_blocks.ensures.exact still))
 
 pub returns-in-Ok-clause-cut_off : goal.returns-in-Ok-clause-cut_off
 returns-in-Ok-clause-cut_off g c = λ told heard.
@@ -41,9 +41,9 @@ returns-in-Ok-clause-cut_off g c = λ told heard.
     let from : Option (List ℕ) = option_map (λ name. name.now) c.args.from in
     let still : IsTrue (g.F.Shelf.tells c.load.new.shelf) = subst (λ (t : Bool). IsTrue t) (sym c.in-Ok.ensures.told) told in
     lift_cut files c.args.lp.now (option_map (λ name. name.now) c.args.dec) (λ kept. kept ≡ None)
-    (λ kept. SolvesBy files from c.args.leaf c.args.steps kept) c.in-Ok.b c.solve_blocks.result.status (g.O.Sink.taken c.args.out.now) (g.O.Sink.taken c.solve_blocks.new.out)
+    (λ kept. SolvesBy files from c.args.leaf c.args.steps c.args.cuts kept) c.in-Ok.b c.solve_blocks.result.status (g.O.Sink.taken c.args.out.now) (g.O.Sink.taken c.solve_blocks.new.out)
     (c.in-Ok.ensures.blocked told)
-    (subst (λ (fs : Files). CutsOff (λ (kept : Option Outcome). SolvesBy fs from c.args.leaf c.args.steps kept c.in-Ok.b) c.solve_blocks.result.status (g.O.Sink.taken c.args.out.now) (g.O.Sink.taken c.solve_blocks.new.out))
+    (subst (λ (fs : Files). CutsOff (λ (kept : Option Outcome). SolvesBy fs from c.args.leaf c.args.steps c.args.cuts kept c.in-Ok.b) c.solve_blocks.result.status (g.O.Sink.taken c.args.out.now) (g.O.Sink.taken c.solve_blocks.new.out))
     c.in-Ok.ensures.files (c.solve_blocks.ensures.cut_off still heard))
 
 pub returns-in-Err-Refused-clause-exact : goal.returns-in-Err-Refused-clause-exact
@@ -51,7 +51,7 @@ returns-in-Err-Refused-clause-exact g c = λ told.
     let files = g.F.Shelf.file c.args.shelf.now in
     let halts = c.in-Err-Refused.ensures.halted told in
     stop_only files c.args.lp.now (option_map (λ name. name.now) c.args.dec) (c.print.result.kept ≡ None)
-    (SolvesBy files (option_map (λ name. name.now) c.args.from) c.args.leaf c.args.steps c.print.result.kept) c.print.result.status 3 c.in-Err-Refused.report.items
+    (SolvesBy files (option_map (λ name. name.now) c.args.from) c.args.leaf c.args.steps c.args.cuts c.print.result.kept) c.print.result.status 3 c.in-Err-Refused.report.items
     (rw c.in-Err-Refused.field-0-is at halts) (printed_status c.print.result.status 3 c.print.ensures.status)
 
 pub returns-in-Err-Refused-clause-cut_off : goal.returns-in-Err-Refused-clause-cut_off
@@ -65,7 +65,7 @@ returns-in-Err-Stopped-clause-exact g c = λ told.
     let files = g.F.Shelf.file c.args.shelf.now in
     let halts = c.in-Err-Stopped.ensures.halted told in
     fault_only files c.args.lp.now (option_map (λ name. name.now) c.args.dec) (c.stopped_by.result.kept ≡ None)
-    (SolvesBy files (option_map (λ name. name.now) c.args.from) c.args.leaf c.args.steps c.stopped_by.result.kept) c.stopped_by.result.status c.in-Err-Stopped.fault
+    (SolvesBy files (option_map (λ name. name.now) c.args.from) c.args.leaf c.args.steps c.args.cuts c.stopped_by.result.kept) c.stopped_by.result.status c.in-Err-Stopped.fault
     (rw c.in-Err-Stopped.field-0-is at halts) (rw c.in-Err-Stopped.field-0-is at c.stopped_by.ensures.status)
 
 pub returns-in-Ok-clause-failed : goal.returns-in-Ok-clause-failed
@@ -76,7 +76,7 @@ returns-in-Ok-clause-failed g c = λ is_fault.
     (g.O.Sink.faults c.args.out.now) (g.O.Sink.faults c.solve_blocks.new.out) (g.O.Sink.puts c.args.out.now) (g.O.Sink.puts c.solve_blocks.new.out)
     (g.O.Sink.taken c.args.out.now) (g.O.Sink.taken c.solve_blocks.new.out) c.in-Ok.ensures.writes
     (λ stands told. searched c.in-Ok.b (c.in-Ok.ensures.blocked told)
-    (subst (λ (fs : Files). LeavesBy fs from c.args.leaf c.args.steps cert (g.F.Shelf.file c.solve_blocks.new.shelf) c.in-Ok.b) c.in-Ok.ensures.files
+    (subst (λ (fs : Files). LeavesBy fs from c.args.leaf c.args.steps c.args.cuts cert (g.F.Shelf.file c.solve_blocks.new.shelf) c.in-Ok.b) c.in-Ok.ensures.files
     (stands (c.in-Ok.ensures.told ∙ told))))
     (c.solve_blocks.ensures.failed is_fault)
 
@@ -95,16 +95,16 @@ returns-in-Ok-clause-events g c = λ told.
     let files = g.F.Shelf.file c.args.shelf.now in
     let from : Option (List ℕ) = option_map (λ name. name.now) c.args.from in
     let still : IsTrue (g.F.Shelf.tells c.load.new.shelf) = subst (λ (t : Bool). IsTrue t) (sym c.in-Ok.ensures.told) told in
-    lift_events files c.args.lp.now (option_map (λ name. name.now) c.args.dec) c.args.steps from c.args.workers c.args.order c.in-Ok.b c.solve_blocks.result.kept
+    lift_events files c.args.lp.now (option_map (λ name. name.now) c.args.dec) c.args.steps from c.args.workers c.args.order c.args.cuts c.in-Ok.b c.solve_blocks.result.kept
     c.solve_blocks.result.events.items (c.in-Ok.ensures.blocked told)
-    (subst (λ (fs : Files). EventsBy fs from c.args.steps (ordered_crew c.args.workers c.args.order) c.in-Ok.b c.solve_blocks.result.kept c.solve_blocks.result.events.items)
+    (subst (λ (fs : Files). EventsBy fs from c.args.steps (ordered_crew c.args.workers c.args.order) c.args.cuts c.in-Ok.b c.solve_blocks.result.kept c.solve_blocks.result.events.items)
     c.in-Ok.ensures.files
-    (subst (λ (crew : Option CrewOrder). EventsBy (g.F.Shelf.file c.load.new.shelf) from c.args.steps crew c.in-Ok.b c.solve_blocks.result.kept c.solve_blocks.result.events.items)
+    (subst (λ (crew : Option CrewOrder). EventsBy (g.F.Shelf.file c.load.new.shelf) from c.args.steps crew c.args.cuts c.in-Ok.b c.solve_blocks.result.kept c.solve_blocks.result.events.items)
     c.crew_ordered-crew.ensures (c.solve_blocks.ensures.events still)))
 
 pub returns-in-Err-Refused-clause-events : goal.returns-in-Err-Refused-clause-events
 returns-in-Err-Refused-clause-events g c = λ told.
-    none_of (g.F.Shelf.file c.args.shelf.now) c.args.lp.now (option_map (λ name. name.now) c.args.dec) c.args.steps (option_map (λ name. name.now) c.args.from) c.args.workers c.args.order
+    none_of (g.F.Shelf.file c.args.shelf.now) c.args.lp.now (option_map (λ name. name.now) c.args.dec) c.args.steps (option_map (λ name. name.now) c.args.from) c.args.workers c.args.order c.args.cuts
     c.print.result.kept c.print.result.events.items
     (printed_none c.print.result.status 3 c.print.result.kept c.print.ensures.status c.print.ensures.kept c.print.ensures.none_kept (λ e. absurd (cc)))
     c.print.ensures.events
@@ -118,9 +118,9 @@ returns-in-Ok-clause-saved g c = λ told.
     let files = g.F.Shelf.file c.args.shelf.now in
     let from : Option (List ℕ) = option_map (λ name. name.now) c.args.from in
     let cert : Option (List ℕ) = option_map (λ name. name.now) c.args.cert in
-    lift_saved files c.args.lp.now (option_map (λ name. name.now) c.args.dec) cert from (g.F.Shelf.file c.solve_blocks.new.shelf) c.in-Ok.b c.solve_blocks.result.kept
+    lift_saved files c.args.lp.now (option_map (λ name. name.now) c.args.dec) cert from c.args.cuts (g.F.Shelf.file c.solve_blocks.new.shelf) c.in-Ok.b c.solve_blocks.result.kept
     (c.in-Ok.ensures.blocked told)
-    (subst (λ (fs : Files). SavesBy fs from c.in-Ok.b cert (g.F.Shelf.file c.solve_blocks.new.shelf) c.solve_blocks.result.kept) c.in-Ok.ensures.files (c.solve_blocks.ensures.saved still))
+    (subst (λ (fs : Files). SavesBy fs from c.args.cuts c.in-Ok.b cert (g.F.Shelf.file c.solve_blocks.new.shelf) c.solve_blocks.result.kept) c.in-Ok.ensures.files (c.solve_blocks.ensures.saved still))
 
 pub returns-in-Ok-clause-part : goal.returns-in-Ok-clause-part
 returns-in-Ok-clause-part g c = λ told want.
@@ -128,17 +128,17 @@ returns-in-Ok-clause-part g c = λ told want.
     let from : Option (List ℕ) = option_map (λ name. name.now) c.args.from in
     let cert : Option (List ℕ) = option_map (λ name. name.now) c.args.cert in
     let still : IsTrue (g.F.Shelf.tells c.load.new.shelf) = subst (λ (t : Bool). IsTrue t) (sym c.in-Ok.ensures.told) told in
-    lift_part files c.args.lp.now (option_map (λ name. name.now) c.args.dec) c.args.steps cert from c.args.leaf (g.F.Shelf.file c.solve_blocks.new.shelf) c.in-Ok.b
+    lift_part files c.args.lp.now (option_map (λ name. name.now) c.args.dec) c.args.steps cert from c.args.leaf c.args.cuts (g.F.Shelf.file c.solve_blocks.new.shelf) c.in-Ok.b
     (c.in-Ok.ensures.blocked told)
-    (subst (λ (fs : Files). AsBeforeOr (HoldsPartBy fs from c.args.leaf c.args.steps c.in-Ok.b) cert fs (g.F.Shelf.file c.solve_blocks.new.shelf))
+    (subst (λ (fs : Files). AsBeforeOr (HoldsPartBy fs from c.args.leaf c.args.steps c.args.cuts c.in-Ok.b) cert fs (g.F.Shelf.file c.solve_blocks.new.shelf))
     c.in-Ok.ensures.files (c.solve_blocks.ensures.part still want))
 
 pub returns-in-Err-Stopped-clause-part : goal.returns-in-Err-Stopped-clause-part
 returns-in-Err-Stopped-clause-part g c = λ told want.
     untouched_part (g.F.Shelf.file c.args.shelf.now) c.args.lp.now (option_map (λ name. name.now) c.args.dec) c.args.steps (option_map (λ name. name.now) c.args.cert)
-    (option_map (λ name. name.now) c.args.from) c.args.leaf (g.F.Shelf.file c.load.new.shelf) c.in-Err-Stopped.ensures.files
+    (option_map (λ name. name.now) c.args.from) c.args.leaf c.args.cuts (g.F.Shelf.file c.load.new.shelf) c.in-Err-Stopped.ensures.files
 
 pub returns-in-Err-Refused-clause-part : goal.returns-in-Err-Refused-clause-part
 returns-in-Err-Refused-clause-part g c = λ told want.
     untouched_part (g.F.Shelf.file c.args.shelf.now) c.args.lp.now (option_map (λ name. name.now) c.args.dec) c.args.steps (option_map (λ name. name.now) c.args.cert)
-    (option_map (λ name. name.now) c.args.from) c.args.leaf (g.F.Shelf.file c.load.new.shelf) c.in-Err-Refused.ensures.files
+    (option_map (λ name. name.now) c.args.from) c.args.leaf c.args.cuts (g.F.Shelf.file c.load.new.shelf) c.in-Err-Refused.ensures.files

@@ -1,66 +1,25 @@
-use Rattle.std.proofs.Common.{None, Some, ◌∙◌, inr, refl, sym, ap, subst, Option, List, ℕ, Err}
+use Rattle.std.proofs.Common.{◌∙◌, inr, refl, ap, subst, Option, List, ℕ, Err}
 use Rattle.std.specs.Option.{option_map}
 use Rattle.bp_shelf.specs.Shelf.{Files}
 use Rattle.bp_shelf.specs.declared.shelf.ShelfFault.{ShelfFault}
-use Rattle.branch_tree.specs.declared.outcome.Outcome.{Outcome}
-use Rattle.bp_front.specs.Answers.{AnswersBy, IsOnly, CutsOff}
 use Rattle.bp_front.proofs.Faults.{fails_as}
-use Rattle.cmd_solve.specs.Solves.{SolvesBy}
-use Rattle.cmd_solve.specs.Saves.{LeavesBy, HoldsPartBy, AsBeforeOr}
-use Rattle.cmd_solve.proofs.Starting.{can_begin, alone_at, fresh_from, ready_from, refused_from, ready_begins, fresh_begins, ready_answers, ready_only, ready_cut, ready_leaves, refused_answers, refusal_only, refused_cut, refused_leaves, fault_answers, fault_only}
-use Rattle.cmd_solve.proofs.CrewEvents.{fresh_events, ready_events, none_by, printed_none, refused_apart}
+use Rattle.cmd_solve.specs.Saves.{HoldsPartBy, AsBeforeOr}
+use Rattle.cmd_solve.proofs.Starting.{can_begin, alone_at, comes_from, begins, refused_from, started_answers, started_only, started_cut, started_leaves, refused_answers, refusal_only, refused_cut, refused_leaves, fault_answers, fault_only}
+use Rattle.cmd_solve.proofs.CrewEvents.{started_events, none_by, printed_none, refused_apart}
 use Rattle.cmd_solve.proofs.Outcomes.{saved_by, none_saved}
-use Rattle.cmd_solve.proofs.Parts.{nothing_left, fresh_part, ready_part}
+use Rattle.cmd_solve.proofs.Parts.{nothing_left, started_part}
 use Rattle.cmd_solve.proofs.solve_blocks.Goals as goal
-
--- ---- from the start
-
-pub returns-in-Ok-Fresh-clause-answered : goal.returns-in-Ok-Fresh-clause-answered
-returns-in-Ok-Fresh-clause-answered g c = λ told.
-    let files = g.F.Shelf.file c.args.shelf.now in
-    let from : Option (List ℕ) = option_map (λ name. name.now) c.args.from in
-    let start = c.in-Ok-Fresh.ensures.start told in
-    subst (λ (f : Option (List ℕ)). AnswersBy (SolvesBy files f c.args.leaf c.args.steps c.answer.result.kept c.args.b.now) c.answer.result.status (g.O.Sink.tells c.args.out.now) (g.O.Sink.taken c.args.out.now) (g.O.Sink.taken c.answer.new.out))
-    (sym (fresh_from files from c.args.leaf c.args.b.now (rw c.in-Ok-Fresh.field-0-is at start))) c.answer.ensures.answered
-
-pub returns-in-Ok-Fresh-clause-exact : goal.returns-in-Ok-Fresh-clause-exact
-returns-in-Ok-Fresh-clause-exact g c = λ told.
-    let files = g.F.Shelf.file c.args.shelf.now in
-    let from : Option (List ℕ) = option_map (λ name. name.now) c.args.from in
-    let start = c.in-Ok-Fresh.ensures.start told in
-    subst (λ (f : Option (List ℕ)). IsOnly (SolvesBy files f c.args.leaf c.args.steps c.answer.result.kept c.args.b.now) c.answer.result.status)
-    (sym (fresh_from files from c.args.leaf c.args.b.now (rw c.in-Ok-Fresh.field-0-is at start))) c.answer.ensures.exact
-
-pub returns-in-Ok-Fresh-clause-failed : goal.returns-in-Ok-Fresh-clause-failed
-returns-in-Ok-Fresh-clause-failed g c = λ is_fault.
-    let files = g.F.Shelf.file c.args.shelf.now in
-    let from : Option (List ℕ) = option_map (λ name. name.now) c.args.from in
-    fails_as (g.F.Shelf.write_faults c.args.shelf.now) (g.F.Shelf.write_faults c.begin.new.shelf) (g.F.Shelf.write_faults c.answer.new.shelf)
-    (g.O.Sink.faults c.args.out.now) (g.O.Sink.faults c.answer.new.out) (g.O.Sink.puts c.args.out.now) (g.O.Sink.puts c.answer.new.out)
-    (g.O.Sink.taken c.args.out.now) (g.O.Sink.taken c.answer.new.out) c.in-Ok-Fresh.ensures.writes
-    (λ stands told. let start = c.in-Ok-Fresh.ensures.start told in
-    subst (λ (f : Option (List ℕ)). LeavesBy files f c.args.leaf c.args.steps (option_map (λ name. name.now) c.args.cert) (g.F.Shelf.file c.answer.new.shelf) c.args.b.now)
-    (sym (fresh_from files from c.args.leaf c.args.b.now (rw c.in-Ok-Fresh.field-0-is at start))) (stands (c.in-Ok-Fresh.ensures.told ∙ told)))
-    (c.answer.ensures.failed is_fault)
-
-pub returns-in-Ok-Fresh-clause-cut_off : goal.returns-in-Ok-Fresh-clause-cut_off
-returns-in-Ok-Fresh-clause-cut_off g c = λ told heard.
-    let files = g.F.Shelf.file c.args.shelf.now in
-    let from : Option (List ℕ) = option_map (λ name. name.now) c.args.from in
-    let start = c.in-Ok-Fresh.ensures.start told in
-    subst (λ (f : Option (List ℕ)). CutsOff (λ (kept : Option Outcome). SolvesBy files f c.args.leaf c.args.steps kept c.args.b.now) c.answer.result.status (g.O.Sink.taken c.args.out.now) (g.O.Sink.taken c.answer.new.out))
-    (sym (fresh_from files from c.args.leaf c.args.b.now (rw c.in-Ok-Fresh.field-0-is at start))) (c.answer.ensures.cut_off heard)
 
 -- ---- from a loaded tree
 
-pub answer-requires-in-Ok-Ready-clause-loaded : goal.answer-requires-in-Ok-Ready-clause-loaded
-answer-requires-in-Ok-Ready-clause-loaded g c =
-    (can_begin c.args.b.now c.in-Ok-Ready.cut c.args.leaf c.in-Ok-Ready.field-0 c.in-Ok-Ready.from c.in-Ok-Ready.below c.in-Ok-Ready.field-0-is c.in-Ok-Ready.ensures.usable).0
+pub answer-requires-clause-loaded : goal.answer-requires-clause-loaded
+answer-requires-clause-loaded g c =
+    (can_begin c.in-Ok-Ready.c c.args.leaf c.in-Ok-Ready.field-0 c.in-Ok-Ready.from c.in-Ok-Ready.below c.in-Ok-Ready.field-0-is c.in-Ok-Ready.ensures.usable).0
 
-pub answer-requires-in-Ok-Ready-clause-alone : goal.answer-requires-in-Ok-Ready-clause-alone
-answer-requires-in-Ok-Ready-clause-alone g c =
+pub answer-requires-clause-alone : goal.answer-requires-clause-alone
+answer-requires-clause-alone g c =
     alone_at c.args.leaf c.in-Ok-Ready.below c.args.crew
-    (can_begin c.args.b.now c.in-Ok-Ready.cut c.args.leaf c.in-Ok-Ready.field-0 c.in-Ok-Ready.from c.in-Ok-Ready.below c.in-Ok-Ready.field-0-is c.in-Ok-Ready.ensures.usable).1
+    (can_begin c.in-Ok-Ready.c c.args.leaf c.in-Ok-Ready.field-0 c.in-Ok-Ready.from c.in-Ok-Ready.below c.in-Ok-Ready.field-0-is c.in-Ok-Ready.ensures.usable).1
     c.requires.alone
 
 pub returns-in-Ok-Ready-clause-answered : goal.returns-in-Ok-Ready-clause-answered
@@ -68,37 +27,37 @@ returns-in-Ok-Ready-clause-answered g c = λ told.
     let files = g.F.Shelf.file c.args.shelf.now in
     let from : Option (List ℕ) = option_map (λ name. name.now) c.args.from in
     let start = c.in-Ok-Ready.ensures.start told in
-    ready_answers files from c.args.leaf c.args.steps c.answer-in-Ok-Ready.result.kept c.args.b.now c.in-Ok-Ready.cut c.in-Ok-Ready.from c.in-Ok-Ready.below c.answer-in-Ok-Ready.result.status (g.O.Sink.tells c.args.out.now) (g.O.Sink.taken c.args.out.now)
-    (g.O.Sink.taken c.answer-in-Ok-Ready.new.out) (ready_from files from c.args.leaf c.args.b.now c.in-Ok-Ready.cut c.in-Ok-Ready.from c.in-Ok-Ready.below (rw c.in-Ok-Ready.field-0-is at start)) c.answer-in-Ok-Ready.ensures.answered
+    started_answers files from c.args.leaf c.args.steps c.args.cuts c.answer.result.kept c.args.b c.in-Ok-Ready.c c.in-Ok-Ready.from c.in-Ok-Ready.below c.answer.result.status (g.O.Sink.tells c.args.out.now) (g.O.Sink.taken c.args.out.now)
+    (g.O.Sink.taken c.answer.new.out) (comes_from files from c.args.leaf c.args.cuts c.args.b c.in-Ok-Ready.c c.in-Ok-Ready.from c.in-Ok-Ready.below (rw c.in-Ok-Ready.field-0-is at start)) c.answer.ensures.answered
 
 pub returns-in-Ok-Ready-clause-exact : goal.returns-in-Ok-Ready-clause-exact
 returns-in-Ok-Ready-clause-exact g c = λ told.
     let files = g.F.Shelf.file c.args.shelf.now in
     let from : Option (List ℕ) = option_map (λ name. name.now) c.args.from in
     let start = c.in-Ok-Ready.ensures.start told in
-    ready_only files from c.args.leaf c.args.steps c.answer-in-Ok-Ready.result.kept c.args.b.now c.in-Ok-Ready.cut c.in-Ok-Ready.from c.in-Ok-Ready.below c.answer-in-Ok-Ready.result.status
-    (g.O.Sink.tells c.args.out.now) (g.O.Sink.taken c.args.out.now) (g.O.Sink.taken c.answer-in-Ok-Ready.new.out) c.blocks-2.ensures.formed
-    (ready_from files from c.args.leaf c.args.b.now c.in-Ok-Ready.cut c.in-Ok-Ready.from c.in-Ok-Ready.below (rw c.in-Ok-Ready.field-0-is at start)) c.answer-in-Ok-Ready.ensures.answered
+    started_only files from c.args.leaf c.args.steps c.args.cuts c.answer.result.kept c.args.b c.in-Ok-Ready.c c.in-Ok-Ready.from c.in-Ok-Ready.below c.answer.result.status
+    (g.O.Sink.tells c.args.out.now) (g.O.Sink.taken c.args.out.now) (g.O.Sink.taken c.answer.new.out) c.blocks-2.ensures.formed
+    (comes_from files from c.args.leaf c.args.cuts c.args.b c.in-Ok-Ready.c c.in-Ok-Ready.from c.in-Ok-Ready.below (rw c.in-Ok-Ready.field-0-is at start)) c.answer.ensures.answered
 
 pub returns-in-Ok-Ready-clause-failed : goal.returns-in-Ok-Ready-clause-failed
 returns-in-Ok-Ready-clause-failed g c = λ is_fault.
     let files = g.F.Shelf.file c.args.shelf.now in
     let from : Option (List ℕ) = option_map (λ name. name.now) c.args.from in
-    fails_as (g.F.Shelf.write_faults c.args.shelf.now) (g.F.Shelf.write_faults c.begin.new.shelf) (g.F.Shelf.write_faults c.answer-in-Ok-Ready.new.shelf)
-    (g.O.Sink.faults c.args.out.now) (g.O.Sink.faults c.answer-in-Ok-Ready.new.out) (g.O.Sink.puts c.args.out.now) (g.O.Sink.puts c.answer-in-Ok-Ready.new.out)
-    (g.O.Sink.taken c.args.out.now) (g.O.Sink.taken c.answer-in-Ok-Ready.new.out) c.in-Ok-Ready.ensures.writes
+    fails_as (g.F.Shelf.write_faults c.args.shelf.now) (g.F.Shelf.write_faults c.begin.new.shelf) (g.F.Shelf.write_faults c.answer.new.shelf)
+    (g.O.Sink.faults c.args.out.now) (g.O.Sink.faults c.answer.new.out) (g.O.Sink.puts c.args.out.now) (g.O.Sink.puts c.answer.new.out)
+    (g.O.Sink.taken c.args.out.now) (g.O.Sink.taken c.answer.new.out) c.in-Ok-Ready.ensures.writes
     (λ stands told. let start = c.in-Ok-Ready.ensures.start told in
-    ready_leaves files from c.args.leaf c.args.steps (option_map (λ name. name.now) c.args.cert) (g.F.Shelf.file c.answer-in-Ok-Ready.new.shelf) c.args.b.now c.in-Ok-Ready.cut c.in-Ok-Ready.from c.in-Ok-Ready.below
-    (ready_from files from c.args.leaf c.args.b.now c.in-Ok-Ready.cut c.in-Ok-Ready.from c.in-Ok-Ready.below (rw c.in-Ok-Ready.field-0-is at start)) (stands (c.in-Ok-Ready.ensures.told ∙ told)))
-    (c.answer-in-Ok-Ready.ensures.failed is_fault)
+    started_leaves files from c.args.leaf c.args.steps c.args.cuts (option_map (λ name. name.now) c.args.cert) (g.F.Shelf.file c.answer.new.shelf) c.args.b c.in-Ok-Ready.c c.in-Ok-Ready.from c.in-Ok-Ready.below
+    (comes_from files from c.args.leaf c.args.cuts c.args.b c.in-Ok-Ready.c c.in-Ok-Ready.from c.in-Ok-Ready.below (rw c.in-Ok-Ready.field-0-is at start)) (stands (c.in-Ok-Ready.ensures.told ∙ told)))
+    (c.answer.ensures.failed is_fault)
 
 pub returns-in-Ok-Ready-clause-cut_off : goal.returns-in-Ok-Ready-clause-cut_off
 returns-in-Ok-Ready-clause-cut_off g c = λ told heard.
     let files = g.F.Shelf.file c.args.shelf.now in
     let from : Option (List ℕ) = option_map (λ name. name.now) c.args.from in
     let start = c.in-Ok-Ready.ensures.start told in
-    ready_cut files from c.args.leaf c.args.steps c.args.b.now c.in-Ok-Ready.cut c.in-Ok-Ready.from c.in-Ok-Ready.below c.answer-in-Ok-Ready.result.status (g.O.Sink.taken c.args.out.now)
-    (g.O.Sink.taken c.answer-in-Ok-Ready.new.out) (ready_from files from c.args.leaf c.args.b.now c.in-Ok-Ready.cut c.in-Ok-Ready.from c.in-Ok-Ready.below (rw c.in-Ok-Ready.field-0-is at start)) (c.answer-in-Ok-Ready.ensures.cut_off heard)
+    started_cut files from c.args.leaf c.args.steps c.args.cuts c.args.b c.in-Ok-Ready.c c.in-Ok-Ready.from c.in-Ok-Ready.below c.answer.result.status (g.O.Sink.taken c.args.out.now)
+    (g.O.Sink.taken c.answer.new.out) (comes_from files from c.args.leaf c.args.cuts c.args.b c.in-Ok-Ready.c c.in-Ok-Ready.from c.in-Ok-Ready.below (rw c.in-Ok-Ready.field-0-is at start)) (c.answer.ensures.cut_off heard)
 
 -- ---- refused as a start
 
@@ -107,8 +66,8 @@ returns-in-Ok-Refused-clause-answered g c = λ told.
     let files = g.F.Shelf.file c.args.shelf.now in
     let from : Option (List ℕ) = option_map (λ name. name.now) c.args.from in
     let start = c.in-Ok-Refused.ensures.start told in
-    refused_answers files from c.args.leaf c.args.steps c.print.result.kept c.args.b.now c.in-Ok-Refused.reply c.print.result.status (g.O.Sink.tells c.args.out.now) (g.O.Sink.taken c.args.out.now)
-    (g.O.Sink.taken c.print.new.out) (refused_from files from c.args.leaf c.args.b.now c.in-Ok-Refused.reply (rw c.in-Ok-Refused.field-0-is at start)) c.print.ensures.status c.print.ensures.kept
+    refused_answers files from c.args.leaf c.args.steps c.args.cuts c.print.result.kept c.args.b c.in-Ok-Refused.reply c.print.result.status (g.O.Sink.tells c.args.out.now) (g.O.Sink.taken c.args.out.now)
+    (g.O.Sink.taken c.print.new.out) (refused_from files from c.args.leaf c.args.cuts c.args.b c.in-Ok-Refused.reply (rw c.in-Ok-Refused.field-0-is at start)) c.print.ensures.status c.print.ensures.kept
     c.print.ensures.printed
 
 pub returns-in-Ok-Refused-clause-exact : goal.returns-in-Ok-Refused-clause-exact
@@ -116,8 +75,8 @@ returns-in-Ok-Refused-clause-exact g c = λ told.
     let files = g.F.Shelf.file c.args.shelf.now in
     let from : Option (List ℕ) = option_map (λ name. name.now) c.args.from in
     let start = c.in-Ok-Refused.ensures.start told in
-    refusal_only files from c.args.leaf c.args.steps c.print.result.kept c.args.b.now c.in-Ok-Refused.reply c.print.result.status c.blocks-2.ensures.formed
-    (refused_from files from c.args.leaf c.args.b.now c.in-Ok-Refused.reply (rw c.in-Ok-Refused.field-0-is at start)) c.print.ensures.status
+    refusal_only files from c.args.leaf c.args.steps c.args.cuts c.print.result.kept c.args.b c.in-Ok-Refused.reply c.print.result.status c.blocks-2.ensures.formed
+    (refused_from files from c.args.leaf c.args.cuts c.args.b c.in-Ok-Refused.reply (rw c.in-Ok-Refused.field-0-is at start)) c.print.ensures.status
 
 pub returns-in-Ok-Refused-clause-failed : goal.returns-in-Ok-Refused-clause-failed
 returns-in-Ok-Refused-clause-failed g c = λ is_fault. inr (record {
@@ -128,8 +87,8 @@ returns-in-Ok-Refused-clause-failed g c = λ is_fault. inr (record {
       let files = g.F.Shelf.file c.args.shelf.now in
       let from : Option (List ℕ) = option_map (λ name. name.now) c.args.from in
       let start = c.in-Ok-Refused.ensures.start told in
-      refused_leaves files from c.args.leaf c.args.steps (option_map (λ name. name.now) c.args.cert) (g.F.Shelf.file c.begin.new.shelf) c.args.b.now c.in-Ok-Refused.reply
-      (refused_from files from c.args.leaf c.args.b.now c.in-Ok-Refused.reply (rw c.in-Ok-Refused.field-0-is at start)) c.in-Ok-Refused.ensures.files;
+      refused_leaves files from c.args.leaf c.args.steps c.args.cuts (option_map (λ name. name.now) c.args.cert) (g.F.Shelf.file c.begin.new.shelf) c.args.b c.in-Ok-Refused.reply
+      (refused_from files from c.args.leaf c.args.cuts c.args.b c.in-Ok-Refused.reply (rw c.in-Ok-Refused.field-0-is at start)) c.in-Ok-Refused.ensures.files;
 })
 
 pub returns-in-Ok-Refused-clause-cut_off : goal.returns-in-Ok-Refused-clause-cut_off
@@ -137,8 +96,8 @@ returns-in-Ok-Refused-clause-cut_off g c = λ told heard.
     let files = g.F.Shelf.file c.args.shelf.now in
     let from : Option (List ℕ) = option_map (λ name. name.now) c.args.from in
     let start = c.in-Ok-Refused.ensures.start told in
-    refused_cut files from c.args.leaf c.args.steps c.args.b.now c.in-Ok-Refused.reply c.print.result.status (g.O.Sink.taken c.args.out.now) (g.O.Sink.taken c.print.new.out)
-    (refused_from files from c.args.leaf c.args.b.now c.in-Ok-Refused.reply (rw c.in-Ok-Refused.field-0-is at start)) (c.print.ensures.partly heard)
+    refused_cut files from c.args.leaf c.args.steps c.args.cuts c.args.b c.in-Ok-Refused.reply c.print.result.status (g.O.Sink.taken c.args.out.now) (g.O.Sink.taken c.print.new.out)
+    (refused_from files from c.args.leaf c.args.cuts c.args.b c.in-Ok-Refused.reply (rw c.in-Ok-Refused.field-0-is at start)) (c.print.ensures.partly heard)
 
 -- ---- a file that isn't there or can't be read
 
@@ -146,90 +105,63 @@ pub returns-in-Err-clause-answered : goal.returns-in-Err-clause-answered
 returns-in-Err-clause-answered g c = λ told.
     let files = g.F.Shelf.file c.args.shelf.now in
     let from : Option (List ℕ) = option_map (λ name. name.now) c.args.from in
-    fault_answers files from c.args.leaf c.args.steps c.stopped_by.result.kept c.args.b.now c.in-Err.fault c.stopped_by.result.status (g.O.Sink.tells c.args.out.now) (g.O.Sink.taken c.args.out.now) (g.O.Sink.taken c.args.out.now)
+    fault_answers files from c.args.leaf c.args.steps c.args.cuts c.stopped_by.result.kept c.args.b c.in-Err.fault c.stopped_by.result.status (g.O.Sink.tells c.args.out.now) (g.O.Sink.taken c.args.out.now) (g.O.Sink.taken c.args.out.now)
     (λ e. c.in-Err.ensures.missing told (ap (λ (f : ShelfFault). Err f) e)) c.stopped_by.ensures.status c.stopped_by.ensures.kept refl
 
 pub returns-in-Err-clause-exact : goal.returns-in-Err-clause-exact
 returns-in-Err-clause-exact g c = λ told.
     let files = g.F.Shelf.file c.args.shelf.now in
     let from : Option (List ℕ) = option_map (λ name. name.now) c.args.from in
-    fault_only files from c.args.leaf c.args.steps c.stopped_by.result.kept c.args.b.now c.in-Err.fault c.stopped_by.result.status
+    fault_only files from c.args.leaf c.args.steps c.args.cuts c.stopped_by.result.kept c.args.b c.in-Err.fault c.stopped_by.result.status
     (λ e. c.in-Err.ensures.missing told (ap (λ (f : ShelfFault). Err f) e)) c.stopped_by.ensures.status
 
 -- ---- events
-
-pub returns-in-Ok-Fresh-clause-events : goal.returns-in-Ok-Fresh-clause-events
-returns-in-Ok-Fresh-clause-events g c = λ told.
-    let files = g.F.Shelf.file c.args.shelf.now in
-    let from : Option (List ℕ) = option_map (λ name. name.now) c.args.from in
-    let start = c.in-Ok-Fresh.ensures.start told in
-    fresh_events files from c.args.steps c.args.crew c.args.b.now c.answer.result.kept c.answer.result.events.items
-    (fresh_from files from c.args.leaf c.args.b.now (rw c.in-Ok-Fresh.field-0-is at start)) c.answer.ensures.events
 
 pub returns-in-Ok-Ready-clause-events : goal.returns-in-Ok-Ready-clause-events
 returns-in-Ok-Ready-clause-events g c = λ told.
     let files = g.F.Shelf.file c.args.shelf.now in
     let from : Option (List ℕ) = option_map (λ name. name.now) c.args.from in
     let start = c.in-Ok-Ready.ensures.start told in
-    ready_events files from c.args.steps c.args.crew c.args.b.now c.in-Ok-Ready.cut c.in-Ok-Ready.from c.args.leaf c.in-Ok-Ready.below c.answer-in-Ok-Ready.result.kept c.answer-in-Ok-Ready.result.events.items
-    (ready_from files from c.args.leaf c.args.b.now c.in-Ok-Ready.cut c.in-Ok-Ready.from c.in-Ok-Ready.below (rw c.in-Ok-Ready.field-0-is at start)) c.answer-in-Ok-Ready.ensures.events
+    started_events files from c.args.leaf c.args.steps c.args.crew c.args.cuts c.args.b c.in-Ok-Ready.c c.in-Ok-Ready.from c.in-Ok-Ready.below c.answer.result.kept c.answer.result.events.items
+    (comes_from files from c.args.leaf c.args.cuts c.args.b c.in-Ok-Ready.c c.in-Ok-Ready.from c.in-Ok-Ready.below (rw c.in-Ok-Ready.field-0-is at start)) c.answer.ensures.events
 
 pub returns-in-Ok-Refused-clause-events : goal.returns-in-Ok-Refused-clause-events
 returns-in-Ok-Refused-clause-events g c = λ told.
     let files = g.F.Shelf.file c.args.shelf.now in
     let from : Option (List ℕ) = option_map (λ name. name.now) c.args.from in
     let usable = c.in-Ok-Refused.ensures.usable in
-    none_by files from c.args.steps c.args.crew c.args.b.now c.print.result.kept c.print.result.events.items
+    none_by files from c.args.steps c.args.crew c.args.cuts c.args.b c.print.result.kept c.print.result.events.items
     (printed_none c.print.result.status c.in-Ok-Refused.reply.status c.print.result.kept c.print.ensures.status c.print.ensures.kept c.print.ensures.none_kept
     (refused_apart c.in-Ok-Refused.reply.status (rw c.in-Ok-Refused.field-0-is at usable)))
     c.print.ensures.events
 
 -- ---- what is saved
 
-pub returns-in-Ok-Fresh-clause-saved : goal.returns-in-Ok-Fresh-clause-saved
-returns-in-Ok-Fresh-clause-saved g c = λ told.
-    let files = g.F.Shelf.file c.args.shelf.now in
-    let from : Option (List ℕ) = option_map (λ name. name.now) c.args.from in
-    let start = c.in-Ok-Fresh.ensures.start told in
-    saved_by files from c.args.b.now c.args.b.now None (option_map (λ name. name.now) c.args.cert) (g.F.Shelf.file c.answer.new.shelf) c.answer.result.kept
-    (fresh_begins files from c.args.b.now (fresh_from files from c.args.leaf c.args.b.now (rw c.in-Ok-Fresh.field-0-is at start)))
-    (c.answer.ensures.saved (c.in-Ok-Fresh.ensures.told ∙ told))
-
 pub returns-in-Ok-Ready-clause-saved : goal.returns-in-Ok-Ready-clause-saved
 returns-in-Ok-Ready-clause-saved g c = λ told.
     let files = g.F.Shelf.file c.args.shelf.now in
     let from : Option (List ℕ) = option_map (λ name. name.now) c.args.from in
     let start = c.in-Ok-Ready.ensures.start told in
-    saved_by files from c.args.b.now c.in-Ok-Ready.cut (Some c.in-Ok-Ready.from) (option_map (λ name. name.now) c.args.cert) (g.F.Shelf.file c.answer-in-Ok-Ready.new.shelf)
-    c.answer-in-Ok-Ready.result.kept
-    (ready_begins files from c.args.leaf c.args.b.now c.in-Ok-Ready.cut c.in-Ok-Ready.from c.in-Ok-Ready.below
-    (ready_from files from c.args.leaf c.args.b.now c.in-Ok-Ready.cut c.in-Ok-Ready.from c.in-Ok-Ready.below (rw c.in-Ok-Ready.field-0-is at start)))
-    (c.answer-in-Ok-Ready.ensures.saved (c.in-Ok-Ready.ensures.told ∙ told))
+    saved_by files from c.args.cuts c.args.b c.in-Ok-Ready.c c.in-Ok-Ready.from (option_map (λ name. name.now) c.args.cert) (g.F.Shelf.file c.answer.new.shelf)
+    c.answer.result.kept
+    (begins files from c.args.leaf c.args.cuts c.args.b c.in-Ok-Ready.c c.in-Ok-Ready.from c.in-Ok-Ready.below
+    (comes_from files from c.args.leaf c.args.cuts c.args.b c.in-Ok-Ready.c c.in-Ok-Ready.from c.in-Ok-Ready.below (rw c.in-Ok-Ready.field-0-is at start)))
+    (c.answer.ensures.saved (c.in-Ok-Ready.ensures.told ∙ told))
 
 pub returns-in-Ok-Refused-clause-saved : goal.returns-in-Ok-Refused-clause-saved
 returns-in-Ok-Refused-clause-saved g c = λ told.
     let usable = c.in-Ok-Refused.ensures.usable in
-    none_saved (g.F.Shelf.file c.args.shelf.now) (option_map (λ name. name.now) c.args.from) c.args.b.now (option_map (λ name. name.now) c.args.cert) (g.F.Shelf.file c.begin.new.shelf)
+    none_saved (g.F.Shelf.file c.args.shelf.now) (option_map (λ name. name.now) c.args.from) c.args.cuts c.args.b (option_map (λ name. name.now) c.args.cert) (g.F.Shelf.file c.begin.new.shelf)
     c.print.result.kept
     (printed_none c.print.result.status c.in-Ok-Refused.reply.status c.print.result.kept c.print.ensures.status c.print.ensures.kept c.print.ensures.none_kept
     (refused_apart c.in-Ok-Refused.reply.status (rw c.in-Ok-Refused.field-0-is at usable)))
 
 pub returns-in-Err-clause-saved : goal.returns-in-Err-clause-saved
 returns-in-Err-clause-saved g c = λ told.
-    none_saved (g.F.Shelf.file c.args.shelf.now) (option_map (λ name. name.now) c.args.from) c.args.b.now (option_map (λ name. name.now) c.args.cert) (g.F.Shelf.file c.begin.new.shelf)
+    none_saved (g.F.Shelf.file c.args.shelf.now) (option_map (λ name. name.now) c.args.from) c.args.cuts c.args.b (option_map (λ name. name.now) c.args.cert) (g.F.Shelf.file c.begin.new.shelf)
     c.stopped_by.result.kept c.stopped_by.ensures.kept
 
 -- ---- what stands where memory was wanting
-
-pub returns-in-Ok-Fresh-clause-part : goal.returns-in-Ok-Fresh-clause-part
-returns-in-Ok-Fresh-clause-part g c = λ told want.
-    let files = g.F.Shelf.file c.args.shelf.now in
-    let from : Option (List ℕ) = option_map (λ name. name.now) c.args.from in
-    let cert : Option (List ℕ) = option_map (λ name. name.now) c.args.cert in
-    let start = c.in-Ok-Fresh.ensures.start told in
-    subst (λ (fs : Files). AsBeforeOr (HoldsPartBy files from c.args.leaf c.args.steps c.args.b.now) cert fs (g.F.Shelf.file c.answer.new.shelf)) c.in-Ok-Fresh.ensures.files
-    (fresh_part files from c.args.leaf c.args.steps c.args.b.now cert (g.F.Shelf.file c.begin.new.shelf) (g.F.Shelf.file c.answer.new.shelf)
-    (fresh_from files from c.args.leaf c.args.b.now (rw c.in-Ok-Fresh.field-0-is at start)) (c.answer.ensures.part (c.in-Ok-Fresh.ensures.told ∙ told) want))
 
 pub returns-in-Ok-Ready-clause-part : goal.returns-in-Ok-Ready-clause-part
 returns-in-Ok-Ready-clause-part g c = λ told want.
@@ -237,17 +169,17 @@ returns-in-Ok-Ready-clause-part g c = λ told want.
     let from : Option (List ℕ) = option_map (λ name. name.now) c.args.from in
     let cert : Option (List ℕ) = option_map (λ name. name.now) c.args.cert in
     let start = c.in-Ok-Ready.ensures.start told in
-    subst (λ (fs : Files). AsBeforeOr (HoldsPartBy files from c.args.leaf c.args.steps c.args.b.now) cert fs (g.F.Shelf.file c.answer-in-Ok-Ready.new.shelf)) c.in-Ok-Ready.ensures.files
-    (ready_part files from c.args.leaf c.args.steps c.args.b.now c.in-Ok-Ready.cut c.in-Ok-Ready.from c.in-Ok-Ready.below cert (g.F.Shelf.file c.begin.new.shelf) (g.F.Shelf.file c.answer-in-Ok-Ready.new.shelf)
-    (ready_from files from c.args.leaf c.args.b.now c.in-Ok-Ready.cut c.in-Ok-Ready.from c.in-Ok-Ready.below (rw c.in-Ok-Ready.field-0-is at start))
-    (c.answer-in-Ok-Ready.ensures.part (c.in-Ok-Ready.ensures.told ∙ told) want))
+    subst (λ (fs : Files). AsBeforeOr (HoldsPartBy files from c.args.leaf c.args.steps c.args.cuts c.args.b) cert fs (g.F.Shelf.file c.answer.new.shelf)) c.in-Ok-Ready.ensures.files
+    (started_part files from c.args.leaf c.args.steps c.args.cuts c.args.b c.in-Ok-Ready.c c.in-Ok-Ready.from c.in-Ok-Ready.below cert (g.F.Shelf.file c.begin.new.shelf) (g.F.Shelf.file c.answer.new.shelf)
+    (comes_from files from c.args.leaf c.args.cuts c.args.b c.in-Ok-Ready.c c.in-Ok-Ready.from c.in-Ok-Ready.below (rw c.in-Ok-Ready.field-0-is at start))
+    (c.answer.ensures.part (c.in-Ok-Ready.ensures.told ∙ told) want))
 
 pub returns-in-Err-clause-part : goal.returns-in-Err-clause-part
 returns-in-Err-clause-part g c = λ told want.
-    nothing_left (HoldsPartBy (g.F.Shelf.file c.args.shelf.now) (option_map (λ name. name.now) c.args.from) c.args.leaf c.args.steps c.args.b.now)
+    nothing_left (HoldsPartBy (g.F.Shelf.file c.args.shelf.now) (option_map (λ name. name.now) c.args.from) c.args.leaf c.args.steps c.args.cuts c.args.b)
     (option_map (λ name. name.now) c.args.cert) (g.F.Shelf.file c.args.shelf.now) (g.F.Shelf.file c.begin.new.shelf) c.in-Err.ensures.files
 
 pub returns-in-Ok-Refused-clause-part : goal.returns-in-Ok-Refused-clause-part
 returns-in-Ok-Refused-clause-part g c = λ told want.
-    nothing_left (HoldsPartBy (g.F.Shelf.file c.args.shelf.now) (option_map (λ name. name.now) c.args.from) c.args.leaf c.args.steps c.args.b.now)
+    nothing_left (HoldsPartBy (g.F.Shelf.file c.args.shelf.now) (option_map (λ name. name.now) c.args.from) c.args.leaf c.args.steps c.args.cuts c.args.b)
     (option_map (λ name. name.now) c.args.cert) (g.F.Shelf.file c.args.shelf.now) (g.F.Shelf.file c.begin.new.shelf) c.in-Ok-Refused.ensures.files

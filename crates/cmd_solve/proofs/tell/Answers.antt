@@ -1,4 +1,4 @@
-use Rattle.std.proofs.Common.{sym, ap, Some, List, Err, append-nil}
+use Rattle.std.proofs.Common.{sym, ap, Some, Err, append-nil}
 use Rattle.std.specs.Option.{option_map}
 use Rattle.cert_stream.specs.declared.stream.StreamStop.{StreamStop}
 use Rattle.cmd_solve.proofs.Outcomes.{tells}

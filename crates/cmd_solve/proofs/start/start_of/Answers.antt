@@ -7,7 +7,7 @@ use Rattle.cmd_solve.proofs.Starting.{text_starts}
 use Rattle.cmd_solve.proofs.start.start_of.Goals as goal
 
 pub returns-in-Ok-clause-start : goal.returns-in-Ok-clause-start
-returns-in-Ok-clause-start c = text_starts c.args.b.now c.args.leaf c.args.text.now c.in-Ok.cert c.judged_start.result c.in-Ok.ensures.read c.judged_start.ensures.start
+returns-in-Ok-clause-start c = text_starts c.args.b.now c.args.leaf c.args.cuts c.args.text.now c.in-Ok.cert c.judged_start.result c.in-Ok.ensures.read c.judged_start.ensures.start
 
 -- a refusal of a line and a kind under their names
 named : (report : List ℕ) (line other : ℕ) (kind another : CertKind) → report ≡ cert_refusal line kind → line ≡ other → kind ≡ another → report ≡ cert_refusal other another
