@@ -1,7 +1,8 @@
 // What texts of certificates with cuts read as, and what certificates with cuts are written as.
-use crate::certificates::{fault_of, repeated, two_links, two_rows, wrong};
-use bp_theory::Items;
-use cert_text::{CertKind, Frame, read, rewrite};
+use crate::certificates::{Shape, frame_of};
+use crate::tables::{Reading, add, check, told};
+use bp_theory::Cut;
+use cert_text::read;
 use std::alloc::{AllocError, Global};
 use std::test::Fail;
 
@@ -60,29 +61,7 @@ read @ bpcert 3|claim bound 0 value 1|point 1 2 3|cut 3 rows 1 2 1|cut 3 rows 0|
 1 Syntax @ bpcert 4|claim infeasible|cut 2 rows 1 2 1|leaf 0 change 0 priced all|end|
 ";
 
-#[test]
-fn lines_of_cuts_have_their_faults(rt: HostRuntime) -> Result<(), Fail> {
-    let alloc = rt.alloc();
-    let frame = two_links(alloc)?;
-    let (wrong, count) = wrong(alloc, &frame, CUTS)?;
-    assert_eq!(rt; wrong.as_str(), "");
-    assert_eq!(rt; count, 50);
-    Ok(())
-}
-
-// One master row, no variable and no block: the first cut is row 2.
-fn one_row(alloc: Global) -> Result<Frame, AllocError> {
-    let mut masters = Items::new(alloc);
-    masters.push(true)?;
-    Ok(Frame {
-        variables: 1,
-        masters,
-        links: 0,
-        blocks: 0,
-    })
-}
-
-// The same with one master row.
+// The same with one master row and no block: the first cut is row 2.
 const ONE_ROW: &str = "\
 read @ bpcert 3|claim infeasible|cut 2 rows 1 1 1|cut 2 rows 1 1 -1|leaf 0 change 2 2 1 3 1 priced 0|end|
 read @ bpcert 3|claim infeasible|cut 2 rows 1 1 1|cut 2 rows 1 1 1|leaf 0 change 2 2 1 3 1 priced 0|end|
@@ -91,80 +70,83 @@ read @ bpcert 3|claim infeasible|cut 2 rows 1 1 1|cut 2 rows 1 1 1|leaf 0 change
 5 Number @ bpcert 3|claim infeasible|cut 2 rows 1 1 1|cut 2 rows 2 1 1 2 1|leaf 0 change 1 4 1 priced 0|end|
 ";
 
-#[test]
-fn cuts_are_named_behind_the_models_rows(rt: HostRuntime) -> Result<(), Fail> {
-    let alloc = rt.alloc();
-    let frame = one_row(alloc)?;
-    let (wrong, count) = wrong(alloc, &frame, ONE_ROW)?;
-    assert_eq!(rt; wrong.as_str(), "");
-    assert_eq!(rt; count, 5);
-    Ok(())
-}
+// The same with two master rows.
+const TWO_ROWS: &str = "\
+# Behind 256 cuts one more is at fault for that, before every other fault of the numbers in its line.
+259 Limit @ 256 @ bpcert 3|claim infeasible| @ cut 2 rows 0| @ cut 2 rows 0|
+259 Limit @ 256 @ bpcert 3|claim infeasible| @ cut 2 rows 0| @ cut 2
+259 Limit @ 256 @ bpcert 3|claim infeasible| @ cut 2 rows 0| @ cut 0 rows 0|
+259 Limit @ 256 @ bpcert 3|claim infeasible| @ cut 2 rows 0| @ cut 02 rows
+259 Limit @ 256 @ bpcert 3|claim infeasible| @ cut 2 rows 0| @ cut -1
+259 Limit @ 256 @ bpcert 3|claim infeasible| @ cut 2 rows 0| @ cut -0
+259 Limit @ 256 @ bpcert 3|claim infeasible| @ cut 2 rows 0| @ cut 1048577
+259 Limit @ 256 @ bpcert 3|claim infeasible| @ cut 2 rows 0| @ cut 5x
+259 Syntax @ 256 @ bpcert 3|claim infeasible| @ cut 2 rows 0| @ cut 
+259 Syntax @ 256 @ bpcert 3|claim infeasible| @ cut 2 rows 0| @ cut -
+259 Syntax @ 256 @ bpcert 3|claim infeasible| @ cut 2 rows 0| @ cut - 1
+259 Syntax @ 256 @ bpcert 3|claim infeasible| @ cut 2 rows 0| @ cut x
+259 Syntax @ 256 @ bpcert 3|claim infeasible| @ cut 2 rows 0| @ cut|
+259 Syntax @ 256 @ bpcert 3|claim infeasible| @ cut 2 rows 0| @ cuts 1
+259 Syntax @ 256 @ bpcert 3|claim infeasible| @ cut 2 rows 0| @ leaf 0 rows
+259 Number @ 256 @ bpcert 3|claim infeasible| @ cut 2 rows 0| @ leaf 0 change 1 259 1
+# As many cuts as may be, and some cuts.
+read @ 256 @ bpcert 3|claim infeasible| @ cut 2 rows 1 2 -1| @ leaf 0 change 2 3 1 258 1 priced 0|end|
+read @ bpcert 3|claim bound 3|cut 2 rows 2 1 1 2 -7|cut 1048576 rows 1 3 1048576|split 1 0|leaf 0 change 2 2 1 4 5 priced 0|split 2 2|leaf 1 change 0 priced all|open 1 change 2 2 0 4 -3 priced 1 2|end|
+";
 
-// Behind 256 cuts one more is at fault for that, before every other fault of the numbers in its line.
+/// The tables, with the shape of the programs and how many texts there are.
+const TABLES: [(Shape, &str, &str); 3] = [
+    (Shape::TwoLinks, CUTS, "50 texts"),
+    (Shape::OneRow, ONE_ROW, "5 texts"),
+    (Shape::TwoRows, TWO_ROWS, "18 texts"),
+];
+
 #[test]
-fn a_cut_too_many_is_at_fault_for_the_limit(rt: HostRuntime) -> Result<(), Fail> {
-    let alloc = rt.alloc();
-    let frame = two_rows(alloc)?;
-    let head = "bpcert 3\nclaim infeasible\n";
-    for (line, kind) in [
-        ("cut 2 rows 0\n", CertKind::Limit),
-        ("cut 2", CertKind::Limit),
-        ("cut 0 rows 0\n", CertKind::Limit),
-        ("cut 02 rows", CertKind::Limit),
-        ("cut -1", CertKind::Limit),
-        ("cut -0", CertKind::Limit),
-        ("cut 1048577", CertKind::Limit),
-        ("cut 5x", CertKind::Limit),
-        ("cut ", CertKind::Syntax),
-        ("cut -", CertKind::Syntax),
-        ("cut - 1", CertKind::Syntax),
-        ("cut x", CertKind::Syntax),
-        ("cut\n", CertKind::Syntax),
-        ("cuts 1", CertKind::Syntax),
-        ("leaf 0 rows", CertKind::Syntax),
-        ("leaf 0 change 1 259 1", CertKind::Number),
-    ] {
-        let text = repeated(alloc, head, "cut 2 rows 0\n", 256, line)?;
-        assert_eq!(rt;
-            fault_of(read(alloc, &frame, text.as_slice())),
-            Some((259, kind)),
-            "{line}"
-        );
+fn lines_of_cuts_have_their_faults(rt: HostRuntime) -> Result<(), Fail> {
+    for (shape, table, want) in TABLES {
+        check(
+            &rt,
+            told(rt.alloc(), Reading::Certificate(shape), table),
+            want,
+        )?;
     }
     Ok(())
 }
 
-#[test]
-fn as_many_cuts_as_may_be_are_read_and_written(rt: HostRuntime) -> Result<(), Fail> {
-    let alloc = rt.alloc();
-    let frame = two_rows(alloc)?;
-    let text = repeated(
-        alloc,
-        "bpcert 3\nclaim infeasible\n",
-        "cut 2 rows 1 2 -1\n",
-        256,
-        "leaf 0 change 2 3 1 258 1 priced 0\nend\n",
-    )?;
-    let cert = read(alloc, &frame, text.as_slice())?;
-    assert_eq!(rt; cert.cuts().len(), 256);
-    assert_eq!(rt; rewrite(alloc, &cert)?.as_slice(), text.as_slice());
+// Adds a cut: its divisor, and each row with its multiplier.
+fn add_cut(alloc: Global, told: &mut String, cut: &Cut) -> Result<(), AllocError> {
+    add(told, format!(in alloc; "; {}", cut.q))?;
+    for (row, mult) in cut.rows.as_slice() {
+        add(told, format!(in alloc; " {row}:{mult}"))?;
+    }
     Ok(())
 }
 
+// How many cuts there are, and the last two.
+fn short(alloc: Global, cuts: &[Cut]) -> Result<String, AllocError> {
+    let mut told = format!(in alloc; "{} cuts", cuts.len())?;
+    for cut in cuts.iter().skip(cuts.len().saturating_sub(2)) {
+        add_cut(alloc, &mut told, cut)?;
+    }
+    Ok(told)
+}
+
+/// The cuts of a certificate with two master rows.
+pub fn answer(alloc: Global, text: &[u8]) -> Result<String, AllocError> {
+    let frame = frame_of(alloc, Shape::TwoRows)?;
+    match read(alloc, &frame, text) {
+        Ok(cert) => short(alloc, cert.cuts()),
+        Err(_) => String::from_str(alloc, "not read"),
+    }
+}
+
+/// Cuts, with how many there are and the last two, and texts with them.
+const KEPT: &str = "\
+256 cuts; 2 1:-1; 2 1:-1 @ 256 @ bpcert 3|claim infeasible| @ cut 2 rows 1 2 -1| @ leaf 0 change 2 3 1 258 1 priced 0|end|
+2 cuts; 2 0:1 1:-7; 1048576 2:1048576 @ bpcert 3|claim bound 3|cut 2 rows 2 1 1 2 -7|cut 1048576 rows 1 3 1048576|split 1 0|leaf 0 change 2 2 1 4 5 priced 0|split 2 2|leaf 1 change 0 priced all|open 1 change 2 2 0 4 -3 priced 1 2|end|
+";
+
 #[test]
-fn cuts_are_kept_and_written(rt: HostRuntime) -> Result<(), Fail> {
-    let alloc = rt.alloc();
-    let frame = two_rows(alloc)?;
-    let text =
-        "bpcert 3\nclaim bound 3\ncut 2 rows 2 1 1 2 -7\ncut 1048576 rows 1 3 1048576\nsplit 1 0\nleaf 0 change 2 2 1 4 5 priced 0\nsplit 2 2\nleaf 1 change 0 priced all\nopen 1 change 2 2 0 4 -3 priced 1 2\nend\n";
-    let cert = read(alloc, &frame, text.as_bytes())?;
-    let cuts = cert.cuts();
-    assert_eq!(rt; cuts.len(), 2);
-    assert_eq!(rt; cuts[0].q, 2);
-    assert_eq!(rt; cuts[0].rows.as_slice(), [(0u32, 1i64), (1, -7)].as_slice());
-    assert_eq!(rt; cuts[1].q, 1_048_576);
-    assert_eq!(rt; cuts[1].rows.as_slice(), [(2u32, 1_048_576i64)].as_slice());
-    assert_eq!(rt; rewrite(alloc, &cert)?.as_slice(), text.as_bytes());
-    Ok(())
+fn cuts_are_kept(rt: HostRuntime) -> Result<(), Fail> {
+    check(&rt, told(rt.alloc(), Reading::Cuts, KEPT), "2 texts")
 }

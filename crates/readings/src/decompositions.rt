@@ -1,6 +1,8 @@
 // What texts of decompositions of a small model, and lists of its rows, mean or are refused for.
-use bp_model::{Dec, Items, Model, Names, Parts, Row, Sense, Span};
-use dec_read::{DecFault, DecKind, read_dec};
+use crate::tables::{Reading, add, check, told};
+use bp_model::{Dec, Model};
+use dec_read::{DecFault, read_dec};
+use lp_read::read_lp;
 use std::alloc::{AllocError, Global};
 use std::test::Fail;
 
@@ -58,126 +60,85 @@ const TEXTS: &str = "\
 3 BadByte @ NBLOCKS 1|BLOCK 1|cap1ä
 ";
 
-/// Names in order.
-pub fn names(alloc: Global, all: &[&str]) -> Result<Names, AllocError> {
-    let mut names = Names::new(alloc);
-    for name in all {
-        if names.len() == u32::MAX {
-            break;
-        }
-        names.add(alloc, name)?;
-    }
-    Ok(names)
-}
+/// The rows `job1`, `job2`, `job3`, `cap1`, `cap2` without terms, and the variables `x11`, `x12`, `x13`, `block`.
+const MODEL: &[u8] = b"min
+st
+job1: 0 x11 >= 0
+job2: 0 x12 >= 0
+job3: 0 x13 >= 0
+cap1: 0 block >= 0
+cap2: 0 block >= 0
+bin
+x11 x12 x13 block
+end
+";
 
-/// Four spans from 0 to 1.
-fn spans(alloc: Global) -> Result<Items<Span>, AllocError> {
-    Ok(Items::from_vec(Vec::from_elem(alloc, Span { lo: 0, hi: 1 }, 4)?))
-}
-
-/// Five rows without terms.
-fn rows(alloc: Global) -> Result<Items<Row>, AllocError> {
-    let mut rows = Items::new(alloc);
-    for _ in 0..5 {
-        rows.push(Row {
-            sense: Sense::Le,
-            low: 0,
-            rhs: 0,
-            terms: Items::new(alloc),
-        })?;
-    }
-    Ok(rows)
-}
-
-/// A model with the rows `job1`, `job2`, `job3`, `cap1`, `cap2` and the variables `x11`, `x12`, `x13`, `block`.
-fn model(alloc: Global) -> Result<Model, AllocError> {
-    let parts = Parts {
-        names: names(alloc, &["x11", "x12", "x13", "block"])?,
-        row_names: names(alloc, &["job1", "job2", "job3", "cap1", "cap2"])?,
-        spans: spans(alloc)?,
-        rows: rows(alloc)?,
-        costs: Items::new(alloc),
-        constant: 0,
-        maximises: false,
-    };
-    if !parts.are_fitting() {
-        return Err(AllocError);
-    }
-    Model::make(alloc, parts).map_err(|_| AllocError)
-}
-
-/// Adds a place: a block's number, or a dash for the master.
-fn add_place(alloc: Global, text: &mut String, place: Option<u32>) -> Result<(), AllocError> {
+/// A place: a block's number, or a dash for the master.
+fn place_text(alloc: Global, place: Option<u32>) -> Result<String, AllocError> {
     match place {
-        Some(block) => text.push_str(format!(in alloc; "{block}")?.as_str()),
-        None => text.push_str("-"),
+        Some(block) => format!(in alloc; "{block}"),
+        None => String::from_str(alloc, "-"),
     }
+}
+
+/// Adds the place of each row, and the listed variables with theirs.
+fn add_places(alloc: Global, text: &mut String, dec: &Dec) -> Result<(), AllocError> {
+    for place in dec.places() {
+        text.push_str(" ")?;
+        add(text, place_text(alloc, *place))?;
+    }
+    text.push_str(";")?;
+    for (var, place) in dec.listed() {
+        add(text, format!(in alloc; " {var}:"))?;
+        add(text, place_text(alloc, *place))?;
+    }
+    Ok(())
 }
 
 /// A decomposition in short: the number of blocks, the place of each row, and the listed variables with theirs.
 pub fn short(alloc: Global, dec: &Dec) -> Result<String, AllocError> {
     let mut text = format!(in alloc; "{} blocks;", dec.blocks())?;
-    for place in dec.places() {
-        text.push_str(" ")?;
-        add_place(alloc, &mut text, *place)?;
-    }
-    text.push_str(";")?;
-    for (var, place) in dec.listed() {
-        text.push_str(format!(in alloc; " {var}:")?.as_str())?;
-        add_place(alloc, &mut text, *place)?;
-    }
+    add_places(alloc, &mut text, dec)?;
     Ok(text)
 }
 
 /// What a text means in short, or what it is refused for.
-fn answer(alloc: Global, text: &[u8]) -> Result<String, AllocError> {
-    match read_dec(alloc, text, &model(alloc)?) {
+pub fn answer(alloc: Global, text: &[u8]) -> Result<String, AllocError> {
+    match read_lp(alloc, MODEL) {
+        Ok(model) => answer_of(alloc, &model, text),
+        Err(_) => String::from_str(alloc, "no model"),
+    }
+}
+
+// The same of a model.
+fn answer_of(alloc: Global, model: &Model, text: &[u8]) -> Result<String, AllocError> {
+    match read_dec(alloc, text, model) {
         Ok(dec) => short(alloc, &dec),
         Err(DecFault::At { line, kind }) => format!(in alloc; "{line} {kind:?}"),
         Err(DecFault::NoMemory) => Err(AllocError),
     }
 }
 
-/// The texts with another answer than theirs, with that answer; how many texts there are.
-fn wrong(alloc: Global) -> Result<(String, usize), AllocError> {
-    let mut all = String::new(alloc);
-    let mut count = 0usize;
-    for line in TEXTS.lines() {
-        if let Some((want, written)) = line.split_once(" @ ") {
-            count = count.saturating_add(1);
-            let mut text = Vec::new(alloc);
-            for byte in written.as_bytes() {
-                text.push(if *byte == b'|' { b'\n' } else { *byte })?;
-            }
-            let found = answer(alloc, &text)?;
-            if found.as_str() != want {
-                all.push_str(format!(in alloc; "{found} at {line}\n")?.as_str())?;
-            }
-        }
-    }
-    Ok((all, count))
-}
-
 #[test]
 fn each_text_means_its_decomposition_or_has_its_first_fault(rt: HostRuntime) -> Result<(), Fail> {
-    let (wrong, count) = wrong(rt.alloc())?;
-    assert_eq!(rt; wrong.as_str(), "");
-    assert_eq!(rt; count, 41);
-    Ok(())
+    check(
+        &rt,
+        told(rt.alloc(), Reading::Decomposition, TEXTS),
+        "41 texts",
+    )
 }
+
+/// Texts at their greatest length and past it.
+const LONG_TEXTS: &str = "\
+0 Limit @ 16777217 @  @   @ 
+1 NoNblocks @ 16777216 @  @   @ 
+";
 
 #[test]
 fn texts_are_too_long_past_their_limit(rt: HostRuntime) -> Result<(), Fail> {
-    for (length, want) in [(16_777_217, "0 Limit"), (16_777_216, "1 NoNblocks")] {
-        let text = Vec::from_elem(rt.alloc(), b' ', length)?;
-        assert_eq!(rt; answer(rt.alloc(), &text)?.as_str(), want);
-    }
-    Ok(())
-}
-
-#[test]
-fn a_comment_may_hold_any_byte(rt: HostRuntime) -> Result<(), Fail> {
-    let found = answer(rt.alloc(), b"NBLOCKS 1 \\ \xff\x00\n")?;
-    assert_eq!(rt; found.as_str(), "1 blocks; - - - - -;");
-    Ok(())
+    check(
+        &rt,
+        told(rt.alloc(), Reading::Decomposition, LONG_TEXTS),
+        "2 texts",
+    )
 }

@@ -1,5 +1,6 @@
 //! Tests of what LP texts, texts of decompositions, lists of rows and certificates read as, and of models at their limits.
 //! They stand apart from the crates that they test, since a crate that has tests is proved twice, and others wait for these.
+//! Their cases are lines of tables, and one function reads a line, since tests are proved too.
 #![tactic(auto)]
 
 #[cfg(test)]
@@ -14,5 +15,7 @@ mod lp_texts;
 mod models;
 #[cfg(test)]
 mod row_lists;
+#[cfg(test)]
+mod tables;
 #[cfg(test)]
 mod tokens;

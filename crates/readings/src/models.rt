@@ -1,288 +1,399 @@
 // Models of parts: worked values of the limits, and each call once with ample memory.
+use crate::lp_texts::short;
+use crate::tables::{add, check, check_none};
 use bp_model::{Items, Miss, Model, ModelFault, Names, Parts, Row, Sense, Span, Term};
-use std::alloc::Global;
+use std::alloc::{AllocError, Global};
 use std::test::Fail;
 
 // A span's ends that are the greatest numbers of texts.
 const MOST: i64 = (1 << 62) - 1;
 
-// So many names: `v0`, `v1` and so on.
-fn names(alloc: Global, count: usize) -> Result<Names, Fail> {
-    let mut names = Names::new(alloc);
-    for i in 0..count {
-        if names.len() == u32::MAX {
-            return Err(Fail::new("too many names"));
-        }
-        names.add(alloc, format!(in alloc; "v{i}")?.as_str())?;
+/// Ends of spans, and how many of these there are.
+type Spans = (i64, i64, u32);
+
+/// Terms of a row or of costs.
+#[derive(Clone, Copy)]
+enum Terms {
+    /// None.
+    No,
+    /// A term of coefficient 0.
+    Zero,
+    /// A term of coefficient 2.
+    Two,
+    /// A term that is at most 2^61 - 1.
+    Half,
+    /// Two terms whose sum leaves 62 bits.
+    Large,
+    /// Terms of three variables, some of which add up and some of which leave nothing.
+    Added,
+}
+
+// The variables and the coefficients of terms.
+fn terms_of(terms: Terms) -> &'static [(u32, i64)] {
+    match terms {
+        Terms::No => &[],
+        Terms::Zero => &[(0, 0)],
+        Terms::Two => &[(0, 2)],
+        Terms::Half => &[(0, 2_305_843_009_213_693_951)],
+        Terms::Large => &[(0, i64::MAX), (0, i64::MAX)],
+        Terms::Added => &[(2, 5), (1, 1), (0, 7), (2, -3), (1, -1)],
     }
-    Ok(names)
+}
+
+/// Parts of a model: spans, how many rows of these terms with what their sums are at most, how many times these terms are
+/// costs with their constant; and what the model is refused for.
+type Case = (
+    [Spans; 2],
+    (u32, Terms, i64),
+    (u32, Terms, i128),
+    Option<ModelFault>,
+);
+
+const NO_SPANS: Spans = (0, 0, 0);
+
+const BIT: [Spans; 2] = [(0, 1, 1), NO_SPANS];
+
+const NO_ROWS: (u32, Terms, i64) = (0, Terms::No, 0);
+
+const NO_COSTS: (u32, Terms, i128) = (0, Terms::No, 0);
+
+const LARGE: (u32, Terms, i64) = (1, Terms::Large, 0);
+
+/// A span for each of three variables, and a row and costs of the same terms.
+const ADDED_UP: Case = (
+    [(0, 3, 3), NO_SPANS],
+    (1, Terms::Added, 20),
+    (1, Terms::Added, 4),
+    None,
+);
+
+/// A variable that costs 2, and a constant.
+const PAID: Case = ([(-5, 3, 1), NO_SPANS], NO_ROWS, (1, Terms::Two, 7), None);
+
+const ACTIVITY: Option<ModelFault> = Some(ModelFault::Activity(Some(0)));
+
+const OBJECTIVE: Option<ModelFault> = Some(ModelFault::Activity(None));
+
+const LIMIT: Option<ModelFault> = Some(ModelFault::Limit);
+
+const CASES: [Case; 18] = [
+    // An activity is at its limit.
+    (
+        BIT,
+        (1, Terms::Half, 2_305_843_009_213_693_951),
+        NO_COSTS,
+        None,
+    ),
+    (
+        BIT,
+        (1, Terms::Half, 2_305_843_009_213_693_952),
+        NO_COSTS,
+        None,
+    ),
+    (
+        BIT,
+        (1, Terms::Half, 2_305_843_009_213_693_953),
+        NO_COSTS,
+        ACTIVITY,
+    ),
+    // The objective is refused before a row.
+    (BIT, LARGE, (0, Terms::No, MOST as i128), ACTIVITY),
+    (BIT, LARGE, (0, Terms::No, MOST as i128 + 1), OBJECTIVE),
+    (BIT, LARGE, (0, Terms::No, -(MOST as i128)), ACTIVITY),
+    (BIT, LARGE, (0, Terms::No, i128::MIN), OBJECTIVE),
+    // Binary digits: 132 times 62 are 8,184, and 255 has 8 more.
+    ([(0, MOST, 132), (0, 127, 1)], NO_ROWS, NO_COSTS, None),
+    ([(0, MOST, 132), (0, 255, 1)], NO_ROWS, NO_COSTS, None),
+    (
+        [(0, MOST, 132), (0, 256, 1)],
+        NO_ROWS,
+        NO_COSTS,
+        Some(ModelFault::Bits),
+    ),
+    // The first crossed span is refused.
+    (
+        [(0, 0, 1), (1, 0, 2)],
+        NO_ROWS,
+        NO_COSTS,
+        Some(ModelFault::Crossed(1)),
+    ),
+    // Ends are numbers of texts.
+    ([(-MOST, MOST, 1), NO_SPANS], NO_ROWS, NO_COSTS, None),
+    (
+        [(MOST + 1, MOST + 1, 1), NO_SPANS],
+        NO_ROWS,
+        NO_COSTS,
+        LIMIT,
+    ),
+    ([(-MOST - 1, 0, 1), NO_SPANS], NO_ROWS, NO_COSTS, LIMIT),
+    // Variables, rows and terms have limits.
+    (
+        [(0, 0, 4096), NO_SPANS],
+        (8192, Terms::No, 0),
+        (65_536, Terms::Zero, 0),
+        None,
+    ),
+    (
+        [(0, 0, 4097), NO_SPANS],
+        (8192, Terms::No, 0),
+        (65_536, Terms::Zero, 0),
+        LIMIT,
+    ),
+    (
+        [(0, 0, 4096), NO_SPANS],
+        (8193, Terms::No, 0),
+        (65_536, Terms::Zero, 0),
+        LIMIT,
+    ),
+    (
+        [(0, 0, 4096), NO_SPANS],
+        (8192, Terms::No, 0),
+        (65_537, Terms::Zero, 0),
+        LIMIT,
+    ),
+];
+
+// Parts without any.
+fn nothing(alloc: Global, constant: i128) -> Parts {
+    Parts {
+        names: Names::new(alloc),
+        row_names: Names::new(alloc),
+        spans: Items::new(alloc),
+        rows: Items::new(alloc),
+        costs: Items::new(alloc),
+        constant,
+        maximises: false,
+    }
+}
+
+// One name more: `v0`, `v1` and so on.
+fn add_name(alloc: Global, names: &mut Names) -> Result<(), AllocError> {
+    let number = names.len();
+    if number < u32::MAX {
+        names.add(alloc, format!(in alloc; "v{number}")?.as_str())?;
+    }
+    Ok(())
+}
+
+// More variables.
+fn add_spans(alloc: Global, parts: &mut Parts, spans: Spans) -> Result<(), AllocError> {
+    for _ in 0..spans.2 {
+        add_name(alloc, &mut parts.names)?;
+        parts.spans.push(Span {
+            lo: spans.0,
+            hi: spans.1,
+        })?;
+    }
+    Ok(())
+}
+
+// More terms.
+fn add_terms(all: &mut Items<Term>, terms: &[(u32, i64)]) -> Result<(), AllocError> {
+    for (var, coef) in terms {
+        all.push(Term {
+            var: *var,
+            coef: *coef,
+        })?;
+    }
+    Ok(())
 }
 
 // A row whose sum is at most a number.
-fn at_most(alloc: Global, terms: &[Term], rhs: i64) -> Result<Row, Fail> {
+fn at_most(alloc: Global, terms: &[(u32, i64)], rhs: i64) -> Result<Row, AllocError> {
+    let mut all = Items::new(alloc);
+    add_terms(&mut all, terms)?;
     Ok(Row {
         sense: Sense::Le,
         low: rhs,
         rhs,
-        terms: Items::from_vec(terms.to_vec(alloc)?),
+        terms: all,
     })
 }
 
-// What making a model of spans, rows and costs gives.
-fn made(
-    rt: &HostRuntime,
-    spans: Vec<Span>,
-    rows: Vec<Row>,
-    costs: Vec<Term>,
-    constant: i128,
-) -> Result<Result<Model, ModelFault>, Fail> {
-    let alloc = rt.alloc();
-    let parts = Parts {
-        names: names(alloc, spans.len())?,
-        row_names: names(alloc, rows.len())?,
-        spans: Items::from_vec(spans),
-        rows: Items::from_vec(rows),
-        costs: Items::from_vec(costs),
-        constant,
-        maximises: false,
-    };
+// More rows.
+fn add_rows(alloc: Global, parts: &mut Parts, rows: (u32, Terms, i64)) -> Result<(), AllocError> {
+    for _ in 0..rows.0 {
+        add_name(alloc, &mut parts.row_names)?;
+        parts.rows.push(at_most(alloc, terms_of(rows.1), rows.2)?)?;
+    }
+    Ok(())
+}
+
+// More costs.
+fn add_costs(parts: &mut Parts, costs: (u32, Terms, i128)) -> Result<(), AllocError> {
+    for _ in 0..costs.0 {
+        add_terms(&mut parts.costs, terms_of(costs.1))?;
+    }
+    Ok(())
+}
+
+// Adds the parts of a case.
+fn add_parts(alloc: Global, parts: &mut Parts, case: &Case) -> Result<(), AllocError> {
+    add_spans(alloc, parts, case.0[0])?;
+    add_spans(alloc, parts, case.0[1])?;
+    add_rows(alloc, parts, case.1)?;
+    add_costs(parts, case.2)
+}
+
+// The parts of a case.
+fn parts_of(alloc: Global, case: &Case) -> Result<Parts, AllocError> {
+    let mut parts = nothing(alloc, case.2.2);
+    add_parts(alloc, &mut parts, case)?;
+    Ok(parts)
+}
+
+// What the model of a case is refused for.
+fn refusal(alloc: Global, case: &Case) -> Result<Option<ModelFault>, AllocError> {
+    let parts = parts_of(alloc, case)?;
     if !parts.are_fitting() {
-        return Err(Fail::new("the parts don't fit"));
+        return Ok(Some(ModelFault::NoMemory));
     }
-    Ok(Model::make(alloc, parts))
-}
-
-// What making a model of spans alone gives.
-fn made_of_spans(rt: &HostRuntime, spans: Vec<Span>) -> Result<Option<ModelFault>, Fail> {
-    Ok(made(rt, spans, Vec::new(rt.alloc()), Vec::new(rt.alloc()), 0)?.err())
-}
-
-// What making a model of one span alone gives.
-fn made_of_span(rt: &HostRuntime, lo: i64, hi: i64) -> Result<Option<ModelFault>, Fail> {
-    made_of_spans(rt, vec![in rt.alloc(); Span { lo, hi }]?)
-}
-
-#[test]
-fn the_worked_activity_is_at_its_limit(rt: HostRuntime) -> Result<(), Fail> {
-    let alloc = rt.alloc();
-    let term = Term {
-        var: 0,
-        coef: 2_305_843_009_213_693_951,
-    };
-    for (rhs, want) in [
-        (2_305_843_009_213_693_951, None),
-        (2_305_843_009_213_693_952, None),
-        (
-            2_305_843_009_213_693_953,
-            Some(ModelFault::Activity(Some(0))),
-        ),
-    ] {
-        let mut rows = Vec::new(alloc);
-        rows.push(at_most(alloc, &[term], rhs)?)?;
-        let model = made(
-            &rt,
-            vec![in alloc; Span { lo: 0, hi: 1 }]?,
-            rows,
-            Vec::new(alloc),
-            0,
-        )?;
-        assert_eq!(rt; model.err(), want);
+    match Model::make(alloc, parts) {
+        Ok(_) => Ok(None),
+        Err(fault) => Ok(Some(fault)),
     }
-    Ok(())
 }
 
-#[test]
-fn the_objective_is_refused_before_a_row(rt: HostRuntime) -> Result<(), Fail> {
-    let alloc = rt.alloc();
-    let large = Term {
-        var: 0,
-        coef: i64::MAX,
-    };
-    for (constant, want) in [
-        (MOST as i128, Some(ModelFault::Activity(Some(0)))),
-        (MOST as i128 + 1, Some(ModelFault::Activity(None))),
-        (-(MOST as i128), Some(ModelFault::Activity(Some(0)))),
-        (i128::MIN, Some(ModelFault::Activity(None))),
-    ] {
-        let mut rows = Vec::new(alloc);
-        rows.push(at_most(alloc, &[large, large], 0)?)?;
-        let model = made(
-            &rt,
-            vec![in alloc; Span { lo: 0, hi: 1 }]?,
-            rows,
-            Vec::new(alloc),
-            constant,
-        )?;
-        assert_eq!(rt; model.err(), want);
-    }
-    Ok(())
-}
-
-#[test]
-fn bits_are_summed_to_their_limit(rt: HostRuntime) -> Result<(), Fail> {
-    // 132 times 62 digits are 8,184, and 255 has 8 more.
-    for (last, want) in [(127, None), (255, None), (256, Some(ModelFault::Bits))] {
-        let mut spans = Vec::new(rt.alloc());
-        for _ in 0..132 {
-            spans.push(Span { lo: 0, hi: MOST })?;
+// The places of the cases in which it is something else.
+fn wrong(alloc: Global) -> Result<String, AllocError> {
+    let mut all = String::new(alloc);
+    for place in 0..18 {
+        let case = CASES[place];
+        if refusal(alloc, &case)? != case.3 {
+            add(&mut all, format!(in alloc; "{place} "))?;
         }
-        spans.push(Span { lo: 0, hi: last })?;
-        assert_eq!(rt; made_of_spans(&rt, spans)?, want);
     }
-    Ok(())
+    Ok(all)
 }
 
 #[test]
-fn the_first_crossed_span_is_refused(rt: HostRuntime) -> Result<(), Fail> {
-    let alloc = rt.alloc();
-    let empty = Span { lo: 1, hi: 0 };
-    let spans = vec![in alloc; Span { lo: 0, hi: 0 }, empty, empty]?;
-    assert_eq!(rt; made_of_spans(&rt, spans)?, Some(ModelFault::Crossed(1)));
-    Ok(())
+fn models_are_made_of_parts_within_their_limits(rt: HostRuntime) -> Result<(), Fail> {
+    check(&rt, wrong(rt.alloc()), "")
 }
 
-#[test]
-fn ends_are_numbers_of_texts(rt: HostRuntime) -> Result<(), Fail> {
-    for (lo, hi, want) in [
-        (-MOST, MOST, None),
-        (MOST + 1, MOST + 1, Some(ModelFault::Limit)),
-        (-MOST - 1, 0, Some(ModelFault::Limit)),
-    ] {
-        assert_eq!(rt; made_of_span(&rt, lo, hi)?, want);
+// The model of a case.
+fn made(alloc: Global, case: &Case) -> Result<Model, AllocError> {
+    let parts = parts_of(alloc, case)?;
+    if !parts.are_fitting() {
+        return Err(AllocError);
     }
-    Ok(())
+    match Model::make(alloc, parts) {
+        Ok(model) => Ok(model),
+        Err(_) => Err(AllocError),
+    }
+}
+
+// Where a model has names: of a variable, of none, of a row, and of none.
+fn places(alloc: Global, model: &Model) -> Result<String, AllocError> {
+    let (var, no_var) = (model.var_of("v1"), model.var_of("w"));
+    let (row, no_row) = (model.row_of("v0"), model.row_of("v1"));
+    let spans = model.spans().len();
+    format!(in alloc; "; {spans} spans; {var:?} {no_var:?}; {row:?} {no_row:?}")
+}
+
+// A model in short, and where it has names.
+fn told(alloc: Global) -> Result<String, AllocError> {
+    let model = made(alloc, &ADDED_UP)?;
+    let mut told = short(alloc, &model)?;
+    add(&mut told, places(alloc, &model))?;
+    Ok(told)
 }
 
 #[test]
-fn variables_rows_and_terms_have_limits(rt: HostRuntime) -> Result<(), Fail> {
-    let alloc = rt.alloc();
-    for (vars, rows, terms, want) in [
-        (4096, 8192, 65_536, None),
-        (4097, 8192, 65_536, Some(ModelFault::Limit)),
-        (4096, 8193, 65_536, Some(ModelFault::Limit)),
-        (4096, 8192, 65_537, Some(ModelFault::Limit)),
-    ] {
-        let mut spans = Vec::new(alloc);
-        for _ in 0..vars {
-            spans.push(Span { lo: 0, hi: 0 })?;
+fn a_model_tells_its_parts_and_terms_add_up_in_order_and_without_zeros(
+    rt: HostRuntime,
+) -> Result<(), Fail> {
+    check(
+        &rt,
+        told(rt.alloc()),
+        "min 7 v0 2 v2 4; v0: 7 v0 2 v2 <= 20; v0 0..3; v1 0..3; v2 0..3; 3 spans; Some(1) None; Some(0) None",
+    )
+}
+
+/// Points with what each misses: its length, a bound, a row or nothing.
+const POINTS: [(&[i64], Option<Miss>); 4] = [
+    (&[0, 0], Some(Miss::Length)),
+    (&[0, -1, 4], Some(Miss::Bound(1))),
+    (&[3, 0, 0], Some(Miss::Row(0))),
+    (&[2, 3, 3], None),
+];
+
+// How many points miss something else.
+fn other_misses(alloc: Global) -> Result<u32, AllocError> {
+    let model = made(alloc, &ADDED_UP)?;
+    let mut others = 0u32;
+    for (point, want) in POINTS {
+        if model.misses(point) != want {
+            others = others.saturating_add(1);
         }
-        let mut all = Vec::new(alloc);
-        for _ in 0..rows {
-            all.push(at_most(alloc, &[], 0)?)?;
-        }
-        let mut costs = Vec::new(alloc);
-        for _ in 0..terms {
-            costs.push(Term { var: 0, coef: 0 })?;
-        }
-        assert_eq!(rt; made(&rt, spans, all, costs, 0)?.err(), want);
     }
-    Ok(())
-}
-
-// Three variables, and a row and costs of the same terms, some of which add up and some of which leave nothing.
-fn added_up(rt: &HostRuntime) -> Result<Model, Fail> {
-    let alloc = rt.alloc();
-    let spans = vec![in alloc;
-        Span { lo: 0, hi: 3 },
-        Span { lo: 0, hi: 3 },
-        Span { lo: 0, hi: 3 },
-    ]?;
-    let terms = [
-        Term { var: 2, coef: 5 },
-        Term { var: 1, coef: 1 },
-        Term { var: 0, coef: 7 },
-        Term { var: 2, coef: -3 },
-        Term { var: 1, coef: -1 },
-    ];
-    let mut rows = Vec::new(alloc);
-    rows.push(at_most(alloc, &terms, 20)?)?;
-    made(rt, spans, rows, terms.to_vec(alloc)?, 4)?.map_err(|_| Fail::new("the parts are refused"))
-}
-
-#[test]
-fn terms_add_up_in_order_and_without_zeros(rt: HostRuntime) -> Result<(), Fail> {
-    let model = added_up(&rt)?;
-    assert_eq!(rt; model.rows(), 1);
-    for terms in [model.costs(), model.row(0).terms.as_slice()] {
-        assert_eq!(rt; terms.len(), 2);
-        assert_eq!(rt; (terms[0].var, terms[0].coef), (0, 7));
-        assert_eq!(rt; (terms[1].var, terms[1].coef), (2, 2));
-    }
-    Ok(())
-}
-
-#[test]
-fn a_model_tells_its_parts(rt: HostRuntime) -> Result<(), Fail> {
-    let model = added_up(&rt)?;
-    assert_eq!(rt; model.vars(), 3);
-    assert_eq!(rt; model.rows(), 1);
-    assert_eq!(rt; (model.constant(), model.maximises()), (4, false));
-    assert_eq!(rt;
-        (model.span(1).lo, model.span(1).hi, model.spans().len()),
-        (0, 3, 3)
-    );
-    Ok(())
-}
-
-#[test]
-fn a_model_tells_its_names(rt: HostRuntime) -> Result<(), Fail> {
-    let model = added_up(&rt)?;
-    assert_eq!(rt; model.vars(), 3);
-    assert_eq!(rt; model.rows(), 1);
-    assert_eq!(rt; (model.name(2), model.row_name(0)), ("v2", "v0"));
-    assert_eq!(rt; (model.var_of("v1"), model.var_of("w")), (Some(1), None));
-    assert_eq!(rt; (model.row_of("v0"), model.row_of("v1")), (Some(0), None));
-    Ok(())
+    Ok(others)
 }
 
 #[test]
 fn a_point_misses_its_length_a_bound_a_row_or_nothing(rt: HostRuntime) -> Result<(), Fail> {
-    let model = added_up(&rt)?;
-    assert_eq!(rt; model.misses(&[0, 0]), Some(Miss::Length));
-    assert_eq!(rt; model.misses(&[0, -1, 4]), Some(Miss::Bound(1)));
-    assert_eq!(rt; model.misses(&[3, 0, 0]), Some(Miss::Row(0)));
-    assert_eq!(rt; model.misses(&[2, 3, 3]), None);
-    Ok(())
+    check_none(&rt, other_misses(rt.alloc()))
 }
 
-#[test]
-fn names_are_numbered_in_order(rt: HostRuntime) -> Result<(), Fail> {
-    let alloc = rt.alloc();
-    let mut names = Names::new(alloc);
-    assert!(rt; names.is_empty());
-    for (name, want) in [
-        ("b", (0, true)),
-        ("a", (1, true)),
-        ("b", (0, false)),
-        ("", (2, true)),
-    ] {
-        assert!(rt; names.len() < 9);
-        assert_eq!(rt; names.add(alloc, name)?, want);
+// What a point costs, where it misses nothing.
+fn cost_of(model: &Model, point: &[i64]) -> Option<i64> {
+    if model.misses(point).is_some() {
+        return None;
     }
-    assert_eq!(rt; names.len(), 3);
-    assert_eq!(rt; (names.get(0), names.get(1), names.get(2)), ("b", "a", ""));
-    assert_eq!(rt; (names.place_of("a"), names.place_of("c")), (Some(1), None));
-    Ok(())
+    Some(model.cost(point))
+}
+
+// What the point of -5 costs.
+fn cost_told(alloc: Global) -> Result<String, AllocError> {
+    let model = made(alloc, &PAID)?;
+    format!(in alloc; "{:?}", cost_of(&model, &[-5]))
 }
 
 #[test]
 fn a_point_costs_its_sum_and_the_constant(rt: HostRuntime) -> Result<(), Fail> {
-    let alloc = rt.alloc();
-    let spans = vec![in alloc; Span { lo: -5, hi: 3 }]?;
-    let Ok(model) = made(
-        &rt,
-        spans,
-        Vec::new(alloc),
-        vec![in alloc; Term { var: 0, coef: 2 }]?,
-        7,
-    )?
-    else {
-        return Err(Fail::new("the parts are refused"));
-    };
-    let point = [-5];
-    if model.misses(&point).is_none() {
-        assert_eq!(rt; model.cost(&point), -3);
+    check(&rt, cost_told(rt.alloc()), "Some(-3)")
+}
+
+// Adds the number that a name has, and whether it is a new one.
+fn add_number(
+    alloc: Global,
+    told: &mut String,
+    names: &mut Names,
+    name: &str,
+) -> Result<(), AllocError> {
+    if names.len() < 9 {
+        let (number, is_new) = names.add(alloc, name)?;
+        add(told, format!(in alloc; "; {number} {is_new}"))?;
     }
-    assert_eq!(rt; model.misses(&point), None);
     Ok(())
+}
+
+// What names tell: how many there are, three of them, and the places of one and of none.
+fn names_told(alloc: Global, names: &Names) -> Result<String, AllocError> {
+    if names.len() != 3 {
+        return String::from_str(alloc, "not three");
+    }
+    let (first, second, third) = (names.get(0), names.get(1), names.get(2));
+    let (found, none) = (names.place_of("a"), names.place_of("c"));
+    format!(in alloc; "; {first} {second} {third}.; {found:?} {none:?}")
+}
+
+// What is told of names while they are added.
+fn numbered(alloc: Global) -> Result<String, AllocError> {
+    let mut names = Names::new(alloc);
+    let mut told = format!(in alloc; "{}", names.is_empty())?;
+    for name in ["b", "a", "b", ""] {
+        add_number(alloc, &mut told, &mut names, name)?;
+    }
+    add(&mut told, names_told(alloc, &names))?;
+    Ok(told)
+}
+
+#[test]
+fn names_are_numbered_in_order(rt: HostRuntime) -> Result<(), Fail> {
+    check(
+        &rt,
+        numbered(rt.alloc()),
+        "true; 0 true; 1 true; 0 false; 2 true; b a .; Some(1) None",
+    )
 }

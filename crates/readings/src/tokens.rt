@@ -1,4 +1,5 @@
 // What texts are cut into.
+use crate::tables::{Reading, add, check, told};
 use lp_token::{LpFault, LpKind, Section, Tok, TokKind, section_at, section_of, tokens};
 use std::alloc::{AllocError, Global};
 use std::test::Fail;
@@ -12,6 +13,8 @@ const TEXTS: &str = "\
 ; 1 0..3 Word @ end|\0
 3 BadByte @ max| x|\0
 2 BadByte @ x| .e3
+; 1 0..255 Name @ 255 @  @ x @ 
+1 LongName @ 256 @  @ x @ 
 ";
 
 /// A token in short.
@@ -21,7 +24,7 @@ fn token_line(alloc: Global, token: &Tok) -> Result<String, AllocError> {
 }
 
 /// The tokens in short, or the line and the kind of the first fault.
-fn answer(alloc: Global, text: &[u8]) -> Result<String, AllocError> {
+pub fn answer(alloc: Global, text: &[u8]) -> Result<String, AllocError> {
     if text.len() > 1000 {
         return String::from_str(alloc, "not tried");
     }
@@ -32,66 +35,50 @@ fn answer(alloc: Global, text: &[u8]) -> Result<String, AllocError> {
     };
     let mut all = String::new(alloc);
     for token in found.as_slice() {
-        all.push_str(token_line(alloc, token)?.as_str())?;
+        add(&mut all, token_line(alloc, token))?;
     }
     Ok(all)
 }
 
-/// The texts with another answer than theirs, with that answer; how many texts there are.
-fn wrong(alloc: Global) -> Result<(String, usize), AllocError> {
-    let mut all = String::new(alloc);
-    let mut count = 0usize;
-    for line in TEXTS.lines() {
-        if let Some((want, written)) = line.split_once(" @ ") {
-            count = count.saturating_add(1);
-            let mut text = Vec::new(alloc);
-            for byte in written.as_bytes() {
-                text.push(if *byte == b'|' { b'\n' } else { *byte })?;
-            }
-            let found = answer(alloc, &text)?;
-            if found.as_str() != want {
-                all.push_str(format!(in alloc; "{found} at {line}\n")?.as_str())?;
-            }
-        }
-    }
-    Ok((all, count))
-}
-
 #[test]
 fn each_text_has_its_tokens_or_its_first_fault(rt: HostRuntime) -> Result<(), Fail> {
-    let (wrong, count) = wrong(rt.alloc())?;
-    assert_eq!(rt; wrong.as_str(), "");
-    assert_eq!(rt; count, 6);
-    Ok(())
+    check(&rt, told(rt.alloc(), Reading::Tokens, TEXTS), "8 texts")
 }
 
-#[test]
-fn names_have_at_most_255_characters(rt: HostRuntime) -> Result<(), Fail> {
-    for (length, want) in [(255, "; 1 0..255 Name"), (256, "1 LongName")] {
-        let name = Vec::from_elem(rt.alloc(), b'x', length)?;
-        assert_eq!(rt; answer(rt.alloc(), &name)?.as_str(), want);
+/// Words with their sections.
+const WORDS: [(&str, Option<Section>); 3] = [
+    ("LAZY \t CONSTRAINTS", Some(Section::Unsupported)),
+    ("s.T.", Some(Section::Rows)),
+    ("generalss", None),
+];
+
+// Whether the words have these sections.
+fn have_sections() -> bool {
+    for (word, want) in WORDS {
+        if section_of(word.as_bytes()) != want {
+            return false;
+        }
     }
-    Ok(())
+    true
 }
 
 #[test]
 fn words_are_of_their_sections_in_any_case_of_letters(rt: HostRuntime) {
-    for (word, want) in [
-        ("LAZY \t CONSTRAINTS", Some(Section::Unsupported)),
-        ("s.T.", Some(Section::Rows)),
-        ("generalss", None),
-    ] {
-        assert_eq!(rt; section_of(word.as_bytes()), want);
-    }
+    assert!(rt; have_sections());
 }
 
-#[test]
-fn a_word_is_of_its_section_within_a_text(rt: HostRuntime) {
+// Whether a word within a text is of its section.
+fn has_section() -> bool {
     let word = Tok {
         line: 2,
         from: 1,
         to: 4,
         kind: TokKind::Word,
     };
-    assert_eq!(rt; section_at(b"\nBINx", &word), Some(Section::Binaries));
+    section_at(b"\nBINx", &word) == Some(Section::Binaries)
+}
+
+#[test]
+fn a_word_is_of_its_section_within_a_text(rt: HostRuntime) {
+    assert!(rt; has_section());
 }

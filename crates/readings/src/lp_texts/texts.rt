@@ -164,6 +164,7 @@ min; c1: 1 x >= -1; x 0..1 @ min|st|x >- 1|bin|x|end|
 3 Feature @ min|st|x = 1 -> y = 1|end|
 min 1 !a\"$%&(),.;?@_`'{}~/; !a\"$%&(),.;?@_`'{}~/ 0..1 @ min|!a\"$%&(),.;?@_`'{}~/|st|bin|!a\"$%&(),.;?@_`'{}~/|end|
 2 BadByte @ min|x\x00|st|end|
+2 BadByte @ min|é|st|end|
 3 BadByte @ min|st|\x7f|end|
 3 BadByte @ min|st|x <= 1\x0c|end|
 # Faults of syntax at the first token with which no text goes on.
@@ -343,7 +344,7 @@ min; c1: 1 x in -4611686018427387902..1; x 0..1 @ min|st|- 4611686018427387902 <
 
 /// Lines of an answer, a count, a front, a piece and a back, with ` @ ` between them and `|` for each line feed. The text is
 /// the front, the piece so many times with its number for each `#`, and the back. Other lines are headings.
-pub const VARIABLES: &str = "\
+pub const SIZES: &str = "\
 # Variables, at most 4,096.
 4095 variables, 0 rows @ 4095 @ min|st|bin| @ v#| @ end|
 4096 variables, 0 rows @ 4096 @ min|st|bin| @ v#| @ end|
@@ -353,10 +354,6 @@ pub const VARIABLES: &str = "\
 4100 Limit @ 4096 @ min|st|bounds| @ v# = 0| @ 0 <= w|end|
 1 variables, 0 rows @ 4097 @ min|st|bin| @ x| @ end|
 4101 Limit @ 4096 @ min|st|bin| @ v#| @ |w
-";
-
-/// As `VARIABLES`.
-pub const ROWS: &str = "\
 # Rows, at most 8,192. One too many counts at its first token.
 1 variables, 8191 rows @ 8191 @ min|st| @ x >= 0| @ bin|x|end|
 1 variables, 8192 rows @ 8192 @ min|st| @ x >= 0| @ bin|x|end|
@@ -367,10 +364,6 @@ pub const ROWS: &str = "\
 8196 Limit @ 8192 @ min|st| @ x >= 0| @ |-
 8195 RowTwice @ 8192 @ min|st| @ x >= 0| @ c1: x >= 0|end|
 8195 NotWhole @ 8192 @ min|st| @ x >= 0| @ 1.5 x >= 0|end|
-";
-
-/// As `VARIABLES`.
-pub const TERMS: &str = "\
 # Terms of the objective and the rows, at most 65,536. One too many stands at its name, a constant at its number.
 1 variables, 0 rows @ 65535 @ min| @ + x| @ st|bin|x|end|
 1 variables, 0 rows @ 65536 @ min| @ + x| @ st|bin|x|end|
@@ -382,10 +375,6 @@ pub const TERMS: &str = "\
 16387 Limit @ 8192 @ min|x|st| @ x+x+x+x+x+x+x|+x >= 0| @ bin|x|end|
 1 variables, 8192 rows @ 8192 @ min|st| @ r#: 2 <= x+x+x+x+x+x+x+x <= 3| @ bin|x|end|
 65539 Limit @ 65536 @ min|o:| @ + x| @ + 1 ^|st|end|
-";
-
-/// As `VARIABLES`.
-pub const NAMES: &str = "\
 # Names of at most 255 characters.
 1 variables, 0 rows @ 254 @ min| @ n @ : x|st|bin|x|end|
 1 variables, 0 rows @ 255 @ min| @ n @ : x|st|bin|x|end|
@@ -405,10 +394,6 @@ pub const NAMES: &str = "\
 0 variables, 0 rows @ 300 @ min|\\ @ n @ |st|end|
 0 variables, 0 rows @ 300 @ min|st|end| @ n @ 
 2 Unbounded @ 300 @ min|n @ +n @ |st|end|
-";
-
-/// As `VARIABLES`.
-pub const DIGITS: &str = "\
 # Binary digits of all spans, at most 8,192.
 133 variables, 0 rows @ 132 @ min|st| @ bounds|v# <= 4611686018427387903|gen|v#| @ bounds|w <= 127|gen|w|end|
 133 variables, 0 rows @ 132 @ min|st| @ bounds|v# <= 4611686018427387903|gen|v#| @ bounds|w <= 255|gen|w|end|
@@ -416,10 +401,6 @@ pub const DIGITS: &str = "\
 529 Limit @ 132 @ min|w|st| @ bounds|v# <= 4611686018427387903|gen|v#| @ bounds|w <= 256|gen|w|end|
 532 Limit @ 133 @ min|st| @ bounds|v# <= 4611686018427387903|gen|v#| @ end|
 532 Limit @ 132 @ min|st| @ bounds|v# <= 4611686018427387903|gen|v#| @ bounds|-128 <= w <= 128|gen|w|end|
-";
-
-/// As `VARIABLES`.
-pub const LONG_NAMES: &str = "\
 # A name too long and another fault: only a byte that begins no token stands before it, where it is earlier.
 2 BadByte @ 256 @ min|x \x01|st| @ n @  >= 0|bin|x|end|
 4 LongName @ 256 @ min|1.5 x|st| @ n @  >= 0|bin|x|end|
@@ -439,10 +420,6 @@ pub const LONG_NAMES: &str = "\
 4 LongName @ 256 @ min|x|st| @ n @  >= 0|bounds|x free|gen|x|end|
 4 LongName @ 256 @ min|x|st| @ n @  >= 0|bounds|x <= 3|end|
 4 LongName @ 256 @ min|x|st| @ n @  >= 0|bounds|x <= -1|end|
-";
-
-/// As `VARIABLES`.
-pub const VARIABLE_ORDER: &str = "\
 # A variable too many and another fault: the earlier token's stands.
 2 BadByte @ 4097 @ min|x \x01|st|bin| @ v#| @ end|
 2 NotWhole @ 4097 @ min|1.5 x|st|bin| @ v#| @ end|
@@ -462,10 +439,6 @@ pub const VARIABLE_ORDER: &str = "\
 4104 Limit @ 4097 @ min|x|st|bounds|x free|gen|x|bin| @ v#| @ end|
 4102 Limit @ 4097 @ min|x|st|bounds|x <= 3|bin| @ v#| @ end|
 4102 Limit @ 4097 @ min|x|st|bounds|x <= -1|bin| @ v#| @ end|
-";
-
-/// As `VARIABLES`.
-pub const DIGIT_ORDER: &str = "\
 # A digit too many stands behind every variable's fault and before all sums.
 536 Unbounded @ 133 @ min|st| @ bounds|v# <= 4611686018427387903|gen|v#| @ bounds|x free|gen|x|end|
 536 Continuous @ 133 @ min|st| @ bounds|v# <= 4611686018427387903|gen|v#| @ bounds|x <= 3|end|
@@ -476,14 +449,14 @@ pub const DIGIT_ORDER: &str = "\
 535 NoEnd @ 133 @ min|st| @ bounds|v# <= 4611686018427387903|gen|v#| @ 
 ";
 
-/// Texts about the greatest size, of blanks behind `end`: as `VARIABLES`.
+/// The same of texts about the greatest size, of blanks behind the end.
 pub const BLANKS: &str = "\
 0 variables, 0 rows @ 16777204 @ min|st|end| @   @ 
 0 variables, 0 rows @ 16777205 @ min|st|end| @   @ 
 0 Limit @ 16777206 @ min|st|end| @   @ 
 ";
 
-/// Texts about the greatest size, of one comment: as `VARIABLES`.
+/// The same of one comment.
 pub const COMMENTS: &str = "\
 0 variables, 0 rows @ 16777203 @ min|\\ @ x @ |st|end|
 0 Limit @ 16777204 @ min|\\ @ x @ |st|end|
