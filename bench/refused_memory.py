@@ -7,8 +7,8 @@ PROGRAM is the program to run, or else release/bprice; CALLS is the program of c
 crates/calls/out/calls. The script wants a C compiler, `cc`.
 
 A run whose Nth request is refused must either end as it ends with ample memory, with the same status, output and files, or with status 9,
-nothing printed, and its files as they were before; of `gen` the LP file may hold its whole text, and of `solve` the certificate's a
-beginning of it. A run that ended with status 9 is begun again over what it left, with nothing refused, and must then end as it ends with ample memory. The line of each run tells its
+nothing printed, and its files as they were before; of `gen` the LP file may hold its whole text, and of `solve` and
+`migrate` the certificate's a beginning of it. A run that ended with status 9 is begun again over what it left, with nothing refused, and must then end as it ends with ample memory. The line of each run tells its
 requests, and how many of them, refused, led to status 9 and how many to the answer. The last line tells the sums, and the
 script ends with status 1 where a run did anything else.
 
@@ -85,6 +85,18 @@ open 1 rows 0 priced 0
 end
 """
 
+ODD = """Minimize
+obj: x + y
+Subject To
+c1: 2 x + 2 y = 5
+Bounds
+x <= 3
+y <= 3
+Generals
+x y
+End
+"""
+
 AGENTS = """Minimize
 obj: 4 x11 + 7 x12 + 3 x13 + 5 x21 + 4 x22 + 6 x23
 Subject To
@@ -109,6 +121,7 @@ job1 job2 job3
 
 FILES = {
     "two.lp": TWO,
+    "odd.lp": ODD,
     "optimal.cert": OPTIMAL,
     "open.cert": OPEN,
     "agents.lp": AGENTS,
@@ -129,10 +142,12 @@ RUNS = [
     ("detect agents.lp jobs.txt found.dec", [], []),
     ("propose agents.lp proposed.dec", [], []),
     ("merge two.lp open.cert optimal.cert merged.cert", [], []),
-    ("migrate two.lp open.cert migrated.cert", [], []),
+    ("migrate two.lp open.cert migrated.cert", [], ["migrated.cert"]),
     ("solve two.lp --from open.cert --cert more.cert", [], ["more.cert"]),
     ("solve agents.lp --dec agents.dec --workers 2 --order 3", [], []),
     ("solve two.lp --from open.cert --leaf 1 --cert more.cert", [], ["more.cert"]),
+    ("solve odd.lp --cuts 8 --cert kept.cert", [], ["kept.cert"]),
+    ("solve two.lp --from open.cert --cuts 8 --cert more.cert", [], ["more.cert"]),
 ]
 
 # The number of a request that no run comes to.

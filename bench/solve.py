@@ -43,7 +43,7 @@ def others(lp):
     found = []
     for name, words, value in (
         ("cbc", ["cbc", lp, "solve", "solu", lp + ".cbc"], r"Objective value:\s+(\S+)"),
-        ("glpsol", ["glpsol", "--lp", lp, "--cuts"], r"mip =\s+(\S+)"),
+        ("glpsol", ["glpsol", "--lp", lp, "--cuts"], r"mip =\s+([-+.0-9e]+)"),
     ):
         if not shutil.which(name):
             found.append("not installed")

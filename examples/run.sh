@@ -11,6 +11,7 @@ case $bprice in */*) bprice=$(readlink -f "$bprice") ;; esac
 room=$(mktemp -d) || exit 1
 trap 'rm -rf "$room"' EXIT
 failed=0
+cuts=
 
 # expect WHAT WANTED SEEN
 expect() {
@@ -22,15 +23,16 @@ expect() {
     fi
 }
 
-# solves FOLDER [WORDS..]: of several best points any may come, so the first line alone is compared.
+# solves FOLDER [WORDS..]: of several best points any may come, so the first line alone is compared. Where `cuts` is set, with
+# so many cuts.
 solves() {
     local folder=$1 wanted
     shift
     cd "$here/$folder" || exit 1
     wanted=$(head -n 1 report.txt)
-    "$bprice" solve model.lp "$@" --cert "$room/cert" >"$room/report"
-    expect "$folder${*:+ $*}" "$wanted" "$(head -n 1 "$room/report")"
-    expect "$folder${*:+ $*}, its certificate" "accepted $wanted" "$("$bprice" check model.lp "$room/cert" "$@")"
+    "$bprice" solve model.lp "$@" ${cuts:+--cuts "$cuts"} --cert "$room/cert" >"$room/report"
+    expect "$folder${*:+ $*}${cuts:+, cuts}" "$wanted" "$(head -n 1 "$room/report")"
+    expect "$folder${*:+ $*}${cuts:+, cuts}, its certificate" "accepted $wanted" "$("$bprice" check model.lp "$room/cert" "$@")"
 }
 
 # checks FOLDER CLAIM MODEL CERT [WORDS..]
@@ -66,6 +68,7 @@ checks assignment 'optimal 92' model.lp model.cert
 solves shared-machine
 solves shared-machine --dec model.dec
 checks shared-machine 'optimal 18' model.lp model.cert --dec model.dec
+cuts=2 solves odd-order
 checks odd-order infeasible model.lp model.cert
 checks odd-order 'optimal 33' at-least.lp at-least.cert
 

@@ -90,7 +90,7 @@ def test_examples(room, lp, cert, dec):
     assert room.agree(text_of(lp), text_of(cert), text_of(dec)).startswith("accepted optimal ")
 
 
-def solved(room, lp, dec=None, steps=None):
+def solved(room, lp, dec=None, steps=None, cuts=None):
     """The certificate that `solve` writes."""
     (room.path / "lp").write_bytes(lp)
     words = ["solve", "lp", "--cert", "written"]
@@ -99,6 +99,8 @@ def solved(room, lp, dec=None, steps=None):
         words += ["--dec", "dec"]
     if steps is not None:
         words += ["--steps", steps]
+    if cuts is not None:
+        words += ["--cuts", cuts]
     run(*words, cwd=room.path)
     return (room.path / "written").read_bytes()
 
@@ -299,6 +301,25 @@ def test_random_cuts(room):
             kinds.add(room.agree(lp, cut, dec).split(" ")[0])
             kinds.add(room.agree(lp, mutated(draw, cut), dec).split(" ")[0])
     assert kinds == {"accepted", "rejected", "refused"}
+
+
+def test_search_with_cuts(room):
+    """What `solve --cuts` writes is accepted, of the three kinds of claims; and some of it has cuts."""
+    draw, claims, versions = random.Random(19), set(), set()
+    for _ in range(60):
+        lp, dec = random_model(draw)
+        if room.agree(lp, b"", dec).startswith("refused blocks"):
+            continue
+        cert = solved(room, lp, dec, draw.choice([None, None, 0, 1]), draw.choice([1, 3, 256]))
+        report = room.agree(lp, cert, dec)
+        assert report.startswith("accepted ")
+        claims.add(report.split(" ")[1])
+        versions.add(cert[:8])
+    assert claims == {"optimal", "infeasible", "bound"} and versions == {b"bpcert 2", b"bpcert 3"}
+    cert = solved(room, text_of("odd-order/model.lp"), cuts=2)
+    assert cert.startswith(b"bpcert 3\nclaim infeasible\ncut 2 rows 1 1 1\ncut 2 rows 1 1 -1\nleaf ") and cert.count(b"\n") == 6
+    assert room.agree(text_of("odd-order/model.lp"), cert) == "accepted infeasible"
+    assert room.agree(text_of("odd-order/model.lp"), text_of("odd-order/model.cert")) == "accepted infeasible"
 
 
 @pytest.mark.parametrize("seed, example", enumerate(EXAMPLES))

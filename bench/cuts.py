@@ -1,0 +1,193 @@
+#!/usr/bin/env python3
+"""How many steps and processor seconds `solve --cuts C` takes on models without a decomposition, for several C.
+
+    bench/cuts.py [SECONDS] [NAME..]   SECONDS: how long each run may take (30 where no number is given)
+                                       NAME: only these models; names of `bench/models.py` may be among them
+    CUTS=0,32,256 BPRICE=program bench/cuts.py
+
+A line for each model: its answer, and for each number of cuts the steps (splits and shut leaves) and the processor seconds of a run with a
+certificate that `check` accepts, the cuts of the certificate, and the bound after one step, which is that of the root; then the seconds and values of
+CBC and of GLPK, where these are installed. Where the answers for several numbers of cuts differ, or a certificate is not accepted, it ends with status 1.
+"""
+import os
+import random
+import re
+import resource
+import subprocess
+import sys
+import tempfile
+
+sys.dont_write_bytecode = True
+sys.path.insert(0, os.path.dirname(os.path.realpath(__file__)))
+from models import MAKERS, Text, make  # noqa: E402
+import solve  # noqa: E402
+
+TOP = os.path.dirname(os.path.dirname(os.path.realpath(__file__)))
+PROGRAM = os.path.realpath(os.environ.get("BPRICE", f"{TOP}/bprice"))
+CUTS = [int(number) for number in os.environ.get("CUTS", "0,32,256").split(",")]
+NAMES = [
+    "parity-20", "parity-40", "parity-60", "partition-30-200", "partition-40-300", "edges-12", "edges-15", "knapsack-30-5",
+    "tiles-5-6", *(f"assignment-{kind}-5-{jobs}" for kind in "C" for jobs in (40, 60, 100)), "assignment-B-5-100", "assignment-A-5-100",
+    *(f"assignment-gen-{jobs}" for jobs in (12, 20, 40, 60)), "assignment-gen-40-s2", "assignment-gen-40-s3", "assignment-gen-100-s2",
+    "facility-12-40", "lots-4-6", "crews-10-25", "vehicles-two-5-25", "median-25", "plants-2-25", "bins-small-18-s7", "rolls-small-6-s7",
+]
+
+
+def parity(count):
+    """Binaries of which twice the sum is odd: no point."""
+    text = Text()
+    terms = [(2, f"x{i}") for i in range(count)]
+    text.cost(1, "x0")
+    for _, var in terms:
+        text.integer(var, 1)
+    text.row("odd", terms, "=", count + 1)
+    return text
+
+
+def partition(draw, rows, columns):
+    """Set partitioning: columns of two to five rows that cover each row once, as cheaply as can be; two columns for each row alone, which are dear."""
+    text = Text()
+    sets = [draw.sample(range(rows), draw.randint(2, 5)) for _ in range(columns)] + [[i] for i in range(rows)]
+    for k, own in enumerate(sets):
+        text.cost(draw.randint(10, 20) * len(own) if len(own) > 1 else 40, f"y{k}")
+        text.integer(f"y{k}", 1)
+    for i in range(rows):
+        text.row(f"r{i}", [(1, f"y{k}") for k, own in enumerate(sets) if i in own], "=", 1)
+    return text
+
+
+def edges(draw, nodes):
+    """Colouring of a graph's nodes with a row for each edge and colour: as few of five colours as can be."""
+    text = Text()
+    colours = range(5)
+    for c in colours:
+        text.cost(1, f"w{c}")
+        text.integer(f"w{c}", 1)
+    for v in range(nodes):
+        for c in colours:
+            text.integer(f"x{v}_{c}", 1)
+        text.row(f"node{v}", [(1, f"x{v}_{c}") for c in colours], "=", 1)
+    for u in range(nodes):
+        for v in range(u + 1, nodes):
+            if draw.random() < 0.4:
+                for c in colours:
+                    text.row(f"edge{u}_{v}_{c}", [(1, f"x{u}_{c}"), (1, f"x{v}_{c}"), (-1, f"w{c}")], "<=", 0)
+    return text
+
+
+def knapsack(draw, items, rows):
+    """A knapsack with several rows: the dearest items that fit."""
+    text = Text()
+    weight = [[draw.randint(5, 60) for _ in range(items)] for _ in range(rows)]
+    for j in range(items):
+        text.cost(-(sum(weight[i][j] for i in range(rows)) // rows + draw.randint(0, 20)), f"x{j}")
+        text.integer(f"x{j}", 1)
+    for i in range(rows):
+        text.row(f"w{i}", [(weight[i][j], f"x{j}") for j in range(items)], "<=", sum(weight[i]) // 2)
+    return text
+
+
+PIECES = {
+    "F": "01 02 10 11 21", "I": "00 01 02 03 04", "L": "00 01 02 03 13", "N": "00 01 11 12 13", "P": "00 01 10 11 20", "T": "00 01 02 11 21",
+    "U": "00 01 10 20 21", "V": "00 01 02 12 22", "W": "00 01 11 12 22", "X": "01 10 11 12 21", "Y": "00 01 02 03 11", "Z": "00 01 11 21 22",
+}
+
+
+def shapes(cells):
+    """A piece turned and turned over."""
+    found = set()
+    for turn in range(8):
+        moved = cells
+        for _ in range(turn % 4):
+            moved = [(b, -a) for a, b in moved]
+        if turn > 3:
+            moved = [(a, -b) for a, b in moved]
+        least = min(a for a, _ in moved), min(b for _, b in moved)
+        found.add(tuple(sorted((a - least[0], b - least[1]) for a, b in moved)))
+    return sorted(found)
+
+
+def tiles(draw, height, width):
+    """As many cells of a board as can be covered by the twelve pentominoes, each of which is there once."""
+    text, covers, of_piece = Text(), {}, {}
+    for name, cells in PIECES.items():
+        for shape in shapes([(int(cell[0]), int(cell[1])) for cell in cells.split()]):
+            for a in range(height):
+                for b in range(width):
+                    if all(a + i < height and b + j < width for i, j in shape):
+                        var = f"{name}{sum(map(len, of_piece.values()))}"
+                        of_piece.setdefault(name, []).append(var)
+                        text.cost(-5, var)
+                        text.integer(var, 1)
+                        for i, j in shape:
+                            covers.setdefault((a + i, b + j), []).append(var)
+    for (a, b), over in sorted(covers.items()):
+        text.row(f"cell{a}_{b}", [(1, var) for var in over], "<=", 1)
+    for name, places in of_piece.items():
+        text.row(f"piece{name}", [(1, var) for var in places], "<=", 1)
+    return text
+
+
+OWN = {"parity": lambda draw, *sizes: parity(*sizes), "partition": partition, "edges": edges, "knapsack": knapsack, "tiles": tiles}
+
+
+def model(name):
+    """The LP text of a model."""
+    found = re.fullmatch(r"([a-z]+)((?:-\d+)+)(?:-s(\d+))?", name)
+    if found and found[1] in OWN and found[1] not in MAKERS:
+        return OWN[found[1]](random.Random(name), *(int(number) for number in found[2][1:].split("-"))).texts()[0]
+    return make(name)[0]
+
+
+def run(limit, *words):
+    """What the program prints within so many processor seconds, or None, and the seconds that it took."""
+    before = resource.getrusage(resource.RUSAGE_CHILDREN)
+    ran = subprocess.run(["bash", "-c", f'ulimit -t {limit}; exec "$@"', "run", PROGRAM, *words], stdout=subprocess.PIPE, text=True)
+    after = resource.getrusage(resource.RUSAGE_CHILDREN)
+    took = after.ru_utime + after.ru_stime - before.ru_utime - before.ru_stime
+    return (ran.stdout if ran.returncode >= 0 else None), took
+
+
+def solved(limit, room, lp, cuts):
+    """The answer with at most so many cuts, what is told of the run, and whether the certificate is accepted."""
+    cert = f"{room}/cert"
+    told, took = run(limit, "solve", lp, "--cuts", str(cuts), "--cert", cert)
+    first, _ = run(limit, "solve", lp, "--cuts", str(cuts), "--steps", "1")
+    bound = "" if first is None else re.sub(r".*?(-?\d+|infeasible).*", r"\1", first.split("\n", 2)[first.startswith("budget")])
+    if told is None:
+        return None, ["over", f"{limit}", "", bound], True
+    with open(cert, encoding="ascii") as text:
+        lines = text.read().split("\n")
+    steps = sum(row.startswith(("split", "leaf")) for row in lines)
+    answer = told.split("\n", 1)[0]
+    judged, _ = run(10 * limit, "check", lp, cert)
+    return answer, [steps, f"{took:.2f}", sum(row.startswith("cut") for row in lines), bound], judged == f"accepted {answer}\n"
+
+
+def main():
+    limit = int(sys.argv[1]) if len(sys.argv) > 1 and sys.argv[1].isdigit() else 30
+    names = [word for word in sys.argv[1:] if not word.isdigit()] or NAMES
+    solve.LIMIT = limit
+    heads = ["Model", "Answer"] + [f"{what} {cuts}" for cuts in CUTS for what in ("Steps", "Seconds", "Cuts", "Root")] + ["CBC", "GLPK"]
+    print("|", " | ".join(heads), "|\n|" + "---|" * len(heads), flush=True)
+    status = 0
+    with tempfile.TemporaryDirectory() as room:
+        for name in names:
+            lp = f"{room}/{name}.lp"
+            with open(lp, "w", encoding="ascii") as file:
+                file.write(model(name))
+            runs = [solved(limit, room, lp, cuts) for cuts in CUTS]
+            answers = {answer for answer, _, _ in runs if answer is not None}
+            told = [str(word) for _, words, _ in runs for word in words] + solve.others(lp)
+            print("|", " | ".join([name, ", ".join(sorted(answers)) or "open", *told]), "|", flush=True)
+            if len(answers) > 1 or not all(accepted for _, _, accepted in runs):
+                print(f"{name}: the answers differ, or a certificate is not accepted", file=sys.stderr)
+                status = 1
+    sys.exit(status)
+
+
+if __name__ == "__main__":
+    if {"-h", "--help"} & set(sys.argv[1:]):
+        print(__doc__)
+        sys.exit()
+    main()
