@@ -1,13 +1,14 @@
 #!/usr/bin/env python3
 """How many steps and processor seconds `solve --cuts C` takes on models without a decomposition, for several C.
 
-    bench/cuts.py [SECONDS] [NAME..]   SECONDS: how long each run may take (30 where no number is given)
+    bench/cuts.py [SECONDS] [NAME..]   SECONDS: how long each run may take (30 where no number is given), the root alone six times as long
                                        NAME: only these models; names of `bench/models.py` may be among them
     CUTS=0,32,256 BPRICE=program bench/cuts.py
 
 A line for each model: its answer, and for each number of cuts the steps (splits and shut leaves) and the processor seconds of a run with a
-certificate that `check` accepts, the cuts of the certificate, and the bound after one step, which is that of the root; then the seconds and values of
-CBC and of GLPK, where these are installed. Where the answers for several numbers of cuts differ, or a certificate is not accepted, it ends with status 1.
+certificate that `check` accepts, the cuts of the certificate, and the bound after one step, which is that of the root; how much of the gap between
+the first of these bounds and the answer the last closes; then the seconds and values of CBC and of GLPK, where these are installed. Where the answers
+for several numbers of cuts differ, or a certificate is not accepted, it ends with status 1.
 """
 import os
 import random
@@ -16,20 +17,24 @@ import resource
 import subprocess
 import sys
 import tempfile
+from itertools import combinations
 
 sys.dont_write_bytecode = True
 sys.path.insert(0, os.path.dirname(os.path.realpath(__file__)))
-from models import MAKERS, Text, make  # noqa: E402
+from models import SIZES, Text, make  # noqa: E402
 import solve  # noqa: E402
 
 TOP = os.path.dirname(os.path.dirname(os.path.realpath(__file__)))
 PROGRAM = os.path.realpath(os.environ.get("BPRICE", f"{TOP}/bprice"))
 CUTS = [int(number) for number in os.environ.get("CUTS", "0,32,256").split(",")]
 NAMES = [
-    "parity-20", "parity-40", "parity-60", "partition-30-200", "partition-40-300", "edges-12", "edges-15", "knapsack-30-5",
-    "tiles-5-6", *(f"assignment-{kind}-5-{jobs}" for kind in "C" for jobs in (40, 60, 100)), "assignment-B-5-100", "assignment-A-5-100",
-    *(f"assignment-gen-{jobs}" for jobs in (12, 20, 40, 60)), "assignment-gen-40-s2", "assignment-gen-40-s3", "assignment-gen-100-s2",
-    "facility-12-40", "lots-4-6", "crews-10-25", "vehicles-two-5-25", "median-25", "plants-2-25", "bins-small-18-s7", "rolls-small-6-s7",
+    *(f"parity-{count}" for count in (20, 30, 40, 60)),
+    *(f"partition-{size}" for size in ("30-200", "30-200-s2", "40-300", "40-300-s2", "50-400")),
+    *(f"edges-{nodes}" for nodes in ("12", "14", "15", "15-s2", "18")), "knapsack-30-5",
+    *(f"tiles-{size}" for size in ("4-5", "4-6", "5-6", "5-7", "6-6")),
+    "planar-8-28", "minors-7-21", "minors-8-28", "minors-9-36", "orders-5-10", "orders-6-12", "orders-6-13",
+    "assignment-C-5-40", "assignment-C-5-60", "assignment-gen-40-s2", "assignment-gen-40-s3",
+    *(name for name in SIZES if name != "bins-t-249"),
 ]
 
 
@@ -45,7 +50,7 @@ def parity(count):
 
 
 def partition(draw, rows, columns):
-    """Set partitioning: columns of two to five rows that cover each row once, as cheaply as can be; two columns for each row alone, which are dear."""
+    """Set partitioning: columns of two to five rows that cover each row once, as cheaply as can be; a dear column for each row alone."""
     text = Text()
     sets = [draw.sample(range(rows), draw.randint(2, 5)) for _ in range(columns)] + [[i] for i in range(rows)]
     for k, own in enumerate(sets):
@@ -72,18 +77,6 @@ def edges(draw, nodes):
             if draw.random() < 0.4:
                 for c in colours:
                     text.row(f"edge{u}_{v}_{c}", [(1, f"x{u}_{c}"), (1, f"x{v}_{c}"), (-1, f"w{c}")], "<=", 0)
-    return text
-
-
-def knapsack(draw, items, rows):
-    """A knapsack with several rows: the dearest items that fit."""
-    text = Text()
-    weight = [[draw.randint(5, 60) for _ in range(items)] for _ in range(rows)]
-    for j in range(items):
-        text.cost(-(sum(weight[i][j] for i in range(rows)) // rows + draw.randint(0, 20)), f"x{j}")
-        text.integer(f"x{j}", 1)
-    for i in range(rows):
-        text.row(f"w{i}", [(weight[i][j], f"x{j}") for j in range(items)], "<=", sum(weight[i]) // 2)
     return text
 
 
@@ -128,13 +121,71 @@ def tiles(draw, height, width):
     return text
 
 
-OWN = {"parity": lambda draw, *sizes: parity(*sizes), "partition": partition, "edges": edges, "knapsack": knapsack, "tiles": tiles}
+def graph(draw, nodes, many):
+    """So many edges of a graph on these nodes, each as its lesser and its greater node."""
+    return sorted(draw.sample(list(combinations(range(nodes), 2)), many))
+
+
+def minors(draw, nodes, many):
+    """Edges of a graph, of each complete graph on five nodes and each complete bipartite one on three and three not all, of the greatest weight."""
+    text, chosen = Text(), graph(draw, nodes, many)
+    for u, v in chosen:
+        text.cost(-draw.randint(10, 30), f"e{u}_{v}")
+        text.integer(f"e{u}_{v}", 1)
+    fives = [(five, list(combinations(five, 2))) for five in combinations(range(nodes), 5)]
+    halves = [(one, [v for v in six if v not in one]) for six in combinations(range(nodes), 6) for one in combinations(six, 3) if six[0] in one]
+    sixes = [((*one, *other), sorted((min(u, v), max(u, v)) for u in one for v in other)) for one, other in halves]
+    for kind, whole in (("k", fives), ("b", sixes)):
+        for own, pairs in whole:
+            if set(pairs) <= set(chosen):
+                text.row(kind + "_".join(map(str, own)), [(1, f"e{u}_{v}") for u, v in pairs], "<=", len(pairs) - 1)
+    return text
+
+
+def planar(draw, nodes, many):
+    """The same with no more edges than a planar graph may have."""
+    text = minors(draw, nodes, many)
+    text.row("euler", [(1, var) for var in text.binary], "<=", 3 * nodes - 6)
+    return text
+
+
+def orders(draw, nodes, many):
+    """A planar subgraph of the greatest weight: three orders of the nodes, in one of which each node stands above each edge that it is not on.
+    W. Schnyder, Planar graphs and poset dimension, 1989."""
+    text, every = Text(), range(nodes)
+    for t in range(3):
+        for u, v in combinations(every, 2):
+            text.integer(f"l{t}_{u}_{v}", 1)
+        for u, v, w in combinations(every, 3):
+            terms = [(1, f"l{t}_{u}_{v}"), (1, f"l{t}_{v}_{w}"), (-1, f"l{t}_{u}_{w}")]
+            text.row(f"least{t}_{u}_{v}_{w}", terms, ">=", 0)
+            text.row(f"most{t}_{u}_{v}_{w}", terms, "<=", 1)
+    for u, v in graph(draw, nodes, many):
+        text.cost(-draw.randint(10, 30), f"e{u}_{v}")
+        text.integer(f"e{u}_{v}", 1)
+        for w in every:
+            if w in (u, v):
+                continue
+            above = [f"s{t}_{u}_{v}_{w}" for t in range(3)]
+            for t, var in enumerate(above):
+                text.integer(var, 1)
+                for x in (u, v):
+                    terms, side = ([(-1, f"l{t}_{x}_{w}")], 0) if x < w else ([(1, f"l{t}_{w}_{x}")], 1)
+                    text.row(f"{var}_{x}", [(1, var), *terms], "<=", side)
+            text.row(f"edge{u}_{v}_{w}", [*((1, var) for var in above), (-1, f"e{u}_{v}")], ">=", 0)
+    return text
+
+
+OWN = {
+    "parity": lambda draw, *sizes: parity(*sizes), "partition": partition, "edges": edges, "tiles": tiles, "minors": minors, "planar": planar,
+    "orders": orders,
+}
 
 
 def model(name):
     """The LP text of a model."""
     found = re.fullmatch(r"([a-z]+)((?:-\d+)+)(?:-s(\d+))?", name)
-    if found and found[1] in OWN and found[1] not in MAKERS:
+    if found and found[1] in OWN:
         return OWN[found[1]](random.Random(name), *(int(number) for number in found[2][1:].split("-"))).texts()[0]
     return make(name)[0]
 
@@ -152,10 +203,10 @@ def solved(limit, room, lp, cuts):
     """The answer with at most so many cuts, what is told of the run, and whether the certificate is accepted."""
     cert = f"{room}/cert"
     told, took = run(limit, "solve", lp, "--cuts", str(cuts), "--cert", cert)
-    first, _ = run(limit, "solve", lp, "--cuts", str(cuts), "--steps", "1")
+    first, _ = run(6 * limit, "solve", lp, "--cuts", str(cuts), "--steps", "1")
     bound = "" if first is None else re.sub(r".*?(-?\d+|infeasible).*", r"\1", first.split("\n", 2)[first.startswith("budget")])
     if told is None:
-        return None, ["over", f"{limit}", "", bound], True
+        return None, ["", f"over {limit}", "", bound], True
     with open(cert, encoding="ascii") as text:
         lines = text.read().split("\n")
     steps = sum(row.startswith(("split", "leaf")) for row in lines)
@@ -164,11 +215,27 @@ def solved(limit, room, lp, cuts):
     return answer, [steps, f"{took:.2f}", sum(row.startswith("cut") for row in lines), bound], judged == f"accepted {answer}\n"
 
 
+def closed(answers, roots):
+    """How much of the gap between the root's bound with the fewest cuts and the answer the root with the most cuts closes, in whole percent."""
+    words = [root for root in roots if root]
+    if len(answers) != 1 or len(words) < len(roots):
+        return ""
+    best = next(iter(answers)).rsplit(" ", 1)[-1]
+    if words[0] == best:
+        return "no gap"
+    if words[-1] == best:
+        return "100 %"
+    if best == "infeasible":
+        return "0 %"
+    return f"{100 * (int(words[-1]) - int(words[0])) // (int(best) - int(words[0]))} %"
+
+
 def main():
     limit = int(sys.argv[1]) if len(sys.argv) > 1 and sys.argv[1].isdigit() else 30
     names = [word for word in sys.argv[1:] if not word.isdigit()] or NAMES
     solve.LIMIT = limit
-    heads = ["Model", "Answer"] + [f"{what} {cuts}" for cuts in CUTS for what in ("Steps", "Seconds", "Cuts", "Root")] + ["CBC", "GLPK"]
+    heads = ["Model", "Answer", *(f"{what} {cuts}" for cuts in CUTS for what in ("Steps", "Seconds", "Cuts", "Root"))]
+    heads += [f"Gap closed, {CUTS[-1]}", "CBC", "GLPK"]
     print("|", " | ".join(heads), "|\n|" + "---|" * len(heads), flush=True)
     status = 0
     with tempfile.TemporaryDirectory() as room:
@@ -178,7 +245,8 @@ def main():
                 file.write(model(name))
             runs = [solved(limit, room, lp, cuts) for cuts in CUTS]
             answers = {answer for answer, _, _ in runs if answer is not None}
-            told = [str(word) for _, words, _ in runs for word in words] + solve.others(lp)
+            told = [str(word) for _, words, _ in runs for word in words]
+            told += [closed(answers, [words[3] for _, words, _ in runs]), *solve.others(lp)]
             print("|", " | ".join([name, ", ".join(sorted(answers)) or "open", *told]), "|", flush=True)
             if len(answers) > 1 or not all(accepted for _, _, accepted in runs):
                 print(f"{name}: the answers differ, or a certificate is not accepted", file=sys.stderr)
