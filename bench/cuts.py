@@ -2,7 +2,8 @@
 """How many steps and processor seconds `solve --cuts C` takes on models without a decomposition, for several C.
 
     bench/cuts.py [SECONDS] [NAME..]   SECONDS: how long each run may take (30 where no number is given), the root alone six times as long
-                                       NAME: only these models; names of `bench/models.py` may be among them
+                                       NAME: only these models; names of `bench/models.py` may be among them, which with `+dec`
+                                       behind them are solved with their decomposition
     CUTS=0,32,256 BPRICE=program bench/cuts.py
 
 A line for each model: its answer, and for each number of cuts the steps (splits and shut leaves) and the processor seconds of a run with a
@@ -183,11 +184,13 @@ OWN = {
 
 
 def model(name):
-    """The LP text of a model."""
+    """The LP text of a model, and the DEC text where its name asks for it."""
+    name, _, ending = name.partition("+")
     found = re.fullmatch(r"([a-z]+)((?:-\d+)+)(?:-s(\d+))?", name)
     if found and found[1] in OWN:
-        return OWN[found[1]](random.Random(name), *(int(number) for number in found[2][1:].split("-"))).texts()[0]
-    return make(name)[0]
+        return OWN[found[1]](random.Random(name), *(int(number) for number in found[2][1:].split("-"))).texts()[0], None
+    lp, dec = make(name)
+    return lp, dec if ending else None
 
 
 def run(limit, *words):
@@ -199,11 +202,11 @@ def run(limit, *words):
     return (ran.stdout if ran.returncode >= 0 else None), took
 
 
-def solved(limit, room, lp, cuts):
-    """The answer with at most so many cuts, what is told of the run, and whether the certificate is accepted."""
+def solved(limit, room, texts, cuts):
+    """The answer for texts with at most so many cuts, what is told of the run, and whether the certificate is accepted."""
     cert = f"{room}/cert"
-    told, took = run(limit, "solve", lp, "--cuts", str(cuts), "--cert", cert)
-    first, _ = run(6 * limit, "solve", lp, "--cuts", str(cuts), "--steps", "1")
+    told, took = run(limit, "solve", *texts, "--cuts", str(cuts), "--cert", cert)
+    first, _ = run(6 * limit, "solve", *texts, "--cuts", str(cuts), "--steps", "1")
     bound = "" if first is None else re.sub(r".*?(-?\d+|infeasible).*", r"\1", first.split("\n", 2)[first.startswith("budget")])
     if told is None:
         return None, ["", f"over {limit}", "", bound], True
@@ -211,7 +214,7 @@ def solved(limit, room, lp, cuts):
         lines = text.read().split("\n")
     steps = sum(row.startswith(("split", "leaf")) for row in lines)
     answer = told.split("\n", 1)[0]
-    judged, _ = run(10 * limit, "check", lp, cert)
+    judged, _ = run(10 * limit, "check", *texts, cert)
     return answer, [steps, f"{took:.2f}", sum(row.startswith("cut") for row in lines), bound], judged == f"accepted {answer}\n"
 
 
@@ -240,10 +243,14 @@ def main():
     status = 0
     with tempfile.TemporaryDirectory() as room:
         for name in names:
-            lp = f"{room}/{name}.lp"
-            with open(lp, "w", encoding="ascii") as file:
-                file.write(model(name))
-            runs = [solved(limit, room, lp, cuts) for cuts in CUTS]
+            lp = f"{room}/model.lp"
+            words = [lp]
+            for path, text in zip((lp, f"{room}/model.dec"), model(name)):
+                if text is not None:
+                    with open(path, "w", encoding="ascii") as file:
+                        file.write(text)
+                    words += [] if path == lp else ["--dec", path]
+            runs = [solved(limit, room, words, cuts) for cuts in CUTS]
             answers = {answer for answer, _, _ in runs if answer is not None}
             told = [str(word) for _, words, _ in runs for word in words]
             told += [closed(answers, [words[3] for _, words, _ in runs]), *solve.others(lp)]

@@ -347,6 +347,43 @@ def crews(draw, many, duties):
     return text
 
 
+def pairings(draw, many, flights):
+    """Crews fly pairings of several flights within their hours, each flight once, or is paid for dearly where no crew does."""
+    text, cover = Text(), [[] for _ in range(flights)]
+    for k in range(many):
+        own = []
+        for i in range(flights):
+            flown, var = draw.sample(range(flights), draw.randint(2, 4)), f"x{k}_{i}"
+            text.cost(draw.randint(8, 14) * len(flown), var)
+            text.integer(var, 1)
+            own.append((sum(2 + flight % 4 for flight in flown), var))
+            for flight in flown:
+                cover[flight].append((1, var))
+        text.row(f"h{k}", own, "<=", 13 * sum(2 + flight % 4 for flight in range(flights)) // (10 * many), k)
+    for flight in range(flights):
+        text.cost(40, f"u{flight}")
+        text.integer(f"u{flight}", 1)
+        text.row(f"f{flight}", [*cover[flight], (1, f"u{flight}")], "=", 1)
+    return text
+
+
+def conflicts(draw, agents, jobs):
+    """A generalized assignment in which some jobs of one agent forbid others to another agent."""
+    text, agent, job = Text(), range(agents), range(jobs)
+    for k in agent:
+        hours = [draw.randint(5, 25) for _ in job]
+        for i in job:
+            text.cost(draw.randint(10, 50), f"x{i}_{k}")
+            text.integer(f"x{i}_{k}", 1)
+        text.row(f"h{k}", [(hours[i], f"x{i}_{k}") for i in job], "<=", 11 * sum(hours) // (10 * agents), k)
+    for i in job:
+        text.row(f"g{i}", [(1, f"x{i}_{k}") for k in agent], "=", 1)
+    pairs = [(k, l, i, j) for k in agent for l in range(k + 1, agents) for i in job for j in job if i != j and draw.random() < 0.06]
+    for k, l, i, j in pairs:
+        text.row(f"c{i}_{k}_{j}_{l}", [(1, f"x{i}_{k}"), (1, f"x{j}_{l}")], "<=", 1)
+    return text
+
+
 def knapsack(draw, items, rows):
     """Items of a knapsack with several capacities, each half of what all items take; what an item takes tells most of its worth."""
     text, every = Text(), range(items)
@@ -396,6 +433,8 @@ MAKERS = {
     "crews": lambda draw, seed, many, duties: crews(draw, many, duties),
     "knapsack": lambda draw, seed, items, rows: knapsack(draw, items, rows),
     "plants": lambda draw, seed, many, orders: plants(draw, many, orders),
+    "pairings": lambda draw, seed, many, flights: pairings(draw, many, flights),
+    "conflicts": lambda draw, seed, agents, jobs: conflicts(draw, agents, jobs),
 }
 
 SIZES = [
@@ -421,6 +460,7 @@ SIZES = [
     "roster-6-7", "roster-10-7", "roster-10-14", "roster-alike-10-14",
     "crews-10-25", "crews-20-50",
     "plants-2-25", "plants-2-40", "plants-3-25",
+    "pairings-5-20", "pairings-8-40", "conflicts-4-20", "conflicts-5-30",
 ]
 
 

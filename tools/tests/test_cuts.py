@@ -102,6 +102,66 @@ def test_odd_order(tmp_path, lp, wanted, plain):
     assert room.solve("--cuts", plain)[1].count(b"\ncut ") == plain
 
 
+def ring(many):
+    """As many of a ring as can be taken where no two neighbours are, and each of which has a block with something cheap beside it."""
+    places = range(many)
+    lines = ["Maximize", " obj: " + " + ".join(f"5 x{i} + y{i}" for i in places), "Subject To"]
+    lines += [f" c{i}: x{i} + x{(i + 1) % many} <= 1" for i in places] + [f" b{i}: 2 x{i} + 3 y{i} <= 4" for i in places]
+    lines += ["Binaries", " " + " ".join(f"x{i} y{i}" for i in places), "End", ""]
+    blocks = [f"NBLOCKS {many}", *(f"BLOCK {i + 1}\nb{i}" for i in places), ""]
+    return "\n".join(lines).encode(), "\n".join(blocks).encode()
+
+
+@pytest.mark.parametrize("many", [3, 5, 7, 9, 11])
+def test_columns(tmp_path, many):
+    """Where blocks have rows, the columns of the root lack the half of an odd ring's rows: by one cut there is one leaf."""
+    room = Search(tmp_path, ring(many))
+    wanted = f"optimal {many // 2 * 5 + (many + 1) // 2}"
+    told, cert = room.solve()
+    assert told == wanted and len(re.findall(rb"^leaf ", cert, re.MULTILINE)) > 1
+    for most in (1, 2, MOST):
+        told, cert = room.solve("--cuts", most)
+        rows = b" ".join(b"%d -1" % (i + 1) for i in range(many))
+        assert told == wanted and cuts(cert) == [b"cut 2 rows %d %s" % (many, rows)]
+        assert len(re.findall(rb"^leaf ", cert, re.MULTILINE)) == 1
+
+
+def shared(draw):
+    """Crews within their hours that cover duties by pairings of several, or links between what two crews do."""
+    many, duties = draw.randint(2, 3), draw.randint(4, 6)
+    cover, costs, blocks, names = [[] for _ in range(duties)], [], [], []
+    for k in range(many):
+        own = []
+        for i in range(5):
+            names.append(f"x{k}_{i}")
+            costs.append(f"{draw.randint(4, 15)} x{k}_{i}")
+            own.append(f"{draw.randint(2, 6)} x{k}_{i}")
+            for duty in draw.sample(range(duties), draw.randint(1, 3)):
+                cover[duty].append(f"{draw.choice((1, 1, 1, 2))} x{k}_{i}")
+        blocks.append(f" b{k}: {' + '.join(own)} <= {draw.randint(6, 14)}")
+    names += [f"u{duty}" for duty in range(duties)]
+    costs += [f"{draw.randint(15, 30)} u{duty}" for duty in range(duties)]
+    master = [f" c{duty}: {' + '.join([*row, f'u{duty}'])} {draw.choice(('=', '>='))} 1" for duty, row in enumerate(cover)]
+    lines = ["Minimize", " obj: " + " + ".join(costs), "Subject To", *master, *blocks, "Binaries", " " + " ".join(names), "End", ""]
+    dec = [f"NBLOCKS {many}", *(f"BLOCK {k + 1}\nb{k}" for k in range(many)), ""]
+    return "\n".join(lines).encode(), "\n".join(dec).encode()
+
+
+def test_shared_rows(tmp_path):
+    """With blocks whose variables share master rows: cuts are found for some of these models, and the answers stay."""
+    draw, found = random.Random(23), 0
+    for number in range(30):
+        path = tmp_path / str(number)
+        path.mkdir()
+        room = Search(path, shared(draw))
+        first = room.solve()[0]
+        for most in (1, 6, MOST):
+            told, cert = room.solve("--cuts", most)
+            assert told == first and len(cuts(cert)) <= most
+            found += len(cuts(cert)) > 0
+    assert found > 5
+
+
 def test_random_models(tmp_path):
     """Of all kinds of rows, with blocks and without."""
     draw, versions, behind = random.Random(41), set(), set()

@@ -1,5 +1,6 @@
 // Which of the cuts that were made are given: those that bind, and those that these were made of.
 use crate::numbers::{is_set, set};
+use block_form::Blocked;
 use bp_theory::{Cut, Items};
 use lp_factor::{NONE, place};
 use std::alloc::{AllocError, Global};
@@ -21,6 +22,46 @@ pub struct Front {
 }
 
 impl Front {
+    /// The rows in front of cuts that are made behind a program's own.
+    pub fn of(b: &Blocked) -> Front {
+        let given = place(b.cuts().len());
+        Front {
+            own: b.model().rows(),
+            first: b.named_rows().saturating_sub(given),
+            given,
+        }
+    }
+
+    /// Whether a cut may combine a row by its number: it is no link.
+    pub fn is_combined(&self, number: u32) -> bool {
+        number < self.own || number >= self.first
+    }
+
+    /// The place of a row by its number, links behind the cuts.
+    pub fn relaxed_place(&self, number: u32) -> u32 {
+        if number < self.own {
+            number
+        } else if number >= self.first {
+            self.own.saturating_add(number - self.first)
+        } else {
+            number.saturating_add(self.given)
+        }
+    }
+
+    /// How many places come before those of cuts that are made.
+    pub fn behind(&self) -> u32 {
+        self.own.saturating_add(self.given)
+    }
+
+    /// A cut as one that was made.
+    pub fn made(&self, alloc: Global, cut: &Cut) -> Result<Made, AllocError> {
+        let mut mults = Vec::with_capacity(alloc, cut.rows.len())?;
+        for mult in cut.rows.as_slice() {
+            mults.push((self.relaxed_place(mult.0), mult.1))?;
+        }
+        Ok(Made { q: cut.q, mults })
+    }
+
     /// The number of a row by its place.
     pub fn number(&self, row: u32) -> u32 {
         if row < self.own {
@@ -32,9 +73,7 @@ impl Front {
 
     // The place of the row of a cut that was made.
     fn place(&self, made: usize) -> u32 {
-        self.own
-            .saturating_add(self.given)
-            .saturating_add(place(made))
+        self.behind().saturating_add(place(made))
     }
 }
 
@@ -76,7 +115,7 @@ fn renumbered(alloc: Global, front: Front, cut: &Made, places: &[u32]) -> Result
 
 // The new place of a row.
 fn moved(front: Front, row: u32, places: &[u32]) -> u32 {
-    let behind = front.own.saturating_add(front.given);
+    let behind = front.behind();
     if row < behind {
         return row;
     }

@@ -51,6 +51,15 @@ impl Relaxation {
         })
     }
 
+    /// A relaxation that is there.
+    pub fn over(lp: Lp) -> Relaxation {
+        Relaxation {
+            lp,
+            first: 0,
+            is_first: true,
+        }
+    }
+
     /// Adds the row of a cut.
     pub fn add(&mut self, alloc: Global, row: &Row) -> Result<(), AllocError> {
         let mut entries = Vec::with_capacity(alloc, row.terms.len())?;

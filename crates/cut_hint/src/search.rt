@@ -3,26 +3,18 @@ ghost use Rattle.std.specs.Prelude.{All, OnOk};
 ghost use Rattle.round_cut.specs.Cutting.{IsEarlierCut};
 
 use crate::bind::{Front, Made, bound_cuts};
-use crate::halves::try_halves;
-use crate::lifted::try_lifted;
+use crate::missed::{numbered, search_missed};
 use crate::relaxation::Relaxation;
-use crate::select::chosen;
 use crate::state::{State, above_of, sides_of};
-use crate::tableau::try_tableau;
 use crate::taken::row_of_cut;
 use crate::trial::{Found, Trial};
 use block_form::Blocked;
-use bp_theory::{Cut, Items, Row};
+use bp_theory::{Cut, Row};
 use lp_core::End;
-use lp_factor::place;
 use std::alloc::{AllocError, Global};
 
-// How many rounds there are, the least count of cuts of a round, and its part of all.
+// How many rounds there are.
 const ROUNDS: u32 = 20;
-
-const LEAST_CUTS: usize = 8;
-
-const PART: usize = 6;
 
 // The part of what the bound rose in all by which it is to rise in a round, and how many rounds may rise by less.
 const LEAST_RISE: f64 = 1e-3;
@@ -85,16 +77,11 @@ impl Drop for Rounds {
 impl Rounds {
     // No round yet, of a program with so many cuts.
     fn make(alloc: Global, b: &Blocked, most: usize) -> Result<Rounds, AllocError> {
-        let given = place(b.cuts().len());
         Ok(Rounds {
             trial: Trial::make(alloc, b.model().vars() as usize)?,
             relaxation: Relaxation::make(alloc, b)?,
             made: Vec::new(alloc),
-            front: Front {
-                own: b.model().rows(),
-                first: b.named_rows().saturating_sub(given),
-                given,
-            },
+            front: Front::of(b),
             most,
         })
     }
@@ -122,14 +109,7 @@ impl Rounds {
             above: above.as_slice(),
             sides: sides.as_slice(),
         };
-        try_tableau(alloc, &self.relaxation, &state, &mut self.trial)?;
-        try_lifted(alloc, &state, &mut self.trial)?;
-        try_halves(alloc, &state, &mut self.trial)?;
-        self.trial.clear();
-        let found = self.trial.take_found(alloc)?;
-        let room = self.most.saturating_sub(rows.len());
-        let many = (self.most / PART).max(LEAST_CUTS).min(room);
-        chosen(alloc, found, many, model.vars() as usize)
+        search_missed(alloc, &self.relaxation, &state, &mut self.trial, self.most)
     }
 
     // Takes a cut with its row.
@@ -203,13 +183,4 @@ fn take_cuts(
         }
     }
     Ok(is_taken)
-}
-
-// What was found as a cut.
-fn numbered(alloc: Global, front: Front, found: &Found) -> Result<Cut, AllocError> {
-    let mut rows = Items::with_capacity(alloc, found.mults.len())?;
-    for mult in &found.mults {
-        rows.push((front.number(mult.0), mult.1))?;
-    }
-    Ok(Cut { q: found.q, rows })
 }

@@ -1,7 +1,8 @@
 // The rows that cuts may combine, at the values of the relaxation.
 use crate::numbers::low_at;
+use block_form::Blocked;
 use bp_theory::{Row, Sense, Span};
-use lp_factor::at;
+use lp_factor::{at, place};
 use std::alloc::{AllocError, Global};
 use std::num::nearest_i64_to_f64;
 
@@ -40,13 +41,13 @@ pub struct State<'a> {
     pub cuts: &'a [Row],
     pub spans: &'a [Span],
     pub above: &'a [f64],
-    pub sides: &'a [Side],
+    pub sides: &'a [Option<Side>],
 }
 
 impl<'a> State<'a> {
     /// How many rows there are.
     pub fn rows(&self) -> u32 {
-        lp_factor::place(self.own.len().saturating_add(self.cuts.len()))
+        place(self.own.len().saturating_add(self.cuts.len()))
     }
 
     /// A row by its place, where it is there.
@@ -62,7 +63,7 @@ impl<'a> State<'a> {
     /// The side of a row, where it is there.
     pub fn side(&self, row: u32) -> Option<Side> {
         match self.sides.get(row as usize) {
-            Some(side) => Some(*side),
+            Some(side) => *side,
             None => None,
         }
     }
@@ -93,13 +94,35 @@ pub fn sides_of(
     own: &[Row],
     cuts: &[Row],
     values: &[f64],
-) -> Result<Vec<Side>, AllocError> {
+) -> Result<Vec<Option<Side>>, AllocError> {
     let mut sides = Vec::with_capacity(alloc, own.len())?;
     for row in own {
-        sides.push(side_of(row, values))?;
+        sides.push(Some(side_of(row, values)))?;
     }
     for row in cuts {
-        sides.push(side_of(row, values))?;
+        sides.push(Some(side_of(row, values)))?;
+    }
+    Ok(sides)
+}
+
+/// The sides of the rows that cuts may combine at values, none for rows in blocks, and of rows of cuts behind them.
+pub fn master_sides(
+    alloc: Global,
+    b: &Blocked,
+    cuts: &[Row],
+    values: &[f64],
+) -> Result<Vec<Option<Side>>, AllocError> {
+    let mut sides = Vec::new(alloc);
+    for (number, row) in b.model().all_rows().iter().enumerate() {
+        let is_named = b.master_row(place(number)).is_some();
+        sides.push(if is_named {
+            Some(side_of(row, values))
+        } else {
+            None
+        })?;
+    }
+    for row in cuts {
+        sides.push(Some(side_of(row, values)))?;
     }
     Ok(sides)
 }

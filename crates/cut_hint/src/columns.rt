@@ -1,0 +1,394 @@
+// The root of a program whose blocks have rows, by column generation: the values of the variables that its columns come to, and
+// the relaxation of the master rows and cuts over these columns, whose tableau has the multipliers of columns that are taken in
+// part.
+ghost use Rattle.std.specs.Prelude.{◌<◌, length};
+ghost use Rattle.bp_theory.specs.Trees.{IsZone};
+ghost use Rattle.block_class.specs.Classes.{AreSameClasses};
+ghost use Rattle.branch_tree.specs.Turns.{IsTurn};
+ghost use Rattle.hint_pools.specs.Pools.{AreMadeFor};
+
+use crate::bind::Front;
+use crate::numbers::low_at;
+use crate::relaxation::Relaxation;
+use block_class::Classes;
+use block_form::{Blocked, Zone};
+use branch_tree::{Grove, Turn};
+use col_pool::Column;
+use column_hint::{Centre, Effort, Pools, RestrictedMaster, generate_columns, take_steps};
+use lp_core::{ENDLESS, End, Lp, Range};
+use lp_factor::{Entry, Vectors, at, put};
+use point_hint::{is_first_copy, whole};
+use row_lp::relaxation_of;
+use std::alloc::{AllocError, Global};
+use std::num::nearest_i64_to_f64;
+
+// How many rounds are made behind those of column generation, and how many pivots a round may take.
+const FURTHER_ROUNDS: u32 = 60;
+
+const ROUND_PIVOTS: u32 = 5_000;
+
+/// A root: multipliers by row with a great bound, this bound in units, the values of the variables, and the relaxation over the
+/// columns. The relaxation has a row for each row of the model, each cut, each link, and each class of blocks, in this order.
+#[derive(Drop)]
+pub struct Root {
+    pub mults: Vec<i64>,
+    pub bound: i128,
+    pub values: Vec<f64>,
+    pub relaxation: Relaxation,
+}
+
+// A column with the class of blocks that it is of.
+#[derive(Clone, Copy)]
+struct Member<'a> {
+    class: u32,
+    column: &'a Column,
+}
+
+// A program's columns at the root, with its classes of blocks and its master.
+#[derive(Clone, Copy)]
+struct Columns<'a> {
+    b: &'a Blocked,
+    classes: &'a Classes,
+    master: &'a RestrictedMaster,
+    members: &'a [Member<'a>],
+}
+
+/// The root of a program from multipliers by row, or from none. There is none where no point of the columns meets the rows.
+pub fn root_of(alloc: Global, b: &Blocked, mults: Vec<i64>) -> Result<Option<Root>, AllocError> {
+    let grove = Grove::plant(alloc, b)?;
+    let Some(turn) = grove.take(alloc)? else {
+        return Ok(None);
+    };
+    root_at(alloc, b, &turn, mults)
+}
+
+// The root of a program, whose zone is that of a leaf.
+fn root_at(
+    alloc: Global,
+    b: &Blocked,
+    turn: &Turn,
+    mults: Vec<i64>,
+) -> Result<Option<Root>, AllocError>
+    requires { IsTurn b.now turn.now }
+{
+    let classes = Classes::of(alloc, b, &turn.zone)?;
+    let mut pools = Pools::make(alloc, b)?;
+    let _ = pools.begin(alloc, b)?;
+    let mut centre = first_centre(alloc, b, &classes, &mut pools, turn, mults)?;
+    let effort = Effort {
+        known: None,
+        with_partitions: true,
+    };
+    let zone = &turn.zone;
+    let Some(mut master) = generate_columns(
+        alloc,
+        b,
+        &classes,
+        zone,
+        &mut pools,
+        &mut centre,
+        effort,
+    )?
+    else {
+        return Ok(None);
+    };
+    complete(
+        alloc,
+        b,
+        &classes,
+        zone,
+        &mut pools,
+        &mut master,
+        &mut centre,
+    )?;
+    solved(alloc, b, &classes, &pools, &master, centre)
+}
+
+// The centre that column generation begins from: at multipliers, or where there are none at those of subgradient steps.
+fn first_centre(
+    alloc: Global,
+    b: &Blocked,
+    classes: &Classes,
+    pools: &mut Pools,
+    turn: &Turn,
+    mults: Vec<i64>,
+) -> Result<Centre, AllocError>
+    requires made_for { AreMadeFor b.now pools.old }
+    requires classes { AreSameClasses turn.now.zone b.now.blocking classes.now }
+    requires zone { IsZone b.now.named.program.spans turn.now.zone }
+    ensures made_for { AreMadeFor b.now pools.new }
+{
+    if !mults.is_empty() {
+        return Ok(Centre {
+            mults,
+            value: i128::MIN,
+        });
+    }
+    let steps = take_steps(alloc, b, classes, pools, turn, None, true)?;
+    Ok(Centre {
+        mults: steps.best,
+        value: steps.value,
+    })
+}
+
+// Makes rounds behind those of column generation until no column is new: the box that keeps its multipliers near those of the
+// greatest bound may end it before.
+fn complete(
+    alloc: Global,
+    b: &Blocked,
+    classes: &Classes,
+    zone: &Zone,
+    pools: &mut Pools,
+    master: &mut RestrictedMaster,
+    centre: &mut Centre,
+) -> Result<(), AllocError>
+    requires made_for { AreMadeFor b.now pools.old }
+    requires classes { AreSameClasses zone.now b.now.blocking classes.now }
+    requires zone { IsZone b.now.named.program.spans zone.now }
+{
+    let mut mults = centre.mults.as_slice().to_vec(alloc)?;
+    let mut point = Vec::from_elem(alloc, 0i64, b.model().vars() as usize)?;
+    for _ in 0..FURTHER_ROUNDS {
+        master.solve(alloc, ROUND_PIVOTS)?;
+        master.write_mults(b, mults.as_mut_slice());
+        let prices = mults.as_slice();
+        let Some(value) = pools.price(alloc, b, classes, zone, prices, point.as_mut_slice())? else {
+            break;
+        };
+        if value > centre.value {
+            centre.value = value;
+            centre.mults = mults.as_slice().to_vec(alloc)?;
+        }
+        if !add_priced(alloc, b, classes, pools, master)? {
+            break;
+        }
+    }
+    Ok(())
+}
+
+// Adds the points that the last bound told, where they are columns of reduced costs below zero; whether one is new.
+fn add_priced(
+    alloc: Global,
+    b: &Blocked,
+    classes: &Classes,
+    pools: &mut Pools,
+    master: &mut RestrictedMaster,
+) -> Result<bool, AllocError>
+    requires { AreMadeFor b.now pools.old }
+    ensures { AreMadeFor b.now pools.new }
+{
+    let mut is_new = false;
+    for class in 0..classes.len() {
+        let first = classes.first(class);
+        if add_class(alloc, b, pools, master, class, first)? {
+            is_new = true;
+        }
+    }
+    Ok(is_new)
+}
+
+// Adds the point that the last bound told of a class's first block; whether it is a new column.
+fn add_class(
+    alloc: Global,
+    b: &Blocked,
+    pools: &mut Pools,
+    master: &mut RestrictedMaster,
+    class: u32,
+    block: u32,
+) -> Result<bool, AllocError>
+    requires { AreMadeFor b.now pools.old }
+    ensures { AreMadeFor b.now pools.new }
+{
+    if block >= b.blocks() {
+        return Ok(false);
+    }
+    let Some(place) = pools.add_priced(alloc, b, block)? else {
+        return Ok(false);
+    };
+    match pools.column(place) {
+        None => Ok(false),
+        Some(column) => master.add_if_better(alloc, column, class, place),
+    }
+}
+
+// What the columns of a master come to.
+fn solved(
+    alloc: Global,
+    b: &Blocked,
+    classes: &Classes,
+    pools: &Pools,
+    master: &RestrictedMaster,
+    centre: Centre,
+) -> Result<Option<Root>, AllocError> {
+    let members = members_of(alloc, pools, master)?;
+    let columns = Columns {
+        b,
+        classes,
+        master,
+        members: members.as_slice(),
+    };
+    let mut relaxation = Relaxation::over(columns.relaxed(alloc)?);
+    if relaxation.solve()? != End::Optimum {
+        return Ok(None);
+    }
+    let weights = relaxation.values(alloc)?;
+    let values = columns.values(alloc, weights.as_slice())?;
+    let Centre { mults, value } = centre;
+    Ok(Some(Root {
+        mults,
+        bound: value,
+        values,
+        relaxation,
+    }))
+}
+
+// The columns of a master.
+fn members_of<'a>(
+    alloc: Global,
+    pools: &'a Pools,
+    master: &RestrictedMaster,
+) -> Result<Vec<Member<'a>>, AllocError> {
+    let mut members = Vec::with_capacity(alloc, master.len())?;
+    for number in 0..master.len() {
+        if let Some(found) = master.column(number) {
+            if let Some(column) = pools.column(found.place) {
+                members.push(Member {
+                    class: found.class,
+                    column,
+                })?;
+            }
+        }
+    }
+    Ok(members)
+}
+
+impl<'a> Columns<'a> {
+    // The relaxation over the columns.
+    fn relaxed(&self, alloc: Global) -> Result<Lp, AllocError> {
+        let by_columns = self.by_columns(alloc)?;
+        let ranges = self.ranges(alloc)?;
+        let mut spans = Vec::with_capacity(alloc, self.members.len())?;
+        let mut costs = Vec::with_capacity(alloc, self.members.len())?;
+        for member in self.members {
+            spans.push(Range {
+                lower: 0.0,
+                upper: self.many(member.class),
+            })?;
+            costs.push(nearest_i64_to_f64(member.column.cost))?;
+        }
+        Lp::make(
+            alloc,
+            by_columns,
+            ranges.as_slice(),
+            spans.as_slice(),
+            costs.as_slice(),
+        )
+    }
+
+    // What each column takes from the rows, and that it is one of its class.
+    fn by_columns(&self, alloc: Global) -> Result<Vectors, AllocError> {
+        let front = Front::of(self.b);
+        let rows = self.b.named_rows();
+        let mut columns = Vectors::make(alloc);
+        for member in self.members {
+            for act in member.column.acts.as_slice() {
+                columns.add(Entry {
+                    place: front.relaxed_place(act.0),
+                    value: nearest_i64_to_f64(act.1),
+                })?;
+            }
+            columns.add(Entry {
+                place: rows.saturating_add(member.class),
+                value: 1.0,
+            })?;
+            columns.close()?;
+        }
+        Ok(columns)
+    }
+
+    // The ranges of rows less what blocks of one point take, and how many blocks each class has.
+    fn ranges(&self, alloc: Global) -> Result<Vec<Range>, AllocError> {
+        let front = Front::of(self.b);
+        let own = relaxation_of(alloc, self.b)?;
+        let nothing = Range {
+            lower: 0.0,
+            upper: 0.0,
+        };
+        let mut ranges = Vec::from_elem(alloc, nothing, own.rows())?;
+        for row in 0..self.b.named_rows() {
+            let range = own.range(row as usize);
+            let taken = self.taken(row);
+            if let Some(kept) = ranges.get_mut(front.relaxed_place(row) as usize) {
+                *kept = Range {
+                    lower: range.lower - taken,
+                    upper: range.upper - taken,
+                };
+            }
+        }
+        for class in 0..self.classes.len() {
+            ranges.push(Range {
+                lower: self.many(class),
+                upper: self.many(class),
+            })?;
+        }
+        Ok(ranges)
+    }
+
+    // How many blocks a class has that have more points than one.
+    fn many(&self, class: u32) -> f64 {
+        nearest_i64_to_f64(i64::from(self.master.size(class)))
+    }
+
+    // What the blocks of one point take from a row.
+    fn taken(&self, row: u32) -> f64 {
+        match self.master.settled_sums().get(row as usize) {
+            Some(sum) => nearest_i64_to_f64(whole(*sum)),
+            None => 0.0,
+        }
+    }
+
+    // The values of the variables' first copies where columns have weights, those of a class dealt out evenly to its blocks.
+    fn values(&self, alloc: Global, weights: &[f64]) -> Result<Vec<f64>, AllocError> {
+        let spans = self.b.model().spans();
+        let mut values = Vec::with_capacity(alloc, spans.len())?;
+        for span in spans {
+            values.push(nearest_i64_to_f64(span.lo))?;
+        }
+        for (number, member) in self.members.iter().enumerate() {
+            self.deal_out(member, at(weights, number), values.as_mut_slice());
+        }
+        Ok(values)
+    }
+
+    // Adds what a column with a weight has above the lower ends of spans to the values, in equal parts by the blocks of its class.
+    fn deal_out(&self, member: &Member<'a>, weight: f64, values: &mut [f64]) {
+        if member.class >= self.classes.len() || weight <= 0.0 {
+            return;
+        }
+        let many = nearest_i64_to_f64(i64::from(self.classes.size(member.class).max(1)));
+        for block in self.classes.members(member.class) {
+            if *block < self.b.blocks() {
+                let point = member.column.point.as_slice();
+                deal(self.b, *block, point, weight / many, values);
+            }
+        }
+    }
+}
+
+// Adds a part of what a block's point has above the lower ends of spans to values of first copies.
+fn deal(b: &Blocked, number: u32, point: &[i64], part: f64, values: &mut [f64])
+    requires { number < length b.now.blocking.blocks }
+{
+    let spans = b.model().spans();
+    for (var, coordinate) in b.block(number).vars().iter().zip(point) {
+        if is_first_copy(b, number, *var) {
+            let place = *var as usize;
+            let above = coordinate.saturating_sub(low_at(spans, *var));
+            put(
+                values,
+                place,
+                at(values, place) + part * nearest_i64_to_f64(above),
+            );
+        }
+    }
+}

@@ -1,0 +1,43 @@
+// The cuts that values miss: of rows of the tableau, of single rows over their coefficients, and of halves.
+use crate::bind::Front;
+use crate::halves::try_halves;
+use crate::lifted::try_lifted;
+use crate::relaxation::Relaxation;
+use crate::select::chosen;
+use crate::state::State;
+use crate::tableau::try_tableau;
+use crate::trial::{Found, Trial};
+use bp_theory::{Cut, Items};
+use std::alloc::{AllocError, Global};
+
+// The least count of cuts of a round, and its part of all.
+const LEAST_CUTS: usize = 8;
+
+const PART: usize = 6;
+
+/// What the values of a relaxation miss, the most missed first, as many as a round may add where so many may be there in all.
+pub fn search_missed(
+    alloc: Global,
+    relaxation: &Relaxation,
+    state: &State,
+    trial: &mut Trial,
+    most: usize,
+) -> Result<Vec<Found>, AllocError> {
+    try_tableau(alloc, relaxation, state, trial)?;
+    try_lifted(alloc, state, trial)?;
+    try_halves(alloc, state, trial)?;
+    trial.clear();
+    let found = trial.take_found(alloc)?;
+    let room = most.saturating_sub(state.cuts.len());
+    let many = (most / PART).max(LEAST_CUTS).min(room);
+    chosen(alloc, found, many, state.spans.len())
+}
+
+/// What was found as a cut.
+pub fn numbered(alloc: Global, front: Front, found: &Found) -> Result<Cut, AllocError> {
+    let mut rows = Items::with_capacity(alloc, found.mults.len())?;
+    for mult in &found.mults {
+        rows.push((front.number(mult.0), mult.1))?;
+    }
+    Ok(Cut { q: found.q, rows })
+}
