@@ -1,5 +1,6 @@
 pub mod Stated
 pub mod Line
 pub mod Presence
+pub mod Tables
 pub mod Taken
 pub mod Refusal

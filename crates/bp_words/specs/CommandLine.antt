@@ -101,20 +101,6 @@ second_word = record (new_rule (codes "second")) { required = true }
 abbrev pub new_word : Rule
 new_word = record (new_rule (codes "new")) { required = true }
 
--- `solve LP [--dec FILE] [--steps N]`
-abbrev pub search_words : Shape
-search_words = record (new_shape (codes "solve")) { rules = lp_word ∷ dec_option ∷ steps_option ∷ [] }
-
--- `solve LP [--dec FILE] [--steps N] [--cert FILE] [--from CERT]`
-abbrev pub kept_words : Shape
-kept_words = record (new_shape (codes "solve")) { rules = lp_word ∷ dec_option ∷ steps_option ∷ cert_option ∷ from_option ∷ [] }
-
--- `solve LP [--dec FILE] [--steps N] [--cert FILE] [--from CERT] [--leaf K] [--workers W] [--order SEED]`
-abbrev pub crewed_words : Shape
-crewed_words = record (new_shape (codes "solve")) {
-  rules = lp_word ∷ dec_option ∷ steps_option ∷ cert_option ∷ from_option ∷ leaf_option ∷ workers_option ∷ order_option ∷ [];
-}
-
 -- `solve LP [--dec FILE] [--steps N] [--cert FILE] [--from CERT] [--leaf K] [--workers W] [--order SEED] [--cuts C]`
 abbrev pub solve_words : Shape
 solve_words = record (new_shape (codes "solve")) {
@@ -145,10 +131,6 @@ detect_words = record (new_shape (codes "detect")) { rules = lp_word ∷ rows_wo
 abbrev pub propose_words : Shape
 propose_words = record (new_shape (codes "propose")) { rules = lp_word ∷ dec_word ∷ [] }
 
--- `merge LP FIRST SECOND`
-abbrev pub both_words : Shape
-both_words = record (new_shape (codes "merge")) { rules = lp_word ∷ first_word ∷ second_word ∷ [] }
-
 -- `merge LP FIRST SECOND NEW [--dec FILE]`
 abbrev pub merge_words : Shape
 merge_words = record (new_shape (codes "merge")) { rules = lp_word ∷ first_word ∷ second_word ∷ new_word ∷ dec_option ∷ [] }
@@ -164,21 +146,6 @@ program_words = record (new_shape (codes "bprice")) {
   disable_help_subcommand = true;
   disable_version_flag = true;
   subcommand_required = true;
-}
-
--- the program with the subcommands that read texts
-abbrev pub reading_line : App
-reading_line = record { top = record program_words { is_leaf = false }; subs = solve_words ∷ check_words ∷ show_words ∷ [] }
-
--- the program with the subcommands that read texts and those that make them
-abbrev pub making_line : App
-making_line = record { top = record program_words { is_leaf = false }; subs = solve_words ∷ check_words ∷ show_words ∷ gen_words ∷ demo_words ∷ [] }
-
--- and those that write decompositions
-abbrev pub parting_line : App
-parting_line = record {
-  top = record program_words { is_leaf = false };
-  subs = solve_words ∷ check_words ∷ show_words ∷ gen_words ∷ demo_words ∷ detect_words ∷ propose_words ∷ [];
 }
 
 -- the whole command: the program with its subcommands

@@ -1,3 +1,5 @@
--- Other crates cite all of these.
+-- Other crates cite these.
 pub mod CommandLine
 pub mod Orders
+-- Contracts of this crate cite these.
+pub mod Tables

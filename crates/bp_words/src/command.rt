@@ -1,7 +1,8 @@
 // The command of the program, for the crate that reads words.
-ghost use Rattle.std.specs.Prelude.{◌≡◌, Some, true, false, codes, IfOk};
-ghost use Rattle.clap.specs.Words.{app_of, new_rule, rule_of};
-ghost use Rattle.bp_words.specs.CommandLine.{search_words, kept_words, crewed_words, solve_words, check_words, show_words, gen_words, demo_words, detect_words, propose_words, both_words, merge_words, migrate_words, program_words, reading_line, making_line, parting_line, command_line, IsShaped};
+ghost use Rattle.std.specs.Prelude.{◌≡◌, false, IfOk};
+ghost use Rattle.clap.specs.Words.{app_of, rule_of};
+ghost use Rattle.bp_words.specs.CommandLine.{program_words, command_line, IsShaped};
+ghost use Rattle.bp_words.specs.Tables.{rule_of_argument, shape_of_subcommand, line_by, GainsSubcommand};
 
 use clap::builder::ValueParser;
 use clap::{Arg, ArgAction, Command};
@@ -25,46 +26,128 @@ pub const MOST_WORKERS: u64 = 64;
 /// The greatest number of cuts.
 pub const MOST_CUTS: u64 = 256;
 
+/// How an argument of a subcommand is given, by its word.
+#[derive(Clone, Copy)]
+pub enum Argument {
+    /// A file that must be named, by its place.
+    FileWord(&'static str),
+    /// A file that may be named behind `--` and the word.
+    FileOption(&'static str),
+    /// A number that must be given, by its place, in a range.
+    NumberWord(&'static str, u64, u64),
+    /// A number that may be given behind `--` and the word, in a range.
+    NumberOption(&'static str, u64, u64),
+    /// A flag behind `--`.
+    Flag(&'static str),
+}
+
+/// A subcommand: its name and its arguments in their order.
+#[derive(Clone, Copy)]
+pub struct Subcommand {
+    /// The name.
+    pub name: &'static str,
+    /// The arguments.
+    pub arguments: &'static [Argument],
+}
+
+// The subcommands.
+static SUBCOMMANDS: [Subcommand; 9] = [
+    Subcommand {
+        name: "solve",
+        arguments: &[
+            Argument::FileWord("lp"),
+            Argument::FileOption("dec"),
+            Argument::NumberOption("steps", 0, MOST_STEPS),
+            Argument::FileOption("cert"),
+            Argument::FileOption("from"),
+            Argument::NumberOption("leaf", 1, MOST_LEAF),
+            Argument::NumberOption("workers", 1, MOST_WORKERS),
+            Argument::NumberOption("order", 0, u64::MAX),
+            Argument::NumberOption("cuts", 0, MOST_CUTS),
+        ],
+    },
+    Subcommand {
+        name: "check",
+        arguments: &[
+            Argument::FileWord("lp"),
+            Argument::FileWord("cert"),
+            Argument::FileOption("dec"),
+            Argument::NumberOption("visits", 0, MOST_VISITS),
+        ],
+    },
+    Subcommand {
+        name: "show",
+        arguments: &[
+            Argument::FileWord("lp"),
+            Argument::FileOption("dec"),
+            Argument::Flag("blocks"),
+        ],
+    },
+    Subcommand {
+        name: "gen",
+        arguments: &[
+            Argument::NumberWord("seed", 0, u64::MAX),
+            Argument::NumberWord("size", 1, MOST_SIZE),
+            Argument::FileWord("lp"),
+            Argument::FileWord("dec"),
+        ],
+    },
+    Subcommand {
+        name: "demo",
+        arguments: &[
+            Argument::NumberWord("seed", 0, u64::MAX),
+            Argument::NumberWord("size", 1, MOST_SIZE),
+        ],
+    },
+    Subcommand {
+        name: "detect",
+        arguments: &[
+            Argument::FileWord("lp"),
+            Argument::FileWord("rows"),
+            Argument::FileWord("dec"),
+        ],
+    },
+    Subcommand {
+        name: "propose",
+        arguments: &[Argument::FileWord("lp"), Argument::FileWord("dec")],
+    },
+    Subcommand {
+        name: "merge",
+        arguments: &[
+            Argument::FileWord("lp"),
+            Argument::FileWord("first"),
+            Argument::FileWord("second"),
+            Argument::FileWord("new"),
+            Argument::FileOption("dec"),
+        ],
+    },
+    Subcommand {
+        name: "migrate",
+        arguments: &[
+            Argument::FileWord("lp"),
+            Argument::FileWord("cert"),
+            Argument::FileWord("new"),
+            Argument::FileOption("dec"),
+        ],
+    },
+];
+
 /// The command: its subcommands, one of which is required, without help or version words.
 pub fn make_command<'a>(alloc: Global) -> Result<Command<'a>, AllocError>
     ensures { IfOk result (λ command. app_of command ≡ command_line) }
 {
-    let merge = merge_command(alloc)?;
-    let command = parting_command(alloc)?.subcommand(merge)?;
-    let migrate = migrate_command(alloc)?;
-    command.subcommand(migrate)
+    joined_command(alloc, &SUBCOMMANDS)
 }
 
-// The program with all subcommands but those that write certificates anew.
-fn parting_command<'a>(alloc: Global) -> Result<Command<'a>, AllocError>
-    ensures { IfOk result (λ command. app_of command ≡ parting_line) }
+// The program with subcommands.
+fn joined_command<'a>(alloc: Global, subcommands: &[Subcommand]) -> Result<Command<'a>, AllocError>
+    ensures { IfOk result (λ command. app_of command ≡ line_by subcommands.now) }
 {
-    let detect = detect_command(alloc)?;
-    let command = making_command(alloc)?.subcommand(detect)?;
-    let propose = propose_command(alloc)?;
-    command.subcommand(propose)
-}
-
-// The program with the subcommands that read texts and those that make them.
-fn making_command<'a>(alloc: Global) -> Result<Command<'a>, AllocError>
-    ensures { IfOk result (λ command. app_of command ≡ making_line) }
-{
-    let make = gen_command(alloc)?;
-    let command = reading_command(alloc)?.subcommand(make)?;
-    let demo = demo_command(alloc)?;
-    command.subcommand(demo)
-}
-
-// The program with the subcommands that read texts.
-fn reading_command<'a>(alloc: Global) -> Result<Command<'a>, AllocError>
-    ensures { IfOk result (λ command. app_of command ≡ reading_line) }
-{
-    let solve = solve_command(alloc)?;
-    let command = program(alloc).subcommand(solve)?;
-    let check = check_command(alloc)?;
-    let command = command.subcommand(check)?;
-    let show = show_command(alloc)?;
-    command.subcommand(show)
+    let mut command = program(alloc);
+    for subcommand in subcommands {
+        command = with_subcommand(alloc, command, subcommand)?;
+    }
+    Ok(command)
 }
 
 // The program itself.
@@ -78,187 +161,43 @@ fn program<'a>(alloc: Global) -> Command<'a>
         .subcommand_required(true)
 }
 
-// `solve LP [--dec FILE] [--steps N] [--cert FILE] [--from CERT] [--leaf K] [--workers W] [--order SEED] [--cuts C]`
-fn solve_command<'a>(alloc: Global) -> Result<Command<'a>, AllocError>
-    ensures { IfOk result (λ command. IsShaped command solve_words) }
+// A command with a subcommand more.
+fn with_subcommand<'a>(
+    alloc: Global,
+    command: Command<'a>,
+    subcommand: &Subcommand,
+) -> Result<Command<'a>, AllocError>
+    ensures { IfOk result (GainsSubcommand command.entry subcommand.now) }
 {
-    crewed_command(alloc)?.arg(number_option(alloc, "cuts", 0, MOST_CUTS))
+    let shaped = shaped_command(alloc, subcommand)?;
+    command.subcommand(shaped)
 }
 
-// `solve LP [--dec FILE] [--steps N] [--cert FILE] [--from CERT] [--leaf K] [--workers W] [--order SEED]`
-fn crewed_command<'a>(alloc: Global) -> Result<Command<'a>, AllocError>
-    ensures { IfOk result (λ command. IsShaped command crewed_words) }
+// The command of a subcommand.
+fn shaped_command<'a>(alloc: Global, subcommand: &Subcommand) -> Result<Command<'a>, AllocError>
+    ensures { IfOk result (λ command. IsShaped command (shape_of_subcommand subcommand.now)) }
 {
-    kept_command(alloc)?
-        .arg(number_option(alloc, "leaf", 1, MOST_LEAF))?
-        .arg(number_option(alloc, "workers", 1, MOST_WORKERS))?
-        .arg(number_option(alloc, "order", 0, u64::MAX))
+    let mut command = Command::new(alloc, subcommand.name);
+    for argument in subcommand.arguments {
+        command = command.arg(rule_of_argument(alloc, argument))?;
+    }
+    Ok(command)
 }
 
-// `solve LP [--dec FILE] [--steps N] [--cert FILE] [--from CERT]`
-fn kept_command<'a>(alloc: Global) -> Result<Command<'a>, AllocError>
-    ensures { IfOk result (λ command. IsShaped command kept_words) }
-{
-    search_command(alloc)?
-        .arg(file_option(alloc, "cert"))?
-        .arg(file_option(alloc, "from"))
-}
-
-// `solve LP [--dec FILE] [--steps N]`
-fn search_command<'a>(alloc: Global) -> Result<Command<'a>, AllocError>
-    ensures { IfOk result (λ command. IsShaped command search_words) }
-{
-    Command::new(alloc, "solve")
-        .arg(file_word(alloc, "lp"))?
-        .arg(file_option(alloc, "dec"))?
-        .arg(number_option(alloc, "steps", 0, MOST_STEPS))
-}
-
-// `check LP CERT [--dec FILE] [--visits M]`
-fn check_command<'a>(alloc: Global) -> Result<Command<'a>, AllocError>
-    ensures { IfOk result (λ command. IsShaped command check_words) }
-{
-    Command::new(alloc, "check")
-        .arg(file_word(alloc, "lp"))?
-        .arg(file_word(alloc, "cert"))?
-        .arg(file_option(alloc, "dec"))?
-        .arg(number_option(alloc, "visits", 0, MOST_VISITS))
-}
-
-// `show LP [--dec FILE] [--blocks]`
-fn show_command<'a>(alloc: Global) -> Result<Command<'a>, AllocError>
-    ensures { IfOk result (λ command. IsShaped command show_words) }
-{
-    Command::new(alloc, "show")
-        .arg(file_word(alloc, "lp"))?
-        .arg(file_option(alloc, "dec"))?
-        .arg(flag(alloc, "blocks"))
-}
-
-// `gen SEED SIZE LP DEC`
-fn gen_command<'a>(alloc: Global) -> Result<Command<'a>, AllocError>
-    ensures { IfOk result (λ command. IsShaped command gen_words) }
-{
-    Command::new(alloc, "gen")
-        .arg(number_word(alloc, "seed", 0, u64::MAX))?
-        .arg(number_word(alloc, "size", 1, MOST_SIZE))?
-        .arg(file_word(alloc, "lp"))?
-        .arg(file_word(alloc, "dec"))
-}
-
-// `demo SEED SIZE`
-fn demo_command<'a>(alloc: Global) -> Result<Command<'a>, AllocError>
-    ensures { IfOk result (λ command. IsShaped command demo_words) }
-{
-    Command::new(alloc, "demo")
-        .arg(number_word(alloc, "seed", 0, u64::MAX))?
-        .arg(number_word(alloc, "size", 1, MOST_SIZE))
-}
-
-// `detect LP ROWS DEC`
-fn detect_command<'a>(alloc: Global) -> Result<Command<'a>, AllocError>
-    ensures { IfOk result (λ command. IsShaped command detect_words) }
-{
-    Command::new(alloc, "detect")
-        .arg(file_word(alloc, "lp"))?
-        .arg(file_word(alloc, "rows"))?
-        .arg(file_word(alloc, "dec"))
-}
-
-// `propose LP DEC`
-fn propose_command<'a>(alloc: Global) -> Result<Command<'a>, AllocError>
-    ensures { IfOk result (λ command. IsShaped command propose_words) }
-{
-    Command::new(alloc, "propose")
-        .arg(file_word(alloc, "lp"))?
-        .arg(file_word(alloc, "dec"))
-}
-
-// `merge LP FIRST SECOND NEW [--dec FILE]`
-fn merge_command<'a>(alloc: Global) -> Result<Command<'a>, AllocError>
-    ensures { IfOk result (λ command. IsShaped command merge_words) }
-{
-    both_command(alloc)?
-        .arg(file_word(alloc, "new"))?
-        .arg(file_option(alloc, "dec"))
-}
-
-// `merge LP FIRST SECOND`
-fn both_command<'a>(alloc: Global) -> Result<Command<'a>, AllocError>
-    ensures { IfOk result (λ command. IsShaped command both_words) }
-{
-    Command::new(alloc, "merge")
-        .arg(file_word(alloc, "lp"))?
-        .arg(file_word(alloc, "first"))?
-        .arg(file_word(alloc, "second"))
-}
-
-// `migrate LP CERT NEW [--dec FILE]`
-fn migrate_command<'a>(alloc: Global) -> Result<Command<'a>, AllocError>
-    ensures { IfOk result (λ command. IsShaped command migrate_words) }
-{
-    Command::new(alloc, "migrate")
-        .arg(file_word(alloc, "lp"))?
-        .arg(file_word(alloc, "cert"))?
-        .arg(file_word(alloc, "new"))?
-        .arg(file_option(alloc, "dec"))
-}
-
-// A number that must be given, by its place.
-fn number_word<'a>(alloc: Global, id: &'a str, low: u64, high: u64) -> Arg<'a>
-    ensures rule { rule_of result ≡
-        record (new_rule id.entry.now) {
-          required = true;
-          parser = Some
-              (ValueParser.Unsigned low high);
-        } }
+// The rule of an argument, for the crate that reads words.
+fn rule_of_argument<'a>(alloc: Global, argument: &Argument) -> Arg<'a>
+    ensures rule { rule_of result ≡ rule_of_argument argument.now }
     ensures local { result.global ≡ false }
 {
-    Arg::new(alloc, id)
-        .required(true)
-        .value_parser(ValueParser::unsigned(low, high))
-}
-
-// A number that may be given behind `--` and a word.
-fn number_option<'a>(alloc: Global, id: &'a str, low: u64, high: u64) -> Arg<'a>
-    ensures rule { rule_of result ≡
-        record (new_rule id.entry.now) {
-          long = Some id.entry.now;
-          parser = Some
-              (ValueParser.Unsigned low high);
-        } }
-    ensures local { result.global ≡ false }
-{
-    Arg::new(alloc, id)
-        .long(id)
-        .value_parser(ValueParser::unsigned(low, high))
-}
-
-// A file that must be named, by its place.
-fn file_word<'a>(alloc: Global, id: &'a str) -> Arg<'a>
-    ensures rule { rule_of result ≡ record (new_rule id.entry.now) { required = true } }
-    ensures local { result.global ≡ false }
-{
-    Arg::new(alloc, id).required(true)
-}
-
-// A file that may be named behind `--` and a word.
-fn file_option<'a>(alloc: Global, id: &'a str) -> Arg<'a>
-    ensures rule { rule_of result ≡ record (new_rule id.entry.now) { long = Some id.entry.now } }
-    ensures local { result.global ≡ false }
-{
-    Arg::new(alloc, id).long(id)
-}
-
-// A flag behind `--`.
-fn flag<'a>(alloc: Global, id: &'a str) -> Arg<'a>
-    ensures rule { rule_of result ≡
-        record (new_rule id.entry.now) {
-          long = Some id.entry.now;
-          action = Some
-              ArgAction.SetTrue;
-        } }
-    ensures local { result.global ≡ false }
-{
-    Arg::new(alloc, id).long(id).action(ArgAction::SetTrue)
+    match *argument {
+        Argument::FileWord(id) => Arg::new(alloc, id).required(true),
+        Argument::FileOption(id) => Arg::new(alloc, id).long(id),
+        Argument::NumberWord(id, low, high) => Arg::new(alloc, id)
+            .required(true)
+            .value_parser(ValueParser::unsigned(low, high)),
+        Argument::NumberOption(id, low, high) => Arg::new(alloc, id)
+            .long(id)
+            .value_parser(ValueParser::unsigned(low, high)),
+        Argument::Flag(id) => Arg::new(alloc, id).long(id).action(ArgAction::SetTrue),
+    }
 }
