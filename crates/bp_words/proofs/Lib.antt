@@ -1,3 +1,5 @@
+pub mod Needs
+pub mod OtherName
 pub mod Stated
 pub mod Line
 pub mod Presence

@@ -9,43 +9,6 @@ use Rattle.bp_words.specs.CommandLine.{command_line, most_leaf, most_seed, most_
 use Rattle.bp_words.specs.Orders.{HasNumber, MayHaveNumber, HasCount, GoTogether, HasValues, IsInRange, IsStated, IsOrderOf}
 use Rattle.bp_words.proofs.Line.{line_is_free}
 
--- words that begin differently differ
-apart : (a b : ℕ) (xs ys : List ℕ) → (a ≡ b → ⊥) → a ∷ xs ≡ b ∷ ys → ⊥
-apart a b xs ys differ e = let same : a ≡ b = cc in differ same
-
-apart_third : (a b : ℕ) (xs ys : List ℕ) → (a ≡ b → ⊥) → 100 ∷ 101 ∷ a ∷ xs ≡ 100 ∷ 101 ∷ b ∷ ys → ⊥
-apart_third a b xs ys differ e = let same : a ≡ b = cc in differ same
-
--- an order has a seed and a size
-pub record HasSeedAndSize (rows : List Row) : Type 0 where
-  pub seed : ℕ
-  pub size : ℕ
-  pub seeds : HasNumber (first_of (codes "seed") rows) 0 most_seed seed
-  pub sizes : HasNumber (first_of (codes "size") rows) 1 most_size size
-
--- what `gen` and `demo` state has a seed and a size
-pub gen_has : (rows : List Row) (order : Order) → HasValues (codes "gen") rows order → HasSeedAndSize rows
-gen_has rows (Solve given) has = absurd (apart 103 115 (codes "en") (codes "olve") (λ e. omega arith) has.0)
-gen_has rows (Check given) has = absurd (apart 103 99 (codes "en") (codes "heck") (λ e. omega arith) has.0)
-gen_has rows (Show lp dec blocks) has = absurd (apart 103 115 (codes "en") (codes "how") (λ e. omega arith) has.0)
-gen_has rows (Gen seed size lp dec) has = record { seed = seed; size = size; seeds = has.1; sizes = has.2 }
-gen_has rows (Demo seed size) has = absurd (apart 103 100 (codes "en") (codes "emo") (λ e. omega arith) has.0)
-gen_has rows (Detect lp list dec) has = absurd (apart 103 100 (codes "en") (codes "etect") (λ e. omega arith) has.0)
-gen_has rows (Propose lp dec) has = absurd (apart 103 112 (codes "en") (codes "ropose") (λ e. omega arith) has.0)
-gen_has rows (Merge given) has = absurd (apart 103 109 (codes "en") (codes "erge") (λ e. omega arith) has.0)
-gen_has rows (Migrate lp cert new dec) has = absurd (apart 103 109 (codes "en") (codes "igrate") (λ e. omega arith) has.0)
-
-pub demo_has : (rows : List Row) (order : Order) → HasValues (codes "demo") rows order → HasSeedAndSize rows
-demo_has rows (Solve given) has = absurd (apart 100 115 (codes "emo") (codes "olve") (λ e. omega arith) has.0)
-demo_has rows (Check given) has = absurd (apart 100 99 (codes "emo") (codes "heck") (λ e. omega arith) has.0)
-demo_has rows (Show lp dec blocks) has = absurd (apart 100 115 (codes "emo") (codes "how") (λ e. omega arith) has.0)
-demo_has rows (Gen seed size lp dec) has = absurd (apart 100 103 (codes "emo") (codes "en") (λ e. omega arith) has.0)
-demo_has rows (Demo seed size) has = record { seed = seed; size = size; seeds = has.1; sizes = has.2 }
-demo_has rows (Detect lp list dec) has = absurd (apart_third 109 116 (codes "o") (codes "ect") (λ e. omega arith) has.0)
-demo_has rows (Propose lp dec) has = absurd (apart 100 112 (codes "emo") (codes "ropose") (λ e. omega arith) has.0)
-demo_has rows (Merge given) has = absurd (apart 100 109 (codes "emo") (codes "erge") (λ e. omega arith) has.0)
-demo_has rows (Migrate lp cert new dec) has = absurd (apart 100 109 (codes "emo") (codes "igrate") (λ e. omega arith) has.0)
-
 -- a number that may be given is in its range
 within : (given : Option Text) (low high : ℕ) (n : Option ℕ) → MayHaveNumber given low high n → IfSome n (λ k. (low ≤ k) × (k ≤ high))
 within given low high None has = tt

@@ -2,4 +2,5 @@
 pub mod CommandLine
 pub mod Orders
 -- Contracts of this crate cite these.
+pub mod Parts
 pub mod Tables

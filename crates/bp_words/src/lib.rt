@@ -3,6 +3,7 @@
 
 mod command;
 mod order;
+mod parts;
 mod read;
 mod text;
 

@@ -3,12 +3,18 @@ ghost use Rattle.std.specs.Prelude.{◌≡◌, ◌≢◌, ◌↔◌, ◌<◌, �
 ghost use Rattle.clap.specs.Words.{app_of, fault_of, found_of, rows_of, first_of, kind_of, subcommand_rows_of};
 ghost use Rattle.bp_words.specs.CommandLine.{command_line};
 ghost use Rattle.bp_words.specs.Orders.{IsNumber, HasNumber, MayHaveNumber, HasCount, is_set, IsLeafPlaced, HasValues, IsInRange, IsStated, IsOrderOf, AreRefused};
+ghost use Rattle.bp_words.specs.Parts.{IsProblem, IsPair, AreSides, AreEnds, IsScale, AreSolveNumbers};
 ghost use Rattle.bp_words.specs.declared.order.Order.{Order};
+ghost use Rattle.bp_words.specs.declared.parts.Pair.{Pair};
+ghost use Rattle.bp_words.specs.declared.parts.Sides.{Sides};
+ghost use Rattle.bp_words.specs.declared.parts.Scale.{Scale};
+ghost use Rattle.bp_words.specs.declared.parts.SolveNumbers.{SolveNumbers};
 
 use crate::command::{
     MOST_CUTS, MOST_LEAF, MOST_SIZE, MOST_STEPS, MOST_VISITS, MOST_WORKERS, make_command,
 };
 use crate::order::{CheckOrder, MergeOrder, Order, SolveOrder, WordFault};
+use crate::parts::{Ends, Pair, Problem, Scale, Sides, SolveNumbers};
 use crate::text::Text;
 use clap::ArgMatches;
 use clap::error::ErrorKind;
@@ -36,34 +42,30 @@ fn stated_order(alloc: Global, matches: &ArgMatches) -> Result<Order, WordFault>
     ensures refused { result ≡ Err WordFault.Refused →
         (order : Order) → IsStated (subcommand_rows_of matches.now) order → ⊥ }
 {
-    if let Some(solve) = matches.subcommand_matches("solve") {
-        return solve_order(alloc, solve);
+    match matches.subcommand() {
+        Some((name, given)) => named_order(alloc, name, given),
+        None => Err(WordFault::Refused),
     }
-    if let Some(check) = matches.subcommand_matches("check") {
-        return check_order(alloc, check);
+}
+
+// The order that a subcommand of a name states.
+fn named_order(alloc: Global, name: &str, given: &ArgMatches) -> Result<Order, WordFault>
+    ensures order { IfOk result (HasValues name.now (rows_of (found_of given.now))) }
+    ensures refused { result ≡ Err WordFault.Refused →
+        (order : Order) → HasValues name.now (rows_of (found_of given.now)) order → ⊥ }
+{
+    match name {
+        "solve" => solve_order(alloc, given),
+        "check" => check_order(alloc, given),
+        "show" => show_order(alloc, given),
+        "gen" => gen_order(alloc, given),
+        "demo" => demo_order(given),
+        "detect" => detect_order(alloc, given),
+        "propose" => propose_order(alloc, given),
+        "merge" => merge_order(alloc, given),
+        "migrate" => migrate_order(alloc, given),
+        _ => Err(WordFault::Refused),
     }
-    if let Some(show) = matches.subcommand_matches("show") {
-        return show_order(alloc, show);
-    }
-    if let Some(make) = matches.subcommand_matches("gen") {
-        return gen_order(alloc, make);
-    }
-    if let Some(demo) = matches.subcommand_matches("demo") {
-        return demo_order(demo);
-    }
-    if let Some(detect) = matches.subcommand_matches("detect") {
-        return detect_order(alloc, detect);
-    }
-    if let Some(propose) = matches.subcommand_matches("propose") {
-        return propose_order(alloc, propose);
-    }
-    if let Some(merge) = matches.subcommand_matches("merge") {
-        return merge_order(alloc, merge);
-    }
-    if let Some(migrate) = matches.subcommand_matches("migrate") {
-        return migrate_order(alloc, migrate);
-    }
-    Err(WordFault::Refused)
 }
 
 // The fault of words that the command doesn't take.
@@ -86,26 +88,49 @@ fn solve_order(alloc: Global, solve: &ArgMatches) -> Result<Order, WordFault>
     if !is_leaf_placed(solve) {
         return Err(WordFault::Refused);
     }
+    let numbers = solve_numbers(solve)?;
+    let ends = ends_of(alloc, solve)?;
+    let Problem { lp, dec } = problem_of(alloc, solve)?;
+    Ok(Order::Solve(SolveOrder {
+        lp,
+        dec,
+        steps: numbers.steps,
+        cert: ends.cert,
+        from: ends.from,
+        leaf: numbers.leaf,
+        workers: numbers.workers,
+        order: numbers.order,
+        cuts: numbers.cuts,
+    }))
+}
+
+// The numbers of an order to solve.
+fn solve_numbers(solve: &ArgMatches) -> Result<SolveNumbers, WordFault>
+    ensures numbers { IfOk result (AreSolveNumbers (rows_of (found_of solve.now))) }
+    ensures refused { result ≡ Err WordFault.Refused → (numbers : SolveNumbers) →
+        AreSolveNumbers (rows_of (found_of solve.now)) numbers → ⊥ }
+{
     let steps = optional_number(solve, "steps", 0, MOST_STEPS)?;
     let leaf = optional_number(solve, "leaf", 1, MOST_LEAF)?;
     let workers = optional_count(solve, "workers", 1, MOST_WORKERS)?;
     let order = optional_number(solve, "order", 0, u64::MAX)?;
     let cuts = count_or_none(solve, "cuts", MOST_CUTS)?;
-    let lp = given(alloc, solve, "lp")?;
-    let dec = optional(alloc, solve, "dec")?;
-    let cert = optional(alloc, solve, "cert")?;
-    let from = optional(alloc, solve, "from")?;
-    Ok(Order::Solve(SolveOrder {
-        lp,
-        dec,
+    Ok(SolveNumbers {
         steps,
-        cert,
-        from,
         leaf,
         workers,
         order,
         cuts,
-    }))
+    })
+}
+
+// The files of certificates that an order to solve may name.
+fn ends_of(alloc: Global, solve: &ArgMatches) -> Result<Ends, AllocError>
+    ensures { IfOk result (AreEnds (rows_of (found_of solve.now))) }
+{
+    let cert = optional(alloc, solve, "cert")?;
+    let from = optional(alloc, solve, "from")?;
+    Ok(Ends { cert, from })
 }
 
 // Whether a leaf is named only beside a certificate to go on from, and not beside a crew.
@@ -129,9 +154,8 @@ fn check_order(alloc: Global, check: &ArgMatches) -> Result<Order, WordFault>
         (order : Order) → HasValues (codes "check") (rows_of (found_of check.now)) order → ⊥ }
 {
     let visits = optional_number(check, "visits", 0, MOST_VISITS)?;
-    let lp = given(alloc, check, "lp")?;
     let cert = given(alloc, check, "cert")?;
-    let dec = optional(alloc, check, "dec")?;
+    let Problem { lp, dec } = problem_of(alloc, check)?;
     Ok(Order::Check(CheckOrder {
         lp,
         cert,
@@ -146,9 +170,8 @@ fn show_order(alloc: Global, show: &ArgMatches) -> Result<Order, WordFault>
     ensures refused { result ≡ Err WordFault.Refused →
         (order : Order) → HasValues (codes "show") (rows_of (found_of show.now)) order → ⊥ }
 {
-    let lp = given(alloc, show, "lp")?;
-    let dec = optional(alloc, show, "dec")?;
     let blocks = flag(show, "blocks");
+    let Problem { lp, dec } = problem_of(alloc, show)?;
     Ok(Order::Show { lp, dec, blocks })
 }
 
@@ -158,13 +181,11 @@ fn gen_order(alloc: Global, make: &ArgMatches) -> Result<Order, WordFault>
     ensures refused { result ≡ Err WordFault.Refused →
         (order : Order) → HasValues (codes "gen") (rows_of (found_of make.now)) order → ⊥ }
 {
-    let seed = number(make, "seed", 0, u64::MAX)?;
-    let size = number(make, "size", 1, MOST_SIZE)?;
-    let lp = given(alloc, make, "lp")?;
-    let dec = given(alloc, make, "dec")?;
+    let scale = scale_of(make)?;
+    let Pair { lp, dec } = pair_of(alloc, make)?;
     Ok(Order::Gen {
-        seed,
-        size: size as u32,
+        seed: scale.seed,
+        size: scale.size,
         lp,
         dec,
     })
@@ -176,11 +197,10 @@ fn demo_order(demo: &ArgMatches) -> Result<Order, WordFault>
     ensures refused { result ≡ Err WordFault.Refused →
         (order : Order) → HasValues (codes "demo") (rows_of (found_of demo.now)) order → ⊥ }
 {
-    let seed = number(demo, "seed", 0, u64::MAX)?;
-    let size = number(demo, "size", 1, MOST_SIZE)?;
+    let scale = scale_of(demo)?;
     Ok(Order::Demo {
-        seed,
-        size: size as u32,
+        seed: scale.seed,
+        size: scale.size,
     })
 }
 
@@ -190,9 +210,8 @@ fn detect_order(alloc: Global, detect: &ArgMatches) -> Result<Order, WordFault>
     ensures refused { result ≡ Err WordFault.Refused →
         (order : Order) → HasValues (codes "detect") (rows_of (found_of detect.now)) order → ⊥ }
 {
-    let lp = given(alloc, detect, "lp")?;
     let rows = given(alloc, detect, "rows")?;
-    let dec = given(alloc, detect, "dec")?;
+    let Pair { lp, dec } = pair_of(alloc, detect)?;
     Ok(Order::Detect { lp, rows, dec })
 }
 
@@ -202,8 +221,7 @@ fn propose_order(alloc: Global, propose: &ArgMatches) -> Result<Order, WordFault
     ensures refused { result ≡ Err WordFault.Refused →
         (order : Order) → HasValues (codes "propose") (rows_of (found_of propose.now)) order → ⊥ }
 {
-    let lp = given(alloc, propose, "lp")?;
-    let dec = given(alloc, propose, "dec")?;
+    let Pair { lp, dec } = pair_of(alloc, propose)?;
     Ok(Order::Propose { lp, dec })
 }
 
@@ -213,15 +231,13 @@ fn merge_order(alloc: Global, merge: &ArgMatches) -> Result<Order, WordFault>
     ensures refused { result ≡ Err WordFault.Refused →
         (order : Order) → HasValues (codes "merge") (rows_of (found_of merge.now)) order → ⊥ }
 {
-    let lp = given(alloc, merge, "lp")?;
-    let first = given(alloc, merge, "first")?;
-    let second = given(alloc, merge, "second")?;
+    let sides = sides_of(alloc, merge)?;
     let new = given(alloc, merge, "new")?;
-    let dec = optional(alloc, merge, "dec")?;
+    let Problem { lp, dec } = problem_of(alloc, merge)?;
     Ok(Order::Merge(MergeOrder {
         lp,
-        first,
-        second,
+        first: sides.first,
+        second: sides.second,
         new,
         dec,
     }))
@@ -233,11 +249,57 @@ fn migrate_order(alloc: Global, migrate: &ArgMatches) -> Result<Order, WordFault
     ensures refused { result ≡ Err WordFault.Refused →
         (order : Order) → HasValues (codes "migrate") (rows_of (found_of migrate.now)) order → ⊥ }
 {
-    let lp = given(alloc, migrate, "lp")?;
     let cert = given(alloc, migrate, "cert")?;
     let new = given(alloc, migrate, "new")?;
-    let dec = optional(alloc, migrate, "dec")?;
+    let Problem { lp, dec } = problem_of(alloc, migrate)?;
     Ok(Order::Migrate { lp, cert, new, dec })
+}
+
+// The files of a problem: the LP file, and the decomposition's where it is named.
+fn problem_of(alloc: Global, matches: &ArgMatches) -> Result<Problem, WordFault>
+    ensures files { IfOk result (IsProblem (rows_of (found_of matches.now))) }
+    ensures refused { result ≡ Err WordFault.Refused →
+        first_of (codes "lp") (rows_of (found_of matches.now)) ≡ None }
+{
+    let lp = given(alloc, matches, "lp")?;
+    let dec = optional(alloc, matches, "dec")?;
+    Ok(Problem { lp, dec })
+}
+
+// The LP file and the decomposition's, both named.
+fn pair_of(alloc: Global, matches: &ArgMatches) -> Result<Pair, WordFault>
+    ensures files { IfOk result (IsPair (rows_of (found_of matches.now))) }
+    ensures refused { result ≡ Err WordFault.Refused →
+        (pair : Pair) → IsPair (rows_of (found_of matches.now)) pair → ⊥ }
+{
+    let lp = given(alloc, matches, "lp")?;
+    let dec = given(alloc, matches, "dec")?;
+    Ok(Pair { lp, dec })
+}
+
+// The files of the certificates to merge.
+fn sides_of(alloc: Global, matches: &ArgMatches) -> Result<Sides, WordFault>
+    ensures files { IfOk result (AreSides (rows_of (found_of matches.now))) }
+    ensures refused { result ≡ Err WordFault.Refused →
+        (sides : Sides) → AreSides (rows_of (found_of matches.now)) sides → ⊥ }
+{
+    let first = given(alloc, matches, "first")?;
+    let second = given(alloc, matches, "second")?;
+    Ok(Sides { first, second })
+}
+
+// The seed and the size.
+fn scale_of(matches: &ArgMatches) -> Result<Scale, WordFault>
+    ensures numbers { IfOk result (IsScale (rows_of (found_of matches.now))) }
+    ensures refused { result ≡ Err WordFault.Refused →
+        (scale : Scale) → IsScale (rows_of (found_of matches.now)) scale → ⊥ }
+{
+    let seed = number(matches, "seed", 0, u64::MAX)?;
+    let size = number(matches, "size", 1, MOST_SIZE)?;
+    Ok(Scale {
+        seed,
+        size: size as u32,
+    })
 }
 
 // The number of an argument.

@@ -1,15 +1,21 @@
-use Rattle.std.proofs.Common.{rules}
+use Rattle.std.proofs.Common.{refl, rules}
 use Rattle.clap.specs.Words.{found_of, rows_of}
-use Rattle.bp_words.proofs.Stated.{gen_has}
+use Rattle.bp_words.proofs.Needs.{gen_needs}
 use Rattle.bp_words.proofs.read.gen_order.Goals as goal
 
--- without a seed or a size there is no such order
-pub returns-in_err-seed-clause-refused : goal.returns-in_err-seed-clause-refused
-returns-in_err-seed-clause-refused c = λ e order has.
-    let needs = gen_has (rows_of (found_of c.args.make.now)) order has in
-    c.number.ensures.refused (search (rules, e)) needs.seed needs.seeds
+-- what is lacking is in no such order
+pub returns-in_err-scale-clause-refused : goal.returns-in_err-scale-clause-refused
+returns-in_err-scale-clause-refused c = λ e order has.
+    let needs = gen_needs (rows_of (found_of c.args.make.now)) order has in
+    c.scale_of.ensures.refused (search (rules, e)) needs.scale needs.is
 
-pub returns-in_err-size-clause-refused : goal.returns-in_err-size-clause-refused
-returns-in_err-size-clause-refused c = λ e order has.
-    let needs = gen_has (rows_of (found_of c.args.make.now)) order has in
-    c.number-2.ensures.refused (search (rules, e)) needs.size needs.sizes
+pub returns-in_err-lp-clause-refused : goal.returns-in_err-lp-clause-refused
+returns-in_err-lp-clause-refused c = λ e order has.
+    let needs = gen_needs (rows_of (found_of c.args.make.now)) order has in
+    c.pair_of.ensures.refused (search (rules, e)) needs.pair needs.files
+
+pub returns-clause-order : goal.returns-clause-order
+returns-clause-order c =
+    let scale = c.in_ok-scale.ensures.numbers in
+    let pair = c.in_ok-lp.ensures.files in
+    (refl, scale.seed, scale.size, pair.lp, pair.dec)
