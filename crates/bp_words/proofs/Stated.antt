@@ -1,12 +1,12 @@
 -- What the subcommand that was met states.
-use Rattle.std.proofs.Common.{◌≡◌, ◌∙◌, refl, subst, ap, true, ℕ, ◌∷◌, [], arith, List, Option, Some, None, codes}
+use Rattle.std.proofs.Common.{◌≡◌, ◌∙◌, refl, subst, ap, true, ℕ, [], arith, List, Option, Some, None, codes}
 use Rattle.std.specs.Prelude.{◌≤◌, Result, Ok, Err, IfOk, IfSome, IsSome}
 use Rattle.clap.specs.Words.{App, Row, Text, first_of, fault_of, is_simple_and_free, subcommand_of}
 use Rattle.bp_words.specs.declared.order.Order.{Order}
 use Rattle.bp_words.specs.declared.order.WordFault.{WordFault}
 use Rattle.bp_words.specs.declared.order.Order.TheVariants.{Solve, Check, Show, Gen, Demo, Detect, Propose, Merge, Migrate}
-use Rattle.bp_words.specs.CommandLine.{command_line, most_leaf, most_seed, most_cuts, most_size, most_steps, most_workers}
-use Rattle.bp_words.specs.Orders.{HasNumber, MayHaveNumber, HasCount, GoTogether, HasValues, IsInRange, IsStated, IsOrderOf}
+use Rattle.bp_words.specs.CommandLine.{command_line, most_leaf, most_seed, most_cuts, most_steps, most_workers}
+use Rattle.bp_words.specs.Orders.{MayHaveNumber, HasCount, GoTogether, IsInRange, IsStated, IsOrderOf}
 use Rattle.bp_words.proofs.Line.{line_is_free}
 
 -- a number that may be given is in its range
