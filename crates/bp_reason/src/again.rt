@@ -16,21 +16,34 @@ pub fn text_of<F: Shelf>(
     shelf: &mut F,
     name: &str,
 ) -> Result<Option<Vec<u8>>, AllocError> {
-    let mut text = Vec::new(alloc);
     let mut buffer = zeros(alloc, BUFFER)?;
+    let mut text = Vec::new(alloc);
+    let is_whole = read_whole(shelf, name, &mut buffer, &mut text)?;
+    Ok(is_whole.then_some(text))
+}
+
+// Reads a file to its end: whether it could be read and is not too long.
+fn read_whole<F: Shelf>(
+    shelf: &mut F,
+    name: &str,
+    buffer: &mut [u8],
+    text: &mut Vec<u8>,
+) -> Result<bool, AllocError>
+    requires { 0 < length buffer.old }
+{
     for _ in 0..u64::MAX {
-        let Some(count) = read_on(shelf, name, text.len() as u64, &mut buffer) else {
-            return Ok(None);
+        let Some(count) = read_on(shelf, name, text.len() as u64, buffer) else {
+            return Ok(false);
         };
         if count == 0 {
-            return Ok(Some(text));
+            return Ok(true);
         }
         if count > MOST_BYTES.saturating_sub(text.len()) {
-            return Ok(None);
+            return Ok(false);
         }
         text.extend_from_slice(&buffer[..count])?;
     }
-    Ok(None)
+    Ok(false)
 }
 
 /// The first bytes of a line of a file, at most so many, where the file can be read and has such a line that isn't empty. It is
@@ -42,23 +55,37 @@ pub fn line_of<F: Shelf>(
     number: u64,
     most: usize,
 ) -> Result<Option<Vec<u8>>, AllocError> {
+    let mut buffer = zeros(alloc, BUFFER)?;
     let mut line = Line {
         number,
+        most,
         here: 1,
         front: Vec::new(alloc),
     };
-    let mut buffer = zeros(alloc, BUFFER)?;
+    let is_found = find_line(shelf, name, &mut buffer, &mut line)?;
+    Ok((is_found && line.front.len() > 0).then_some(line.front))
+}
+
+// Reads a file until what is looked for of a line is known: whether it could be read so far.
+fn find_line<F: Shelf>(
+    shelf: &mut F,
+    name: &str,
+    buffer: &mut [u8],
+    line: &mut Line,
+) -> Result<bool, AllocError>
+    requires { 0 < length buffer.old }
+{
     let mut at = 0u64;
     for _ in 0..u64::MAX {
-        let Some(count) = read_on(shelf, name, at, &mut buffer) else {
-            return Ok(None);
+        let Some(count) = read_on(shelf, name, at, buffer) else {
+            return Ok(false);
         };
-        if count == 0 || line.take(&buffer[..count], most)? {
-            return Ok(line.found());
+        if count == 0 || line.take(&buffer[..count])? {
+            return Ok(true);
         }
         at = at.saturating_add(count as u64);
     }
-    Ok(None)
+    Ok(false)
 }
 
 // So many bytes 0: apart from its callers, so that no proof goes over them one by one.
@@ -76,36 +103,29 @@ fn read_on<F: Shelf>(shelf: &mut F, name: &str, at: u64, into: &mut [u8]) -> Opt
     shelf.read_at(name, at, into).ok()
 }
 
-// A line that is looked for in a text that comes in pieces: its number, the number of the line that the next byte stands on,
-// and what is found of it.
+// A line that is looked for in a text that comes in pieces: its number, the most bytes of it that are kept, the number of
+// the line that the next byte stands on, and what is found of it.
 #[derive(Drop)]
 struct Line {
     number: u64,
+    most: usize,
     here: u64,
     front: Vec<u8>,
 }
 
 impl Line {
     // Takes a piece; whether what is looked for is known behind it.
-    fn take(&mut self, piece: &[u8], most: usize) -> Result<bool, AllocError> {
+    fn take(&mut self, piece: &[u8]) -> Result<bool, AllocError> {
         for b in piece {
             if *b == b'\n' {
                 self.here = self.here.saturating_add(1);
             } else if self.here == self.number {
                 self.front.push(*b)?;
             }
-            if self.here > self.number || self.front.len() >= most {
+            if self.here > self.number || self.front.len() >= self.most {
                 return Ok(true);
             }
         }
         Ok(false)
-    }
-
-    // What is found, where that is anything.
-    fn found(self) -> Option<Vec<u8>> {
-        if self.front.len() == 0 {
-            return None;
-        }
-        Some(self.front)
     }
 }

@@ -1,13 +1,19 @@
 // Decompositions and lists of rows, read for the place of their first fault.
-use crate::reading::Reading;
+use crate::number::number_in;
+use crate::reading::{BLANKS, NO_MEMORY, Reading};
 use std::alloc::{AllocError, Global};
 use std::collections::BTreeSet;
 
 // The greatest number of blocks.
 const MOST_BLOCKS: u64 = 4096;
 
-/// A keyword.
-#[derive(Clone, Copy, PartialEq, Eq)]
+// The bytes that end a comment, and a word.
+const LINE_ENDS: &[u8] = b"\n";
+
+const WORD_ENDS: &[u8] = b" \t\r\n\\";
+
+// A keyword.
+#[derive(Clone, Copy)]
 enum Keyword {
     Presolved,
     Nblocks,
@@ -19,8 +25,20 @@ enum Keyword {
     Links,
 }
 
+const KEYWORDS: [(&str, Keyword); 9] = [
+    ("presolved", Keyword::Presolved),
+    ("nblocks", Keyword::Nblocks),
+    ("consdefaultmaster", Keyword::Default),
+    ("block", Keyword::Block),
+    ("blockconss", Keyword::Block),
+    ("masterconss", Keyword::Master),
+    ("blockvars", Keyword::BlockVars),
+    ("mastervars", Keyword::MasterVars),
+    ("linkingvars", Keyword::Links),
+];
+
 // What stands before a word.
-#[derive(Clone, Copy, PartialEq, Eq)]
+#[derive(Clone, Copy)]
 enum Part {
     Outside,
     Awaits(Keyword),
@@ -45,16 +63,20 @@ pub struct Wrong {
 }
 
 /// A model's names: its text, and what was read of that.
-#[derive(Drop)]
+#[derive(Clone, Copy)]
 pub struct Names<'a> {
     pub text: &'a [u8],
     pub reading: &'a Reading,
 }
 
-// What is kept of the words before a place.
+// What is kept of the words before a place: whether the text is a list of rows, whether the next word is the first of its
+// line and may be a keyword, how many bytes are passed over, and what was said before.
 #[derive(Drop)]
 struct Reader {
     alloc: Global,
+    list: bool,
+    fresh: bool,
+    skip: usize,
     part: Part,
     presolved: bool,
     counted: bool,
@@ -72,6 +94,9 @@ pub fn first_wrong(
 ) -> Result<Option<Wrong>, AllocError> {
     let mut reader = Reader {
         alloc,
+        list,
+        fresh: !list,
+        skip: 0,
         part: if list { Part::Rows } else { Part::Outside },
         presolved: false,
         counted: false,
@@ -79,98 +104,40 @@ pub fn first_wrong(
         blocks: 0,
         listed: BTreeSet::new(alloc),
     };
-    let mut fresh = true;
-    let mut skip = 0usize;
-    for at in 0..text.len() {
-        let b = text[at];
-        if skip > 0 {
-            skip -= 1;
-        } else if b == b'\n' {
-            fresh = true;
-        } else if b == b'\\' {
-            skip = comment_len(&text[at..]).saturating_sub(1);
-        } else if !is_white(b) {
-            let count = word_len(&text[at..]);
-            let word = Word {
-                from: at,
-                to: at.saturating_add(count).min(text.len()),
-            };
-            if let Some(wrong) = reader.take(text, names, word, fresh && !list)? {
-                return Ok(Some(wrong));
-            }
-            fresh = false;
-            skip = count.saturating_sub(1);
-        }
+    match reader.read_all(text, names) {
+        Some(wrong) if wrong.key == NO_MEMORY => Err(AllocError),
+        wrong => Ok(wrong),
     }
-    Ok(None)
 }
 
-// How many bytes of a comment stand first.
-fn comment_len(bytes: &[u8]) -> usize {
-    let mut count = 0usize;
+// How many bytes stand before one of these ends.
+fn len_before(bytes: &[u8], ends: &[u8]) -> usize {
+    for at in 0..bytes.len() {
+        if ends.contains(&bytes[at]) {
+            return at;
+        }
+    }
+    bytes.len()
+}
+
+// Whether all bytes are printable.
+fn is_printable(bytes: &[u8]) -> bool {
     for b in bytes {
-        if *b == b'\n' {
-            return count;
+        if !b.is_ascii_graphic() {
+            return false;
         }
-        count = count.saturating_add(1);
     }
-    count
-}
-
-// How many bytes of a word stand first.
-fn word_len(bytes: &[u8]) -> usize {
-    let mut count = 0usize;
-    for b in bytes {
-        if is_white(*b) || *b == b'\\' {
-            return count;
-        }
-        count = count.saturating_add(1);
-    }
-    count
-}
-
-// Whether a byte is white space.
-fn is_white(b: u8) -> bool {
-    b == b' ' || b == b'\t' || b == b'\r' || b == b'\n'
+    true
 }
 
 // The keyword that a word is.
 fn keyword_of(word: &[u8]) -> Option<Keyword> {
-    let table = [
-        ("presolved", Keyword::Presolved),
-        ("nblocks", Keyword::Nblocks),
-        ("consdefaultmaster", Keyword::Default),
-        ("block", Keyword::Block),
-        ("blockconss", Keyword::Block),
-        ("masterconss", Keyword::Master),
-        ("blockvars", Keyword::BlockVars),
-        ("mastervars", Keyword::MasterVars),
-        ("linkingvars", Keyword::Links),
-    ];
-    for (name, keyword) in &table {
+    for (name, keyword) in KEYWORDS.as_slice() {
         if word.eq_ignore_ascii_case(name.as_bytes()) {
             return Some(*keyword);
         }
     }
     None
-}
-
-// The number that a word is; those past a million are read as that.
-fn number_of(word: &[u8]) -> Option<u64> {
-    if word.len() == 0 {
-        return None;
-    }
-    let mut number = 0u64;
-    for b in word {
-        if !b.is_ascii_digit() {
-            return None;
-        }
-        number = number
-            .saturating_mul(10)
-            .saturating_add(u64::from(b.saturating_sub(b'0')))
-            .min(1_000_000);
-    }
-    Some(number)
 }
 
 // What is expected in the place of a word that can't stand there.
@@ -185,93 +152,117 @@ fn expected(part: Part) -> &'static str {
 }
 
 impl Reader {
-    // Takes a word, by whether it may be a keyword; what is wrong with it.
-    fn take(
-        &mut self,
-        text: &[u8],
-        names: &Names,
-        word: Word,
-        fresh: bool,
-    ) -> Result<Option<Wrong>, AllocError> {
-        if word.to < word.from || text.len() < word.to {
-            return Ok(None);
+    // Reads all words, up to the first fault.
+    fn read_all(&mut self, text: &[u8], names: &Names) -> Option<Wrong> {
+        for at in 0..text.len() {
+            if self.skip > 0 {
+                self.skip -= 1;
+            } else if let Some(wrong) = self.pass(text, names, at) {
+                return Some(wrong);
+            }
         }
-        let bytes = &text[word.from..word.to];
-        let key = if bytes.iter().any(|b| !b.is_ascii_graphic()) {
-            Some("bad-byte")
-        } else {
-            self.key_of(bytes, names, fresh)?
-        };
-        match key {
-            Some(key) => Ok(Some(Wrong {
+        None
+    }
+
+    // Passes what begins at a place: the end of a line, a comment, white space, or a word; what is wrong with that.
+    fn pass(&mut self, text: &[u8], names: &Names, at: usize) -> Option<Wrong> {
+        let rest = text.get(at..)?;
+        let first = rest.first()?;
+        if *first == b'\n' {
+            self.fresh = !self.list;
+            return None;
+        }
+        if *first == b'\\' {
+            self.skip = len_before(rest, LINE_ENDS).saturating_sub(1);
+            return None;
+        }
+        if BLANKS.contains(first) {
+            return None;
+        }
+        self.take_at(rest, names, at)
+    }
+
+    // Takes the word that bytes begin with, which stand at a place of the text; what is wrong with it.
+    fn take_at(&mut self, bytes: &[u8], names: &Names, from: usize) -> Option<Wrong> {
+        let count = len_before(bytes, WORD_ENDS);
+        self.skip = count.saturating_sub(1);
+        match self.take(bytes.get(..count)?, names) {
+            Some(key) => Some(Wrong {
                 key,
-                word,
+                word: Word {
+                    from,
+                    to: from.saturating_add(count),
+                },
                 expected: expected(self.part),
-            })),
-            None => Ok(None),
+            }),
+            None => None,
         }
     }
 
-    // The key of a word's fault, where it is at fault.
-    fn key_of(
-        &mut self,
-        bytes: &[u8],
-        names: &Names,
-        fresh: bool,
-    ) -> Result<Option<&'static str>, AllocError> {
-        if fresh {
-            if let Some(keyword) = keyword_of(bytes) {
-                return Ok(self.keyword(keyword));
-            }
+    // Takes a word; the key of its fault, where it is at fault.
+    fn take(&mut self, word: &[u8], names: &Names) -> Option<&'static str> {
+        if !is_printable(word) {
+            return Some("bad-byte");
         }
+        let keyword = if self.fresh { keyword_of(word) } else { None };
+        self.fresh = false;
+        match keyword {
+            Some(keyword) => self.keyword(keyword),
+            None => self.take_plain(word, names),
+        }
+    }
+
+    // Takes a word that is no keyword.
+    fn take_plain(&mut self, word: &[u8], names: &Names) -> Option<&'static str> {
         match self.part {
-            Part::Outside | Part::Closed => Ok(Some("syntax")),
-            Part::Awaits(keyword) => Ok(self.number(keyword, number_of(bytes))),
-            Part::Rows => self.row(bytes, names),
-            Part::Variables => { Ok((!names.reading.has_variable(bytes)).then_some("unknown-var")) }
+            Part::Outside | Part::Closed => Some("syntax"),
+            Part::Awaits(keyword) => self.number(keyword, number_in(word)),
+            Part::Rows => self.row(word, names),
+            Part::Variables => (!names.reading.has_variable(word)).then_some("unknown-var"),
         }
     }
 
     // Takes a keyword.
     fn keyword(&mut self, keyword: Keyword) -> Option<&'static str> {
-        if let Part::Awaits(_) = self.part {
+        if matches!(self.part, Part::Awaits(_)) || self.was_said(keyword) {
             return Some("syntax");
         }
         match keyword {
-            Keyword::Presolved if self.presolved => return Some("syntax"),
-            Keyword::Nblocks if self.counted => return Some("syntax"),
-            Keyword::Default if self.defaulted => return Some("syntax"),
+            Keyword::Presolved => self.presolved = true,
+            Keyword::Nblocks => self.counted = true,
+            Keyword::Default => self.defaulted = true,
             Keyword::Block | Keyword::BlockVars if !self.counted => return Some("no-nblocks"),
             _ => {}
         }
-        self.presolved = self.presolved || keyword == Keyword::Presolved;
-        self.counted = self.counted || keyword == Keyword::Nblocks;
-        self.defaulted = self.defaulted || keyword == Keyword::Default;
         self.part = match keyword {
             Keyword::Master => Part::Rows,
-            Keyword::MasterVars => Part::Variables,
-            Keyword::Links => Part::Variables,
+            Keyword::MasterVars | Keyword::Links => Part::Variables,
             _ => Part::Awaits(keyword),
         };
         None
     }
 
+    // Whether a keyword that comes once came before.
+    fn was_said(&self, keyword: Keyword) -> bool {
+        match keyword {
+            Keyword::Presolved => self.presolved,
+            Keyword::Nblocks => self.counted,
+            Keyword::Default => self.defaulted,
+            _ => false,
+        }
+    }
+
     // Takes the number behind a keyword.
     fn number(&mut self, keyword: Keyword, number: Option<u64>) -> Option<&'static str> {
-        let Some(n) = number else {
+        let Some(number) = number else {
             return Some("syntax");
         };
-        match keyword {
-            Keyword::Presolved if n == 1 => return Some("presolved"),
-            Keyword::Presolved | Keyword::Default if n > 1 => return Some("syntax"),
-            Keyword::Nblocks if n > MOST_BLOCKS => return Some("limit"),
-            Keyword::Block | Keyword::BlockVars if n < 1 || n > self.blocks => {
-                return Some("block-number");
-            }
-            _ => {}
+        if let Some(key) = self.number_fault(keyword, number) {
+            return Some(key);
         }
-        if keyword == Keyword::Nblocks {
-            self.blocks = n;
+        match keyword {
+            Keyword::Nblocks => self.blocks = number,
+            _ => {}
         }
         self.part = match keyword {
             Keyword::Block => Part::Rows,
@@ -281,16 +272,35 @@ impl Reader {
         None
     }
 
+    // The key of the fault of a number behind a keyword.
+    fn number_fault(&self, keyword: Keyword, number: u64) -> Option<&'static str> {
+        let (least, most, key): (u64, u64, &'static str) = match keyword {
+            Keyword::Presolved => (0, 0, if number == 1 { "presolved" } else { "syntax" }),
+            Keyword::Default => (0, 1, "syntax"),
+            Keyword::Nblocks => (0, MOST_BLOCKS, "limit"),
+            _ => (1, self.blocks, "block-number"),
+        };
+        (number < least || most < number).then_some(key)
+    }
+
     // Takes the name of a row.
-    fn row(&mut self, bytes: &[u8], names: &Names) -> Result<Option<&'static str>, AllocError> {
-        if !names.reading.has_row(names.text, bytes) {
-            return Ok(Some("unknown-row"));
+    fn row(&mut self, name: &[u8], names: &Names) -> Option<&'static str> {
+        if !names.reading.has_row(names.text, name) {
+            return Some("unknown-row");
         }
-        if self.listed.contains(bytes) {
-            return Ok(Some("row-twice"));
+        if self.listed.contains(name) {
+            return Some("row-twice");
         }
-        let name = bytes.to_vec(self.alloc)?;
+        match self.list(name) {
+            Ok(()) => None,
+            Err(AllocError) => Some(NO_MEMORY),
+        }
+    }
+
+    // Lists a row.
+    fn list(&mut self, name: &[u8]) -> Result<(), AllocError> {
+        let name = name.to_vec(self.alloc)?;
         self.listed.insert(name)?;
-        Ok(None)
+        Ok(())
     }
 }

@@ -1,8 +1,7 @@
 // The grammar of LP texts as states: which token may stand behind which.
-use lp_token::Section;
 
 /// The direction of a comparison.
-#[derive(Clone, Copy, Debug, PartialEq, Eq)]
+#[derive(Clone, Copy, PartialEq, Eq)]
 pub enum Sense {
     Most,
     Least,
@@ -10,7 +9,7 @@ pub enum Sense {
 }
 
 /// What a token is to the grammar.
-#[derive(Clone, Copy, Debug, PartialEq, Eq)]
+#[derive(Clone, Copy)]
 pub enum Symbol {
     Name,
     /// A name before a colon.
@@ -21,15 +20,21 @@ pub enum Symbol {
     Endless,
     Number,
     Sign,
-    Compare(Sense),
+    Compare,
     Colon,
     /// A mark or a word of what is not supported.
     Feature,
-    Word(Section),
+    /// The words of sections.
+    Objective,
+    Rows,
+    Bounds,
+    Generals,
+    Binaries,
+    End,
 }
 
 /// What stands before a place.
-#[derive(Clone, Copy, Debug, PartialEq, Eq)]
+#[derive(Clone, Copy)]
 pub enum State {
     Start,
     /// The objective's word; its label; the colon behind that; a sign, a number, a term of it.
@@ -50,196 +55,156 @@ pub enum State {
     RowSign,
     RowNumber,
     RowSide,
-    /// Behind a row's first number and comparison: signs, a number, a term.
-    Other(Sense),
-    OtherNumber(Sense),
-    OtherTerm(Sense),
-    /// The end of a bound; signs; a value; a comparison behind it; the name behind that; a name; a comparison behind it.
+    /// Behind a row's first number and comparison: signs, a number, a term, behind which the row may end.
+    Other,
+    OtherNumber,
+    OtherTerm,
+    /// The end of a bound; signs; a value; a comparison behind it; the name behind that, behind which the bound may end; a
+    /// name; a comparison behind it.
     Bound,
     BoundSign,
     BoundValue,
-    BoundBehind(Sense),
-    BoundBetween(Sense),
+    BoundBehind,
+    BoundBetween,
     BoundName,
-    BoundSide(Sense),
+    BoundSide,
     Generals,
     Binaries,
     End,
 }
 
+// The states with the tokens that may stand there, and the state behind each.
+const STEPS: [(State, Symbol, State); 109] = [
+    (State::Start, Symbol::Objective, State::Goal),
+    (State::Goal, Symbol::Label, State::GoalLabel),
+    (State::Goal, Symbol::Name, State::GoalTerm),
+    (State::Goal, Symbol::Sign, State::GoalSign),
+    (State::Goal, Symbol::Number, State::GoalNumber),
+    (State::Goal, Symbol::Rows, State::Row),
+    (State::GoalLabel, Symbol::Colon, State::GoalFresh),
+    (State::GoalFresh, Symbol::Name, State::GoalTerm),
+    (State::GoalFresh, Symbol::Label, State::GoalTerm),
+    (State::GoalFresh, Symbol::Sign, State::GoalSign),
+    (State::GoalFresh, Symbol::Number, State::GoalNumber),
+    (State::GoalFresh, Symbol::Rows, State::Row),
+    (State::GoalSign, Symbol::Name, State::GoalTerm),
+    (State::GoalSign, Symbol::Label, State::GoalTerm),
+    (State::GoalSign, Symbol::Sign, State::GoalSign),
+    (State::GoalSign, Symbol::Number, State::GoalNumber),
+    (State::GoalNumber, Symbol::Name, State::GoalTerm),
+    (State::GoalNumber, Symbol::Label, State::GoalTerm),
+    (State::GoalNumber, Symbol::Sign, State::GoalSign),
+    (State::GoalNumber, Symbol::Rows, State::Row),
+    (State::GoalTerm, Symbol::Sign, State::GoalSign),
+    (State::GoalTerm, Symbol::Rows, State::Row),
+    (State::Row, Symbol::Label, State::RowLabel),
+    (State::Row, Symbol::Name, State::RowTerm),
+    (State::Row, Symbol::Sign, State::RowFirstSign),
+    (State::Row, Symbol::Number, State::RowFirstNumber),
+    (State::Row, Symbol::Bounds, State::Bound),
+    (State::Row, Symbol::Generals, State::Generals),
+    (State::Row, Symbol::Binaries, State::Binaries),
+    (State::Row, Symbol::End, State::End),
+    (State::RowLabel, Symbol::Colon, State::RowFresh),
+    (State::RowFresh, Symbol::Name, State::RowTerm),
+    (State::RowFresh, Symbol::Label, State::RowTerm),
+    (State::RowFresh, Symbol::Sign, State::RowFirstSign),
+    (State::RowFresh, Symbol::Number, State::RowFirstNumber),
+    (State::RowFirstSign, Symbol::Name, State::RowTerm),
+    (State::RowFirstSign, Symbol::Label, State::RowTerm),
+    (State::RowFirstSign, Symbol::Sign, State::RowFirstSign),
+    (State::RowFirstSign, Symbol::Number, State::RowFirstNumber),
+    (State::RowFirstNumber, Symbol::Name, State::RowTerm),
+    (State::RowFirstNumber, Symbol::Label, State::RowTerm),
+    (State::RowFirstNumber, Symbol::Compare, State::Other),
+    (State::RowTerm, Symbol::Sign, State::RowSign),
+    (State::RowTerm, Symbol::Compare, State::RowSide),
+    (State::RowSign, Symbol::Name, State::RowTerm),
+    (State::RowSign, Symbol::Label, State::RowTerm),
+    (State::RowSign, Symbol::Sign, State::RowSign),
+    (State::RowSign, Symbol::Number, State::RowNumber),
+    (State::RowNumber, Symbol::Name, State::RowTerm),
+    (State::RowNumber, Symbol::Label, State::RowTerm),
+    (State::RowSide, Symbol::Sign, State::RowSide),
+    (State::RowSide, Symbol::Number, State::Row),
+    (State::Other, Symbol::Name, State::OtherTerm),
+    (State::Other, Symbol::Label, State::OtherTerm),
+    (State::Other, Symbol::Sign, State::Other),
+    (State::Other, Symbol::Number, State::OtherNumber),
+    (State::OtherNumber, Symbol::Name, State::OtherTerm),
+    (State::OtherNumber, Symbol::Label, State::OtherTerm),
+    (State::OtherTerm, Symbol::Sign, State::Other),
+    (State::OtherTerm, Symbol::Compare, State::RowSide),
+    (State::OtherTerm, Symbol::Label, State::RowLabel),
+    (State::OtherTerm, Symbol::Name, State::RowTerm),
+    (State::OtherTerm, Symbol::Number, State::RowFirstNumber),
+    (State::OtherTerm, Symbol::Bounds, State::Bound),
+    (State::OtherTerm, Symbol::Generals, State::Generals),
+    (State::OtherTerm, Symbol::Binaries, State::Binaries),
+    (State::OtherTerm, Symbol::End, State::End),
+    (State::Bound, Symbol::Name, State::BoundName),
+    (State::Bound, Symbol::Free, State::BoundName),
+    (State::Bound, Symbol::Sign, State::BoundSign),
+    (State::Bound, Symbol::Number, State::BoundValue),
+    (State::Bound, Symbol::Endless, State::BoundValue),
+    (State::Bound, Symbol::Bounds, State::Bound),
+    (State::Bound, Symbol::Generals, State::Generals),
+    (State::Bound, Symbol::Binaries, State::Binaries),
+    (State::Bound, Symbol::End, State::End),
+    (State::BoundSign, Symbol::Sign, State::BoundSign),
+    (State::BoundSign, Symbol::Number, State::BoundValue),
+    (State::BoundSign, Symbol::Endless, State::BoundValue),
+    (State::BoundValue, Symbol::Compare, State::BoundBehind),
+    (State::BoundBehind, Symbol::Name, State::BoundBetween),
+    (State::BoundBehind, Symbol::Free, State::BoundBetween),
+    (State::BoundBetween, Symbol::Compare, State::BoundSide),
+    (State::BoundBetween, Symbol::Name, State::BoundName),
+    (State::BoundBetween, Symbol::Free, State::BoundName),
+    (State::BoundBetween, Symbol::Sign, State::BoundSign),
+    (State::BoundBetween, Symbol::Number, State::BoundValue),
+    (State::BoundBetween, Symbol::Endless, State::BoundValue),
+    (State::BoundBetween, Symbol::Bounds, State::Bound),
+    (State::BoundBetween, Symbol::Generals, State::Generals),
+    (State::BoundBetween, Symbol::Binaries, State::Binaries),
+    (State::BoundBetween, Symbol::End, State::End),
+    (State::BoundName, Symbol::Free, State::Bound),
+    (State::BoundName, Symbol::Compare, State::BoundSide),
+    (State::BoundSide, Symbol::Sign, State::BoundSide),
+    (State::BoundSide, Symbol::Number, State::Bound),
+    (State::BoundSide, Symbol::Endless, State::Bound),
+    (State::Generals, Symbol::Name, State::Generals),
+    (State::Generals, Symbol::Label, State::Generals),
+    (State::Generals, Symbol::Bounds, State::Bound),
+    (State::Generals, Symbol::Generals, State::Generals),
+    (State::Generals, Symbol::Binaries, State::Binaries),
+    (State::Generals, Symbol::End, State::End),
+    (State::Binaries, Symbol::Name, State::Binaries),
+    (State::Binaries, Symbol::Label, State::Binaries),
+    (State::Binaries, Symbol::Bounds, State::Bound),
+    (State::Binaries, Symbol::Generals, State::Generals),
+    (State::Binaries, Symbol::Binaries, State::Binaries),
+    (State::Binaries, Symbol::End, State::End),
+];
+
 /// What stands behind a token; none where it can't stand there.
 pub fn next(state: State, symbol: Symbol) -> Option<State> {
-    match state {
-        State::Start => match symbol {
-            Symbol::Word(Section::Maximize | Section::Minimize) => Some(State::Goal),
-            _ => None,
-        },
-        State::Goal
-        | State::GoalLabel
-        | State::GoalFresh
-        | State::GoalSign
-        | State::GoalNumber
-        | State::GoalTerm => goal_next(state, symbol),
-        State::Row
-        | State::RowLabel
-        | State::RowFresh
-        | State::RowFirstSign
-        | State::RowFirstNumber => row_next(state, symbol),
-        State::RowTerm | State::RowSign | State::RowNumber | State::RowSide => {
-            term_next(state, symbol)
+    for (before, token, behind) in STEPS.as_slice() {
+        if *before as u8 == state as u8 && *token as u8 == symbol as u8 {
+            return Some(*behind);
         }
-        State::Other(sense) | State::OtherNumber(sense) => other_next(state, sense, symbol),
-        State::OtherTerm(sense) => other_term_next(sense, symbol),
-        State::Bound | State::BoundSign | State::BoundValue => bound_next(state, symbol),
-        State::BoundBehind(sense) => match symbol {
-            Symbol::Name | Symbol::Label | Symbol::Free => Some(State::BoundBetween(sense)),
-            _ => None,
-        },
-        State::BoundBetween(sense) => between_next(sense, symbol),
-        State::BoundName | State::BoundSide(_) => side_next(state, symbol),
-        State::Generals | State::Binaries => list_next(state, symbol),
-        State::End => None,
     }
+    None
 }
 
-// In the objective.
-fn goal_next(state: State, symbol: Symbol) -> Option<State> {
-    match symbol {
-        Symbol::Label if state == State::Goal => Some(State::GoalLabel),
-        Symbol::Colon if state == State::GoalLabel => Some(State::GoalFresh),
-        _ if state == State::GoalLabel => None,
-        Symbol::Sign => Some(State::GoalSign),
-        Symbol::Name | Symbol::Label if state != State::GoalTerm => Some(State::GoalTerm),
-        Symbol::Number if state != State::GoalTerm && state != State::GoalNumber => {
-            Some(State::GoalNumber)
-        }
-        Symbol::Word(Section::Rows) if state != State::GoalSign => Some(State::Row),
-        _ => None,
-    }
-}
-
-// At the beginning of a row.
-fn row_next(state: State, symbol: Symbol) -> Option<State> {
-    match symbol {
-        Symbol::Label if state == State::Row => Some(State::RowLabel),
-        Symbol::Colon if state == State::RowLabel => Some(State::RowFresh),
-        _ if state == State::RowLabel => None,
-        Symbol::Name | Symbol::Label => Some(State::RowTerm),
-        Symbol::Compare(sense) if state == State::RowFirstNumber => Some(State::Other(sense)),
-        _ if state == State::RowFirstNumber => None,
-        Symbol::Sign => Some(State::RowFirstSign),
-        Symbol::Number => Some(State::RowFirstNumber),
-        Symbol::Word(section) if state == State::Row => section_next(section),
-        _ => None,
-    }
-}
-
-// Behind a term of a row.
-fn term_next(state: State, symbol: Symbol) -> Option<State> {
-    match symbol {
-        Symbol::Sign if state == State::RowTerm || state == State::RowSign => Some(State::RowSign),
-        Symbol::Sign if state == State::RowSide => Some(State::RowSide),
-        Symbol::Compare(_) if state == State::RowTerm => Some(State::RowSide),
-        Symbol::Number if state == State::RowSign => Some(State::RowNumber),
-        Symbol::Number if state == State::RowSide => Some(State::Row),
-        Symbol::Name | Symbol::Label if state == State::RowSign || state == State::RowNumber => {
-            Some(State::RowTerm)
-        }
-        _ => None,
-    }
-}
-
-// Behind a number and a comparison.
-fn other_next(state: State, sense: Sense, symbol: Symbol) -> Option<State> {
-    match symbol {
-        Symbol::Name | Symbol::Label => Some(State::OtherTerm(sense)),
-        _ if state == State::OtherNumber(sense) => None,
-        Symbol::Sign => Some(State::Other(sense)),
-        Symbol::Number => Some(State::OtherNumber(sense)),
-        _ => None,
-    }
-}
-
-// Behind a term that follows a number and a comparison: a row may end there.
-fn other_term_next(sense: Sense, symbol: Symbol) -> Option<State> {
-    match symbol {
-        Symbol::Sign => Some(State::Other(sense)),
-        Symbol::Compare(second) => {
-            if second == sense && sense != Sense::Equal {
-                Some(State::RowSide)
-            } else {
-                None
-            }
-        }
-        _ => row_next(State::Row, symbol),
-    }
-}
-
-// At the beginning of a bound.
-fn bound_next(state: State, symbol: Symbol) -> Option<State> {
-    match symbol {
-        Symbol::Compare(sense) if state == State::BoundValue => Some(State::BoundBehind(sense)),
-        _ if state == State::BoundValue => None,
-        Symbol::Sign => Some(State::BoundSign),
-        Symbol::Number | Symbol::Endless => Some(State::BoundValue),
-        Symbol::Name | Symbol::Label | Symbol::Free if state == State::Bound => {
-            Some(State::BoundName)
-        }
-        Symbol::Word(section) if state == State::Bound => section_next(section),
-        _ => None,
-    }
-}
-
-// Behind a value, a comparison and a name: a bound may end there.
-fn between_next(sense: Sense, symbol: Symbol) -> Option<State> {
-    match symbol {
-        Symbol::Compare(second) => {
-            if second == sense && sense != Sense::Equal {
-                Some(State::BoundSide(sense))
-            } else {
-                None
-            }
-        }
-        _ => bound_next(State::Bound, symbol),
-    }
-}
-
-// Behind the name of a bound.
-fn side_next(state: State, symbol: Symbol) -> Option<State> {
-    match symbol {
-        Symbol::Free if state == State::BoundName => Some(State::Bound),
-        Symbol::Compare(sense) if state == State::BoundName => Some(State::BoundSide(sense)),
-        _ if state == State::BoundName => None,
-        Symbol::Sign => Some(state),
-        Symbol::Number | Symbol::Endless => Some(State::Bound),
-        _ => None,
-    }
-}
-
-// In a list of names.
-fn list_next(state: State, symbol: Symbol) -> Option<State> {
-    match symbol {
-        Symbol::Name | Symbol::Label => Some(state),
-        Symbol::Word(section) => section_next(section),
-        _ => None,
-    }
-}
-
-// A section behind the rows.
-fn section_next(section: Section) -> Option<State> {
-    match section {
-        Section::Bounds => Some(State::Bound),
-        Section::Generals => Some(State::Generals),
-        Section::Binaries => Some(State::Binaries),
-        Section::End => Some(State::End),
-        _ => None,
-    }
+/// Whether a comparison that may stand behind a state is the second of a row or a bound, and so has the direction of the
+/// first.
+pub fn is_second(state: State) -> bool {
+    matches!(state, State::OtherTerm | State::BoundBetween)
 }
 
 /// Whether the token before a state begins a row, by the state before it.
 pub fn begins_row(before: State, after: State) -> bool {
-    let ended = matches!(before, State::Row | State::OtherTerm(_));
-    ended
+    matches!(before, State::Row | State::OtherTerm)
         && matches!(
             after,
             State::RowLabel | State::RowTerm | State::RowFirstSign | State::RowFirstNumber
@@ -248,10 +213,7 @@ pub fn begins_row(before: State, after: State) -> bool {
 
 /// Whether the token before a state is a variable's name in a term.
 pub fn is_term(after: State) -> bool {
-    matches!(
-        after,
-        State::GoalTerm | State::RowTerm | State::OtherTerm(_)
-    )
+    matches!(after, State::GoalTerm | State::RowTerm | State::OtherTerm)
 }
 
 /// Whether a state is of a bounds section.
@@ -261,41 +223,51 @@ pub fn is_bound(state: State) -> bool {
         State::Bound
             | State::BoundSign
             | State::BoundValue
-            | State::BoundBehind(_)
-            | State::BoundBetween(_)
+            | State::BoundBehind
+            | State::BoundBetween
             | State::BoundName
-            | State::BoundSide(_)
+            | State::BoundSide
     )
+}
+
+/// Whether a state is of a list of whole variables.
+pub fn is_list(state: State) -> bool {
+    matches!(state, State::Generals | State::Binaries)
 }
 
 /// What is expected where a token can't stand, and what to do.
 pub fn expected(state: State, symbol: Symbol) -> &'static str {
-    if let Symbol::Word(section) = symbol {
-        return expected_section(state, section);
+    match symbol {
+        Symbol::Objective
+        | Symbol::Rows
+        | Symbol::Bounds
+        | Symbol::Generals
+        | Symbol::Binaries
+        | Symbol::End => expected_section(state, symbol),
+        _ => expected_token(state),
     }
+}
+
+// The same for a token that is no word of a section.
+fn expected_token(state: State) -> &'static str {
     match state {
         State::Start => "a text begins with Maximize or Minimize, alone or first in its line",
         State::GoalLabel | State::RowLabel => "a name and a colon come before it",
-        State::Goal | State::GoalFresh | State::GoalSign | State::GoalNumber => {
-            "an objective is terms as 3 x, with a sign between two"
-        }
+        State::Goal | State::GoalFresh | State::GoalSign | State::GoalNumber =>
+            "an objective is terms as 3 x, with a sign between two",
         State::GoalTerm =>
             "a sign or the line Subject To comes behind a term; multiply numbers out",
-        State::Row | State::RowFresh | State::RowFirstSign | State::RowFirstNumber => {
-            "a row is terms, a comparison and a number, as in c1: 2 x + y <= 5"
-        }
+        State::Row | State::RowFresh | State::RowFirstSign | State::RowFirstNumber =>
+            "a row is terms, a comparison and a number, as in c1: 2 x + y <= 5",
         State::RowTerm => "a sign and a further term, or a comparison, comes behind a term",
         State::RowSign => "a term comes behind a sign, as in + 2 y",
-        State::RowNumber => {
-            "a number among the terms of a row goes with a name; bring one without to the row's right side"
-        }
+        State::RowNumber =>
+            "a number among the terms of a row goes with a name; bring one without to the row's right side",
         State::RowSide => "one number stands behind the comparison; bring variables to its left",
-        State::Other(_) | State::OtherNumber(_) | State::OtherTerm(_) => {
-            "a row that begins with its number goes on with terms, as in 1 <= x + y or 1 <= x + y <= 5, with both comparisons in one direction"
-        }
-        State::BoundBetween(_) => {
-            "the second comparison of a bound has the direction of the first, as in 1 <= x <= 3"
-        }
+        State::Other | State::OtherNumber | State::OtherTerm =>
+            "a row that begins with its number goes on with terms, as in 1 <= x + y or 1 <= x + y <= 5, with both comparisons in one direction",
+        State::BoundBetween =>
+            "the second comparison of a bound has the direction of the first, as in 1 <= x <= 3",
         State::Generals | State::Binaries => "only names of variables stand in this section",
         State::End => "the text is ended",
         _ => "a bound is x <= 3, x >= 1, 1 <= x <= 3, x = 3 or x free",
@@ -303,15 +275,13 @@ pub fn expected(state: State, symbol: Symbol) -> &'static str {
 }
 
 // The same for a section word.
-fn expected_section(state: State, section: Section) -> &'static str {
-    if state == State::Start {
-        return "a text begins with Maximize or Minimize";
-    }
-    match section {
-        Section::Maximize | Section::Minimize => {
+fn expected_section(state: State, symbol: Symbol) -> &'static str {
+    match (state, symbol) {
+        (State::Start, _) => "a text begins with Maximize or Minimize",
+        (_, Symbol::Objective) => {
             "one objective comes first; if it is a name, put it where it does not begin its line"
         }
-        Section::Rows => {
+        (_, Symbol::Rows) => {
             "the rows begin once, behind a whole objective; if it is a name, put it where it does not begin its line"
         }
         _ => {

@@ -1,7 +1,7 @@
 // The numbers of LP texts.
 
 /// What a number of an LP text is.
-#[derive(Clone, Copy, Debug, PartialEq, Eq)]
+#[derive(Clone, Copy)]
 pub enum Number {
     /// A whole number up to `2^62 - 1`.
     Whole(i64),
@@ -61,9 +61,7 @@ impl Digits {
         let shift = next.zeros.saturating_add(1);
         next.count = next.count.saturating_add(shift);
         next.zeros = 0;
-        match shifted(next.value, shift).and_then(|v| v.checked_add(u64::from(b.saturating_sub(
-            b'0',
-        )))) {
+        match appended(next.value, shift, b.saturating_sub(b'0')) {
             Some(value) => next.value = value,
             None => next.past = true,
         }
@@ -110,6 +108,14 @@ fn shifted(value: u64, zeros: i64) -> Option<u64> {
     Some(all)
 }
 
+// A number with so many digits more: zeros, and a last one.
+fn appended(value: u64, count: i64, digit: u8) -> Option<u64> {
+    match shifted(value, count) {
+        Some(all) => all.checked_add(u64::from(digit)),
+        None => None,
+    }
+}
+
 // The exponent that digits with a sign mean; far ones are read as one that is past every limit.
 fn exponent_of(bytes: &[u8]) -> i64 {
     let mut value: i64 = 0;
@@ -141,4 +147,20 @@ pub fn number_of(token: &[u8]) -> Number {
         digits = digits.with(*b);
     }
     digits.number(0)
+}
+
+/// The number that digits are; those past a million are read as that. None where there is no digit, or another byte.
+pub fn number_in(digits: &[u8]) -> Option<u64> {
+    let mut number = None;
+    for b in digits {
+        if !b.is_ascii_digit() {
+            return None;
+        }
+        let before: u64 = number.unwrap_or(0);
+        let next = before
+            .saturating_mul(10)
+            .saturating_add(u64::from(b.saturating_sub(b'0')));
+        number = Some(next.min(1_000_000));
+    }
+    number
 }

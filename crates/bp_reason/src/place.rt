@@ -1,7 +1,7 @@
 // Where in a text the fault of a refusal stands.
-use crate::blocks::{Names, first_wrong};
+use crate::blocks::{Names, Wrong, first_wrong};
 use crate::grammar::expected;
-use crate::reading::{Found, Reading, read, uncut};
+use crate::reading::{Reading, read, uncut};
 use std::alloc::{AllocError, Global};
 
 /// The place of a fault: its column, from 1, in bytes; the slice of its token; the key of its sentence; and what is
@@ -101,34 +101,39 @@ fn read_spot(
     number: u64,
     kind: &str,
 ) -> Result<Option<Spot>, AllocError> {
-    let Some((reading, found)) = read(alloc, text)? else {
-        return Ok(None);
-    };
-    match found {
-        None => Ok(sums_spot(text, number, kind, &reading)),
-        Some(found) => Ok(found_spot(text, number, kind, &reading, found)),
+    match read(alloc, text) {
+        Ok(Some(reading)) => Ok(found_spot(text, number, kind, &reading)),
+        Ok(None) => Ok(None),
+        Err(fault) => Err(fault),
     }
 }
 
-// The spot of a fault that was found, where it is of this kind and on this line.
-fn found_spot(
+// The spot of the fault that was found, where it is of this kind and on this line.
+fn found_spot(text: &[u8], number: u64, kind: &str, reading: &Reading) -> Option<Spot> {
+    match reading.found() {
+        Some(found) => token_spot(text, number, kind, reading, found.key, found.token?),
+        None => sums_spot(text, number, kind, reading),
+    }
+}
+
+// The spot of a fault of a token, where it is of this kind and on this line.
+fn token_spot(
     text: &[u8],
     number: u64,
     kind: &str,
     reading: &Reading,
-    found: Found,
+    key: &'static str,
+    at: usize,
 ) -> Option<Spot> {
-    let at = found.token?;
-    let token = reading.token(at)?;
-    if !is_of(found.key, kind) {
+    if !is_of(key, kind) {
         return None;
     }
-    let hint = if kind == "syntax" {
-        expected(reading.state(), reading.symbol(text, at))
-    } else {
-        ""
+    let token = reading.token(at)?;
+    let hint = match kind {
+        "syntax" => expected(reading.state(), reading.symbol(text, at)),
+        _ => "",
     };
-    spot_at(text, number, (token.from, token.to), found.key, hint)
+    spot_at(text, number, (token.from, token.to), key, hint)
 }
 
 // Whether a sentence's key is of a kind: the kind, perhaps with a dash and a word behind it.
@@ -161,19 +166,30 @@ pub fn names_spot(
     let Ok(number) = line.parse::<u64>() else {
         return Ok(None);
     };
-    let Some((reading, _)) = read(alloc, model)? else {
-        return Ok(None);
-    };
-    let names = Names {
-        text: model,
-        reading: &reading,
-    };
-    match first_wrong(alloc, text, &names, list)? {
+    match read(alloc, model) {
+        Ok(Some(reading)) => {
+            let names = Names {
+                text: model,
+                reading: &reading,
+            };
+            match first_wrong(alloc, text, &names, list) {
+                Ok(wrong) => Ok(wrong_spot(text, number, kind, wrong)),
+                Err(fault) => Err(fault),
+            }
+        }
+        Ok(None) => Ok(None),
+        Err(fault) => Err(fault),
+    }
+}
+
+// The spot of a wrong word, where it is of this kind and on this line.
+fn wrong_spot(text: &[u8], number: u64, kind: &str, wrong: Option<Wrong>) -> Option<Spot> {
+    match wrong {
         Some(wrong) if wrong.key == kind => {
             let hint = if kind == "syntax" { wrong.expected } else { "" };
             let slice = (wrong.word.from, wrong.word.to);
-            Ok(spot_at(text, number, slice, wrong.key, hint))
+            spot_at(text, number, slice, wrong.key, hint)
         }
-        _ => Ok(None),
+        _ => None,
     }
 }

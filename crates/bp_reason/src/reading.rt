@@ -1,7 +1,9 @@
 // LP texts, read for the place of their first fault.
-use crate::grammar::{Sense, State, Symbol, begins_row, is_bound, is_term, next};
-use crate::number::{Number, number_of};
-use lp_token::{LpFault, LpKind, Section, Tok, TokKind, section_of, tokens};
+use crate::grammar::{
+    Sense, State, Symbol, begins_row, is_bound, is_list, is_second, is_term, next,
+};
+use crate::number::{Number, number_in, number_of};
+use lp_token::{LpFault, Section, Tok, TokKind, section_of, tokens};
 use std::alloc::{AllocError, Global};
 use std::collections::BTreeMap;
 
@@ -14,8 +16,39 @@ const MOST_TERMS: usize = 65_536;
 
 const MOST_DIGITS: u64 = 8192;
 
+// The most bytes of a name.
+const LONGEST_NAME: usize = 255;
+
 // An endless bound, with its sign.
 const ENDLESS: i64 = i64::MAX;
+
+/// The key of want of memory, which has no sentence.
+pub const NO_MEMORY: &str = "no-memory";
+
+/// The bytes of white space.
+pub const BLANKS: &[u8] = b" \t\r\n";
+
+// The bytes of numbers, of marks and of names.
+const DIGITS: &[u8] = b"0123456789";
+
+const MARK_BYTES: &[u8] = b"<>=+-:[]^*";
+
+const NAME_BYTES: &[u8] =
+    b"!\"#$%&'(),./0123456789;?@ABCDEFGHIJKLMNOPQRSTUVWXYZ_`abcdefghijklmnopqrstuvwxyz{|}~";
+
+// What marks are; others are not supported.
+const MARKS: [(&str, Symbol); 10] = [
+    ("<", Symbol::Compare),
+    ("<=", Symbol::Compare),
+    ("=<", Symbol::Compare),
+    (">", Symbol::Compare),
+    (">=", Symbol::Compare),
+    ("=>", Symbol::Compare),
+    ("=", Symbol::Compare),
+    ("+", Symbol::Sign),
+    ("-", Symbol::Sign),
+    (":", Symbol::Colon),
+];
 
 /// A row: the token that it begins with, and whether that is its name.
 #[derive(Clone, Copy)]
@@ -49,7 +82,7 @@ struct Open {
     variable: usize,
 }
 
-/// What was read of a text.
+/// What was read of a text, up to its first fault but those of sums, and that fault.
 #[derive(Drop)]
 pub struct Reading {
     alloc: Global,
@@ -59,30 +92,34 @@ pub struct Reading {
     places: BTreeMap<Vec<u8>, usize>,
     terms: usize,
     state: State,
+    sense: Sense,
     open: Open,
+    found: Option<Found>,
 }
 
-/// The bytes of a token.
-pub fn slice_of<'a>(text: &'a [u8], token: &Tok) -> &'a [u8] {
-    if token.from <= token.to && token.to <= text.len() {
-        return &text[token.from..token.to];
-    }
-    &text[..0]
-}
-
-/// What was read of a text, up to its first fault but those of sums; none where it can't be cut, or is too long.
-pub fn read(alloc: Global, text: &[u8]) -> Result<Option<(Reading, Option<Found>)>, AllocError> {
+/// What was read of a text; none where it can't be cut, or is too long.
+pub fn read(alloc: Global, text: &[u8]) -> Result<Option<Reading>, AllocError> {
     if text.len() > 1 << 24 {
         return Ok(None);
     }
     match tokens(alloc, text) {
-        Ok(all) => {
-            let mut reading = Reading::new(alloc, all);
-            let found = reading.read_all(text)?;
-            Ok(Some((reading, found)))
-        }
+        Ok(all) => read_tokens(alloc, text, all),
         Err(LpFault::NoMemory) => Err(AllocError),
         Err(LpFault::At { .. }) => Ok(None),
+    }
+}
+
+// What was read of the tokens of a text.
+fn read_tokens(
+    alloc: Global,
+    text: &[u8],
+    tokens: Vec<Tok>,
+) -> Result<Option<Reading>, AllocError> {
+    let mut reading = Reading::new(alloc, tokens);
+    reading.found = reading.read_all(text);
+    match reading.found {
+        Some(found) if found.key == NO_MEMORY => Err(AllocError),
+        _ => Ok(Some(reading)),
     }
 }
 
@@ -97,51 +134,52 @@ impl Reading {
             places: BTreeMap::new(alloc),
             terms: 0,
             state: State::Start,
+            sense: Sense::Equal,
             open: Open {
                 negative: false,
                 value: 0,
                 variable: 0,
             },
+            found: None,
         }
     }
 
     // Reads all tokens, up to the first fault.
-    fn read_all(&mut self, text: &[u8]) -> Result<Option<Found>, AllocError> {
+    fn read_all(&mut self, text: &[u8]) -> Option<Found> {
         for at in 0..self.tokens.len() {
-            if let Some(key) = self.take(text, at)? {
-                return Ok(Some(Found {
+            if let Some(key) = self.take(text, at) {
+                return Some(Found {
                     key,
                     token: Some(at),
-                }));
+                });
             }
         }
-        if self.state != State::End {
-            return Ok(Some(Found {
+        self.fault_at_end()
+    }
+
+    // The fault of a text whose tokens have none.
+    fn fault_at_end(&self) -> Option<Found> {
+        if !matches!(self.state, State::End) {
+            return Some(Found {
                 key: "no-end",
                 token: None,
-            }));
+            });
         }
-        Ok(self.fault_of_variables())
+        match self.fault_of_variables() {
+            None => self.fault_of_digits(),
+            found => found,
+        }
     }
 
     // Takes a token; the key of its fault, where it is at fault.
-    fn take(&mut self, text: &[u8], at: usize) -> Result<Option<&'static str>, AllocError> {
-        let Some(token) = self.token(at) else {
-            return Ok(None);
-        };
-        let bytes = slice_of(text, &token);
-        if token.kind == TokKind::Number {
-            if let Some(key) = number_fault(bytes, is_bound(self.state)) {
-                return Ok(Some(key));
-            }
-        }
+    fn take(&mut self, text: &[u8], at: usize) -> Option<&'static str> {
         let symbol = self.symbol(text, at);
-        if symbol == Symbol::Feature {
-            return Ok(Some("feature"));
+        if let Some(key) = self.token_fault(text, at, symbol) {
+            return Some(key);
         }
         let before = self.state;
         match next(before, symbol) {
-            None => Ok(Some("syntax")),
+            None => Some("syntax"),
             Some(after) => {
                 self.state = after;
                 self.note(text, at, before, symbol)
@@ -149,12 +187,34 @@ impl Reading {
         }
     }
 
+    // The fault of a token for itself, or of the second comparison of a row or a bound; notes the direction of others.
+    fn token_fault(&mut self, text: &[u8], at: usize, symbol: Symbol) -> Option<&'static str> {
+        let bytes = self.bytes(text, at);
+        match symbol {
+            Symbol::Feature => Some("feature"),
+            Symbol::Number => number_fault(bytes, is_bound(self.state)),
+            Symbol::Compare => self.turn(sense_of(bytes)),
+            _ => None,
+        }
+    }
+
+    // Notes the direction of a comparison; its fault, where it is the second and has another than the first.
+    fn turn(&mut self, sense: Sense) -> Option<&'static str> {
+        if is_second(self.state) && (sense == Sense::Equal || sense != self.sense) {
+            return Some("syntax");
+        }
+        self.sense = sense;
+        None
+    }
+
+    /// The first fault.
+    pub fn found(&self) -> Option<Found> {
+        self.found
+    }
+
     /// A token.
     pub fn token(&self, at: usize) -> Option<Tok> {
-        if at < self.tokens.len() {
-            return Some(self.tokens[at]);
-        }
-        None
+        self.tokens.get(at).copied()
     }
 
     /// The state before the token at fault.
@@ -164,23 +224,26 @@ impl Reading {
 
     /// What a token is to the grammar, by the state before it.
     pub fn symbol(&self, text: &[u8], at: usize) -> Symbol {
-        let Some(token) = self.token(at) else {
-            return Symbol::Feature;
-        };
-        let bytes = slice_of(text, &token);
-        match token.kind {
-            TokKind::Number => Symbol::Number,
-            TokKind::Mark => mark_of(bytes),
-            TokKind::Word => word_of(bytes),
-            TokKind::Name => {
-                if is_bound(self.state) {
-                    return bound_name(bytes);
-                }
-                match self.token(at.saturating_add(1)) {
-                    Some(behind) if slice_of(text, &behind) == b":".as_slice() => Symbol::Label,
-                    _ => Symbol::Name,
-                }
-            }
+        let bytes = self.bytes(text, at);
+        match self.token(at) {
+            Some(token) => match token.kind {
+                TokKind::Number => Symbol::Number,
+                TokKind::Mark => mark_of(bytes),
+                TokKind::Word => word_of(bytes),
+                TokKind::Name => self.name_symbol(text, at, bytes),
+            },
+            None => Symbol::Feature,
+        }
+    }
+
+    // What a name is to the grammar.
+    fn name_symbol(&self, text: &[u8], at: usize, bytes: &[u8]) -> Symbol {
+        if is_bound(self.state) {
+            bound_name(bytes)
+        } else if self.bytes(text, at.saturating_add(1)) == b":".as_slice() {
+            Symbol::Label
+        } else {
+            Symbol::Name
         }
     }
 
@@ -191,102 +254,106 @@ impl Reading {
         at: usize,
         before: State,
         symbol: Symbol,
-    ) -> Result<Option<&'static str>, AllocError> {
+    ) -> Option<&'static str> {
         if begins_row(before, self.state) {
-            if let Some(key) = self.begin_row(text, at)? {
-                return Ok(Some(key));
+            if let Some(key) = self.begin_row(text, at) {
+                return Some(key);
             }
         }
         if is_term(self.state) {
-            if let Some(key) = self.add_term(text, at)? {
-                return Ok(Some(key));
-            }
+            self.add_term(text, at)
+        } else if is_bound(self.state) && is_bound(before) {
+            self.note_bound(text, at, before, symbol)
+        } else if is_list(before) && self.state as u8 == before as u8 {
+            self.list(text, at)
+        } else {
+            None
         }
-        if is_bound(self.state) && is_bound(before) {
-            return self.note_bound(text, at, before, symbol);
-        }
-        if self.state == before && (before == State::Generals || before == State::Binaries) {
-            return self.list(text, at);
-        }
-        Ok(None)
     }
 
     // Begins a row.
-    fn begin_row(&mut self, text: &[u8], at: usize) -> Result<Option<&'static str>, AllocError> {
-        let row = Row {
-            token: at,
-            labelled: self.state == State::RowLabel,
+    fn begin_row(&mut self, text: &[u8], at: usize) -> Option<&'static str> {
+        let labelled = matches!(self.state, State::RowLabel);
+        let is_twice = if labelled {
+            self.has_row(text, self.bytes(text, at))
+        } else {
+            self.has_label(text, self.rows.len())
         };
-        let number = self.rows.len();
-        for before in 0..number {
-            if self.is_named_as(text, row, number, before) {
-                return Ok(Some("row-twice"));
-            }
+        if is_twice {
+            return Some("row-twice");
         }
-        if number >= MOST_ROWS {
-            return Ok(Some("limit-rows"));
+        if self.rows.len() >= MOST_ROWS {
+            return Some("limit-rows");
         }
-        self.rows.push(row)?;
-        Ok(None)
+        match self.rows.push(Row {
+            token: at,
+            labelled,
+        }) {
+            Ok(()) => None,
+            Err(_) => Some(NO_MEMORY),
+        }
     }
 
-    // Whether a new row has the name of an earlier one.
-    fn is_named_as(&self, text: &[u8], row: Row, number: usize, before: usize) -> bool {
-        if self.rows.len() <= before {
-            return false;
+    // Whether the name of an earlier row is the one that is given for a row without, of this number from 0.
+    fn has_label(&self, text: &[u8], number: usize) -> bool {
+        let wanted = Some((number as u64).saturating_add(1));
+        for row in &self.rows {
+            if row.labelled && given_number(self.bytes(text, row.token)) == wanted {
+                return true;
+            }
         }
-        let other = self.rows[before];
-        if row.labelled && other.labelled {
-            return self.bytes(text, row.token) == self.bytes(text, other.token);
-        }
-        if row.labelled {
-            return given_number(self.bytes(text, row.token))
-                == Some((before as u64).saturating_add(1));
-        }
-        other.labelled
-            && given_number(self.bytes(text, other.token))
-                == Some((number as u64).saturating_add(1))
+        false
     }
 
     /// The bytes of a token; none of them where there is none.
     pub fn bytes<'a>(&self, text: &'a [u8], at: usize) -> &'a [u8] {
         match self.token(at) {
-            Some(token) => slice_of(text, &token),
-            None => &text[..0],
+            Some(token) => text.get(token.from..token.to).unwrap_or(&[]),
+            None => &[],
         }
     }
 
     // Counts a term.
-    fn add_term(&mut self, text: &[u8], at: usize) -> Result<Option<&'static str>, AllocError> {
+    fn add_term(&mut self, text: &[u8], at: usize) -> Option<&'static str> {
         self.terms = self.terms.saturating_add(1);
         if self.terms > MOST_TERMS {
-            return Ok(Some("limit-terms"));
+            return Some("limit-terms");
         }
         self.occur(text, at)
     }
 
     // Notes the occurrence of a variable, which is the one whose bound may follow.
-    fn occur(&mut self, text: &[u8], at: usize) -> Result<Option<&'static str>, AllocError> {
+    fn occur(&mut self, text: &[u8], at: usize) -> Option<&'static str> {
         let name = self.bytes(text, at);
-        if let Some(place) = self.places.get(name) {
-            self.open.variable = *place;
-            return Ok(None);
+        let place = match self.places.get(name) {
+            Some(place) => *place,
+            None => self.variables.len(),
+        };
+        self.open.variable = place;
+        if place < self.variables.len() {
+            return None;
         }
-        let place = self.variables.len();
         if place >= MOST_VARIABLES {
-            return Ok(Some("limit-variables"));
+            return Some("limit-variables");
         }
+        match self.add_variable(name, at) {
+            Ok(()) => None,
+            Err(AllocError) => Some(NO_MEMORY),
+        }
+    }
+
+    // Adds a variable of this name, which occurs first here.
+    fn add_variable(&mut self, name: &[u8], token: usize) -> Result<(), AllocError> {
         let key = name.to_vec(self.alloc)?;
-        self.places.insert(key, place)?;
+        self.places.insert(key, self.variables.len())?;
         self.variables.push(Variable {
-            token: at,
+            token,
             lower: 0,
             upper: ENDLESS,
             listed: false,
             binary: false,
         })?;
-        self.open.variable = place;
-        Ok(None)
+        Ok(())
     }
 
     // Notes a token of a bounds section.
@@ -296,42 +363,49 @@ impl Reading {
         at: usize,
         before: State,
         symbol: Symbol,
-    ) -> Result<Option<&'static str>, AllocError> {
+    ) -> Option<&'static str> {
         match symbol {
             Symbol::Sign => {
-                if self.bytes(text, at) == b"-".as_slice() {
-                    self.open.negative = !self.open.negative;
-                }
+                self.open.negative = self.open.negative
+                    != (self.bytes(text, at) == b"-".as_slice());
+                None
             }
             Symbol::Number | Symbol::Endless => {
-                self.open.value = self.value(text, at, symbol);
-                self.open.negative = false;
-                if let State::BoundSide(sense) = before {
-                    self.bound(sense);
-                }
+                self.take_value(text, at, before, symbol);
+                None
             }
-            Symbol::Free if self.state == State::Bound => self.unbind(),
-            Symbol::Name | Symbol::Label | Symbol::Free => {
-                let limit = self.occur(text, at)?;
-                if let State::BoundBehind(sense) = before {
-                    self.bound(turned(sense));
-                }
-                return Ok(limit);
+            Symbol::Free if matches!(self.state, State::Bound) => {
+                self.unbind();
+                None
             }
-            _ => {}
+            Symbol::Name | Symbol::Label | Symbol::Free => self.take_name(text, at, before),
+            _ => None,
         }
-        Ok(None)
+    }
+
+    // Takes the value of a bound, behind whose variable it may stand.
+    fn take_value(&mut self, text: &[u8], at: usize, before: State, symbol: Symbol) {
+        self.open.value = self.value(text, at, symbol);
+        self.open.negative = false;
+        if matches!(before, State::BoundSide) {
+            self.bound(self.sense);
+        }
+    }
+
+    // Takes the variable of a bound, behind whose value it may stand.
+    fn take_name(&mut self, text: &[u8], at: usize, before: State) -> Option<&'static str> {
+        let limit = self.occur(text, at);
+        if matches!(before, State::BoundBehind) {
+            self.bound(turned(self.sense));
+        }
+        limit
     }
 
     // The value of a token, with the sign before it.
     fn value(&self, text: &[u8], at: usize, symbol: Symbol) -> i64 {
-        let magnitude = if symbol == Symbol::Endless {
-            ENDLESS
-        } else {
-            match number_of(self.bytes(text, at)) {
-                Number::Whole(value) => value,
-                _ => ENDLESS,
-            }
+        let magnitude = match symbol {
+            Symbol::Number => magnitude_of(self.bytes(text, at)),
+            _ => ENDLESS,
         };
         if self.open.negative {
             magnitude.saturating_neg()
@@ -343,38 +417,36 @@ impl Reading {
     // Bounds the variable by the value.
     fn bound(&mut self, sense: Sense) {
         let value = self.open.value;
-        let at = self.open.variable;
-        if at < self.variables.len() {
-            let before = self.variables[at];
-            self.variables[at] = bounded(before, sense, value);
+        if let Some(variable) = self.variables.get_mut(self.open.variable) {
+            if sense != Sense::Most {
+                variable.lower = value;
+            }
+            if sense != Sense::Least {
+                variable.upper = value;
+            }
         }
     }
 
     // Takes the variable's bounds away.
     fn unbind(&mut self) {
-        let at = self.open.variable;
-        if at < self.variables.len() {
-            let mut variable = self.variables[at];
+        if let Some(variable) = self.variables.get_mut(self.open.variable) {
             variable.lower = -ENDLESS;
             variable.upper = ENDLESS;
-            self.variables[at] = variable;
         }
     }
 
     // Lists a variable as a whole one.
-    fn list(&mut self, text: &[u8], at: usize) -> Result<Option<&'static str>, AllocError> {
-        let limit = self.occur(text, at)?;
-        let place = self.open.variable;
-        if place < self.variables.len() {
-            let mut variable = self.variables[place];
+    fn list(&mut self, text: &[u8], at: usize) -> Option<&'static str> {
+        let limit = self.occur(text, at);
+        let binary = matches!(self.state, State::Binaries);
+        if let Some(variable) = self.variables.get_mut(self.open.variable) {
             variable.listed = true;
-            variable.binary = variable.binary || self.state == State::Binaries;
-            self.variables[place] = variable;
+            variable.binary = variable.binary || binary;
         }
-        Ok(limit)
+        limit
     }
 
-    // The first fault of a variable, or of the widths of their bounds.
+    // The first fault of a variable.
     fn fault_of_variables(&self) -> Option<Found> {
         for variable in &self.variables {
             if let Some(key) = variable_fault(variable) {
@@ -384,6 +456,11 @@ impl Reading {
                 });
             }
         }
+        None
+    }
+
+    // The fault of the widths of the variables' bounds.
+    fn fault_of_digits(&self) -> Option<Found> {
         let mut digits = 0u64;
         for variable in &self.variables {
             digits = digits.saturating_add(digits_of(variable));
@@ -401,11 +478,12 @@ impl Reading {
     pub fn has_row(&self, text: &[u8], name: &[u8]) -> bool {
         let given = given_number(name);
         for (at, row) in self.rows.iter().enumerate() {
-            if row.labelled {
-                if self.bytes(text, row.token) == name {
-                    return true;
-                }
-            } else if given == Some((at as u64).saturating_add(1)) {
+            let is_named = if row.labelled {
+                self.bytes(text, row.token) == name
+            } else {
+                given == Some((at as u64).saturating_add(1))
+            };
+            if is_named {
                 return true;
             }
         }
@@ -456,22 +534,43 @@ fn number_fault(bytes: &[u8], bound: bool) -> Option<&'static str> {
 
 // What a mark is.
 fn mark_of(bytes: &[u8]) -> Symbol {
-    match bytes {
-        b"<" | b"<=" | b"=<" => Symbol::Compare(Sense::Most),
-        b">" | b">=" | b"=>" => Symbol::Compare(Sense::Least),
-        b"=" => Symbol::Compare(Sense::Equal),
-        b"+" | b"-" => Symbol::Sign,
-        b":" => Symbol::Colon,
-        _ => Symbol::Feature,
+    for (mark, symbol) in MARKS.as_slice() {
+        if mark.as_bytes() == bytes {
+            return *symbol;
+        }
+    }
+    Symbol::Feature
+}
+
+// The direction of a comparison.
+fn sense_of(bytes: &[u8]) -> Sense {
+    if bytes.contains(&b'<') {
+        Sense::Most
+    } else if bytes.contains(&b'>') {
+        Sense::Least
+    } else {
+        Sense::Equal
     }
 }
 
 // What a section word is.
 fn word_of(bytes: &[u8]) -> Symbol {
     match section_of(bytes) {
-        Some(Section::Unsupported) => Symbol::Feature,
-        Some(section) => Symbol::Word(section),
+        Some(section) => section_symbol(section),
         None => Symbol::Name,
+    }
+}
+
+// What the word of a section is.
+fn section_symbol(section: Section) -> Symbol {
+    match section {
+        Section::Maximize | Section::Minimize => Symbol::Objective,
+        Section::Rows => Symbol::Rows,
+        Section::Bounds => Symbol::Bounds,
+        Section::Generals => Symbol::Generals,
+        Section::Binaries => Symbol::Binaries,
+        Section::End => Symbol::End,
+        Section::Unsupported => Symbol::Feature,
     }
 }
 
@@ -495,18 +594,12 @@ fn turned(sense: Sense) -> Sense {
     }
 }
 
-// A variable with a bound more.
-fn bounded(variable: Variable, sense: Sense, value: i64) -> Variable {
-    let mut next = variable;
-    match sense {
-        Sense::Most => next.upper = value,
-        Sense::Least => next.lower = value,
-        Sense::Equal => {
-            next.lower = value;
-            next.upper = value;
-        }
+// The number that a token is, or an endless one.
+fn magnitude_of(bytes: &[u8]) -> i64 {
+    match number_of(bytes) {
+        Number::Whole(value) => value,
+        _ => ENDLESS,
     }
-    next
 }
 
 // The bounds of a variable in the end.
@@ -539,54 +632,33 @@ fn variable_fault(variable: &Variable) -> Option<&'static str> {
 // The binary digits of the width of a variable's bounds.
 fn digits_of(variable: &Variable) -> u64 {
     let (lower, upper) = span_of(variable);
-    let mut width = upper.saturating_sub(lower);
-    let mut digits = 0u64;
-    for _ in 0..64 {
-        if width <= 0 {
-            return digits;
-        }
-        width /= 2;
-        digits = digits.saturating_add(1);
-    }
-    digits
+    let width = upper.saturating_sub(lower).max(0);
+    u64::from(i64::BITS.saturating_sub(width.leading_zeros()))
 }
 
 // The number of the row that a name is given for where the row has none.
 fn given_number(name: &[u8]) -> Option<u64> {
-    let (first, digits) = name.split_first()?;
-    if *first != b'c' || digits.len() == 0 || digits.len() > 9 || digits.first() == Some(&b'0') {
-        return None;
+    match name.split_first() {
+        Some((b'c', digits)) if digits.first() != Some(&b'0') => number_in(digits),
+        _ => None,
     }
-    let mut number = 0u64;
-    for b in digits {
-        if !b.is_ascii_digit() {
-            return None;
-        }
-        number = number
-            .saturating_mul(10)
-            .saturating_add(u64::from(b.saturating_sub(b'0')));
-    }
-    Some(number)
 }
 
 /// Where the first byte of a line stands that begins no token, or its first name that is too long: where it is in the text,
 /// and where it ends.
 pub fn uncut(text: &[u8], from: usize, to: usize) -> Option<(usize, usize)> {
-    if to < from || text.len() < to {
-        return None;
-    }
-    let line = &text[from..to];
+    let line = text.get(from..to)?;
     let mut skip = 0usize;
     for at in 0..line.len() {
         if skip > 0 {
             skip -= 1;
         } else if line[at] == b'\\' {
             return None;
-        } else if !is_blank(line[at]) {
+        } else if !BLANKS.contains(&line[at]) {
             let count = token_len(&line[at..]);
-            if count == 0 || (count > 255 && is_name_byte(line[at])) {
-                let end = at.saturating_add(count.max(1));
-                return Some((from.saturating_add(at), from.saturating_add(end)));
+            if count == 0 || count > LONGEST_NAME {
+                let first = from.saturating_add(at);
+                return Some((first, first.saturating_add(count.max(1))));
             }
             skip = count - 1;
         }
@@ -594,87 +666,65 @@ pub fn uncut(text: &[u8], from: usize, to: usize) -> Option<(usize, usize)> {
     None
 }
 
-// Whether a byte is white space.
-fn is_blank(b: u8) -> bool {
-    b == b' ' || b == b'\t' || b == b'\r' || b == b'\n'
-}
-
-// Whether a name may have the byte.
-fn is_name_byte(b: u8) -> bool {
-    b.is_ascii_graphic() && !is_mark_byte(b) && b != b'\\'
-}
-
-// Whether a mark may have the byte.
-fn is_mark_byte(b: u8) -> bool {
-    matches!(
-        b,
-        b'<' | b'>' | b'=' | b'+' | b'-' | b':' | b'[' | b']' | b'^' | b'*'
-    )
-}
-
 // How many bytes the token has that these begin with, or 0; a mark is counted byte by byte.
 fn token_len(bytes: &[u8]) -> usize {
-    if bytes.len() == 0 {
-        return 0;
-    }
-    let first = bytes[0];
-    if first.is_ascii_digit() || (first == b'.' && bytes.len() > 1 && bytes[1].is_ascii_digit()) {
-        return number_len(bytes);
-    }
-    if first == b'.' {
-        return 0;
-    }
-    if is_name_byte(first) {
-        return run_len(bytes);
-    }
-    if is_mark_byte(first) { 1 } else { 0 }
-}
-
-// How many bytes of a name stand first.
-fn run_len(bytes: &[u8]) -> usize {
-    let mut count = 0usize;
-    for b in bytes {
-        if !is_name_byte(*b) {
-            return count;
+    let count = number_len(bytes);
+    match bytes.first() {
+        Some(first) if count == 0 && *first != b'.' => {
+            if MARK_BYTES.contains(first) {
+                1
+            } else {
+                len_in(bytes, NAME_BYTES)
+            }
         }
-        count = count.saturating_add(1);
+        _ => count,
     }
-    count
 }
 
-// How many digits stand first.
-fn digits_len(bytes: &[u8]) -> usize {
-    let mut count = 0usize;
-    for b in bytes {
-        if !b.is_ascii_digit() {
-            return count;
+// How many of the first bytes are in a set.
+fn len_in(bytes: &[u8], set: &[u8]) -> usize {
+    for at in 0..bytes.len() {
+        if !set.contains(&bytes[at]) {
+            return at;
         }
-        count = count.saturating_add(1);
     }
-    count
+    bytes.len()
 }
 
-// How many bytes a number has that stands first.
+// The bytes from a place on; none where there are fewer.
+fn behind(bytes: &[u8], at: usize) -> &[u8] {
+    bytes.get(at..).unwrap_or(&[])
+}
+
+// How many bytes a number has that stands first, or 0.
 fn number_len(bytes: &[u8]) -> usize {
-    let mut count = digits_len(bytes);
-    if count < bytes.len() && bytes[count] == b'.' {
-        count = count
-            .saturating_add(1)
-            .saturating_add(digits_len(&bytes[count + 1..]));
+    let whole = len_in(bytes, DIGITS);
+    let part = part_len(behind(bytes, whole));
+    if whole == 0 && part < 2 {
+        return 0;
     }
-    if count < bytes.len() && (bytes[count] == b'e' || bytes[count] == b'E') {
-        let mut sign = count + 1;
-        if sign < bytes.len() && (bytes[sign] == b'+' || bytes[sign] == b'-') {
-            sign += 1;
-        }
-        let digits = if sign <= bytes.len() {
-            digits_len(&bytes[sign..])
-        } else {
-            0
-        };
-        if digits > 0 {
-            return sign.saturating_add(digits);
-        }
+    let mantissa = whole.saturating_add(part);
+    mantissa.saturating_add(exponent_len(behind(bytes, mantissa)))
+}
+
+// How many bytes a point and its digits have that stand first, or 0.
+fn part_len(bytes: &[u8]) -> usize {
+    if bytes.first() == Some(&b'.') {
+        len_in(behind(bytes, 1), DIGITS).saturating_add(1)
+    } else {
+        0
     }
-    count
+}
+
+// How many bytes an exponent has that stands first, or 0 where it has no digit.
+fn exponent_len(bytes: &[u8]) -> usize {
+    let sign: usize = match bytes {
+        [b'e' | b'E', b'+' | b'-', ..] => 2,
+        [b'e' | b'E', ..] => 1,
+        _ => return 0,
+    };
+    match len_in(behind(bytes, sign), DIGITS) {
+        0 => 0,
+        digits => sign.saturating_add(digits),
+    }
 }

@@ -1,74 +1,117 @@
-// Pieces of notes.
+// Notes and pieces of them.
 use itoa::Buffer;
-use std::alloc::AllocError;
+use std::alloc::{AllocError, Global};
 
 /// The most bytes of a text that are quoted.
 pub const MOST_QUOTED: usize = 60;
 
 const DIGITS: [u8; 16] = *b"0123456789abcdef";
 
-/// Adds words.
-pub fn put(note: &mut Vec<u8>, words: &str) -> Result<(), AllocError> {
-    note.extend_from_slice(words.as_bytes())
+/// A note that is being written. Where memory is wanting for a piece, the note goes on without it, and fails at its end.
+#[derive(Drop)]
+pub struct Note {
+    text: Vec<u8>,
+    lacks: bool,
 }
 
-/// Adds a number.
-pub fn put_number(note: &mut Vec<u8>, number: u64) -> Result<(), AllocError> {
-    note.extend_from_slice(Buffer::new().format(number).as_bytes())
-}
+impl Note {
+    /// A note without a word.
+    pub fn new(alloc: Global) -> Note {
+        Note {
+            text: Vec::new(alloc),
+            lacks: false,
+        }
+    }
 
-/// Adds the name of a file; its control characters are question marks, and two quotes stand for an empty name.
-pub fn put_name(note: &mut Vec<u8>, name: &str) -> Result<(), AllocError> {
-    if name.len() == 0 {
-        return put(note, "''");
+    /// The whole note.
+    pub fn finished(self) -> Result<Vec<u8>, AllocError> {
+        if self.lacks {
+            return Err(AllocError);
+        }
+        Ok(self.text)
     }
-    for b in name.as_bytes() {
-        note.push(if b.is_ascii_control() { b'?' } else { *b })?;
-    }
-    Ok(())
-}
 
-/// Adds bytes of a text between quotes: the first 60, and dots for the others. Those that aren't printable are told by
-/// their numbers.
-pub fn put_quoted(note: &mut Vec<u8>, bytes: &[u8]) -> Result<(), AllocError> {
-    let count = bytes.len().min(MOST_QUOTED);
-    put(note, "'")?;
-    for b in &bytes[..count] {
-        put_byte(note, *b)?;
+    /// What is known where memory served; else nothing, and the note fails.
+    pub fn known<T: Drop>(&mut self, answer: Result<Option<T>, AllocError>) -> Option<T> {
+        match answer {
+            Ok(known) => known,
+            Err(AllocError) => {
+                self.lacks = true;
+                None
+            }
+        }
     }
-    if count < bytes.len() {
-        put(note, "..")?;
-    }
-    put(note, "'")
-}
 
-// Adds a byte, or its number where it isn't printable.
-fn put_byte(note: &mut Vec<u8>, b: u8) -> Result<(), AllocError> {
-    if b.is_ascii_graphic() || b == b' ' {
-        note.push(b)?;
-        return Ok(());
+    /// How many bytes there are so far.
+    pub fn len(&self) -> usize {
+        self.text.len()
     }
-    put(note, "\\x")?;
-    note.push(DIGITS[(b / 16) as usize])?;
-    note.push(DIGITS[(b % 16) as usize])?;
-    Ok(())
-}
 
-/// Adds a sentence, in which `%` stands for a token; where none is known, the `%` is left out with the space behind it.
-pub fn put_sentence(
-    note: &mut Vec<u8>,
-    sentence: &str,
-    token: Option<&[u8]>,
-) -> Result<(), AllocError> {
-    let Some((before, behind)) = sentence.split_once("% ") else {
-        return put(note, sentence);
-    };
-    put(note, before)?;
-    if let Some(token) = token {
-        put_quoted(note, token)?;
-        put(note, " ")?;
+    fn put_bytes(&mut self, bytes: &[u8]) {
+        if self.text.extend_from_slice(bytes).is_err() {
+            self.lacks = true;
+        }
     }
-    put(note, behind)
+
+    /// Adds words.
+    pub fn put(&mut self, words: &str) {
+        self.put_bytes(words.as_bytes());
+    }
+
+    /// Adds a number.
+    pub fn put_number(&mut self, number: u64) {
+        self.put_bytes(Buffer::new().format(number).as_bytes());
+    }
+
+    /// Adds the name of a file; its control characters are question marks, and two quotes stand for an empty name.
+    pub fn put_name(&mut self, name: &str) {
+        if name.len() == 0 {
+            self.put("''");
+        }
+        for b in name.as_bytes() {
+            self.put_bytes(&[if b.is_ascii_control() { b'?' } else { *b }]);
+        }
+    }
+
+    /// Adds bytes of a text between quotes: the first 60, and dots for the others. Those that aren't printable are told by
+    /// their numbers.
+    pub fn put_quoted(&mut self, bytes: &[u8]) {
+        let count = bytes.len().min(MOST_QUOTED);
+        self.put("'");
+        for b in &bytes[..count] {
+            self.put_byte(*b);
+        }
+        self.put(if count < bytes.len() { "..'" } else { "'" });
+    }
+
+    // Adds a byte, or its number where it isn't printable.
+    fn put_byte(&mut self, b: u8) {
+        if b.is_ascii_graphic() || b == b' ' {
+            self.put_bytes(&[b]);
+        } else {
+            self.put_bytes(&[
+                b'\\',
+                b'x',
+                DIGITS[(b / 16) as usize],
+                DIGITS[(b % 16) as usize],
+            ]);
+        }
+    }
+
+    /// Adds a sentence, in which `%` stands for a token; where none is known, the `%` is left out with the space behind it.
+    pub fn put_sentence(&mut self, sentence: &str, token: Option<&[u8]>) {
+        match sentence.split_once("% ") {
+            Some((before, behind)) => {
+                self.put(before);
+                if let Some(token) = token {
+                    self.put_quoted(token);
+                    self.put(" ");
+                }
+                self.put(behind);
+            }
+            None => self.put(sentence),
+        }
+    }
 }
 
 /// The sentence of a kind in a table: lines of a kind, ` @ ` and its sentence.

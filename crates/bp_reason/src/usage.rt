@@ -1,36 +1,155 @@
 // The words of the command line: what they may be, and what is wrong with others.
-use crate::text::{put, put_number, put_quoted, sentence_of};
-use std::alloc::{AllocError, Global};
+use crate::text::{Note, word_at};
 
 // The kit that the program is proved with.
 const KIT: &str = "rattle-kit-13, logic dac8208d650f15bf";
 
-// Each command with its words and options, and what it does.
-const COMMANDS: &str = "\
-solve LP [--dec DEC] [--steps N] [--cert CERT] [--from FILE] [--leaf K] [--workers W] [--order SEED] [--cuts C] @ a best point, and a certificate of it
-check LP CERT [--dec DEC] [--visits M] @ whether a certificate is valid
-show LP [--dec DEC] [--blocks] @ the blocks, and which are identical
-propose LP DEC @ writes a decomposition that it finds
-detect LP ROWS DEC @ writes the blocks beside the rows of a list
-merge LP A B NEW [--dec DEC] @ writes one certificate for two
-migrate LP CERT NEW [--dec DEC] @ writes a certificate anew, in version 2, with cuts 3
-gen SEED SIZE LP DEC @ writes an assignment problem and its blocks
-demo SEED SIZE @ makes one in memory, solves it, checks that
-";
+// A command: its name, the words that it wants, the options that it takes, and what it does.
+#[derive(Clone, Copy)]
+struct Command {
+    name: &'static str,
+    places: &'static str,
+    options: &'static [&'static str],
+    does: &'static str,
+}
 
-// What the words and options mean.
-const OPTIONS: &str = "\
---dec @ DEC      the decomposition of the model, as GCG DEC text
---steps @ N      stop after N steps, and keep a bound
---cert @ CERT    write the certificate of the answer
---from @ FILE    go on from the tree of this certificate
---leaf @ K       work below the K-th open leaf of that certificate alone
---visits @ M     price no leaf that asks for more than is left of M visits
---workers @ W    search in the order of W workers, 1 to 64
---order @ SEED   the seed of that order
---cuts @ C       add at most C rounding cuts, 0 to 256, before the first step
---blocks @       tell the rows and variables of each block
-";
+const COMMANDS: [Command; 9] = [
+    Command {
+        name: "solve",
+        places: "LP",
+        options: &[
+            "--dec",
+            "--steps",
+            "--cert",
+            "--from",
+            "--leaf",
+            "--workers",
+            "--order",
+            "--cuts",
+        ],
+        does: "a best point, and a certificate of it",
+    },
+    Command {
+        name: "check",
+        places: "LP CERT",
+        options: &["--dec", "--visits"],
+        does: "whether a certificate is valid",
+    },
+    Command {
+        name: "show",
+        places: "LP",
+        options: &["--dec", "--blocks"],
+        does: "the blocks, and which are identical",
+    },
+    Command {
+        name: "propose",
+        places: "LP DEC",
+        options: &[],
+        does: "writes a decomposition that it finds",
+    },
+    Command {
+        name: "detect",
+        places: "LP ROWS DEC",
+        options: &[],
+        does: "writes the blocks beside the rows of a list",
+    },
+    Command {
+        name: "merge",
+        places: "LP A B NEW",
+        options: &["--dec"],
+        does: "writes one certificate for two",
+    },
+    Command {
+        name: "migrate",
+        places: "LP CERT NEW",
+        options: &["--dec"],
+        does: "writes a certificate anew, in version 2, with cuts 3",
+    },
+    Command {
+        name: "gen",
+        places: "SEED SIZE LP DEC",
+        options: &[],
+        does: "writes an assignment problem and its blocks",
+    },
+    Command {
+        name: "demo",
+        places: "SEED SIZE",
+        options: &[],
+        does: "makes one in memory, solves it, checks that",
+    },
+];
+
+// An option: its name, its value or nothing, and what it means.
+#[derive(Clone, Copy)]
+struct Choice {
+    name: &'static str,
+    value: &'static str,
+    means: &'static str,
+}
+
+const OPTIONS: [Choice; 10] = [
+    Choice {
+        name: "--dec",
+        value: "DEC",
+        means: "      the decomposition of the model, as GCG DEC text",
+    },
+    Choice {
+        name: "--steps",
+        value: "N",
+        means: "      stop after N steps, and keep a bound",
+    },
+    Choice {
+        name: "--cert",
+        value: "CERT",
+        means: "    write the certificate of the answer",
+    },
+    Choice {
+        name: "--from",
+        value: "FILE",
+        means: "    go on from the tree of this certificate",
+    },
+    Choice {
+        name: "--leaf",
+        value: "K",
+        means: "       work below the K-th open leaf of that certificate alone",
+    },
+    Choice {
+        name: "--visits",
+        value: "M",
+        means: "     price no leaf that asks for more than is left of M visits",
+    },
+    Choice {
+        name: "--workers",
+        value: "W",
+        means: "    search in the order of W workers, 1 to 64",
+    },
+    Choice {
+        name: "--order",
+        value: "SEED",
+        means: "   the seed of that order",
+    },
+    Choice {
+        name: "--cuts",
+        value: "C",
+        means: "       add at most C rounding cuts, 0 to 256, before the first step",
+    },
+    Choice {
+        name: "--blocks",
+        value: "",
+        means: "      tell the rows and variables of each block",
+    },
+];
+
+// The words that stand for numbers, with the least and the greatest number that each may be.
+const NUMBERS: [(&str, u64, u64); 7] = [
+    ("N", 0, 1 << 60),
+    ("K", 1, u64::MAX),
+    ("M", 0, u64::MAX),
+    ("W", 1, 64),
+    ("C", 0, 256),
+    ("SEED", 0, u64::MAX),
+    ("SIZE", 1, 1024),
+];
 
 const STATUSES: &str = "\
 LP is a model as CPLEX LP text; `--` ends the options; `help COMMAND` tells of one.
@@ -42,221 +161,192 @@ status: 0 done, 2 no command line, 3 a text is refused, 4 infeasible, 5 out of s
 // How far the commands' words reach in the list of them.
 const WIDTH: usize = 28;
 
-/// What is wrong with words.
-#[derive(Clone, Copy, PartialEq, Eq)]
-enum Wrong {
-    Unknown,
-    NoValue,
-    Flag,
-    Twice,
-    Number,
-    More,
-}
-
-// Which word is wrong, and why.
-#[derive(Clone, Copy)]
-struct WordFault {
-    at: usize,
-    wrong: Wrong,
-}
-
-// How far words are read: whether the options are ended, how many words are no options, whether a value is awaited.
+// How far words are read: whether the options are ended, how many words are no options, and the option whose value is
+// awaited.
 #[derive(Drop)]
 struct Reach {
     ended: bool,
     places: usize,
-    awaits: bool,
+    awaits: Option<Choice>,
 }
 
-/// The note on words that are no command line, the program's name first.
-pub fn words_note(alloc: Global, words: &[String]) -> Result<Vec<u8>, AllocError> {
-    let mut note = Vec::new(alloc);
+/// Puts the note on words that are no command line, the program's name first.
+pub fn put_words_note(note: &mut Note, words: &[String]) {
     if words.len() == 0 {
-        put(&mut note, "bprice: the words are no text in UTF-8\n")?;
-        put_usage(&mut note)?;
-    } else if words.len() == 1 {
-        put_usage(&mut note)?;
-    } else {
-        put_words_note(&mut note, words[1].as_str(), &words[2..])?;
+        note.put("bprice: the words are no text in UTF-8\n");
     }
-    Ok(note)
+    if words.len() < 2 {
+        put_usage(note);
+    } else {
+        put_first_note(note, words[1].as_str(), &words[2..]);
+    }
 }
 
 // The note on a first word and those behind it.
-fn put_words_note(note: &mut Vec<u8>, first: &str, others: &[String]) -> Result<(), AllocError> {
+fn put_first_note(note: &mut Note, first: &str, others: &[String]) {
     if first == "--version" {
-        put(note, "bprice, proved with ")?;
-        put(note, KIT)?;
-        return put(note, "\n");
-    }
-    if is_help(first) {
-        return put_help(note, others);
-    }
-    match usage_of(first) {
-        Some(usage) => put_command_note(note, usage, others),
-        None => put_unknown(note, first),
+        note.put("bprice, proved with ");
+        note.put(KIT);
+        note.put("\n");
+    } else if first == "help" || is_help(first) {
+        put_help(note, others);
+    } else {
+        match command_of(first) {
+            Some(command) => put_command_note(note, &command, others),
+            None => put_unknown(note, first),
+        }
     }
 }
 
 // Whether a word asks for help.
 fn is_help(word: &str) -> bool {
-    word == "help" || word == "--help" || word == "-h"
+    word == "--help" || word == "-h"
 }
 
-// The usage of the command of that name.
-fn usage_of(name: &str) -> Option<&'static str> {
-    for line in COMMANDS.lines() {
-        if let Some((usage, _)) = line.split_once(" @ ") {
-            if name_of(usage) == name {
-                return Some(usage);
-            }
+// The command of that name.
+fn command_of(name: &str) -> Option<Command> {
+    for command in COMMANDS.as_slice() {
+        if command.name == name {
+            return Some(*command);
         }
     }
     None
 }
 
-// The name that a usage begins with.
-fn name_of(usage: &'static str) -> &'static str {
-    match usage.split_once(" ") {
-        Some((name, _)) => name,
-        None => usage,
-    }
-}
-
 // The usage of the command that is asked for, or of all.
-fn put_help(note: &mut Vec<u8>, others: &[String]) -> Result<(), AllocError> {
-    if others.len() == 0 {
-        return put_usage(note);
-    }
-    match usage_of(others[0].as_str()) {
-        Some(usage) => put_command(note, usage),
-        None => put_unknown(note, others[0].as_str()),
+fn put_help(note: &mut Note, others: &[String]) {
+    let Some(other) = others.first() else {
+        put_usage(note);
+        return;
+    };
+    match command_of(other.as_str()) {
+        Some(command) => put_command(note, &command),
+        None => put_unknown(note, other.as_str()),
     }
 }
 
 // A command that there isn't, and those that there are.
-fn put_unknown(note: &mut Vec<u8>, word: &str) -> Result<(), AllocError> {
-    put(note, "bprice: ")?;
-    put_quoted(note, word.as_bytes())?;
-    put(note, " is no command; the first word is one of")?;
-    for line in COMMANDS.lines() {
-        if let Some((name, _)) = line.split_once(" ") {
-            put(note, " ")?;
-            put(note, name)?;
-        }
+fn put_unknown(note: &mut Note, word: &str) {
+    note.put("bprice: ");
+    note.put_quoted(word.as_bytes());
+    note.put(" is no command; the first word is one of");
+    for command in COMMANDS.as_slice() {
+        note.put(" ");
+        note.put(command.name);
     }
-    put(
-        note,
-        "\nusage: bprice COMMAND .., and bprice --help tells more\n",
-    )
+    note.put("\nusage: bprice COMMAND .., and bprice --help tells more\n");
 }
 
 // All commands, options and statuses.
-fn put_usage(note: &mut Vec<u8>) -> Result<(), AllocError> {
-    put(note, "usage: bprice COMMAND ..\n")?;
-    for line in COMMANDS.lines() {
-        if let Some((usage, does)) = line.split_once(" @ ") {
-            put_short(note, usage)?;
-            put(note, does)?;
-            put(note, "\n")?;
-        }
+fn put_usage(note: &mut Note) {
+    note.put("usage: bprice COMMAND ..\n");
+    for command in COMMANDS.as_slice() {
+        put_short(note, command);
     }
-    put_options(note, None)?;
-    put(note, STATUSES)
+    for choice in OPTIONS.as_slice() {
+        put_choice(note, choice);
+    }
+    note.put(STATUSES);
 }
 
-// A command without its options, with spaces behind it.
-fn put_short(note: &mut Vec<u8>, usage: &str) -> Result<(), AllocError> {
-    let before = note.len();
-    put(note, "  ")?;
-    match usage.split_once(" [") {
-        Some((words, _)) => {
-            put(note, words)?;
-            put(note, " [..]")?;
-        }
-        None => put(note, usage)?,
+// A command without its options, and what it does.
+fn put_short(note: &mut Note, command: &Command) {
+    let end = note.len().saturating_add(WIDTH);
+    note.put("  ");
+    put_shape(note, command);
+    if !command.options.is_empty() {
+        note.put(" [..]");
     }
-    let taken = note.len().saturating_sub(before);
-    for _ in taken..WIDTH.max(taken) {
-        put(note, " ")?;
+    for _ in note.len()..end {
+        note.put(" ");
     }
-    Ok(())
+    note.put(command.does);
+    note.put("\n");
 }
 
-// The options of a command, or all.
-fn put_options(note: &mut Vec<u8>, usage: Option<&'static str>) -> Result<(), AllocError> {
-    for line in OPTIONS.lines() {
-        if let Some((option, means)) = line.split_once(" @ ") {
-            if is_shown(usage, option) {
-                put_option(note, option, means)?;
-            }
-        }
-    }
-    Ok(())
-}
-
-// Whether an option is one of the command's.
-fn is_shown(usage: Option<&'static str>, option: &str) -> bool {
-    match usage {
-        Some(usage) => value_of(usage, option).is_some(),
-        None => true,
-    }
+// A command's name and the words that it wants.
+fn put_shape(note: &mut Note, command: &Command) {
+    note.put(command.name);
+    note.put(" ");
+    note.put(command.places);
 }
 
 // An option with what it means.
-fn put_option(note: &mut Vec<u8>, option: &str, means: &str) -> Result<(), AllocError> {
-    put(note, "  ")?;
-    put(note, option)?;
-    put(note, " ")?;
-    put(note, means)?;
-    put(note, "\n")
+fn put_choice(note: &mut Note, choice: &Choice) {
+    note.put("  ");
+    note.put(choice.name);
+    note.put(" ");
+    note.put(choice.value);
+    note.put(choice.means);
+    note.put("\n");
 }
 
 // The usage of one command, what it does and its options.
-fn put_command(note: &mut Vec<u8>, usage: &'static str) -> Result<(), AllocError> {
-    put_line(note, usage)?;
-    if let Some(does) = sentence_of(COMMANDS, usage) {
-        put(note, "  ")?;
-        put(note, does)?;
-        put(note, "\n")?;
+fn put_command(note: &mut Note, command: &Command) {
+    put_line(note, command);
+    note.put("  ");
+    note.put(command.does);
+    note.put("\n");
+    for choice in OPTIONS.as_slice() {
+        if command.options.contains(&choice.name) {
+            put_choice(note, choice);
+        }
     }
-    put_options(note, Some(usage))
 }
 
 // The line of a command's usage.
-fn put_line(note: &mut Vec<u8>, usage: &str) -> Result<(), AllocError> {
-    put(note, "usage: bprice ")?;
-    put(note, usage)?;
-    put(note, "\n")
-}
-
-// What is wrong with the words of a command.
-fn put_command_note(
-    note: &mut Vec<u8>,
-    usage: &'static str,
-    words: &[String],
-) -> Result<(), AllocError> {
-    for word in words {
-        if word.as_str() == "--help" || word.as_str() == "-h" {
-            return put_command(note, usage);
+fn put_line(note: &mut Note, command: &Command) {
+    note.put("usage: bprice ");
+    put_shape(note, command);
+    for choice in OPTIONS.as_slice() {
+        if command.options.contains(&choice.name) {
+            put_bracket(note, choice);
         }
     }
+    note.put("\n");
+}
+
+// An option between brackets.
+fn put_bracket(note: &mut Note, choice: &Choice) {
+    note.put(" [");
+    note.put(choice.name);
+    if choice.value != "" {
+        note.put(" ");
+        note.put(choice.value);
+    }
+    note.put("]");
+}
+
+// What is wrong with the words of a command, or its usage where one asks for help.
+fn put_command_note(note: &mut Note, command: &Command, words: &[String]) {
+    for word in words {
+        if is_help(word.as_str()) {
+            put_command(note, command);
+            return;
+        }
+    }
+    note.put("bprice: ");
+    put_fault(note, command, words);
+    note.put("\n");
+    put_line(note, command);
+}
+
+// The first word that is wrong and why; or else a leaf that is misplaced, or the word that is missing.
+fn put_fault(note: &mut Note, command: &Command, words: &[String]) {
     let mut reach = Reach {
         ended: false,
         places: 0,
-        awaits: false,
+        awaits: None,
     };
     for at in 0..words.len() {
-        if let Some(wrong) = wrong_at(usage, words, at, &mut reach) {
-            put_wrong(note, usage, words, WordFault { at, wrong })?;
-            return put_line(note, usage);
+        if put_wrong(note, command, &words[..at], words[at].as_str(), &mut reach) {
+            return;
         }
     }
     match misplaced_leaf(words) {
-        Some(why) => put(note, why)?,
-        None => put_missing(note, usage, words, &reach)?,
+        Some(why) => note.put(why),
+        None => put_missing(note, command, &reach),
     }
-    put_line(note, usage)
 }
 
 // What is wrong with a leaf that is named, where it has no certificate or a crew beside it.
@@ -264,11 +354,9 @@ fn misplaced_leaf(words: &[String]) -> Option<&'static str> {
     if !has_option(words, "--leaf") {
         None
     } else if !has_option(words, "--from") {
-        Some(
-            "bprice: --leaf names an open leaf of the certificate behind --from, which is missing\n",
-        )
+        Some("--leaf names an open leaf of the certificate behind --from, which is missing")
     } else if has_option(words, "--workers") || has_option(words, "--order") {
-        Some("bprice: --leaf goes without --workers and --order: a crew works on the whole tree\n")
+        Some("--leaf goes without --workers and --order: a crew works on the whole tree")
     } else {
         None
     }
@@ -287,29 +375,24 @@ fn has_option(words: &[String], option: &str) -> bool {
     false
 }
 
-// What is wrong with a word, behind those that were read; none where it goes.
-fn wrong_at(usage: &'static str, words: &[String], at: usize, reach: &mut Reach) -> Option<Wrong> {
-    if words.len() <= at {
-        return None;
-    }
-    let word = words[at].as_str();
-    if reach.awaits {
-        reach.awaits = false;
-        return wrong_value(usage, words, at);
-    }
-    if !reach.ended && word == "--" {
-        reach.ended = true;
-        return None;
+// Puts what is wrong with a word behind those before it: whether anything is.
+fn put_wrong(
+    note: &mut Note,
+    command: &Command,
+    before: &[String],
+    word: &str,
+    reach: &mut Reach,
+) -> bool {
+    if let Some(choice) = reach.awaits {
+        reach.awaits = None;
+        return put_wrong_value(note, &choice, word);
     }
     if !reach.ended && is_option(word) {
-        return wrong_option(usage, words, at, reach);
+        return put_wrong_option(note, command, before, word, reach);
     }
-    let place = place_of(usage, reach.places);
+    let place = word_at(command.places, reach.places);
     reach.places = reach.places.saturating_add(1);
-    match place {
-        None => Some(Wrong::More),
-        Some(name) => wrong_number(name, word),
-    }
+    put_wrong_place(note, command, place, word)
 }
 
 // Whether a word looks like an option.
@@ -325,236 +408,139 @@ fn option_of(word: &str) -> &str {
     }
 }
 
-// What is wrong with an option.
-fn wrong_option(
-    usage: &'static str,
-    words: &[String],
-    at: usize,
-    reach: &mut Reach,
-) -> Option<Wrong> {
-    if words.len() <= at {
-        return None;
+// Puts what is wrong with the value behind an option: whether anything is.
+fn put_wrong_value(note: &mut Note, choice: &Choice, word: &str) -> bool {
+    if is_option(word) {
+        put_no_value(note, choice);
+        return true;
     }
-    let option = option_of(words[at].as_str());
-    let Some(value) = value_of(usage, option) else {
-        return Some(Wrong::Unknown);
-    };
-    for before in &words[..at] {
-        if option_of(before.as_str()) == option {
-            return Some(Wrong::Twice);
-        }
-    }
-    match words[at].as_str().split_once("=") {
-        Some(_) if value.len() == 0 => Some(Wrong::Flag),
-        Some((_, given)) => wrong_number(value, given),
-        None => {
-            reach.awaits = value.len() > 0;
-            None
-        }
-    }
-}
-
-// What is wrong with the value behind an option.
-fn wrong_value(usage: &'static str, words: &[String], at: usize) -> Option<Wrong> {
-    if at == 0 || words.len() <= at {
-        return None;
-    }
-    if is_option(words[at].as_str()) {
-        return Some(Wrong::NoValue);
-    }
-    match value_of(usage, words[at - 1].as_str()) {
-        Some(value) => wrong_number(value, words[at].as_str()),
-        None => None,
-    }
-}
-
-// The value that an option of a usage takes: empty where it takes none, and none where it is no option of it.
-fn value_of(usage: &'static str, option: &str) -> Option<&'static str> {
-    let mut found = false;
-    for part in usage.split(' ') {
-        if found {
-            return Some(bare(part));
-        }
-        if let Some((_, name)) = part.split_once("[") {
-            if name == option {
-                found = true;
-            } else if bare(name) == option {
-                return Some("");
-            }
-        }
-    }
-    None
-}
-
-// A part of a usage without the bracket that ends it.
-fn bare(part: &'static str) -> &'static str {
-    match part.split_once("]") {
-        Some((inside, _)) => inside,
-        None => part,
-    }
-}
-
-// The word of a usage that has this number, from 0, among those that are no options.
-fn place_of(usage: &'static str, number: usize) -> Option<&'static str> {
-    let mut at = 0usize;
-    let words = match usage.split_once(" [") {
-        Some((words, _)) => words,
-        None => usage,
-    };
-    for word in words.split(' ') {
-        if at > number {
-            return Some(word);
-        }
-        at = at.saturating_add(1);
-    }
-    None
-}
-
-// The numbers that a word of a usage may be, where it is one.
-fn range_of(name: &str) -> Option<(u64, u64)> {
-    match name {
-        "N" => Some((0, 1 << 60)),
-        "K" => Some((1, u64::MAX)),
-        "M" => Some((0, u64::MAX)),
-        "W" => Some((1, 64)),
-        "C" => Some((0, 256)),
-        "SEED" => Some((0, u64::MAX)),
-        "SIZE" => Some((1, 1024)),
-        _ => None,
-    }
-}
-
-// Whether a number is asked for and the word is none that may be given.
-fn wrong_number(name: &str, word: &str) -> Option<Wrong> {
-    let (low, high) = range_of(name)?;
-    match word.parse::<u64>() {
-        Ok(n) if low <= n && n <= high => None,
-        _ => Some(Wrong::Number),
-    }
-}
-
-// What is wrong with a word, in words.
-fn put_wrong(
-    note: &mut Vec<u8>,
-    usage: &'static str,
-    words: &[String],
-    fault: WordFault,
-) -> Result<(), AllocError> {
-    let at = fault.at;
-    if words.len() <= at {
-        return Ok(());
-    }
-    let word = words[at].as_str();
-    put(note, "bprice: ")?;
-    match fault.wrong {
-        Wrong::Unknown => {
-            put_quoted(note, option_of(word).as_bytes())?;
-            put(note, " is no option of ")?;
-            put(note, name_of(usage))?;
-            put(note, "; a file of that name goes behind --")?;
-        }
-        Wrong::NoValue => put_no_value(note, usage, words, at)?,
-        Wrong::Flag => {
-            put(note, option_of(word))?;
-            put(note, " takes no value")?;
-        }
-        Wrong::Twice => {
-            put(note, option_of(word))?;
-            put(note, " is given twice; keep one of the two")?;
-        }
-        Wrong::Number => put_number_note(note, usage, words, at)?,
-        Wrong::More => {
-            put_quoted(note, word.as_bytes())?;
-            put(note, " is one word too many for ")?;
-            put(note, name_of(usage))?;
-        }
-    }
-    put(note, "\n")
+    put_wrong_number(note, choice.value, word)
 }
 
 // An option whose value is missing.
-fn put_no_value(
-    note: &mut Vec<u8>,
-    usage: &'static str,
-    words: &[String],
-    at: usize,
-) -> Result<(), AllocError> {
-    if at == 0 || words.len() < at {
-        return Ok(());
-    }
-    let option = words[at - 1].as_str();
-    put(note, option)?;
-    put(note, " wants a value behind it: ")?;
-    put(note, value_of(usage, option).unwrap_or(""))
+fn put_no_value(note: &mut Note, choice: &Choice) {
+    note.put(choice.name);
+    note.put(" wants a value behind it: ");
+    note.put(choice.value);
 }
 
-// A word that is no number, or out of its range.
-fn put_number_note(
-    note: &mut Vec<u8>,
-    usage: &'static str,
-    words: &[String],
-    at: usize,
-) -> Result<(), AllocError> {
-    if words.len() <= at {
-        return Ok(());
+// Puts what is wrong with a word that looks like an option: whether anything is.
+fn put_wrong_option(
+    note: &mut Note,
+    command: &Command,
+    before: &[String],
+    word: &str,
+    reach: &mut Reach,
+) -> bool {
+    if word == "--" {
+        reach.ended = true;
+        return false;
     }
-    let word = words[at].as_str();
-    let name = number_name(usage, words, at);
-    put(note, name)?;
-    put(note, " is a whole number from ")?;
-    let (low, high) = range_of(name).unwrap_or((0, u64::MAX));
-    put_number(note, low)?;
-    put(note, " to ")?;
-    put_number(note, high)?;
-    put(note, ", and not ")?;
-    match word.split_once("=") {
-        Some((_, given)) if is_option(word) => put_quoted(note, given.as_bytes()),
-        _ => put_quoted(note, word.as_bytes()),
-    }
-}
-
-// The name that the usage has for the number that a word is in the place of.
-fn number_name(usage: &'static str, words: &[String], at: usize) -> &'static str {
-    let mut reach = Reach {
-        ended: false,
-        places: 0,
-        awaits: false,
+    let option = option_of(word);
+    let Some(choice) = choice_of(command, option) else {
+        put_no_option(note, command, option);
+        return true;
     };
-    for before in 0..at.min(words.len()) {
-        let _ = wrong_at(usage, words, before, &mut reach);
+    if has_twin(before, option) {
+        note.put(option);
+        note.put(" is given twice; keep one of the two");
+        return true;
     }
-    if words.len() <= at {
-        return "";
+    put_wrong_choice(note, &choice, word, reach)
+}
+
+// The option of a command that has the name.
+fn choice_of(command: &Command, name: &str) -> Option<Choice> {
+    for choice in OPTIONS.as_slice() {
+        if choice.name == name && command.options.contains(&choice.name) {
+            return Some(*choice);
+        }
     }
-    let joined = value_of(usage, option_of(words[at].as_str()));
-    if reach.awaits && at > 0 && at <= words.len() {
-        return value_of(usage, words[at - 1].as_str()).unwrap_or("");
+    None
+}
+
+// An option that a command doesn't take.
+fn put_no_option(note: &mut Note, command: &Command, option: &str) {
+    note.put_quoted(option.as_bytes());
+    note.put(" is no option of ");
+    note.put(command.name);
+    note.put("; a file of that name goes behind --");
+}
+
+// Whether one of these words is the option too.
+fn has_twin(words: &[String], option: &str) -> bool {
+    for word in words {
+        if option_of(word.as_str()) == option {
+            return true;
+        }
     }
-    match joined {
-        Some(value) => value,
-        None => place_of(usage, reach.places).unwrap_or(""),
+    false
+}
+
+// Puts what is wrong with the value that is joined to an option, or awaits the one behind it: whether anything is.
+fn put_wrong_choice(note: &mut Note, choice: &Choice, word: &str, reach: &mut Reach) -> bool {
+    let Some((_, given)) = word.split_once("=") else {
+        if choice.value != "" {
+            reach.awaits = Some(*choice);
+        }
+        return false;
+    };
+    if choice.value == "" {
+        note.put(choice.name);
+        note.put(" takes no value");
+        return true;
+    }
+    put_wrong_number(note, choice.value, given)
+}
+
+// Puts what is wrong with a word in the place of one that a command wants, or where it wants none: whether anything is.
+fn put_wrong_place(note: &mut Note, command: &Command, place: &str, word: &str) -> bool {
+    if place == "" {
+        note.put_quoted(word.as_bytes());
+        note.put(" is one word too many for ");
+        note.put(command.name);
+        return true;
+    }
+    put_wrong_number(note, place, word)
+}
+
+// Puts the numbers that a name stands for where a word is none of them: whether it is not.
+fn put_wrong_number(note: &mut Note, name: &str, word: &str) -> bool {
+    for (number, least, greatest) in NUMBERS.as_slice() {
+        if *number == name && !is_between(word, *least, *greatest) {
+            note.put(name);
+            note.put(" is a whole number from ");
+            note.put_number(*least);
+            note.put(" to ");
+            note.put_number(*greatest);
+            note.put(", and not ");
+            note.put_quoted(word.as_bytes());
+            return true;
+        }
+    }
+    false
+}
+
+// Whether a word is a number between two.
+fn is_between(word: &str, least: u64, greatest: u64) -> bool {
+    match word.parse::<u64>() {
+        Ok(number) => least <= number && number <= greatest,
+        Err(_) => false,
     }
 }
 
 // What is missing behind words of which each goes.
-fn put_missing(
-    note: &mut Vec<u8>,
-    usage: &'static str,
-    words: &[String],
-    reach: &Reach,
-) -> Result<(), AllocError> {
-    put(note, "bprice: ")?;
-    if reach.awaits {
-        put_no_value(note, usage, words, words.len())?;
-        return put(note, "\n");
+fn put_missing(note: &mut Note, command: &Command, reach: &Reach) {
+    if let Some(choice) = reach.awaits {
+        put_no_value(note, &choice);
+        return;
     }
-    match place_of(usage, reach.places) {
-        Some(name) => {
-            put(note, name_of(usage))?;
-            put(note, " wants a further word: ")?;
-            put(note, name)?;
-        }
-        None => put(note, "these words are no command line")?,
+    let place = word_at(command.places, reach.places);
+    if place == "" {
+        note.put("these words are no command line");
+    } else {
+        note.put(command.name);
+        note.put(" wants a further word: ");
+        note.put(place);
     }
-    put(note, "\n")
 }
