@@ -1,125 +1,162 @@
 // Small bases, factored, solved with and updated.
+use crate::numbers::billionths;
 use lp_factor::{Basic, Entry, Factor, Vectors};
 use std::alloc::{AllocError, Global};
 use std::test::Fail;
 
-// The columns of a matrix of five rows.
+/// The columns of a matrix of five rows.
+const COLUMNS: [[f64; 5]; 5] = [
+    [2.0, 1.0, 0.0, 0.0, 1.0],
+    [0.0, 3.0, 1.0, 0.0, 0.0],
+    [1.0, 0.0, 4.0, 1.0, 0.0],
+    [0.0, 0.0, 1.0, 5.0, 2.0],
+    [1.0, 2.0, 0.0, 0.0, 6.0],
+];
+
+/// What the rows are solved for.
+const ROWS: [f64; 5] = [1.0, -2.0, 3.0, 0.5, 7.0];
+
+/// The members of a basis.
+const BASIS: [Basic; 5] = [
+    Basic::Column(3),
+    Basic::Logical(1),
+    Basic::Column(0),
+    Basic::Column(2),
+    Basic::Column(4),
+];
+
+/// Members of which three depend on the others: there is no column 9.
+const DEPENDENT: [Basic; 5] = [
+    Basic::Column(3),
+    Basic::Column(3),
+    Basic::Column(9),
+    Basic::Logical(0),
+    Basic::Logical(0),
+];
+
+// Adds a column's entries that are not 0.
+fn add_column(columns: &mut Vectors, numbers: &[f64; 5]) -> Result<(), AllocError> {
+    for row in 0..5usize {
+        if numbers[row] != 0.0 {
+            columns.add(Entry {
+                place: row as u32,
+                value: numbers[row],
+            })?;
+        }
+    }
+    columns.close()
+}
+
+// All columns.
 fn columns(alloc: Global) -> Result<Vectors, AllocError> {
     let mut columns = Vectors::make(alloc);
-    let numbers: [[f64; 5]; 5] = [
-        [2.0, 1.0, 0.0, 0.0, 1.0],
-        [0.0, 3.0, 1.0, 0.0, 0.0],
-        [1.0, 0.0, 4.0, 1.0, 0.0],
-        [0.0, 0.0, 1.0, 5.0, 2.0],
-        [1.0, 2.0, 0.0, 0.0, 6.0],
-    ];
-    for column in &numbers {
-        for (row, value) in column.iter().enumerate() {
-            if *value != 0.0 {
-                columns.add(Entry {
-                    place: row as u32,
-                    value: *value,
-                })?;
-            }
-        }
-        columns.close()?;
+    for numbers in &COLUMNS {
+        add_column(&mut columns, numbers)?;
     }
     Ok(columns)
 }
 
-// How far the basis times a vector by positions is from a vector by rows.
-fn miss(columns: &Vectors, basis: &[Basic], by_positions: &[f64], by_rows: &[f64]) -> f64 {
-    let mut sums = [0.0, 0.0, 0.0, 0.0, 0.0];
-    for (p, basic) in basis.iter().enumerate() {
-        match basic {
-            Basic::Logical(row) => {
-                if (*row as usize) < sums.len() && p < by_positions.len() {
-                    sums[*row as usize] -= by_positions[p];
-                }
-            }
-            Basic::Column(j) => {
-                for entry in columns.of(*j as usize) {
-                    if (entry.place as usize) < sums.len() && p < by_positions.len() {
-                        sums[entry.place as usize] += entry.value * by_positions[p];
-                    }
-                }
-            }
-        }
+// Numbers in thousand-millionths.
+fn parts_of(numbers: &[f64; 5]) -> [i64; 5] {
+    let mut parts = [0; 5];
+    for place in 0..5usize {
+        parts[place] = billionths(numbers[place]);
     }
-    let mut most = 0.0;
-    for (k, sum) in sums.iter().enumerate() {
-        if k < by_rows.len() {
-            most = f64::max(most, (by_rows[k] - sum).abs());
-        }
-    }
-    most
+    parts
 }
 
-const ROWS: [f64; 5] = [1.0, -2.0, 3.0, 0.5, 7.0];
-
-// How far what a factor solves the rows to is from the rows, by the basis that it stands for.
-fn miss_of(factor: &mut Factor, columns: &Vectors, basis: &[Basic]) -> f64 {
+// What the rows are solved to.
+fn solved(factor: &mut Factor) -> [i64; 5] {
     let mut vector = ROWS;
     factor.ftran(vector.as_mut_slice());
-    miss(columns, basis, vector.as_slice(), ROWS.as_slice())
+    parts_of(&vector)
 }
 
-// How far a factor's number at a position is from that of the row that it gives for the position from the left.
-fn miss_from_the_left(factor: &mut Factor) -> f64 {
-    let mut vector = ROWS;
-    factor.ftran(vector.as_mut_slice());
+// The row of the inverse that the third position has.
+fn third_row(factor: &mut Factor) -> [i64; 5] {
     let mut left = [0.0, 0.0, 1.0, 0.0, 0.0];
     factor.btran(left.as_mut_slice());
-    let mut product = 0.0;
-    for (a, b) in left.iter().zip(ROWS.iter()) {
-        product += *a * *b;
-    }
-    (product - vector[2]).abs()
+    parts_of(&left)
 }
+
+// How many members of a basis depend on the others.
+fn factored(
+    factor: &mut Factor,
+    columns: &Vectors,
+    basis: &[Basic; 5],
+) -> Result<usize, AllocError> {
+    let replaced = factor.factor(columns, basis.as_slice())?;
+    Ok(replaced.len())
+}
+
+// Takes column 1 in place of the logical, and tells whether that was done.
+fn exchange(factor: &mut Factor) -> Result<bool, AllocError> {
+    let mut alpha = [0.0, 3.0, 1.0, 0.0, 0.0];
+    factor.ftran(alpha.as_mut_slice());
+    factor.update(1, alpha.as_slice())
+}
+
+/// How many members of a basis are replaced, what the rows are solved to, whether a member was exchanged, and what the rows
+/// are solved to then, with a row of the inverse.
+type Solved = (usize, [i64; 5], bool, [i64; 5], [i64; 5]);
+
+// What a factor of the basis answers.
+fn answers(factor: &mut Factor, columns: &Vectors) -> Result<Solved, AllocError> {
+    let replaced = factored(factor, columns, &BASIS)?;
+    let first = solved(factor);
+    let is_done = exchange(factor)?;
+    Ok((replaced, first, is_done, solved(factor), third_row(factor)))
+}
+
+// The same of a new factor.
+fn new_answers(alloc: Global) -> Result<Solved, AllocError> {
+    let columns = columns(alloc)?;
+    let mut factor = Factor::make(alloc, 5)?;
+    answers(&mut factor, &columns)
+}
+
+/// The numbers are fractions of 418, and of 1282 once the member is exchanged.
+const SOLVED: Solved = (
+    0,
+    [
+        -52_631_579,
+        4_023_923_445,
+        -516_746_411,
+        763_157_895,
+        1_270_334_928,
+    ],
+    true,
+    [
+        -121_684_867,
+        -1_312_012_480,
+        -717_628_705,
+        1_108_424_337,
+        1_326_833_073,
+    ],
+    [
+        527_301_092,
+        49_921_997,
+        -149_765_991,
+        71_762_871,
+        -104_524_181,
+    ],
+);
 
 #[test]
 fn solves_with_columns_and_logicals(rt: HostRuntime) -> Result<(), Fail> {
-    let alloc = rt.alloc();
+    assert_eq!(rt; new_answers(rt.alloc())?, SOLVED);
+    Ok(())
+}
+
+// How many of the dependent members are replaced.
+fn replaced(alloc: Global) -> Result<usize, AllocError> {
     let columns = columns(alloc)?;
     let mut factor = Factor::make(alloc, 5)?;
-    let basis = [
-        Basic::Column(3),
-        Basic::Logical(1),
-        Basic::Column(0),
-        Basic::Column(2),
-        Basic::Column(4),
-    ];
-    let replaced = factor.factor(&columns, basis.as_slice())?;
-    assert!(rt; replaced.is_empty());
-    assert!(rt; miss_of(&mut factor, &columns, basis.as_slice()) < 1e-9);
-    let mut alpha = [0.0, 3.0, 1.0, 0.0, 0.0];
-    factor.ftran(alpha.as_mut_slice());
-    assert!(rt; factor.update(1, alpha.as_slice())?);
-    let exchanged = [
-        Basic::Column(3),
-        Basic::Column(1),
-        Basic::Column(0),
-        Basic::Column(2),
-        Basic::Column(4),
-    ];
-    assert!(rt; miss_of(&mut factor, &columns, exchanged.as_slice()) < 1e-9);
-    assert!(rt; miss_from_the_left(&mut factor) < 1e-9);
-    Ok(())
+    factored(&mut factor, &columns, &DEPENDENT)
 }
 
 #[test]
 fn replaces_what_depends(rt: HostRuntime) -> Result<(), Fail> {
-    let alloc = rt.alloc();
-    let columns = columns(alloc)?;
-    let mut factor = Factor::make(alloc, 5)?;
-    let basis = [
-        Basic::Column(3),
-        Basic::Column(3),
-        Basic::Column(9),
-        Basic::Logical(0),
-        Basic::Logical(0),
-    ];
-    let replaced = factor.factor(&columns, basis.as_slice())?;
-    assert_eq!(rt; replaced.len(), 3);
+    assert_eq!(rt; replaced(rt.alloc())?, 3);
     Ok(())
 }

@@ -1,41 +1,12 @@
 // Small linear programs with known optima, and ones without a point.
+use crate::numbers::millionths;
 use lp_core::{ENDLESS, Effort, End, Lp, Range};
 use lp_factor::{Entry, Vectors};
 use std::alloc::{AllocError, Global};
 use std::test::Fail;
 
-// The columns of two rows: x + 2 y and 3 x + y.
-fn columns(alloc: Global) -> Result<Vectors, AllocError> {
-    let mut columns = Vectors::make(alloc);
-    columns.push([
-        Entry {
-            place: 0,
-            value: 1.0,
-        },
-        Entry {
-            place: 1,
-            value: 3.0,
-        },
-    ]
-    .as_slice())?;
-    columns.push([
-        Entry {
-            place: 0,
-            value: 2.0,
-        },
-        Entry {
-            place: 1,
-            value: 1.0,
-        },
-    ]
-    .as_slice())?;
-    Ok(columns)
-}
-
-// Whether two numbers are near.
-fn near(a: f64, b: f64) -> bool {
-    (a - b).abs() < 1e-6
-}
+/// The columns of two rows: x + 2 y and 3 x + y.
+const COLUMNS: [[f64; 2]; 2] = [[1.0, 3.0], [2.0, 1.0]];
 
 const EFFORT: Effort = Effort {
     iterations: 100,
@@ -43,96 +14,170 @@ const EFFORT: Effort = Effort {
     keeps_factors: false,
 };
 
-// The span of each column.
-const SPAN: Range = Range {
+/// At most 1, 4 and 6, at least 9, from 0 to 3, and from 0 to 10.
+const AT_MOST_1: Range = Range {
+    lower: -ENDLESS,
+    upper: 1.0,
+};
+
+const AT_MOST_4: Range = Range {
+    lower: -ENDLESS,
+    upper: 4.0,
+};
+
+const AT_MOST_6: Range = Range {
+    lower: -ENDLESS,
+    upper: 6.0,
+};
+
+const AT_LEAST_9: Range = Range {
+    lower: 9.0,
+    upper: ENDLESS,
+};
+
+const UP_TO_3: Range = Range {
+    lower: 0.0,
+    upper: 3.0,
+};
+
+const UP_TO_10: Range = Range {
     lower: 0.0,
     upper: 10.0,
 };
 
-// Both rows have upper sides, and each column costs -1.
-fn begun(alloc: Global) -> Result<Lp, AllocError> {
-    let ranges = [
-        Range {
-            lower: -ENDLESS,
-            upper: 4.0,
+/// A 1 in the first column or row.
+const FIRST: [Entry; 1] = [Entry {
+    place: 0,
+    value: 1.0,
+}];
+
+// Adds a column of two rows.
+fn add_column(columns: &mut Vectors, values: &[f64; 2]) -> Result<(), AllocError> {
+    let entries = [
+        Entry {
+            place: 0,
+            value: values[0],
         },
-        Range {
-            lower: -ENDLESS,
-            upper: 6.0,
+        Entry {
+            place: 1,
+            value: values[1],
         },
     ];
+    columns.push(entries.as_slice())
+}
+
+// Both columns.
+fn columns(alloc: Global) -> Result<Vectors, AllocError> {
+    let mut columns = Vectors::make(alloc);
+    for values in &COLUMNS {
+        add_column(&mut columns, values)?;
+    }
+    Ok(columns)
+}
+
+// A program of both columns with this range of the first row, and a span and a cost of each column.
+fn begun(alloc: Global, first: Range, span: Range, cost: f64) -> Result<Lp, AllocError> {
+    let ranges = [first, AT_MOST_6];
+    let columns = columns(alloc)?;
     Lp::make(
         alloc,
-        columns(alloc)?,
+        columns,
         ranges.as_slice(),
-        [SPAN, SPAN].as_slice(),
-        [-1.0, -1.0].as_slice(),
+        [span, span].as_slice(),
+        [cost, cost].as_slice(),
     )
 }
 
+/// How a solution ended; the objective, the value of each of three columns, and the multiplier of each of three rows, in
+/// millionths; and how many multipliers there are.
+type Solved = (End, i64, [i64; 3], [i64; 3], usize);
+
+// The number in a place in millionths, 0 where there is none.
+fn at(numbers: &[f64], place: usize) -> i64 {
+    match numbers.get(place) {
+        Some(number) => millionths(*number),
+        None => 0,
+    }
+}
+
+// The value of a column in millionths, 0 where there is none.
+fn value(lp: &Lp, column: usize) -> i64 {
+    if column < lp.columns() {
+        millionths(lp.value(column))
+    } else {
+        0
+    }
+}
+
+// What a program is solved to.
+fn solved(lp: &mut Lp) -> Result<Solved, AllocError> {
+    let end = lp.solve(EFFORT)?;
+    let objective = millionths(lp.objective());
+    let values = [value(lp, 0), value(lp, 1), value(lp, 2)];
+    let mults = lp.multipliers();
+    let first = [at(mults, 0), at(mults, 1), at(mults, 2)];
+    Ok((end, objective, values, first, mults.len()))
+}
+
+// Adds a row of the first column, and begins with the basis of before.
+fn tighten(lp: &mut Lp) -> Result<(), AllocError> {
+    let kept = lp.basis()?;
+    lp.add_row(FIRST.as_slice(), &AT_MOST_1)?;
+    lp.load(&kept)
+}
+
+// An optimum of upper sides and columns that cost -1 each, that with one more row, and that with one more column of the
+// first row.
+fn optima(alloc: Global) -> Result<[Solved; 3], AllocError> {
+    let mut lp = begun(alloc, AT_MOST_4, UP_TO_10, -1.0)?;
+    let first = solved(&mut lp)?;
+    tighten(&mut lp)?;
+    let second = solved(&mut lp)?;
+    lp.add_column(FIRST.as_slice(), &UP_TO_10, -2.0)?;
+    Ok([first, second, solved(&mut lp)?])
+}
+
+const OPTIMA: [Solved; 3] = [
+    (
+        End::Optimum,
+        -2_800_000,
+        [1_600_000, 1_200_000, 0],
+        [-400_000, -200_000, 0],
+        2,
+    ),
+    (
+        End::Optimum,
+        -2_500_000,
+        [1_000_000, 1_500_000, 0],
+        [-500_000, 0, -500_000],
+        3,
+    ),
+    (
+        End::Optimum,
+        -8_000_000,
+        [0, 0, 4_000_000],
+        [-2_000_000, 0, 0],
+        3,
+    ),
+];
+
 #[test]
 fn finds_an_optimum_and_goes_on(rt: HostRuntime) -> Result<(), Fail> {
-    let mut lp = begun(rt.alloc())?;
-    assert_eq!(rt; lp.solve(EFFORT)?, End::Optimum);
-    assert!(rt; near(lp.value(0), 1.6) && near(lp.value(1), 1.2));
-    assert!(rt; near(lp.objective(), -2.8));
-    let mults = lp.multipliers();
-    assert!(rt; mults.len() == 2 && near(mults[0], -0.4) && near(mults[1], -0.2));
-    let kept = lp.basis()?;
-    lp.add_row(
-        [Entry {
-            place: 0,
-            value: 1.0,
-        }]
-        .as_slice(),
-        &Range {
-            lower: -ENDLESS,
-            upper: 1.0,
-        },
-    )?;
-    lp.load(&kept)?;
-    assert_eq!(rt; lp.solve(EFFORT)?, End::Optimum);
-    assert!(rt; near(lp.value(0), 1.0) && near(lp.value(1), 1.5));
-    lp.add_column(
-        [Entry {
-            place: 0,
-            value: 1.0,
-        }]
-        .as_slice(),
-        &SPAN,
-        -2.0,
-    )?;
-    assert_eq!(rt; lp.solve(EFFORT)?, End::Optimum);
-    assert!(rt; near(lp.objective(), -8.0));
+    assert_eq!(rt; optima(rt.alloc())?, OPTIMA);
     Ok(())
+}
+
+// How a program ends whose first row asks for more than the second leaves, how many numbers the ray has, and whether the
+// first is any but 0.
+fn empty(alloc: Global) -> Result<(End, usize, bool), AllocError> {
+    let mut lp = begun(alloc, AT_LEAST_9, UP_TO_3, 1.0)?;
+    let end = lp.solve(EFFORT)?;
+    let ray = lp.ray();
+    Ok((end, ray.len(), at(ray, 0) != 0))
 }
 
 #[test]
 fn shows_that_there_are_no_values(rt: HostRuntime) -> Result<(), Fail> {
-    let alloc = rt.alloc();
-    let ranges = [
-        Range {
-            lower: 9.0,
-            upper: ENDLESS,
-        },
-        Range {
-            lower: -ENDLESS,
-            upper: 6.0,
-        },
-    ];
-    let span = Range {
-        lower: 0.0,
-        upper: 3.0,
-    };
-    let mut lp = Lp::make(
-        alloc,
-        columns(alloc)?,
-        ranges.as_slice(),
-        [span, span].as_slice(),
-        [1.0, 1.0].as_slice(),
-    )?;
-    assert_eq!(rt; lp.solve(EFFORT)?, End::Empty);
-    let ray = lp.ray();
-    assert!(rt; ray.len() == 2 && ray[0] != 0.0);
+    assert_eq!(rt; empty(rt.alloc())?, (End::Empty, 2, true));
     Ok(())
 }
