@@ -1,6 +1,9 @@
 // Command lines, and the order that each gives.
+use crate::tables::{Table, check, told};
 use bp_words::{Order, SolveOrder, Text, WordFault, read_words};
 use std::alloc::{AllocError, Global};
+use std::fmt;
+use std::fmt::Write;
 use std::test::Fail;
 
 /// Lines of an order and of the words that give it, with ` @ ` between them. A dash stands for what isn't given, and
@@ -132,66 +135,101 @@ refused @ migrate a.lp c n e
 refused @ migrate a.lp c n --steps 1
 ";
 
-/// The words of a line, behind the program's name.
-fn words_of(alloc: Global, line: &str) -> Result<Vec<String>, AllocError> {
+// Adds a word; `''` is one without letters.
+fn add_word(alloc: Global, words: &mut Vec<String>, word: &str) -> Result<(), AllocError> {
+    let word = if word == "''" { "" } else { word };
+    words.push(String::from_str(alloc, word)?)?;
+    Ok(())
+}
+
+/// The program's name, and the words of a line behind it. A dash stands for none.
+pub fn words_of(alloc: Global, line: &str) -> Result<Vec<String>, AllocError> {
     let mut words = Vec::new(alloc);
-    words.push(String::from_str(alloc, "bprice")?)?;
-    for word in line.split(' ') {
-        let word = if word == "''" { "" } else { word };
-        words.push(String::from_str(alloc, word)?)?;
+    add_word(alloc, &mut words, "bprice")?;
+    if line != "-" {
+        for word in line.split(' ') {
+            add_word(alloc, &mut words, word)?;
+        }
     }
     Ok(words)
 }
 
-/// A name that may be given.
-fn name_of(text: &Option<Text>) -> &str {
+// What may be given with an order; a dash stands for nothing.
+#[derive(Clone, Copy)]
+enum Given<'a> {
+    Name(&'a str),
+    Number(u64),
+    Nothing,
+}
+
+impl<'a> fmt::Display for Given<'a> {
+    fn fmt<W: fmt::Write>(&self, f: &mut fmt::Formatter<W>) -> fmt::Result {
+        match self {
+            Given::Name(name) => write!(f, "{name}"),
+            Given::Number(number) => write!(f, "{number}"),
+            Given::Nothing => write!(f, "-"),
+        }
+    }
+}
+
+// A name that may be given.
+fn name(text: &Option<Text>) -> Given<'_> {
     match text {
-        Some(text) => text.as_str(),
-        None => "-",
+        Some(text) => Given::Name(text.as_str()),
+        None => Given::Nothing,
     }
 }
 
-/// A number that may be given.
-fn number_of(alloc: Global, number: Option<u64>) -> Result<String, AllocError> {
+// A number that may be given.
+fn number(number: Option<u64>) -> Given<'static> {
     match number {
-        Some(number) => format!(in alloc; "{number}"),
-        None => String::from_str(alloc, "-"),
+        Some(number) => Given::Number(number),
+        None => Given::Nothing,
     }
 }
 
-/// An order to solve in short: the files, the steps, the leaf, the workers and their order, the cuts.
-fn solve_line(alloc: Global, given: &SolveOrder) -> Result<String, AllocError> {
+// An order to solve in short: the files, the steps, the leaf, the workers and their order, the cuts.
+fn solve(alloc: Global, given: &SolveOrder) -> Result<String, AllocError> {
     let lp = given.lp.as_str();
-    let dec = name_of(&given.dec);
-    let steps = number_of(alloc, given.steps)?;
-    let cert = name_of(&given.cert);
-    let from = name_of(&given.from);
-    let leaf = number_of(alloc, given.leaf)?;
-    let workers = number_of(alloc, given.workers.map(u64::from))?;
-    let order = number_of(alloc, given.order)?;
+    let dec = name(&given.dec);
+    let steps = number(given.steps);
+    let cert = name(&given.cert);
+    let from = name(&given.from);
+    let leaf = number(given.leaf);
+    let workers = number(given.workers.map(u64::from));
+    let order = number(given.order);
     let cuts = given.cuts;
     format!(in alloc; "solve {lp} {dec} {steps} {cert} {from} {leaf} {workers} {order} {cuts}")
 }
 
-/// An order in short.
-fn order_line(alloc: Global, order: &Order) -> Result<String, AllocError> {
+// An order in short.
+fn short(alloc: Global, order: &Order) -> Result<String, AllocError> {
     match order {
-        Order::Solve(given) => solve_line(alloc, given),
+        Order::Solve(given) => solve(alloc, given),
         Order::Check(given) => {
-            let visits = number_of(alloc, given.visits)?;
-            let files = format!(in alloc; "{} {}", given.cert.as_str(), name_of(&given.dec))?;
-            format!(in alloc; "check {} {files} {visits}", given.lp.as_str())
+            let (lp, cert) = (given.lp.as_str(), given.cert.as_str());
+            let (dec, visits) = (name(&given.dec), number(given.visits));
+            format!(in alloc; "check {lp} {cert} {dec} {visits}")
         }
         Order::Show { lp, dec, blocks } => {
             let blocks = if *blocks { "blocks" } else { "-" };
-            format!(in alloc; "show {} {} {blocks}", lp.as_str(), name_of(dec))
+            format!(in alloc; "show {} {} {blocks}", lp.as_str(), name(dec))
         }
-        others => made_line(alloc, others),
+        Order::Merge(given) => {
+            let (lp, dec) = (given.lp.as_str(), name(&given.dec));
+            let (first, second) = (given.first.as_str(), given.second.as_str());
+            format!(in alloc; "merge {lp} {first} {second} {} {dec}", given.new.as_str())
+        }
+        Order::Migrate { lp, cert, new, dec } => {
+            let (cert, new) = (cert.as_str(), new.as_str());
+            format!(in alloc; "migrate {} {cert} {new} {}", lp.as_str(), name(dec))
+        }
+        others => made(alloc, others),
     }
 }
 
-/// An order that makes texts in short.
-fn made_line(alloc: Global, order: &Order) -> Result<String, AllocError> {
+// An order that makes texts in short.
+fn made(alloc: Global, order: &Order) -> Result<String, AllocError> {
     match order {
         Order::Gen {
             seed,
@@ -206,64 +244,43 @@ fn made_line(alloc: Global, order: &Order) -> Result<String, AllocError> {
         Order::Propose { lp, dec } => {
             format!(in alloc; "propose {} {}", lp.as_str(), dec.as_str())
         }
-        Order::Merge(given) => {
-            let files = format!(in alloc;
-                "{} {} {}",
-                given.first.as_str(),
-                given.second.as_str(),
-                given.new.as_str()
-            )?;
-            format!(in alloc;
-                "merge {} {files} {}",
-                given.lp.as_str(),
-                name_of(&given.dec)
-            )
-        }
-        Order::Migrate { lp, cert, new, dec } => {
-            let files = format!(in alloc; "{} {}", cert.as_str(), new.as_str())?;
-            format!(in alloc; "migrate {} {files} {}", lp.as_str(), name_of(dec))
-        }
-        Order::Solve(_) | Order::Check(_) | Order::Show { .. } => { String::from_str(alloc, "-") }
+        _ => String::from_str(alloc, "-"),
     }
 }
 
-/// What words are read as, in short.
+// What words are read as, in short.
 fn answer(alloc: Global, words: &[String]) -> Result<String, AllocError> {
     match read_words(alloc, words) {
-        Ok(order) => order_line(alloc, &order),
+        Ok(order) => short(alloc, &order),
         Err(WordFault::Refused) => String::from_str(alloc, "refused"),
         Err(WordFault::NoMemory) => Err(AllocError),
     }
 }
 
-/// The lines with another answer than theirs, with that answer; how many lines there are.
-fn wrong(alloc: Global) -> Result<(String, usize), AllocError> {
-    let mut all = String::new(alloc);
-    let mut count = 0usize;
-    for line in LINES.lines() {
-        if let Some((want, words)) = line.split_once(" @ ") {
-            count = count.saturating_add(1);
-            let words = words_of(alloc, words)?;
-            let found = answer(alloc, words.as_slice())?;
-            if found.as_str() != want {
-                all.push_str(format!(in alloc; "{found} at {line}\n")?.as_str())?;
-            }
-        }
+// What the words of a line are read as.
+fn answer_to(alloc: Global, line: &str) -> Result<String, AllocError> {
+    let words = words_of(alloc, line)?;
+    answer(alloc, words.as_slice())
+}
+
+/// Adds the line of words that give another order than its own, with that order. Tells whether the line has words.
+pub fn add_wrong(alloc: Global, all: &mut String, line: &str) -> Result<bool, AllocError> {
+    let Some((want, words)) = line.split_once(" @ ") else {
+        return Ok(false);
+    };
+    let found = answer_to(alloc, words)?;
+    if found.as_str() != want {
+        writeln!(all, "{found} at {line}")?;
     }
-    Ok((all, count))
+    Ok(true)
 }
 
 #[test]
 fn each_line_gives_its_order_or_is_refused(rt: HostRuntime) -> Result<(), Fail> {
-    let (wrong, count) = wrong(rt.alloc())?;
-    assert_eq!(rt; wrong.as_str(), "");
-    assert_eq!(rt; count, 121);
-    Ok(())
+    check(&rt, told(rt.alloc(), Table::Lines, LINES), "121 lines")
 }
 
 #[test]
 fn no_words_are_refused(rt: HostRuntime) -> Result<(), Fail> {
-    let none = answer(rt.alloc(), &[])?;
-    assert_eq!(rt; none.as_str(), "refused");
-    Ok(())
+    check(&rt, answer(rt.alloc(), &[]), "refused")
 }

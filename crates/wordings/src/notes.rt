@@ -1,8 +1,11 @@
 // Notes on runs, written by hand.
+use crate::lines::words_of;
+use crate::tables::{Table, check, told};
 use bp_reason::explain;
 use bp_shelf::MemShelf;
 use bp_watch::Files;
 use std::alloc::{AllocError, Global};
+use std::fmt::Write;
 use std::test::Fail;
 
 /// What the length of a file stays below.
@@ -73,105 +76,140 @@ check m.lp o --visits 9 @ 10 unknown 4 @ Max @ bpcert 1| @ o:4: unknown: pricing
 solve m.lp --from o @ 3 refused from 9 depth @ Max @ bpcert 1| @ o:9: depth: the certificate is valid, but*
 ";
 
-/// The words of a line, the program's name first.
-fn words_of(alloc: Global, line: &str) -> Result<Vec<String>, AllocError> {
-    let mut words = Vec::new(alloc);
-    words.push(String::from_str(alloc, "bprice")?)?;
-    if line != "-" {
-        for word in line.split(' ') {
-            words.push(String::from_str(alloc, word)?)?;
-        }
-    }
-    Ok(words)
+// A case.
+#[derive(Clone, Copy)]
+struct Case<'a> {
+    words: &'a str,
+    ended: &'a str,
+    first: &'a str,
+    other: &'a str,
+    note: &'a str,
 }
 
-/// A text whose lines end with bars.
+// The case of a line.
+fn case_of(line: &str) -> Option<Case<'_>> {
+    let (words, rest) = line.split_once(" @ ")?;
+    let (ended, rest) = rest.split_once(" @ ")?;
+    let (first, rest) = rest.split_once(" @ ")?;
+    let (other, note) = rest.split_once(" @ ")?;
+    Some(Case {
+        words,
+        ended,
+        first,
+        other,
+        note,
+    })
+}
+
+// The byte of a text that a line has this one for.
+fn byte_of(byte: u8) -> u8 {
+    if byte == b'|' { b'\n' } else { byte }
+}
+
+// A text whose lines end with bars.
 fn text_of(alloc: Global, line: &str) -> Result<Vec<u8>, AllocError> {
     let mut text = Vec::new(alloc);
-    for b in line.as_bytes() {
-        text.push(if *b == b'|' { b'\n' } else { *b })?;
+    for byte in line.as_bytes() {
+        text.push(byte_of(*byte))?;
     }
     Ok(text)
 }
 
-/// What a shelf kept that read these texts, or none of a file, and the shelf.
-fn files_of(alloc: Global, first: &str, other: &str) -> Result<(Files, MemShelf), AllocError> {
-    let mut files = Files::new(alloc);
-    let mut shelf = MemShelf::slow(alloc, &[], 7)?;
-    if first == "-" {
-        files.fail("m.lp", false);
-        return Ok((files, shelf));
-    }
-    put_text(&mut shelf, "m.lp", &text_of(alloc, first)?)?;
-    files.read("m.lp", 0);
-    files.read("m.lp", 7);
-    if other != "-" {
-        put_text(&mut shelf, "o", &text_of(alloc, other)?)?;
-        files.read("o", 0);
-    }
-    Ok((files, shelf))
-}
-
-/// Puts a text on a shelf.
-fn put_text(shelf: &mut MemShelf, name: &str, text: &[u8]) -> Result<(), AllocError> {
+// Puts a text on a shelf.
+fn put_text(alloc: Global, shelf: &mut MemShelf, name: &str, line: &str) -> Result<(), AllocError> {
+    let text = text_of(alloc, line)?;
     if text.len() < LIMIT {
-        shelf.put_file(name, text)?;
+        shelf.put_file(name, text.as_slice())?;
     }
     Ok(())
 }
 
-/// Whether a note is as written; a star stands for its rest.
-fn is_as(alloc: Global, note: &[u8], wanted: &str) -> Result<bool, AllocError> {
-    let text = text_of(alloc, wanted)?;
-    match text.split_last() {
-        Some((star, start)) if *star == b'*' => {
-            Ok(start.len() <= note.len() && &note[..start.len()] == start)
+// Puts the texts of a case on a shelf, and keeps that they were read, or that the first was not.
+fn read_texts(
+    alloc: Global,
+    files: &mut Files,
+    shelf: &mut MemShelf,
+    case: &Case<'_>,
+) -> Result<(), AllocError> {
+    if case.first == "-" {
+        files.fail("m.lp", false);
+        return Ok(());
+    }
+    put_text(alloc, shelf, "m.lp", case.first)?;
+    files.read("m.lp", 0);
+    files.read("m.lp", 7);
+    if case.other != "-" {
+        put_text(alloc, shelf, "o", case.other)?;
+        files.read("o", 0);
+    }
+    Ok(())
+}
+
+// The status of a case, and the first line of its report.
+fn ended_of<'a>(case: &Case<'a>) -> (u8, &'a [u8]) {
+    let (status, report) = match case.ended.split_once(" ") {
+        Some(ended) => ended,
+        None => (case.ended, ""),
+    };
+    (status.parse::<u8>().unwrap_or(0), report.as_bytes())
+}
+
+// The note of a case on files of which nothing is kept yet.
+fn noted(
+    alloc: Global,
+    words: &[String],
+    files: &mut Files,
+    shelf: &mut MemShelf,
+    case: &Case<'_>,
+) -> Result<Vec<u8>, AllocError> {
+    read_texts(alloc, files, shelf, case)?;
+    let (status, report) = ended_of(case);
+    explain(alloc, words, status, report, files, shelf)
+}
+
+// The note of a case.
+fn note_of(alloc: Global, case: &Case<'_>) -> Result<Vec<u8>, AllocError> {
+    let words = words_of(alloc, case.words)?;
+    let mut shelf = MemShelf::slow(alloc, &[], 7)?;
+    let mut files = Files::new(alloc);
+    noted(alloc, words.as_slice(), &mut files, &mut shelf, case)
+}
+
+// Whether a note begins as is written, with line feeds for bars.
+fn begins_as(note: &[u8], start: &[u8]) -> bool {
+    if note.len() < start.len() {
+        return false;
+    }
+    for place in 0..start.len() {
+        if note[place] != byte_of(start[place]) {
+            return false;
         }
-        _ => Ok(note == text.as_slice()),
+    }
+    true
+}
+
+// Whether a note is as written; a star stands for its rest.
+fn is_as(note: &[u8], wanted: &str) -> bool {
+    match wanted.as_bytes().split_last() {
+        Some((last, start)) if *last == b'*' => begins_as(note, start),
+        _ => note.len() == wanted.len() && begins_as(note, wanted.as_bytes()),
     }
 }
 
-/// The parts of a case.
-fn parts_of(case: &str) -> Option<(&str, &str, &str, &str, &str)> {
-    let (words, rest) = case.split_once(" @ ")?;
-    let (ended, rest) = rest.split_once(" @ ")?;
-    let (first, rest) = rest.split_once(" @ ")?;
-    let (other, note) = rest.split_once(" @ ")?;
-    Some((words, ended, first, other, note))
-}
-
-/// Adds the note of a case where it is another one than is written.
-fn add_wrong(alloc: Global, all: &mut Vec<u8>, case: &str) -> Result<bool, AllocError> {
-    let Some((words, ended, first, other, wanted)) = parts_of(case) else {
+/// Adds the line of a case with another note than its own, with that note. Tells whether the line has a case.
+pub fn add_wrong(alloc: Global, all: &mut String, line: &str) -> Result<bool, AllocError> {
+    let Some(case) = case_of(line) else {
         return Ok(false);
     };
-    let (status, report) = match ended.split_once(" ") {
-        Some((status, report)) => (status, report),
-        None => (ended, ""),
-    };
-    let words = words_of(alloc, words)?;
-    let (files, mut shelf) = files_of(alloc, first, other)?;
-    let status = status.parse::<u8>().unwrap_or(0);
-    let report = report.as_bytes();
-    let note = explain(alloc, words.as_slice(), status, report, &files, &mut shelf)?;
-    if !is_as(alloc, &note, wanted)? {
-        all.extend_from_slice(case.as_bytes())?;
-        all.extend_from_slice(b"\n     ")?;
-        all.extend_from_slice(&note)?;
+    let note = note_of(alloc, &case)?;
+    if !is_as(note.as_slice(), case.note) {
+        let found = String::from_utf8_lossy(alloc, note.as_slice())?;
+        writeln!(all, "{found} at {line}")?;
     }
     Ok(true)
 }
 
 #[test]
 fn notes_are_as_written(rt: HostRuntime) -> Result<(), Fail> {
-    let mut wrong = Vec::new(rt.alloc());
-    let mut count = 0usize;
-    for case in CASES.lines() {
-        if add_wrong(rt.alloc(), &mut wrong, case)? {
-            count = count.saturating_add(1);
-        }
-    }
-    assert_eq!(rt; String::from_utf8_lossy(rt.alloc(), &wrong)?.as_str(), "");
-    assert_eq!(rt; count, 59);
-    Ok(())
+    check(&rt, told(rt.alloc(), Table::Notes, CASES), "59 lines")
 }
