@@ -1,15 +1,11 @@
 // The decomposition of the best of many lists of master rows.
-ghost use Rattle.std.specs.Prelude.{◌≡◌, ◌≤◌, ◌<◌, All, IfOk, length};
+ghost use Rattle.std.specs.Prelude.{◌≡◌, ◌<◌, All, IfOk, length};
 ghost use Rattle.bp_model.specs.Named.{IsKept};
 ghost use Rattle.dec_guess.specs.Guess.{IsGuess};
 
-use crate::borders::{cut_parts, open_counts};
-use crate::columns::Columns;
-use crate::groups::{
-    groups_of, keys_by_form, keys_by_front, keys_by_name, keys_by_shape, keys_by_sides, mix,
-    rows_longer, rows_with, rows_without,
-};
-use crate::marks::{crossing_marks, marked_rows};
+use crate::borders::{border_marks, open_counts};
+use crate::columns::{Lists, columns_of};
+use crate::groups::{Choice, Keyed, Likeness, chosen_rows, mix};
 use crate::order::{breadth_first, shortest_first, text_order, twice_mean_terms};
 use crate::partition::Levels;
 use crate::peel::peeled_marks;
@@ -39,8 +35,26 @@ const LEAST_INSIDE: usize = 4;
 // Into how many parts rows are cut, or the largest part of so many that variables are peeled apart to.
 const COUNTS: [usize; 6] = [2, 4, 8, 16, 32, 64];
 
+// In what rows are alike whose groups are looked at one by one, and then by pairs.
+const SINGLE: [Likeness; 5] = [
+    Likeness::Stem,
+    Likeness::Front,
+    Likeness::Form,
+    Likeness::Shape,
+    Likeness::Sides,
+];
+
+const PAIRED: [Likeness; 5] = [
+    Likeness::Stem,
+    Likeness::Form,
+    Likeness::Shape,
+    Likeness::Front,
+    Likeness::Sides,
+];
+
 // The best decomposition so far with its score, by how much the first by structure has to be better, hashes of the
-// lists that were looked at, how much one look takes, and how much may still be looked at.
+// lists that were looked at, how much one look takes, how much may still be looked at, and whether memory was wanting, with
+// which no decomposition is proposed.
 #[derive(Drop)]
 struct Proposal {
     dec: Dec,
@@ -49,6 +63,7 @@ struct Proposal {
     seen: Vec<u64>,
     size: u64,
     work_left: u64,
+    lacks: bool,
 }
 
 // How much one list's look takes.
@@ -62,26 +77,36 @@ fn size_of(m: &Model) -> u64 {
     size
 }
 
-// Whether a list wasn't seen; it then is.
-fn is_new(seen: &mut Vec<u64>, master: &[u32]) -> Result<bool, AllocError> {
+// A hash of a list.
+fn hash_of(master: &[u32]) -> u64 {
     let mut hash = 0;
     for row in master {
         hash = mix(hash, u64::from(*row));
     }
-    if seen.as_slice().contains(&hash) {
-        return Ok(false);
-    }
-    seen.push(hash)?;
-    Ok(true)
+    hash
 }
 
 impl Proposal {
+    // Whether a list wasn't seen; it then is.
+    fn is_new(&mut self, master: &[u32]) -> bool
+        ensures { self.new.dec ≡ self.old.dec }
+    {
+        let hash = hash_of(master);
+        if self.seen.as_slice().contains(&hash) {
+            return false;
+        }
+        if self.seen.push(hash).is_err() {
+            self.lacks = true;
+        }
+        true
+    }
+
     // Whether so many looks more may be taken; they are then counted.
     fn may_look(&mut self, looks: u64) -> bool
         ensures { self.new.dec ≡ self.old.dec }
     {
         let work = self.size.saturating_mul(looks);
-        if self.work_left < work {
+        if self.lacks || self.work_left < work {
             return false;
         }
         self.work_left -= work;
@@ -89,100 +114,118 @@ impl Proposal {
     }
 
     // Looks at the decomposition beside these master rows, unless they were seen, and keeps it where its score is greater.
-    fn consider(&mut self, alloc: Global, m: &Model, master: &[u32]) -> Result<(), AllocError>
+    fn consider(&mut self, alloc: Global, m: &Model, master: &[u32])
         requires below { All (λ r. r < length m.now.program.rows) master.now }
         requires guess { IsGuess m.now.program self.old.dec }
         ensures { IsGuess m.now.program self.new.dec }
     {
-        if !is_new(&mut self.seen, master)? {
-            return Ok(());
+        if self.is_new(master) && self.may_look(1) {
+            self.take_found(alloc, m, master);
         }
-        if !self.may_look(1) {
-            return Ok(());
-        }
-        self.take_found(alloc, m, master)
     }
 
     // Finds the decomposition beside these master rows, and keeps it where its score is greater.
-    fn take_found(&mut self, alloc: Global, m: &Model, master: &[u32]) -> Result<(), AllocError>
+    fn take_found(&mut self, alloc: Global, m: &Model, master: &[u32])
         requires below { All (λ r. r < length m.now.program.rows) master.now }
         requires guess { IsGuess m.now.program self.old.dec }
         ensures { IsGuess m.now.program self.new.dec }
     {
         match find(alloc, m, master) {
             Ok(dec) => self.take_if_better(alloc, m, dec),
-            Err(FindFault::Blocks) => Ok(()),
-            Err(FindFault::NoMemory) => Err(AllocError),
+            Err(FindFault::Blocks) => {}
+            Err(FindFault::NoMemory) => self.lacks = true,
         }
     }
 
     // Takes a decomposition where its score is greater by more than the margin.
-    fn take_if_better(&mut self, alloc: Global, m: &Model, dec: Dec) -> Result<(), AllocError>
+    fn take_if_better(&mut self, alloc: Global, m: &Model, dec: Dec)
         requires found { IsGuess m.now.program dec }
         requires guess { IsGuess m.now.program self.old.dec }
         ensures { IsGuess m.now.program self.new.dec }
     {
-        let score = score_of(alloc, m, &dec)?;
-        if score > self.score.saturating_add(self.margin) {
-            self.dec = dec;
-            self.score = score;
-            self.margin = 0;
+        match score_of(alloc, m, &dec) {
+            Ok(score) => {
+                if score > self.score.saturating_add(self.margin) {
+                    self.dec = dec;
+                    self.score = score;
+                    self.margin = 0;
+                }
+            }
+            Err(AllocError) => self.lacks = true,
         }
-        Ok(())
+    }
+
+    // Looks at the rows that are chosen as master rows.
+    fn consider_chosen(&mut self, alloc: Global, m: &Model, choice: Choice)
+        requires guess { IsGuess m.now.program self.old.dec }
+        ensures { IsGuess m.now.program self.new.dec }
+    {
+        match chosen_rows(alloc, m, choice) {
+            Ok(rows) => self.consider(alloc, m, rows.as_slice()),
+            Err(AllocError) => self.lacks = true,
+        }
     }
 
     // Looks at the rows of each group as master rows, and at all others.
-    fn consider_keys(&mut self, alloc: Global, m: &Model, keys: &[u64]) -> Result<(), AllocError>
-        requires each { length keys.now ≡ length m.now.program.rows }
-        requires few { length keys.now ≤ 8192 }
+    fn consider_single(&mut self, alloc: Global, m: &Model, likeness: Likeness)
         requires guess { IsGuess m.now.program self.old.dec }
         ensures { IsGuess m.now.program self.new.dec }
     {
-        self.consider_groups(alloc, m, keys)?;
-        self.consider_others(alloc, m, keys)
+        match Keyed::new(alloc, m, likeness) {
+            Ok(keyed) => {
+                self.consider_groups(alloc, m, &keyed);
+                self.consider_others(alloc, m, &keyed);
+            }
+            Err(AllocError) => self.lacks = true,
+        }
     }
 
     // Looks at the rows of each group as master rows.
-    fn consider_groups(&mut self, alloc: Global, m: &Model, keys: &[u64]) -> Result<(), AllocError>
-        requires each { length keys.now ≡ length m.now.program.rows }
-        requires few { length keys.now ≤ 8192 }
+    fn consider_groups(&mut self, alloc: Global, m: &Model, keyed: &Keyed)
         requires guess { IsGuess m.now.program self.old.dec }
         ensures { IsGuess m.now.program self.new.dec }
     {
-        let groups = groups_of(alloc, keys)?;
-        for group in groups.as_slice() {
-            self.consider_two(alloc, m, keys, *group, *group)?;
+        let keys = keyed.keys.as_slice();
+        for group in keyed.groups.as_slice() {
+            self.consider_chosen(alloc, m, Choice::Alike(keys, *group, *group));
         }
-        Ok(())
     }
 
     // Looks at the rows of all groups but one as master rows.
-    fn consider_others(&mut self, alloc: Global, m: &Model, keys: &[u64]) -> Result<(), AllocError>
-        requires each { length keys.now ≡ length m.now.program.rows }
-        requires few { length keys.now ≤ 8192 }
+    fn consider_others(&mut self, alloc: Global, m: &Model, keyed: &Keyed)
         requires guess { IsGuess m.now.program self.old.dec }
         ensures { IsGuess m.now.program self.new.dec }
     {
-        let groups = groups_of(alloc, keys)?;
-        for group in groups.as_slice() {
-            let others = rows_without(alloc, keys, *group)?;
-            self.consider(alloc, m, others.as_slice())?;
+        let keys = keyed.keys.as_slice();
+        for group in keyed.groups.as_slice() {
+            self.consider_chosen(alloc, m, Choice::Others(keys, *group));
         }
-        Ok(())
     }
 
     // Looks at the rows of each two groups as master rows.
-    fn consider_pairs(&mut self, alloc: Global, m: &Model, keys: &[u64]) -> Result<(), AllocError>
-        requires each { length keys.now ≡ length m.now.program.rows }
-        requires few { length keys.now ≤ 8192 }
+    fn consider_paired(&mut self, alloc: Global, m: &Model, likeness: Likeness)
         requires guess { IsGuess m.now.program self.old.dec }
         ensures { IsGuess m.now.program self.new.dec }
     {
-        let groups = groups_of(alloc, keys)?;
-        for at in 0..groups.len() {
-            self.consider_pairs_of(alloc, m, keys, groups[at], &groups[at..])?;
+        match Keyed::new(alloc, m, likeness) {
+            Ok(keyed) => self.consider_pairs(
+                alloc,
+                m,
+                keyed.keys.as_slice(),
+                keyed.groups.as_slice(),
+            ),
+            Err(AllocError) => self.lacks = true,
         }
-        Ok(())
+    }
+
+    // Looks at the rows of each two of these groups as master rows.
+    fn consider_pairs(&mut self, alloc: Global, m: &Model, keys: &[u64], groups: &[u64])
+        requires guess { IsGuess m.now.program self.old.dec }
+        ensures { IsGuess m.now.program self.new.dec }
+    {
+        for at in 0..groups.len() {
+            self.consider_pairs_of(alloc, m, keys, groups[at], &groups[at..]);
+        }
     }
 
     // Looks at the rows of a group and of one of several others as master rows.
@@ -193,199 +236,206 @@ impl Proposal {
         keys: &[u64],
         one: u64,
         others: &[u64],
-    ) -> Result<(), AllocError>
-        requires each { length keys.now ≡ length m.now.program.rows }
-        requires few { length keys.now ≤ 8192 }
+    )
         requires guess { IsGuess m.now.program self.old.dec }
         ensures { IsGuess m.now.program self.new.dec }
     {
         for other in others {
-            self.consider_two(alloc, m, keys, one, *other)?;
+            self.consider_chosen(alloc, m, Choice::Alike(keys, one, *other));
         }
-        Ok(())
-    }
-
-    // Looks at the rows of two groups as master rows.
-    fn consider_two(
-        &mut self,
-        alloc: Global,
-        m: &Model,
-        keys: &[u64],
-        one: u64,
-        other: u64,
-    ) -> Result<(), AllocError>
-        requires each { length keys.now ≡ length m.now.program.rows }
-        requires few { length keys.now ≤ 8192 }
-        requires guess { IsGuess m.now.program self.old.dec }
-        ensures { IsGuess m.now.program self.new.dec }
-    {
-        let rows = rows_with(alloc, keys, one, other)?;
-        self.consider(alloc, m, rows.as_slice())
     }
 
     // Looks at the longest rows as master rows: for each number of terms those with more.
-    fn consider_long(&mut self, alloc: Global, m: &Model) -> Result<(), AllocError>
+    fn consider_long(&mut self, alloc: Global, m: &Model)
         requires guess { IsGuess m.now.program self.old.dec }
         ensures { IsGuess m.now.program self.new.dec }
     {
-        let lengths = lengths_of(alloc, m)?;
-        for length in lengths.iter().take(MOST_LENGTHS) {
-            let rows = rows_longer(alloc, m, *length)?;
-            self.consider(alloc, m, rows.as_slice())?;
+        match lengths_of(alloc, m) {
+            Ok(lengths) => self.consider_longer(alloc, m, lengths.as_slice()),
+            Err(AllocError) => self.lacks = true,
         }
-        Ok(())
+    }
+
+    // Looks at the rows with more terms than each of these numbers as master rows.
+    fn consider_longer(&mut self, alloc: Global, m: &Model, lengths: &[usize])
+        requires guess { IsGuess m.now.program self.old.dec }
+        ensures { IsGuess m.now.program self.new.dec }
+    {
+        for length in lengths {
+            self.consider_chosen(alloc, m, Choice::Longer(*length));
+        }
     }
 
     // Looks at marked rows as master rows, where they are few.
-    fn consider_marked(
-        &mut self,
-        alloc: Global,
-        m: &Model,
-        marks: &[bool],
-    ) -> Result<(), AllocError>
+    fn consider_marked(&mut self, alloc: Global, m: &Model, marks: Result<Vec<bool>, AllocError>)
         requires guess { IsGuess m.now.program self.old.dec }
         ensures { IsGuess m.now.program self.new.dec }
     {
-        let rows = marked_rows(alloc, m, marks)?;
-        if m.rows() as usize / LEAST_INSIDE < rows.len() {
-            return Ok(());
+        match marks {
+            Ok(marks) => {
+                if are_few(m, marks.as_slice()) {
+                    self.consider_chosen(alloc, m, Choice::Marked(marks.as_slice()));
+                }
+            }
+            Err(AllocError) => self.lacks = true,
         }
-        self.consider(alloc, m, rows.as_slice())
     }
 
     // Looks at the rows as master rows that would join too much, where rows are taken in an order.
-    fn consider_peeled(&mut self, alloc: Global, m: &Model, order: &[u32]) -> Result<(), AllocError>
+    fn consider_peeled(&mut self, alloc: Global, m: &Model, order: &[u32])
         requires guess { IsGuess m.now.program self.old.dec }
         ensures { IsGuess m.now.program self.new.dec }
     {
         for count in COUNTS.as_slice() {
             if !self.may_look(1) {
-                return Ok(());
+                return;
             }
             let most = m.vars() as usize / *count.max(&1);
-            let marks = peeled_marks(alloc, m, order, most as u64)?;
-            self.consider_marked(alloc, m, marks.as_slice())?;
+            let marks = peeled_marks(alloc, m, order, most as u64);
+            self.consider_marked(alloc, m, marks);
         }
-        Ok(())
     }
 
-    // Looks at the rows as master rows that cross the narrowest cuts of an order.
-    fn consider_borders(
-        &mut self,
-        alloc: Global,
-        m: &Model,
-        order: &[u32],
-    ) -> Result<(), AllocError>
+    // Looks at the rows as master rows that cross the narrowest cuts of an order, where so many variables are open behind
+    // its rows.
+    fn consider_borders(&mut self, alloc: Global, m: &Model, order: &[u32], open: &[u32])
         requires guess { IsGuess m.now.program self.old.dec }
         ensures { IsGuess m.now.program self.new.dec }
     {
-        let open = open_counts(alloc, m, order)?;
         for count in COUNTS.as_slice() {
             if !self.may_look(1) {
-                return Ok(());
+                return;
             }
-            let parts = cut_parts(alloc, m, order, open.as_slice(), *count)?;
-            let marks = crossing_marks(alloc, m, order, parts.as_slice())?;
-            self.consider_marked(alloc, m, marks.as_slice())?;
+            let marks = border_marks(alloc, m, order, open, *count);
+            self.consider_marked(alloc, m, marks);
         }
-        Ok(())
     }
 
     // Looks at the rows as master rows that cross parts with few common variables.
-    fn consider_partitions(
-        &mut self,
-        alloc: Global,
-        m: &Model,
-        columns: &Columns,
-    ) -> Result<(), AllocError>
+    fn consider_partitions(&mut self, alloc: Global, m: &Model, levels: &Levels)
         requires guess { IsGuess m.now.program self.old.dec }
         ensures { IsGuess m.now.program self.new.dec }
     {
-        let levels = Levels::new(alloc, m, columns)?;
         for count in COUNTS.as_slice() {
             if !self.may_look(LOOKS_OF_LEVELS) {
-                return Ok(());
+                return;
             }
-            let parts = levels.parts(alloc, *count)?;
-            let order = levels.inner_first(alloc, m, parts.as_slice())?;
-            let marks = crossing_marks(alloc, m, order.as_slice(), parts.as_slice())?;
-            self.consider_marked(alloc, m, marks.as_slice())?;
+            let marks = levels.marks(alloc, m, *count);
+            self.consider_marked(alloc, m, marks);
         }
-        Ok(())
     }
 
     // Looks at what an order of rows gives.
-    fn consider_order(&mut self, alloc: Global, m: &Model, order: &[u32]) -> Result<(), AllocError>
+    fn consider_order(&mut self, alloc: Global, m: &Model, order: Result<Vec<u32>, AllocError>)
         requires guess { IsGuess m.now.program self.old.dec }
         ensures { IsGuess m.now.program self.new.dec }
     {
-        self.consider_peeled(alloc, m, order)?;
-        self.consider_borders(alloc, m, order)
+        match order {
+            Ok(order) => {
+                self.consider_peeled(alloc, m, order.as_slice());
+                self.consider_cuts(alloc, m, order.as_slice());
+            }
+            Err(AllocError) => self.lacks = true,
+        }
+    }
+
+    // Looks at what the narrowest cuts of an order give.
+    fn consider_cuts(&mut self, alloc: Global, m: &Model, order: &[u32])
+        requires guess { IsGuess m.now.program self.old.dec }
+        ensures { IsGuess m.now.program self.new.dec }
+    {
+        match open_counts(alloc, m, order) {
+            Ok(open) => self.consider_borders(alloc, m, order, open.as_slice()),
+            Err(AllocError) => self.lacks = true,
+        }
     }
 
     // Looks at what names and forms of rows give.
-    fn consider_alike(&mut self, alloc: Global, m: &Model) -> Result<(), AllocError>
-        requires kept { IsKept m.now }
+    fn consider_alike(&mut self, alloc: Global, m: &Model)
         requires guess { IsGuess m.now.program self.old.dec }
         ensures { IsGuess m.now.program self.new.dec }
     {
-        let names = keys_by_name(alloc, m)?;
-        self.consider_keys(alloc, m, names.as_slice())?;
-        let fronts = keys_by_front(alloc, m)?;
-        self.consider_keys(alloc, m, fronts.as_slice())?;
-        let forms = keys_by_form(alloc, m)?;
-        self.consider_keys(alloc, m, forms.as_slice())?;
-        let shapes = keys_by_shape(alloc, m)?;
-        self.consider_keys(alloc, m, shapes.as_slice())?;
-        let sides = keys_by_sides(alloc, m)?;
-        self.consider_keys(alloc, m, sides.as_slice())?;
-        self.consider_pairs(alloc, m, names.as_slice())?;
-        self.consider_pairs(alloc, m, forms.as_slice())?;
-        self.consider_pairs(alloc, m, shapes.as_slice())?;
-        self.consider_pairs(alloc, m, fronts.as_slice())?;
-        self.consider_pairs(alloc, m, sides.as_slice())
+        for likeness in SINGLE.as_slice() {
+            self.consider_single(alloc, m, *likeness);
+        }
+        for likeness in PAIRED.as_slice() {
+            self.consider_paired(alloc, m, *likeness);
+        }
     }
 
     // Looks at what the lengths of rows and an order by them give.
-    fn consider_lengths(&mut self, alloc: Global, m: &Model) -> Result<(), AllocError>
+    fn consider_lengths(&mut self, alloc: Global, m: &Model)
         requires guess { IsGuess m.now.program self.old.dec }
         ensures { IsGuess m.now.program self.new.dec }
     {
-        self.consider_long(alloc, m)?;
-        let shortest = shortest_first(alloc, m)?;
-        self.consider_peeled(alloc, m, shortest.as_slice())
+        self.consider_long(alloc, m);
+        match shortest_first(alloc, m) {
+            Ok(shortest) => self.consider_peeled(alloc, m, shortest.as_slice()),
+            Err(AllocError) => self.lacks = true,
+        }
     }
 
     // Looks at what orders give in which rows stand together.
-    fn consider_orders(&mut self, alloc: Global, m: &Model) -> Result<(), AllocError>
+    fn consider_orders(&mut self, alloc: Global, m: &Model)
         requires guess { IsGuess m.now.program self.old.dec }
         ensures { IsGuess m.now.program self.new.dec }
     {
-        let text = text_order(alloc, m)?;
-        self.consider_order(alloc, m, text.as_slice())?;
-        let columns = Columns::new(alloc, m)?;
-        let near = breadth_first(alloc, m, &columns, usize::MAX)?;
-        self.consider_order(alloc, m, near.as_slice())?;
-        let short = breadth_first(alloc, m, &columns, twice_mean_terms(m))?;
-        self.consider_order(alloc, m, short.as_slice())?;
-        self.consider_partitions(alloc, m, &columns)
+        self.consider_order(alloc, m, text_order(alloc, m));
+        match columns_of(alloc, m) {
+            Ok(columns) => self.consider_near(alloc, m, &columns),
+            Err(AllocError) => self.lacks = true,
+        }
+    }
+
+    // Looks at what breadth-first orders and parts of the graph of rows give.
+    fn consider_near(&mut self, alloc: Global, m: &Model, columns: &Lists)
+        requires guess { IsGuess m.now.program self.old.dec }
+        ensures { IsGuess m.now.program self.new.dec }
+    {
+        self.consider_order(alloc, m, breadth_first(alloc, m, columns, usize::MAX));
+        self.consider_order(
+            alloc,
+            m,
+            breadth_first(alloc, m, columns, twice_mean_terms(m)),
+        );
+        match Levels::new(alloc, m, columns) {
+            Ok(levels) => self.consider_partitions(alloc, m, &levels),
+            Err(AllocError) => self.lacks = true,
+        }
     }
 }
 
-// The numbers of terms that rows have, each once, the greatest first.
+// Whether marked rows are few beside all.
+fn are_few(m: &Model, marks: &[bool]) -> bool {
+    let mut count: usize = 0;
+    for mark in marks {
+        if *mark {
+            count = count.saturating_add(1);
+        }
+    }
+    count <= m.rows() as usize / LEAST_INSIDE
+}
+
+// The greatest numbers of terms that rows have, each once, the greatest first.
 fn lengths_of(alloc: Global, m: &Model) -> Result<Vec<usize>, AllocError> {
+    let all = sorted_lengths(alloc, m)?;
+    let mut lengths = Vec::new(alloc);
+    for length in all.as_slice().iter().rev() {
+        if lengths.len() < MOST_LENGTHS && lengths.last() != Some(length) {
+            lengths.push(*length)?;
+        }
+    }
+    Ok(lengths)
+}
+
+// The numbers of terms of all rows, the least first.
+fn sorted_lengths(alloc: Global, m: &Model) -> Result<Vec<usize>, AllocError> {
     let mut all = Vec::new(alloc);
     for row in m.all_rows() {
         all.push(row.terms.len())?;
     }
     all.sort()?;
-    let mut lengths = Vec::new(alloc);
-    for length in all.iter().rev() {
-        if lengths.last() != Some(length) {
-            lengths.push(*length)?;
-        }
-    }
-    Ok(lengths)
+    Ok(all)
 }
 
 /// A decomposition of a model: the blocks beside master rows that were chosen by the names and the forms of rows or by
@@ -401,11 +451,15 @@ pub fn guess(alloc: Global, m: &Model) -> Result<Dec, AllocError>
         seen: Vec::new(alloc),
         size: size_of(m),
         work_left: WORK_ON_GROUPS,
+        lacks: false,
     };
-    best.consider_alike(alloc, m)?;
+    best.consider_alike(alloc, m);
     best.margin = MARGIN;
     best.work_left = WORK_ON_STRUCTURE;
-    best.consider_lengths(alloc, m)?;
-    best.consider_orders(alloc, m)?;
+    best.consider_lengths(alloc, m);
+    best.consider_orders(alloc, m);
+    if best.lacks {
+        return Err(AllocError);
+    }
     Ok(best.dec)
 }

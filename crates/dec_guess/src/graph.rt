@@ -1,77 +1,37 @@
 // Graphs of rows, and coarser ones of pairs of their vertices.
-use crate::columns::Columns;
+use crate::columns::Lists;
 use bp_model::Model;
 use std::alloc::{AllocError, Global};
 
-// The neighbours of each vertex: those of a vertex stand between two places that follow one another.
-#[derive(Drop)]
-struct Neighbours {
-    starts: Vec<usize>,
-    all: Vec<u32>,
-}
-
-impl Neighbours {
-    // The neighbours of so many vertices by edges.
-    fn new(alloc: Global, vertices: usize, edges: &[(u32, u32)]) -> Result<Neighbours, AllocError> {
-        let starts = starts_of(alloc, vertices, edges)?;
-        let ends = starts.last().copied().unwrap_or(0);
-        let all = Vec::from_elem(alloc, 0, ends)?;
-        let mut neighbours = Neighbours { starts, all };
-        for (one, other) in edges {
-            neighbours.fill(*one, *other);
-            neighbours.fill(*other, *one);
-        }
-        Ok(neighbours)
-    }
-
-    // Puts a neighbour behind those of a vertex.
-    fn fill(&mut self, vertex: u32, neighbour: u32) {
-        if let Some(start) = self.starts.get_mut(vertex as usize + 1) {
-            if let Some(place) = self.all.get_mut(*start) {
-                *place = neighbour;
-            }
-            *start = start.saturating_add(1);
-        }
-    }
-
-    fn of(&self, vertex: u32) -> &[u32] {
-        let from = self.starts.get(vertex as usize).copied().unwrap_or(0);
-        let to = self.starts.get(vertex as usize + 1).copied().unwrap_or(0);
-        self.all.as_slice().get(from..to).unwrap_or(&[])
-    }
-}
-
-/// A graph: for each vertex how many rows it stands for, and its neighbours, one that several edges lead to as often.
+/// A graph: for each vertex how many rows it stands for, its edges, each in both directions, and its neighbours, one that
+/// several edges lead to as often.
 #[derive(Drop)]
 pub struct Graph {
     weights: Vec<u64>,
     edges: Vec<(u32, u32)>,
-    neighbours: Neighbours,
+    neighbours: Lists,
 }
 
 impl Graph {
     /// The graph of the rows of a model: each two rows that follow one another among those of a variable are neighbours.
-    pub fn of_rows(alloc: Global, m: &Model, columns: &Columns) -> Result<Graph, AllocError> {
-        let mut edges = Vec::new(alloc);
-        for var in 0..m.vars() {
-            for pair in columns.of(var).windows(2) {
-                if let [one, other] = pair {
-                    edges.push((*one, *other))?;
-                }
-            }
-        }
+    pub fn of_rows(alloc: Global, m: &Model, columns: &Lists) -> Result<Graph, AllocError> {
         let weights = Vec::from_elem(alloc, 1, m.rows() as usize)?;
-        Graph::new(alloc, weights, edges)
+        match edges_of(alloc, m, columns) {
+            Ok(edges) => Graph::new(alloc, weights, edges),
+            Err(fault) => Err(fault),
+        }
     }
 
     // The graph of vertices and edges.
     fn new(alloc: Global, weights: Vec<u64>, edges: Vec<(u32, u32)>) -> Result<Graph, AllocError> {
-        let neighbours = Neighbours::new(alloc, weights.len(), edges.as_slice())?;
-        Ok(Graph {
-            weights,
-            edges,
-            neighbours,
-        })
+        match Lists::new(alloc, weights.len(), edges.as_slice()) {
+            Ok(neighbours) => Ok(Graph {
+                weights,
+                edges,
+                neighbours,
+            }),
+            Err(fault) => Err(fault),
+        }
     }
 
     /// How many vertices there are.
@@ -97,49 +57,55 @@ impl Graph {
         vertices: usize,
     ) -> Result<Graph, AllocError> {
         let mut weights = Vec::from_elem(alloc, 0u64, vertices)?;
-        for (vertex, weight) in merged.iter().zip(self.weights.as_slice()) {
-            if let Some(sum) = weights.get_mut(*vertex as usize) {
-                *sum = sum.saturating_add(*weight);
-            }
+        add_weights(weights.as_mut_slice(), merged, self.weights.as_slice());
+        match merged_edges(alloc, merged, self.edges.as_slice()) {
+            Ok(edges) => Graph::new(alloc, weights, edges),
+            Err(fault) => Err(fault),
         }
-        let mut edges = Vec::new(alloc);
-        for (one, other) in self.edges.as_slice() {
-            if let (Some(one), Some(other)) = (
-                merged.get(*one as usize),
-                merged.get(*other as usize),
-            ) {
-                if one != other {
-                    edges.push((*one, *other))?;
-                }
-            }
-        }
-        Graph::new(alloc, weights, edges)
     }
 }
 
-// For each vertex, behind a place more, where its neighbours begin, and then how many there are in all.
-fn starts_of(
+// The edges between each two rows that follow one another among those of a variable, in both directions.
+fn edges_of(alloc: Global, m: &Model, columns: &Lists) -> Result<Vec<(u32, u32)>, AllocError> {
+    let mut edges = Vec::new(alloc);
+    for var in 0..m.vars() {
+        for pair in columns.of(var).windows(2) {
+            if let [one, other] = pair {
+                edges.extend_from_slice(&[(*one, *other), (*other, *one)])?;
+            }
+        }
+    }
+    Ok(edges)
+}
+
+// Adds the weights of vertices to those of the vertices that they are merged to.
+fn add_weights(sums: &mut [u64], merged: &[u32], weights: &[u64]) {
+    for (vertex, weight) in merged.iter().zip(weights) {
+        if let Some(sum) = sums.get_mut(*vertex as usize) {
+            *sum = sum.saturating_add(*weight);
+        }
+    }
+}
+
+// The edges whose ends are merged to different vertices.
+fn merged_edges(
     alloc: Global,
-    vertices: usize,
+    merged: &[u32],
     edges: &[(u32, u32)],
-) -> Result<Vec<usize>, AllocError> {
-    let mut starts = Vec::from_elem(alloc, 0usize, vertices.saturating_add(2))?;
+) -> Result<Vec<(u32, u32)>, AllocError> {
+    let mut all = Vec::new(alloc);
     for (one, other) in edges {
-        count_at(starts.as_mut_slice(), *one);
-        count_at(starts.as_mut_slice(), *other);
+        let one = new_number(merged, *one);
+        let other = new_number(merged, *other);
+        if one != other {
+            all.push((one, other))?;
+        }
     }
-    let mut sum: usize = 0;
-    for start in starts.as_mut_slice() {
-        sum = sum.saturating_add(*start);
-        *start = sum;
-    }
-    Ok(starts)
+    Ok(all)
 }
 
-fn count_at(starts: &mut [usize], vertex: u32) {
-    if let Some(count) = starts.get_mut(vertex as usize + 2) {
-        *count = count.saturating_add(1);
-    }
+fn new_number(merged: &[u32], vertex: u32) -> u32 {
+    merged.get(vertex as usize).copied().unwrap_or(0)
 }
 
 /// Merges each vertex with the free neighbour that most edges lead to: new numbers of vertices, and how many there are.
@@ -147,17 +113,22 @@ fn count_at(starts: &mut [usize], vertex: u32) {
 pub fn matched(alloc: Global, graph: &Graph) -> Result<(Vec<u32>, u32), AllocError> {
     let mut links = Vec::from_elem(alloc, 0u32, graph.vertices() as usize)?;
     let mut merged = Vec::from_elem(alloc, u32::MAX, graph.vertices() as usize)?;
+    let count = match_all(graph, links.as_mut_slice(), merged.as_mut_slice());
+    Ok((merged, count))
+}
+
+// Numbers each free vertex and its mate anew: how many numbers there are.
+fn match_all(graph: &Graph, links: &mut [u32], merged: &mut [u32]) -> u32 {
     let mut count: u32 = 0;
     for vertex in 0..graph.vertices() {
-        if !is_free(merged.as_slice(), vertex) {
-            continue;
+        if is_free(merged, vertex) {
+            let mate = heaviest(graph, merged, links, vertex);
+            number(merged, vertex, count);
+            number(merged, mate, count);
+            count = count.saturating_add(1);
         }
-        let mate = heaviest(graph, merged.as_slice(), links.as_mut_slice(), vertex);
-        number(merged.as_mut_slice(), vertex, count);
-        number(merged.as_mut_slice(), mate, count);
-        count = count.saturating_add(1);
     }
-    Ok((merged, count))
+    count
 }
 
 fn is_free(merged: &[u32], vertex: u32) -> bool {

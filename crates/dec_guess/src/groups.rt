@@ -1,5 +1,5 @@
-// Keys of rows: rows that are alike in their names or in their forms have one key.
-ghost use Rattle.std.specs.Prelude.{◌≡◌, ◌<◌, ◌^◌, All, IfOk, length};
+// Keys of rows, by which rows that are alike in their names or in their forms have one, and the rows that are chosen by them.
+ghost use Rattle.std.specs.Prelude.{◌≡◌, ◌<◌, All, IfOk, length};
 
 use bp_model::{Model, Row, Sense};
 use std::alloc::{AllocError, Global};
@@ -11,6 +11,57 @@ const MOST_GROUPS: usize = 24;
 const START: u64 = 14_695_981_039_346_656_037;
 
 const FACTOR: u64 = 1_099_511_628_211;
+
+// The bytes that end the stem of a name, and those behind its front.
+const STEM_ENDS: &[u8] = b"0123456789([";
+
+const FRONT_ENDS: &[u8] = b"0123456789()[]";
+
+/// In what rows with one key are alike.
+#[derive(Clone, Copy)]
+pub enum Likeness {
+    /// What their names have in front of the first digit or bracket.
+    Stem,
+    /// What their names have in front of the last digits or brackets.
+    Front,
+    /// Their sense, whether their side is 0, 1 or another, and whether their coefficients are 1, 1 and -1, or others.
+    Form,
+    /// The form and how many terms they have.
+    Shape,
+    /// Their sense, their sides and the range of their coefficients.
+    Sides,
+}
+
+/// For each row its key, and for each group its key, the first groups alone.
+#[derive(Drop)]
+pub struct Keyed {
+    pub keys: Vec<u64>,
+    pub groups: Vec<u64>,
+}
+
+impl Keyed {
+    /// The keys of a model's rows.
+    pub fn new(alloc: Global, m: &Model, likeness: Likeness) -> Result<Keyed, AllocError> {
+        let keys = keys_of(alloc, m, likeness)?;
+        match groups_of(alloc, keys.as_slice()) {
+            Ok(groups) => Ok(Keyed { keys, groups }),
+            Err(fault) => Err(fault),
+        }
+    }
+}
+
+/// Rows of a model.
+#[derive(Clone, Copy)]
+pub enum Choice<'a> {
+    /// Those that have one of two keys.
+    Alike(&'a [u64], u64, u64),
+    /// Those that have another key.
+    Others(&'a [u64], u64),
+    /// Those with more terms than a number.
+    Longer(usize),
+    /// Those that are marked.
+    Marked(&'a [bool]),
+}
 
 /// A hash with one value more. (Fowler, Noll and Vo, FNV-1a.)
 pub fn mix(hash: u64, value: u64) -> u64 {
@@ -31,7 +82,7 @@ pub fn mix_whole(hash: u64, number: i64) -> u64 {
 fn stem_key(name: &[u8]) -> u64 {
     let mut hash = START;
     for byte in name {
-        if byte.is_ascii_digit() || *byte == b'(' || *byte == b'[' {
+        if STEM_ENDS.contains(byte) {
             break;
         }
         hash = mix(hash, u64::from(*byte));
@@ -45,15 +96,11 @@ fn front_key(name: &[u8]) -> u64 {
     let mut front = START;
     for byte in name {
         hash = mix(hash, u64::from(*byte));
-        if !byte.is_ascii_digit() && !is_bracket(*byte) {
+        if !FRONT_ENDS.contains(byte) {
             front = hash;
         }
     }
     front
-}
-
-fn is_bracket(byte: u8) -> bool {
-    byte == b'(' || byte == b')' || byte == b'[' || byte == b']'
 }
 
 // A hash of a row's sense, of whether its side is 0, 1 or another, and of whether its coefficients are 1, 1 and -1, or
@@ -109,64 +156,33 @@ fn sides_key(row: &Row) -> u64 {
     mix_whole(mix_whole(sides, least), greatest)
 }
 
-/// For each row a hash of what its name has in front of its last digits or brackets.
-pub fn keys_by_front(alloc: Global, m: &Model) -> Result<Vec<u64>, AllocError>
+// A hash of that in which a row is like others.
+fn key_of(m: &Model, row: u32, likeness: Likeness) -> u64
+    requires { row < length m.now.program.rows }
+{
+    let whole = m.row(row);
+    match likeness {
+        Likeness::Stem => stem_key(m.row_name(row).as_bytes()),
+        Likeness::Front => front_key(m.row_name(row).as_bytes()),
+        Likeness::Form => form_key(whole),
+        Likeness::Shape => mix(form_key(whole), whole.terms.len() as u64),
+        Likeness::Sides => sides_key(whole),
+    }
+}
+
+// For each row a hash of that in which it is like others.
+fn keys_of(alloc: Global, m: &Model, likeness: Likeness) -> Result<Vec<u64>, AllocError>
     ensures { IfOk result (λ keys. length keys.items ≡ length m.now.program.rows) }
 {
     let mut keys = Vec::new(alloc);
     for row in 0..m.rows() {
-        keys.push(front_key(m.row_name(row).as_bytes()))?;
+        keys.push(key_of(m, row, likeness))?;
     }
     Ok(keys)
 }
 
-/// For each row a hash of its sense, its sides and the range of its coefficients.
-pub fn keys_by_sides(alloc: Global, m: &Model) -> Result<Vec<u64>, AllocError>
-    ensures { IfOk result (λ keys. length keys.items ≡ length m.now.program.rows) }
-{
-    let mut keys = Vec::new(alloc);
-    for row in 0..m.rows() {
-        keys.push(sides_key(m.row(row)))?;
-    }
-    Ok(keys)
-}
-
-/// For each row a hash of what its name has in front of its first digit or bracket.
-pub fn keys_by_name(alloc: Global, m: &Model) -> Result<Vec<u64>, AllocError>
-    ensures { IfOk result (λ keys. length keys.items ≡ length m.now.program.rows) }
-{
-    let mut keys = Vec::new(alloc);
-    for row in 0..m.rows() {
-        keys.push(stem_key(m.row_name(row).as_bytes()))?;
-    }
-    Ok(keys)
-}
-
-/// For each row a hash of its form.
-pub fn keys_by_form(alloc: Global, m: &Model) -> Result<Vec<u64>, AllocError>
-    ensures { IfOk result (λ keys. length keys.items ≡ length m.now.program.rows) }
-{
-    let mut keys = Vec::new(alloc);
-    for row in 0..m.rows() {
-        keys.push(form_key(m.row(row)))?;
-    }
-    Ok(keys)
-}
-
-/// For each row a hash of its form and of how many terms it has.
-pub fn keys_by_shape(alloc: Global, m: &Model) -> Result<Vec<u64>, AllocError>
-    ensures { IfOk result (λ keys. length keys.items ≡ length m.now.program.rows) }
-{
-    let mut keys = Vec::new(alloc);
-    for row in 0..m.rows() {
-        let row = m.row(row);
-        keys.push(mix(form_key(row), row.terms.len() as u64))?;
-    }
-    Ok(keys)
-}
-
-/// The first keys that differ from all before them, in the order of rows.
-pub fn groups_of(alloc: Global, keys: &[u64]) -> Result<Vec<u64>, AllocError> {
+// The first keys that differ from all before them, in the order of rows.
+fn groups_of(alloc: Global, keys: &[u64]) -> Result<Vec<u64>, AllocError> {
     let mut groups = Vec::new(alloc);
     for key in keys {
         if groups.len() < MOST_GROUPS && !groups.as_slice().contains(key) {
@@ -176,41 +192,31 @@ pub fn groups_of(alloc: Global, keys: &[u64]) -> Result<Vec<u64>, AllocError> {
     Ok(groups)
 }
 
-/// The rows that have one of two keys.
-pub fn rows_with(alloc: Global, keys: &[u64], one: u64, other: u64) -> Result<Vec<u32>, AllocError>
-    requires { length keys.now < 2 ^ 32 }
-    ensures { IfOk result (λ rows. All (λ r. r < length keys.now) rows.items) }
+// Whether a row is chosen.
+fn is_chosen(m: &Model, row: u32, choice: Choice) -> bool
+    requires { row < length m.now.program.rows }
 {
-    let mut rows = Vec::new(alloc);
-    for row in 0..keys.len() {
-        if keys[row] == one || keys[row] == other {
-            rows.push(row as u32)?;
-        }
+    match choice {
+        Choice::Alike(keys, one, other) => match keys.get(row as usize) {
+            Some(key) => *key == one || *key == other,
+            None => false,
+        },
+        Choice::Others(keys, one) => match keys.get(row as usize) {
+            Some(key) => *key != one,
+            None => false,
+        },
+        Choice::Longer(terms) => m.row(row).terms.len() > terms,
+        Choice::Marked(marks) => marks.get(row as usize) == Some(&true),
     }
-    Ok(rows)
 }
 
-/// The rows that have another key.
-pub fn rows_without(alloc: Global, keys: &[u64], one: u64) -> Result<Vec<u32>, AllocError>
-    requires { length keys.now < 2 ^ 32 }
-    ensures { IfOk result (λ rows. All (λ r. r < length keys.now) rows.items) }
-{
-    let mut rows = Vec::new(alloc);
-    for row in 0..keys.len() {
-        if keys[row] != one {
-            rows.push(row as u32)?;
-        }
-    }
-    Ok(rows)
-}
-
-/// The rows with more terms than a number.
-pub fn rows_longer(alloc: Global, m: &Model, terms: usize) -> Result<Vec<u32>, AllocError>
+/// The rows that are chosen.
+pub fn chosen_rows(alloc: Global, m: &Model, choice: Choice) -> Result<Vec<u32>, AllocError>
     ensures { IfOk result (λ rows. All (λ r. r < length m.now.program.rows) rows.items) }
 {
     let mut rows = Vec::new(alloc);
     for row in 0..m.rows() {
-        if m.row(row).terms.len() > terms {
+        if is_chosen(m, row, choice) {
             rows.push(row)?;
         }
     }

@@ -1,21 +1,6 @@
-// Marks of master rows.
-ghost use Rattle.std.specs.Prelude.{◌<◌, All, IfOk, length};
-
+// Marks of rows and variables.
 use bp_model::{Model, Row};
 use std::alloc::{AllocError, Global};
-
-/// The rows of a model that are marked.
-pub fn marked_rows(alloc: Global, m: &Model, marks: &[bool]) -> Result<Vec<u32>, AllocError>
-    ensures { IfOk result (λ rows. All (λ r. r < length m.now.program.rows) rows.items) }
-{
-    let mut rows = Vec::new(alloc);
-    for row in 0..m.rows() {
-        if marks.get(row as usize).copied().unwrap_or(false) {
-            rows.push(row)?;
-        }
-    }
-    Ok(rows)
-}
 
 /// Marks for rows in numbered parts: none for a row whose variables stand in rows of its part alone, of those that were left
 /// unmarked before it.
@@ -25,23 +10,24 @@ pub fn crossing_marks(
     order: &[u32],
     parts: &[u32],
 ) -> Result<Vec<bool>, AllocError> {
-    let mut marks = Vec::from_elem(alloc, true, m.rows() as usize)?;
     let mut homes = Vec::from_elem(alloc, None, m.vars() as usize)?;
+    let mut marks = Vec::from_elem(alloc, true, m.rows() as usize)?;
     for row in order {
         if let Some(part) = parts.get(*row as usize) {
-            if let Some(whole) = m.all_rows().get(*row as usize) {
-                if settle(homes.as_mut_slice(), whole, *part) {
-                    unmark(marks.as_mut_slice(), *row);
-                }
-            }
+            unmark(homes.as_mut_slice(), marks.as_mut_slice(), m, *row, *part);
         }
     }
     Ok(marks)
 }
 
-fn unmark(marks: &mut [bool], row: u32) {
-    if let Some(mark) = marks.get_mut(row as usize) {
-        *mark = false;
+// Takes a row's mark away where its variables can have its part as their home, which they then have.
+fn unmark(homes: &mut [Option<u32>], marks: &mut [bool], m: &Model, row: u32, part: u32) {
+    if let Some(whole) = m.all_rows().get(row as usize) {
+        if let Some(mark) = marks.get_mut(row as usize) {
+            if settle(homes, whole, part) {
+                *mark = false;
+            }
+        }
     }
 }
 
@@ -60,4 +46,18 @@ fn settle(homes: &mut [Option<u32>], row: &Row, part: u32) -> bool {
         }
     }
     true
+}
+
+/// How many variables of a row weren't known; they are then.
+pub fn mark_variables(known: &mut [bool], row: &Row) -> u32 {
+    let mut new: u32 = 0;
+    for term in row.terms.as_slice() {
+        if let Some(seen) = known.get_mut(term.var as usize) {
+            if !*seen {
+                *seen = true;
+                new = new.saturating_add(1);
+            }
+        }
+    }
+    new
 }

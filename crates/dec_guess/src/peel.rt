@@ -1,6 +1,7 @@
 // Parts of variables that rows join, as long as no part becomes too large: a row is left out where it would make one
 // part of what falls apart without it. (Parts are joined by size: Tarjan and van Leeuwen, 'Worst-case analysis of set
 // union algorithms', 1984.)
+use crate::order::numbers_below;
 use bp_model::{Model, Row};
 use std::alloc::{AllocError, Global};
 
@@ -19,14 +20,13 @@ pub struct Parts {
 impl Parts {
     /// Each variable in a part of its own.
     pub fn new(alloc: Global, m: &Model) -> Result<Parts, AllocError> {
-        let mut above = Vec::new(alloc);
-        for var in 0..m.vars() {
-            above.push(var)?;
-        }
+        let above = numbers_below(alloc, m.vars())?;
+        let sizes = Vec::from_elem(alloc, 1, m.vars() as usize)?;
+        let counted = Vec::from_elem(alloc, false, m.vars() as usize)?;
         Ok(Parts {
             above,
-            sizes: Vec::from_elem(alloc, 1, m.vars() as usize)?,
-            counted: Vec::from_elem(alloc, false, m.vars() as usize)?,
+            sizes,
+            counted,
         })
     }
 

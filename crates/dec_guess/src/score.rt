@@ -3,6 +3,7 @@
 // detection in mixed-integer programs, 2018, and the scores of Bergner et al., Automatic Dantzig-Wolfe reformulation of
 // mixed integer programs, 2015.)
 use crate::groups::{mix, mix_whole};
+use crate::marks::mark_variables;
 use bp_model::{Dec, Model, Row};
 use std::alloc::{AllocError, Global};
 
@@ -66,20 +67,6 @@ fn weight_of(row: &Row) -> u64 {
     }
 }
 
-// How many variables of a row stand in no row of a block so far; they are then known.
-fn mark_variables(known: &mut [bool], row: &Row) -> u64 {
-    let mut new: u64 = 0;
-    for term in row.terms.as_slice() {
-        if let Some(seen) = known.get_mut(term.var as usize) {
-            if !*seen {
-                *seen = true;
-                new = new.saturating_add(1);
-            }
-        }
-    }
-    new
-}
-
 // What is seen of each block.
 fn sights_of(alloc: Global, m: &Model, dec: &Dec) -> Result<Vec<Sight>, AllocError> {
     let nothing = Sight {
@@ -93,7 +80,7 @@ fn sights_of(alloc: Global, m: &Model, dec: &Dec) -> Result<Vec<Sight>, AllocErr
     for (row, place) in m.all_rows().iter().zip(dec.places()) {
         if let Some(block) = place {
             if let Some(sight) = sights.get_mut(*block as usize) {
-                sight.add(row, mark_variables(known.as_mut_slice(), row));
+                sight.add(row, u64::from(mark_variables(known.as_mut_slice(), row)));
             }
         }
     }

@@ -1,5 +1,0 @@
-use Rattle.std.proofs.Common.{◌<◌, All, length}
-use Rattle.dec_guess.proofs.groups.rows_longer.Given as goal
-
-abbrev pub invariant-loop-row : goal.invariant-loop-row
-invariant-loop-row l = All (λ r. r < length l.m.program.rows) l.rows.items
