@@ -1,106 +1,168 @@
-// A model of two variables and two rows, and its programs in blocks.
-ghost use Rattle.std.specs.Prelude.{◌≤◌};
+// Reports on a model of two variables and two rows, and on its programs in blocks.
+ghost use Rattle.std.specs.Prelude.{◌≡◌, IfOk};
+ghost use Rattle.block_class.specs.Classes.{AreSameClasses};
 
-use block_form::{Blocked, check_blocks};
-use bp_model::{Dec, Items, Model, Names, Parts, Row, Sense, Span, Term};
+use block_class::Classes;
+use block_form::{BlockFault, Blocked, Zone, check_blocks};
+use bp_model::Model;
+use bp_report::{
+    Refusal, blocks_text, budget_text, demo_text, ended_text, proposed_text, refusal_text,
+    show_blocks_text,
+};
+use bp_theory::Claim;
+use branch_tree::{Grove, Outcome};
+use cert_check::Judged;
+use dec_read::read_dec;
+use lp_read::read_lp;
 use std::alloc::{AllocError, Global};
-use std::test::Fail;
 
-// Two names.
-fn two_names(alloc: Global, first: &str, second: &str) -> Result<Names, Fail> {
-    let mut names = Names::new(alloc);
-    names.add(alloc, first)?;
-    if names.len() == 1 {
-        names.add(alloc, second)?;
+/// The model: each point meets both rows.
+const MODEL: &[u8] = b"max
+ 3 x - 2 x11 - 1
+st
+ c1: x + x11 <= 18
+ c2: x - x11 <= 18
+bounds
+ -9 <= x <= 9
+ -9 <= x11 <= 9
+general
+ x x11
+end
+";
+
+/// A point of it.
+const POINT: [i64; 2] = [9, -9];
+
+/// What is told of the model.
+#[derive(Clone, Copy)]
+pub enum OfModel {
+    /// That its blocks would take too many link rows.
+    Links,
+    /// That a variable of this number stands in a row of another block.
+    VarPlace(u32),
+    /// The same as one of all that may be refused.
+    RefusedVarPlace(u32),
+    /// A search that ended with the point.
+    Best,
+    /// A search that ended without a point.
+    NoPoint,
+    /// A search that was stopped after these steps, with the least cost that is left, and the point.
+    BestSoFar(u64, i64),
+    /// The same without a point.
+    NoneSoFar(u64, i64),
+}
+
+/// What is told of a program in blocks.
+#[derive(Clone, Copy)]
+pub enum InBlocks {
+    /// That it was made of this seed and size, has no point, and has an accepted certificate.
+    Demo(u64, u32),
+    /// Its sizes as those of a decomposition that is proposed.
+    Proposed,
+    /// Its sizes and its blocks.
+    Shown,
+}
+
+/// The report on the model, or none without one.
+pub fn of_model(alloc: Global, told: OfModel) -> Result<Vec<u8>, AllocError> {
+    match read_lp(alloc, MODEL) {
+        Ok(model) => with_model(alloc, &model, told),
+        Err(_) => Ok(Vec::new(alloc)),
     }
-    Ok(names)
 }
 
-// Spans from -9 to 9.
-fn two_spans(alloc: Global) -> Result<Items<Span>, AllocError> {
-    let mut spans = Items::new(alloc);
-    spans.push(Span { lo: -9, hi: 9 })?;
-    spans.push(Span { lo: -9, hi: 9 })?;
-    Ok(spans)
+// The report on a model.
+fn with_model(alloc: Global, model: &Model, told: OfModel) -> Result<Vec<u8>, AllocError> {
+    match told {
+        OfModel::Links => blocks_text(alloc, model, &BlockFault::Links),
+        OfModel::VarPlace(var) => misplaced(alloc, model, var, false),
+        OfModel::RefusedVarPlace(var) => misplaced(alloc, model, var, true),
+        OfModel::Best | OfModel::BestSoFar(..) => with_point(alloc, model, told),
+        OfModel::NoPoint => ended_text(alloc, model, None),
+        OfModel::NoneSoFar(steps, least) => budget_text(alloc, model, steps, &least, None),
+    }
 }
 
-// Terms of both variables.
-fn two_terms(alloc: Global, first: i64, second: i64) -> Result<Items<Term>, AllocError> {
-    let mut terms = Items::new(alloc);
-    terms.push(Term {
-        var: 0,
-        coef: first,
-    })?;
-    terms.push(Term {
-        var: 1,
-        coef: second,
-    })?;
-    Ok(terms)
+// The report on a variable in a row of another block.
+fn misplaced(alloc: Global, model: &Model, var: u32, of_all: bool) -> Result<Vec<u8>, AllocError> {
+    if model.vars() <= var {
+        return Ok(Vec::new(alloc));
+    }
+    let fault = BlockFault::VarPlace(var);
+    if of_all {
+        refusal_text(alloc, Some(model), &Refusal::Blocks(fault))
+    } else {
+        blocks_text(alloc, model, &fault)
+    }
 }
 
-// A row that each point meets.
-fn loose_row(alloc: Global, second: i64) -> Result<Row, AllocError> {
-    Ok(Row {
-        sense: Sense::Le,
-        low: 18,
-        rhs: 18,
-        terms: two_terms(alloc, 1, second)?,
-    })
+// The report on a search with the point.
+fn with_point(alloc: Global, model: &Model, told: OfModel) -> Result<Vec<u8>, AllocError> {
+    let point: &[i64] = &POINT;
+    if model.misses(point).is_some() {
+        return Ok(Vec::new(alloc));
+    }
+    match told {
+        OfModel::BestSoFar(steps, least) => {
+            budget_text(alloc, model, steps, &least, Some(point))
+        }
+        _ => ended_text(alloc, model, Some(point)),
+    }
 }
 
-// Two rows that each point meets.
-fn two_rows(alloc: Global) -> Result<Items<Row>, AllocError> {
-    let mut rows = Items::new(alloc);
-    rows.push(loose_row(alloc, 1)?)?;
-    rows.push(loose_row(alloc, -1)?)?;
-    Ok(rows)
+/// The report on the model in the blocks of a decomposition, or none without them.
+pub fn of_blocks(alloc: Global, dec: &str, told: InBlocks) -> Result<Vec<u8>, AllocError> {
+    match read_lp(alloc, MODEL) {
+        Ok(model) => of_dec(alloc, model, dec, told),
+        Err(_) => Ok(Vec::new(alloc)),
+    }
 }
 
-/// The model that maximises 3 x - 2 x11 - 1, with the rows c1, x + x11 <= 18, and c2, x - x11 <= 18.
-pub fn maximised(alloc: Global) -> Result<Model, Fail> {
-    let parts = Parts {
-        names: two_names(alloc, "x", "x11")?,
-        row_names: two_names(alloc, "c1", "c2")?,
-        spans: two_spans(alloc)?,
-        rows: two_rows(alloc)?,
-        // Costs are minimised.
-        costs: two_terms(alloc, -3, 2)?,
-        constant: 1,
-        maximises: true,
+// The same of a model.
+fn of_dec(alloc: Global, model: Model, dec: &str, told: InBlocks) -> Result<Vec<u8>, AllocError> {
+    match read_dec(alloc, dec.as_bytes(), &model) {
+        Ok(dec) => match check_blocks(alloc, model, dec) {
+            Ok(b) => in_blocks(alloc, &b, told),
+            Err(_) => Ok(Vec::new(alloc)),
+        },
+        Err(_) => Ok(Vec::new(alloc)),
+    }
+}
+
+// The report on a program in blocks.
+fn in_blocks(alloc: Global, b: &Blocked, told: InBlocks) -> Result<Vec<u8>, AllocError> {
+    match told {
+        InBlocks::Demo(seed, size) => demo(alloc, b, seed, size),
+        InBlocks::Proposed => proposed(alloc, b),
+        InBlocks::Shown => shown(alloc, b),
+    }
+}
+
+// The report on a made program without a point.
+fn demo(alloc: Global, b: &Blocked, seed: u64, size: u32) -> Result<Vec<u8>, AllocError> {
+    let none = Outcome::Infeasible {
+        grove: Grove::plant(alloc, b)?,
     };
-    if !parts.are_fitting() {
-        return Err(Fail::new("the parts don't fit"));
-    }
-    match Model::make(alloc, parts) {
-        Ok(model) => Ok(model),
-        Err(_) => Err(Fail::new("no model")),
-    }
+    let accepted = Judged::Accepted(Claim::Infeasible);
+    demo_text(alloc, seed, size, b, &none, &accepted)
 }
 
-/// The same with c1 in a block, and c2 a master row.
-pub fn in_one_block(alloc: Global) -> Result<Blocked, Fail> {
-    in_blocks(alloc, 1, None)
+// The report on its sizes.
+fn proposed(alloc: Global, b: &Blocked) -> Result<Vec<u8>, AllocError> {
+    let root = root_classes(alloc, b)?;
+    proposed_text(alloc, b, &root)
 }
 
-/// The same with c1 in a block and c2 in another: both variables link the two.
-pub fn in_two_blocks(alloc: Global) -> Result<Blocked, Fail> {
-    in_blocks(alloc, 2, Some(1))
+// The report on its sizes and blocks.
+fn shown(alloc: Global, b: &Blocked) -> Result<Vec<u8>, AllocError> {
+    let root = root_classes(alloc, b)?;
+    show_blocks_text(alloc, b, &root, true)
 }
 
-// The same in so many blocks, with c1 in the first and c2 in this place.
-fn in_blocks(alloc: Global, count: u32, second: Option<u32>) -> Result<Blocked, Fail>
-    requires { count ≤ 4096 }
+// The classes of a program in blocks at the root.
+fn root_classes(alloc: Global, b: &Blocked) -> Result<Classes, AllocError>
+    ensures { IfOk result (AreSameClasses b.now.named.program.spans b.now.blocking) }
 {
-    let model = maximised(alloc)?;
-    let mut places = Items::new(alloc);
-    places.push(Some(0))?;
-    places.push(second)?;
-    let dec = Dec::make(count, places, Items::new(alloc));
-    if !dec.goes_with(&model) {
-        return Err(Fail::new("no decomposition of the model"));
-    }
-    match check_blocks(alloc, model, dec) {
-        Ok(b) => Ok(b),
-        Err(_) => Err(Fail::new("no blocks")),
-    }
+    let root = Zone::root(alloc, b)?;
+    Classes::of(alloc, b, &root)
 }
