@@ -1,7 +1,7 @@
 // What a pricer answers.
 ghost use Rattle.pricing.specs.Form.{AreOf, IsForm, IsPriceable};
 
-use crate::problem::{Problem, block_of, first_costs, first_spans};
+use crate::problem::{Problem, firsts, problem_block};
 use block_form::Block;
 use bp_theory::Span;
 use knap_price::KnapPricer;
@@ -11,7 +11,7 @@ use state_price::StatePricer;
 use std::alloc::{AllocError, Global};
 
 /// Which pricer is asked.
-#[derive(Clone, Copy, Debug, PartialEq, Eq)]
+#[derive(Clone, Copy)]
 pub enum Kind {
     Table,
     Graph,
@@ -19,8 +19,8 @@ pub enum Kind {
 }
 
 /// What a pricer answers: the block or the zone is none that it may be asked, it declines the block, or an answer with the
-/// point, which has 0 for each variable of four that is not there.
-#[derive(Clone, Copy, Debug, PartialEq, Eq)]
+/// point of the first four variables, which has 0 for each that is not there, and where there is no least cost.
+#[derive(Clone, Copy)]
 pub enum Found {
     Unfit,
     Declined,
@@ -29,12 +29,12 @@ pub enum Found {
 
 /// What a pricer answers to a problem.
 pub fn asked(alloc: Global, kind: Kind, problem: &Problem, cap: Cap) -> Result<Found, AllocError> {
-    let Some(block) = block_of(alloc, problem)? else {
-        return Ok(Found::Unfit);
-    };
-    let zone = first_spans(&problem.zone, problem.vars);
-    let costs = first_costs(&problem.costs, problem.vars);
-    ask(alloc, kind, &block, zone, costs, cap)
+    let zone = firsts(&problem.zone, problem.vars);
+    let costs = firsts(&problem.costs, problem.vars);
+    match problem_block(alloc, problem)? {
+        Some(block) => ask(alloc, kind, &block, zone, costs, cap),
+        None => Ok(Found::Unfit),
+    }
 }
 
 /// What a pricer answers for a block in a zone.
@@ -114,10 +114,11 @@ fn with_point(answer: Priced, point: &[i64], vars: usize) -> Found {
     if point.len() != vars {
         return Found::Unfit;
     }
-    Found::Answer(
-        answer,
-        [at(point, 0), at(point, 1), at(point, 2), at(point, 3)],
-    )
+    let first = match answer {
+        Priced::Least(_) => [at(point, 0), at(point, 1), at(point, 2), at(point, 3)],
+        Priced::Nothing | Priced::Cut => [0; 4],
+    };
+    Found::Answer(answer, first)
 }
 
 // The number at a place, 0 where there is none.

@@ -1,5 +1,6 @@
 // Problems of at most four variables and three rows that a simple generator draws.
 use crate::ask::Kind;
+use crate::checks::check_none;
 use crate::problem::{Line, Problem, ZERO};
 use crate::tried::agrees;
 use bp_theory::{Sense, Span};
@@ -8,7 +9,7 @@ use std::alloc::{AllocError, Global};
 use std::test::Fail;
 
 /// How many problems are drawn for each pricer.
-const DRAWN: u32 = 2000;
+const DRAWN: usize = 2000;
 
 // The next number of the generator.
 fn draw(seed: &mut u64) -> u64 {
@@ -130,7 +131,7 @@ fn draw_rows(seed: &mut u64, kind: Kind) -> usize {
 }
 
 // The last drawn problem to which a pricer answers otherwise than all points tried. In every second one the rows are joined.
-fn last_wrong(alloc: Global, kind: Kind, cap: Cap) -> Result<Option<u32>, AllocError> {
+fn last_wrong(alloc: Global, kind: Kind, cap: Cap) -> Result<Option<usize>, AllocError> {
     let mut seed = 7;
     let mut wrong = None;
     for number in 0..DRAWN {
@@ -148,18 +149,15 @@ fn last_wrong(alloc: Global, kind: Kind, cap: Cap) -> Result<Option<u32>, AllocE
 
 #[test]
 fn tables_answer_what_all_points_tried_give(rt: HostRuntime) -> Result<(), Fail> {
-    assert_eq!(rt; last_wrong(rt.alloc(), Kind::Table, Cap::Never)?, None);
-    Ok(())
+    check_none(&rt, last_wrong(rt.alloc(), Kind::Table, Cap::Never))
 }
 
 #[test]
 fn graphs_answer_what_all_points_tried_give(rt: HostRuntime) -> Result<(), Fail> {
-    assert_eq!(rt; last_wrong(rt.alloc(), Kind::Graph, Cap::At(0))?, None);
-    Ok(())
+    check_none(&rt, last_wrong(rt.alloc(), Kind::Graph, Cap::At(0)))
 }
 
 #[test]
 fn searches_answer_what_all_points_tried_give(rt: HostRuntime) -> Result<(), Fail> {
-    assert_eq!(rt; last_wrong(rt.alloc(), Kind::Search, Cap::Never)?, None);
-    Ok(())
+    check_none(&rt, last_wrong(rt.alloc(), Kind::Search, Cap::Never))
 }

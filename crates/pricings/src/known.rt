@@ -1,6 +1,7 @@
 // Problems whose answers are known.
 use crate::ask::{Found, Kind, asked};
-use crate::problem::{Numbers, Problem, block_of, first_spans, line_of, spans_of};
+use crate::checks::check_none;
+use crate::problem::{Numbers, Problem, firsts, line_at, problem_block, spans_of};
 use bp_theory::Sense;
 use knap_price::parts;
 use pricing::{Cap, Priced};
@@ -9,20 +10,17 @@ use std::alloc::{AllocError, Global};
 use std::test::Fail;
 
 /// A pricer, its cap, how many variables and rows of those given there are, the root, the rows, the zone, costs, and the
-/// answer.
+/// answer with its point, or none where the pricer declines the block.
 type Known = (
     Kind,
     Cap,
     [usize; 2],
     [[i64; 2]; 3],
-    [Numbers; 2],
+    &'static [Numbers],
     [[i64; 2]; 3],
     [i128; 3],
-    Found,
+    (Priced, Option<[i64; 4]>),
 );
-
-/// A row without terms, which all numbers meet: in place of one that is not there.
-const NONE: Numbers = ([0, 0, 0], Sense::Le, [0, 0]);
 
 /// Two numbers from 0 to 2, and such that only 0 and 1 or only 2, and 1 or 2, are left; three from 0 to 3; two up to a
 /// thousand millions; one up to 2^40 and two of at most 1; two up to 2^40.
@@ -93,346 +91,346 @@ const ODD_SUM: Numbers = ([2, 4, 3], Sense::Eq, [7, 7]);
 
 const NEVER: Cap = Cap::Never;
 
-const KNOWN: [Known; 34] = [
+const KNOWN: &[Known] = &[
     (
         Kind::Table,
         NEVER,
         [2, 1],
         WHOLE,
-        [BETWEEN, NONE],
+        &[BETWEEN],
         WHOLE,
         [5, 4, 0],
-        Found::Answer(Priced::Least(4), [0, 1, 0, 0]),
+        (Priced::Least(4), Some([0, 1, 0, 0])),
     ),
     (
         Kind::Table,
         NEVER,
         [2, 1],
         WHOLE,
-        [SEVEN, NONE],
+        &[SEVEN],
         WHOLE,
         [5, 4, 0],
-        Found::Answer(Priced::Least(13), [1, 2, 0, 0]),
+        (Priced::Least(13), Some([1, 2, 0, 0])),
     ),
     (
         Kind::Table,
         NEVER,
         [2, 1],
         WHOLE,
-        [ONE, NONE],
+        &[ONE],
         WHOLE,
         [5, 4, 0],
-        Found::Answer(Priced::Nothing, [0, 0, 0, 0]),
+        (Priced::Nothing, Some([0, 0, 0, 0])),
     ),
     (
         Kind::Table,
         Cap::At(13),
         [2, 1],
         WHOLE,
-        [SIX, NONE],
+        &[SIX],
         WHOLE,
         [-5, -4, 0],
-        Found::Answer(Priced::Least(-10), [2, 0, 0, 0]),
+        (Priced::Least(-10), Some([2, 0, 0, 0])),
     ),
     (
         Kind::Table,
         NEVER,
         [2, 1],
         WHOLE,
-        [SIX, NONE],
+        &[SIX],
         LOW,
         [-5, -4, 0],
-        Found::Answer(Priced::Least(-9), [1, 1, 0, 0]),
+        (Priced::Least(-9), Some([1, 1, 0, 0])),
     ),
     (
         Kind::Table,
         NEVER,
         [2, 1],
         WHOLE,
-        [SIX, NONE],
+        &[SIX],
         HIGH,
         [-5, -4, 0],
-        Found::Answer(Priced::Nothing, [0, 0, 0, 0]),
+        (Priced::Nothing, Some([0, 0, 0, 0])),
     ),
     (
         Kind::Table,
         NEVER,
         [2, 2],
         WHOLE,
-        [SIX, FIVE],
+        &[SIX, FIVE],
         WHOLE,
         [-5, -4, 0],
-        Found::Declined,
+        (Priced::Nothing, None),
     ),
     (
         Kind::Table,
         NEVER,
         [2, 0],
         WHOLE,
-        [NONE, NONE],
+        &[],
         WHOLE,
         [-5, -4, 0],
-        Found::Declined,
+        (Priced::Nothing, None),
     ),
     (
         Kind::Search,
         NEVER,
         [2, 1],
         WHOLE,
-        [BETWEEN, NONE],
+        &[BETWEEN],
         WHOLE,
         [5, 4, 0],
-        Found::Answer(Priced::Least(4), [0, 1, 0, 0]),
+        (Priced::Least(4), Some([0, 1, 0, 0])),
     ),
     (
         Kind::Search,
         NEVER,
         [2, 1],
         WHOLE,
-        [SEVEN, NONE],
+        &[SEVEN],
         WHOLE,
         [5, 4, 0],
-        Found::Answer(Priced::Least(13), [1, 2, 0, 0]),
+        (Priced::Least(13), Some([1, 2, 0, 0])),
     ),
     (
         Kind::Search,
         NEVER,
         [2, 1],
         WHOLE,
-        [ONE, NONE],
+        &[ONE],
         WHOLE,
         [5, 4, 0],
-        Found::Answer(Priced::Nothing, [0, 0, 0, 0]),
+        (Priced::Nothing, Some([0, 0, 0, 0])),
     ),
     (
         Kind::Search,
         Cap::At(13),
         [2, 1],
         WHOLE,
-        [SIX, NONE],
+        &[SIX],
         WHOLE,
         [-5, -4, 0],
-        Found::Answer(Priced::Least(-10), [2, 0, 0, 0]),
+        (Priced::Least(-10), Some([2, 0, 0, 0])),
     ),
     (
         Kind::Search,
         NEVER,
         [2, 1],
         WHOLE,
-        [SIX, NONE],
+        &[SIX],
         LOW,
         [-5, -4, 0],
-        Found::Answer(Priced::Least(-9), [1, 1, 0, 0]),
+        (Priced::Least(-9), Some([1, 1, 0, 0])),
     ),
     (
         Kind::Search,
         NEVER,
         [2, 1],
         WHOLE,
-        [SIX, NONE],
+        &[SIX],
         HIGH,
         [-5, -4, 0],
-        Found::Answer(Priced::Nothing, [0, 0, 0, 0]),
+        (Priced::Nothing, Some([0, 0, 0, 0])),
     ),
     (
         Kind::Search,
         NEVER,
         [2, 1],
         WHOLE,
-        [TEN, NONE],
+        &[TEN],
         WHOLE,
         [5, 4, 0],
-        Found::Answer(Priced::Least(18), [2, 2, 0, 0]),
+        (Priced::Least(18), Some([2, 2, 0, 0])),
     ),
     (
         Kind::Search,
         Cap::At(1),
         [2, 1],
         WHOLE,
-        [TEN, NONE],
+        &[TEN],
         WHOLE,
         [5, 4, 0],
-        Found::Answer(Priced::Cut, [0, 0, 0, 0]),
+        (Priced::Cut, Some([0, 0, 0, 0])),
     ),
     (
         Kind::Search,
         Cap::At(100),
         [2, 1],
         WIDE,
-        [AT_LEAST, NONE],
+        &[AT_LEAST],
         WIDE,
         [5, 4, 0],
-        Found::Answer(Priced::Least(13), [1, 2, 0, 0]),
+        (Priced::Least(13), Some([1, 2, 0, 0])),
     ),
     (
         Kind::Search,
         Cap::At(1000),
         [2, 2],
         WIDE,
-        [ABOVE_NONE, BELOW_THREE],
+        &[ABOVE_NONE, BELOW_THREE],
         WIDE,
         [5, 4, 0],
-        Found::Answer(Priced::Cut, [0, 0, 0, 0]),
+        (Priced::Cut, Some([0, 0, 0, 0])),
     ),
     (
         Kind::Search,
         NEVER,
         [2, 1],
         WIDE,
-        [EVEN, NONE],
+        &[EVEN],
         WIDE,
         [5, 4, 0],
-        Found::Answer(Priced::Nothing, [0, 0, 0, 0]),
+        (Priced::Nothing, Some([0, 0, 0, 0])),
     ),
     (
         Kind::Search,
         NEVER,
         [2, 1],
         VAST,
-        [ODD_GAP, NONE],
+        &[ODD_GAP],
         VAST,
         [5, 4, 0],
-        Found::Answer(Priced::Nothing, [0, 0, 0, 0]),
+        (Priced::Nothing, Some([0, 0, 0, 0])),
     ),
     (
         Kind::Search,
         Cap::At(0),
         [2, 2],
         VAST,
-        [SIX, ODD_BETWEEN],
+        &[SIX, ODD_BETWEEN],
         VAST,
         [5, 4, 0],
-        Found::Answer(Priced::Nothing, [0, 0, 0, 0]),
+        (Priced::Nothing, Some([0, 0, 0, 0])),
     ),
     (
         Kind::Search,
         NEVER,
         [2, 1],
         VAST,
-        [ODD_BELOW, NONE],
+        &[ODD_BELOW],
         VAST,
         [5, 4, 0],
-        Found::Answer(Priced::Nothing, [0, 0, 0, 0]),
+        (Priced::Nothing, Some([0, 0, 0, 0])),
     ),
     (
         Kind::Search,
         NEVER,
         [2, 1],
         VAST,
-        [THREE_BETWEEN, NONE],
+        &[THREE_BETWEEN],
         VAST,
         [5, 4, 0],
-        Found::Answer(Priced::Nothing, [0, 0, 0, 0]),
+        (Priced::Nothing, Some([0, 0, 0, 0])),
     ),
     (
         Kind::Search,
         NEVER,
         [2, 1],
         VAST,
-        [EVEN_GAP, NONE],
+        &[EVEN_GAP],
         VAST,
         [5, 4, 0],
-        Found::Answer(Priced::Least(5), [1, 0, 0, 0]),
-    ),
-    (
-        Kind::Search,
-        NEVER,
-        [2, 1],
-        WHOLE,
-        [ABOUT_FOUR, NONE],
-        WHOLE,
-        [5, 4, 0],
-        Found::Answer(Priced::Least(5), [1, 0, 0, 0]),
+        (Priced::Least(5), Some([1, 0, 0, 0])),
     ),
     (
         Kind::Search,
         NEVER,
         [2, 1],
         WHOLE,
-        [ABOUT_SIX, NONE],
+        &[ABOUT_FOUR],
         WHOLE,
         [5, 4, 0],
-        Found::Answer(Priced::Least(4), [0, 1, 0, 0]),
+        (Priced::Least(5), Some([1, 0, 0, 0])),
+    ),
+    (
+        Kind::Search,
+        NEVER,
+        [2, 1],
+        WHOLE,
+        &[ABOUT_SIX],
+        WHOLE,
+        [5, 4, 0],
+        (Priced::Least(4), Some([0, 1, 0, 0])),
     ),
     (
         Kind::Graph,
         Cap::At(0),
         [3, 2],
         THREE,
-        [ROOM, MORE],
+        &[ROOM, MORE],
         THREE,
         [-5, -4, -6],
-        Found::Answer(Priced::Least(-19), [3, 1, 0, 0]),
+        (Priced::Least(-19), Some([3, 1, 0, 0])),
     ),
     (
         Kind::Graph,
         Cap::At(0),
         [3, 1],
         THREE,
-        [SUM, NONE],
+        &[SUM],
         THREE,
         [-(1 << 114), 1, 0],
-        Found::Answer(Priced::Least(-(1 << 115)), [2, 0, 0, 0]),
+        (Priced::Least(-(1 << 115)), Some([2, 0, 0, 0])),
     ),
     (
         Kind::Graph,
         Cap::At(0),
         [3, 1],
         FAR,
-        [STEEP, NONE],
+        &[STEEP],
         FAR,
         [0, 0, 0],
-        Found::Declined,
+        (Priced::Nothing, None),
     ),
     (
         Kind::Graph,
         Cap::At(0),
         [2, 1],
         WHOLE,
-        [EVEN, NONE],
+        &[EVEN],
         WHOLE,
         [5, 4, 0],
-        Found::Answer(Priced::Nothing, [0, 0, 0, 0]),
+        (Priced::Nothing, Some([0, 0, 0, 0])),
     ),
     (
         Kind::Graph,
         Cap::At(0),
         [2, 1],
         WHOLE,
-        [TEN, NONE],
+        &[TEN],
         WHOLE,
         [5, 4, 0],
-        Found::Answer(Priced::Least(18), [2, 2, 0, 0]),
+        (Priced::Least(18), Some([2, 2, 0, 0])),
     ),
     (
         Kind::Graph,
         Cap::At(0),
         [3, 1],
         THREE,
-        [ODD_SUM, NONE],
+        &[ODD_SUM],
         THREE,
         [5, 4, 1],
-        Found::Answer(Priced::Least(5), [0, 1, 1, 0]),
+        (Priced::Least(5), Some([0, 1, 1, 0])),
     ),
     (
         Kind::Table,
         NEVER,
         [2, 1],
         WHOLE,
-        [SIX, NONE],
+        &[SIX],
         LOW,
         [-(1 << 58), -(1 << 57), 0],
-        Found::Answer(Priced::Least(-(3 << 57)), [1, 1, 0, 0]),
+        (Priced::Least(-(3 << 57)), Some([1, 1, 0, 0])),
     ),
     (
         Kind::Table,
         NEVER,
         [2, 1],
         WHOLE,
-        [SIX, NONE],
+        &[SIX],
         LOW,
         [-(1 << 58) - 1, -(1 << 57), 0],
-        Found::Answer(Priced::Least(-(3 << 57) - 1), [1, 1, 0, 0]),
+        (Priced::Least(-(3 << 57) - 1), Some([1, 1, 0, 0])),
     ),
 ];
 
@@ -442,27 +440,30 @@ fn problem_of(known: &Known) -> Problem {
         vars: known.2[0],
         rows: known.2[1],
         root: spans_of(&known.3),
-        lines: [line_of(&known.4[0]), line_of(&known.4[1]), line_of(&NONE)],
+        lines: [
+            line_at(known.4, 0),
+            line_at(known.4, 1),
+            line_at(known.4, 2),
+        ],
         zone: spans_of(&known.5),
         costs: [known.6[0], known.6[1], known.6[2], 0],
     }
 }
 
-// Whether an answer is the wanted one; points count where there is a least cost.
-fn is_wanted(found: &Found, wanted: &Found) -> bool {
-    match (found, wanted) {
-        (Found::Answer(Priced::Nothing, _), Found::Answer(Priced::Nothing, _)) => true,
-        (Found::Answer(Priced::Cut, _), Found::Answer(Priced::Cut, _)) => true,
-        _ => found == wanted,
+// Whether an answer is the wanted one.
+fn is_wanted(found: &Found, wanted: &(Priced, Option<[i64; 4]>)) -> bool {
+    match (found, wanted.1) {
+        (Found::Answer(answer, point), Some(first)) => *answer == wanted.0 && *point == first,
+        (Found::Declined, None) => true,
+        _ => false,
     }
 }
 
 // The place of a problem with another answer than the wanted one.
 fn wrong(alloc: Global) -> Result<Option<usize>, AllocError> {
     let mut wrong = None;
-    for place in 0..34 {
-        let known = KNOWN[place];
-        let found = asked(alloc, known.0, &problem_of(&known), known.1)?;
+    for (place, known) in KNOWN.iter().enumerate() {
+        let found = asked(alloc, known.0, &problem_of(known), known.1)?;
         if !is_wanted(&found, &known.7) {
             wrong = Some(place);
         }
@@ -472,18 +473,24 @@ fn wrong(alloc: Global) -> Result<Option<usize>, AllocError> {
 
 #[test]
 fn each_problem_has_its_answer(rt: HostRuntime) -> Result<(), Fail> {
-    let wrong = wrong(rt.alloc())?;
-    assert_eq!(rt; wrong, None);
-    Ok(())
+    check_none(&rt, wrong(rt.alloc()))
 }
 
-// How many beginnings of points the whole zone has.
-fn whole_prefixes(alloc: Global) -> Result<u128, AllocError> {
-    let problem = problem_of(&KNOWN[15]);
-    let zone = first_spans(&problem.zone, 2);
-    match block_of(alloc, &problem)? {
+// How many beginnings of points the zone of a problem has.
+fn zone_prefixes(alloc: Global, known: &Known) -> Result<u128, AllocError> {
+    let problem = problem_of(known);
+    let zone = firsts(&problem.zone, problem.vars);
+    match problem_block(alloc, &problem)? {
         Some(block) if block.spans().len() == zone.len() => Ok(prefixes(&block, zone)),
         _ => Ok(0),
+    }
+}
+
+// How many beginnings of points a whole zone of two variables has.
+fn whole_prefixes(alloc: Global) -> Result<u128, AllocError> {
+    match KNOWN.get(15) {
+        Some(known) => zone_prefixes(alloc, known),
+        None => Ok(0),
     }
 }
 
@@ -494,22 +501,30 @@ fn prefixes_of_two_spans(rt: HostRuntime) -> Result<(), Fail> {
 }
 
 /// Numbers with their parts.
-const PARTS: [(u64, [Option<u64>; 4]); 3] = [
-    (6, [Some(1), Some(2), Some(3), None]),
-    (7, [Some(1), Some(2), Some(4), None]),
-    (0, [None, None, None, None]),
-];
+const PARTS: &[(u64, &[u64])] = &[(6, &[1, 2, 3]), (7, &[1, 2, 4]), (0, &[])];
+
+// The part in a place, where there is one.
+fn part_at(wanted: &[u64], place: usize) -> Option<u64> {
+    match wanted.get(place) {
+        Some(part) => Some(*part),
+        None => None,
+    }
+}
+
+// Whether a number has these parts.
+fn has_parts(number: u64, wanted: &[u64]) -> bool {
+    let mut found = parts(number);
+    for place in 0..4 {
+        if found.next() != part_at(wanted, place) {
+            return false;
+        }
+    }
+    true
+}
 
 #[test]
 fn the_parts_of_small_numbers(rt: HostRuntime) {
-    let mut wrong = None;
-    for row in 0..3 {
-        let mut found = parts(PARTS[row].0);
-        for place in 0..4 {
-            if found.next() != PARTS[row].1[place] {
-                wrong = Some((row, place));
-            }
-        }
+    for (number, wanted) in PARTS {
+        assert!(rt; has_parts(*number, *wanted), "{number}");
     }
-    assert_eq!(rt; wrong, None);
 }

@@ -6,13 +6,13 @@
 #[cfg(test)]
 mod ask;
 #[cfg(test)]
+mod checks;
+#[cfg(test)]
 mod drawn;
 #[cfg(test)]
 mod known;
 #[cfg(test)]
-mod lots;
-#[cfg(test)]
-mod packed;
+mod plans;
 #[cfg(test)]
 mod problem;
 #[cfg(test)]

@@ -1,4 +1,4 @@
-// Blocks of at most four variables and three rows, a zone in each and costs.
+// Blocks, and those of at most four variables and three rows with a zone in each and costs.
 use block_form::Block;
 use bp_theory::{Items, Row, Sense, Span, Term};
 use std::alloc::{AllocError, Global};
@@ -27,13 +27,21 @@ pub struct Problem {
 /// The first three coefficients, sense and sides of a row.
 pub type Numbers = ([i64; 3], Sense, [i64; 2]);
 
-/// The line of these numbers.
-pub fn line_of(numbers: &Numbers) -> Line {
+// The line of these numbers.
+fn line_of(numbers: &Numbers) -> Line {
     Line {
         coefs: [numbers.0[0], numbers.0[1], numbers.0[2], 0],
         sense: numbers.1,
         low: numbers.2[0],
         rhs: numbers.2[1],
+    }
+}
+
+/// The line in a place, or one without terms that all numbers meet.
+pub fn line_at(rows: &[Numbers], place: usize) -> Line {
+    match rows.get(place) {
+        Some(numbers) => line_of(numbers),
+        None => line_of(&([0, 0, 0], Sense::Le, [0, 0])),
     }
 }
 
@@ -59,80 +67,135 @@ pub fn spans_of(ends: &[[i64; 2]; 3]) -> [Span; 4] {
     ]
 }
 
-/// The first so many of four spans.
-pub fn first_spans(spans: &[Span; 4], many: usize) -> &[Span] {
-    if many < 4 { &spans[..many] } else { &spans[..] }
+/// The first so many of a list.
+pub fn firsts<T>(all: &[T], many: usize) -> &[T] {
+    if many < all.len() { &all[..many] } else { all }
 }
 
-/// The first so many of four costs.
-pub fn first_costs(costs: &[i128; 4], many: usize) -> &[i128] {
-    if many < 4 { &costs[..many] } else { &costs[..] }
-}
+/// Coefficients of a row, one for each variable and maybe more, its sense and its sides.
+pub type Given<'a> = (&'a [i64], Sense, [i64; 2]);
 
-// The row of a line of so many variables.
-fn row_of(alloc: Global, line: &Line, vars: usize) -> Result<Row, AllocError> {
+// The row of so many variables.
+fn row_of(alloc: Global, given: &Given<'_>, vars: usize) -> Result<Row, AllocError> {
     let mut terms = Items::new(alloc);
-    for var in 0..4u32 {
-        let coef = line.coefs[var as usize];
-        if coef != 0 || (vars == 2 && var < 2) {
-            terms.push(Term { var, coef })?;
+    let mut var = 0u32;
+    for coef in firsts(given.0, vars) {
+        if *coef != 0 || vars == 2 {
+            terms.push(Term { var, coef: *coef })?;
         }
+        var = var.wrapping_add(1);
     }
     Ok(Row {
-        sense: line.sense,
-        low: line.low,
-        rhs: line.rhs,
+        sense: given.1,
+        low: given.2[0],
+        rhs: given.2[1],
         terms,
     })
 }
 
-// The rows of a problem.
-fn rows_of(alloc: Global, problem: &Problem) -> Result<Items<Row>, AllocError> {
+// The rows of so many variables.
+fn rows_of(alloc: Global, given: &[Given<'_>], vars: usize) -> Result<Items<Row>, AllocError> {
     let mut rows = Items::new(alloc);
-    for k in 0..3 {
-        if k < problem.rows {
-            rows.push(row_of(alloc, &problem.lines[k], problem.vars)?)?;
-        }
+    for one in given {
+        rows.push(row_of(alloc, one, vars)?)?;
     }
     Ok(rows)
 }
 
-/// As many lists without entries.
-pub fn empty_lists(alloc: Global, many: usize) -> Result<Items<Items<(u32, i64)>>, AllocError> {
-    let mut lists = Items::new(alloc);
-    for _ in 0..many {
-        lists.push(Items::new(alloc))?;
-    }
-    Ok(lists)
-}
-
-/// The block of a problem, without coefficients in master rows.
-pub fn block_of(alloc: Global, problem: &Problem) -> Result<Option<Block>, AllocError> {
-    let many = problem.vars;
-    let rows = rows_of(alloc, problem)?;
-    let masters = empty_lists(alloc, many)?;
-    let spans = Items::from_vec(first_spans(&problem.root, many).to_vec(alloc)?);
-    let costs = Items::from_vec(Vec::from_elem(alloc, 0i64, many)?);
-    let mut vars = Items::new(alloc);
-    for var in 0..4u32 {
-        if (var as usize) < many {
-            vars.push(var)?;
-        }
-    }
-    Ok(made(vars, spans, costs, masters, rows))
-}
-
-/// The block of these parts, where they are as many of each.
-pub fn made(
+// Variables with their spans, their costs and their coefficients in master rows.
+struct Vars {
     vars: Items<u32>,
     spans: Items<Span>,
     costs: Items<i64>,
     masters: Items<Items<(u32, i64)>>,
-    rows: Items<Row>,
-) -> Option<Block> {
-    let many = vars.len();
-    if many > 1000 || spans.len() != many || costs.len() != many || masters.len() != many {
-        return None;
+}
+
+impl Drop for Vars {
+    fn drop(self) {
+        let Vars {
+            vars: _,
+            spans: _,
+            costs: _,
+            masters: _,
+        } = self;
     }
-    Some(Block::make(vars, spans, costs, masters, rows))
+}
+
+// Adds a variable without coefficients in master rows.
+fn add_var(
+    alloc: Global,
+    all: &mut Vars,
+    var: u32,
+    span: &Span,
+    cost: i64,
+) -> Result<(), AllocError> {
+    all.vars.push(var)?;
+    all.spans.push(*span)?;
+    all.costs.push(cost)?;
+    all.masters.push(Items::new(alloc))
+}
+
+// The variables of these spans and costs.
+fn vars_of(alloc: Global, spans: &[Span], costs: &[i64]) -> Result<Vars, AllocError> {
+    let mut all = Vars {
+        vars: Items::new(alloc),
+        spans: Items::new(alloc),
+        costs: Items::new(alloc),
+        masters: Items::new(alloc),
+    };
+    let mut var = 0u32;
+    for (span, cost) in spans.iter().zip(costs.iter()) {
+        add_var(alloc, &mut all, var, span, *cost)?;
+        var = var.wrapping_add(1);
+    }
+    Ok(all)
+}
+
+/// The block of these root spans, costs and rows, without coefficients in master rows.
+pub fn block_of(
+    alloc: Global,
+    spans: &[Span],
+    costs: &[i64],
+    rows: &[Given<'_>],
+) -> Result<Option<Block>, AllocError> {
+    let all = vars_of(alloc, spans, costs)?;
+    let rows = rows_of(alloc, rows, spans.len())?;
+    Ok(all.into_block(rows))
+}
+
+impl Vars {
+    // The block of these variables and of rows, where the lists go together.
+    fn into_block(self, rows: Items<Row>) -> Option<Block> {
+        let many = self.vars.len();
+        if many > 1000
+            || self.spans.len() != many
+            || self.costs.len() != many
+            || self.masters.len() != many
+        {
+            return None;
+        }
+        let Vars {
+            vars,
+            spans,
+            costs,
+            masters,
+        } = self;
+        Some(Block::make(vars, spans, costs, masters, rows))
+    }
+}
+
+// The row of a line.
+fn given(line: &Line) -> Given<'_> {
+    (&line.coefs, line.sense, [line.low, line.rhs])
+}
+
+/// The block of a problem, whose own costs are 0.
+pub fn problem_block(alloc: Global, problem: &Problem) -> Result<Option<Block>, AllocError> {
+    let lines = [
+        given(&problem.lines[0]),
+        given(&problem.lines[1]),
+        given(&problem.lines[2]),
+    ];
+    let spans = firsts(&problem.root, problem.vars);
+    block_of(alloc, spans, &[0, 0, 0, 0], firsts(&lines, problem.rows))
 }

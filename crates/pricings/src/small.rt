@@ -1,6 +1,7 @@
 // Problems of two variables from -2 to 3, for which all points are tried.
 use crate::ask::Kind;
-use crate::problem::{Line, Numbers, Problem, line_of, spans_of};
+use crate::checks::check_none;
+use crate::problem::{Numbers, Problem, line_at, spans_of};
 use crate::tried::agrees;
 use bp_theory::Sense;
 use pricing::Cap;
@@ -8,79 +9,72 @@ use std::alloc::{AllocError, Global};
 use std::test::Fail;
 
 /// The numbers of a case: rows, zone and costs.
-type Shown = ([Numbers; 2], [[i64; 2]; 2], [i128; 2]);
-
-/// A row without terms, which all numbers meet: in place of a second one.
-const NONE: Numbers = ([0, 0, 0], Sense::Le, [0, 0]);
+type Shown<'a> = (&'a [Numbers], [[i64; 2]; 2], [i128; 2]);
 
 /// Cases of one row with each sense, negative coefficients and narrowed zones, some of them without a point.
-const ONE_ROW: [Shown; 12] = [
+const ONE_ROW: &[Shown<'static>] = &[
     (
-        [([3, 2, 0], Sense::Le, [5, 5]), NONE],
+        &[([3, 2, 0], Sense::Le, [5, 5])],
         [[-2, 3], [-2, 3]],
         [-5, -4],
     ),
     (
-        [([3, -2, 0], Sense::Le, [4, 4]), NONE],
+        &[([3, -2, 0], Sense::Le, [4, 4])],
         [[-2, 3], [-2, 3]],
         [-5, 4],
     ),
     (
-        [([-3, -2, 0], Sense::Le, [-5, -5]), NONE],
+        &[([-3, -2, 0], Sense::Le, [-5, -5])],
         [[-2, 3], [-2, 3]],
         [5, 4],
     ),
     (
-        [([3, -2, 0], Sense::Ge, [7, 7]), NONE],
+        &[([3, -2, 0], Sense::Ge, [7, 7])],
         [[-1, 2], [-2, 1]],
         [5, -4],
     ),
     (
-        [([-1, 4, 0], Sense::Ge, [-3, -3]), NONE],
+        &[([-1, 4, 0], Sense::Ge, [-3, -3])],
         [[0, 3], [-2, 0]],
         [-2, 7],
     ),
     (
-        [([2, -3, 0], Sense::Eq, [5, 5]), NONE],
+        &[([2, -3, 0], Sense::Eq, [5, 5])],
         [[-2, 3], [-2, 3]],
         [-1, 3],
     ),
     (
-        [([2, 4, 0], Sense::Eq, [5, 5]), NONE],
+        &[([2, 4, 0], Sense::Eq, [5, 5])],
         [[-2, 3], [-2, 3]],
         [1, 1],
     ),
     (
-        [([3, 5, 0], Sense::In, [4, 7]), NONE],
+        &[([3, 5, 0], Sense::In, [4, 7])],
         [[-2, 3], [-2, 3]],
         [2, -3],
     ),
     (
-        [([-3, 5, 0], Sense::In, [6, 6]), NONE],
+        &[([-3, 5, 0], Sense::In, [6, 6])],
         [[-2, 2], [0, 2]],
         [-7, -1],
     ),
     (
-        [([0, 2, 0], Sense::In, [1, 3]), NONE],
+        &[([0, 2, 0], Sense::In, [1, 3])],
         [[-2, 1], [-2, 3]],
         [-3, 5],
     ),
+    (&[([3, 2, 0], Sense::In, [1, 1])], [[0, 3], [0, 3]], [5, 4]),
     (
-        [([3, 2, 0], Sense::In, [1, 1]), NONE],
-        [[0, 3], [0, 3]],
-        [5, 4],
-    ),
-    (
-        [([2, 2, 0], Sense::Le, [-9, -9]), NONE],
+        &[([2, 2, 0], Sense::Le, [-9, -9])],
         [[-2, 3], [-2, 3]],
         [1, 1],
     ),
 ];
 
 /// Cases of two rows.
-const TWO_ROWS: [Shown; 12] = [
+const TWO_ROWS: &[Shown<'static>] = &[
     (
-        [
+        &[
             ([3, 2, 0], Sense::Le, [5, 5]),
             ([1, -1, 0], Sense::Ge, [-1, -1]),
         ],
@@ -88,7 +82,7 @@ const TWO_ROWS: [Shown; 12] = [
         [-5, -4],
     ),
     (
-        [
+        &[
             ([3, -2, 0], Sense::Le, [4, 4]),
             ([1, 1, 0], Sense::In, [1, 2]),
         ],
@@ -96,7 +90,7 @@ const TWO_ROWS: [Shown; 12] = [
         [-5, 4],
     ),
     (
-        [
+        &[
             ([-3, -2, 0], Sense::Le, [-5, -5]),
             ([1, 2, 0], Sense::Ge, [4, 4]),
         ],
@@ -104,7 +98,7 @@ const TWO_ROWS: [Shown; 12] = [
         [5, 4],
     ),
     (
-        [
+        &[
             ([3, -2, 0], Sense::Ge, [7, 7]),
             ([0, 0, 0], Sense::Le, [0, 0]),
         ],
@@ -112,7 +106,7 @@ const TWO_ROWS: [Shown; 12] = [
         [5, -4],
     ),
     (
-        [
+        &[
             ([-1, 4, 0], Sense::Ge, [-3, -3]),
             ([1, 1, 0], Sense::Eq, [1, 1]),
         ],
@@ -120,7 +114,7 @@ const TWO_ROWS: [Shown; 12] = [
         [-2, 7],
     ),
     (
-        [
+        &[
             ([2, -3, 0], Sense::Eq, [5, 5]),
             ([1, 1, 0], Sense::Eq, [0, 0]),
         ],
@@ -128,7 +122,7 @@ const TWO_ROWS: [Shown; 12] = [
         [-1, 3],
     ),
     (
-        [
+        &[
             ([2, 4, 0], Sense::Eq, [6, 6]),
             ([1, 0, 0], Sense::Ge, [2, 2]),
         ],
@@ -136,7 +130,7 @@ const TWO_ROWS: [Shown; 12] = [
         [1, 1],
     ),
     (
-        [
+        &[
             ([3, 5, 0], Sense::In, [4, 7]),
             ([-1, 2, 0], Sense::In, [-3, 3]),
         ],
@@ -144,7 +138,7 @@ const TWO_ROWS: [Shown; 12] = [
         [2, -3],
     ),
     (
-        [
+        &[
             ([-3, 5, 0], Sense::In, [6, 6]),
             ([1, 1, 0], Sense::Le, [3, 3]),
         ],
@@ -152,7 +146,7 @@ const TWO_ROWS: [Shown; 12] = [
         [-7, -1],
     ),
     (
-        [
+        &[
             ([0, 2, 0], Sense::In, [1, 3]),
             ([4, -1, 0], Sense::Ge, [-9, -9]),
         ],
@@ -160,7 +154,7 @@ const TWO_ROWS: [Shown; 12] = [
         [-3, 5],
     ),
     (
-        [
+        &[
             ([1, 2, 0], Sense::Eq, [3, 3]),
             ([1, 2, 0], Sense::Eq, [4, 4]),
         ],
@@ -168,7 +162,7 @@ const TWO_ROWS: [Shown; 12] = [
         [1, 1],
     ),
     (
-        [
+        &[
             ([2, 2, 0], Sense::Le, [3, 3]),
             ([1, 0, 0], Sense::Ge, [4, 4]),
         ],
@@ -178,53 +172,33 @@ const TWO_ROWS: [Shown; 12] = [
 ];
 
 // The problem of these numbers, with so many of the rows.
-fn problem_of(shown: &Shown, rows: usize) -> Problem {
-    let none: Line = line_of(&NONE);
+fn problem_of(shown: &Shown<'_>, rows: usize) -> Problem {
     Problem {
         vars: 2,
         rows,
         root: spans_of(&[[-2, 3], [-2, 3], [0, 0]]),
-        lines: [line_of(&shown.0[0]), line_of(&shown.0[1]), none],
+        lines: [
+            line_at(shown.0, 0),
+            line_at(shown.0, 1),
+            line_at(shown.0, 2),
+        ],
         zone: spans_of(&[shown.1[0], shown.1[1], [0, 0]]),
         costs: [shown.2[0], shown.2[1], 0, 0],
     }
 }
 
-// The place of the first case that a pricer answers otherwise than all points tried.
-fn first_wrong(
-    alloc: Global,
-    kind: Kind,
-    cases: &[Shown; 12],
-    rows: usize,
-) -> Result<Option<usize>, AllocError> {
-    for place in 0..12 {
-        if !agrees(alloc, kind, &problem_of(&cases[place], rows), Cap::Never)? {
-            return Ok(Some(place));
-        }
-    }
-    Ok(None)
-}
-
-#[test]
-fn all_points_tried_give_the_same(rt: HostRuntime) -> Result<(), Fail> {
-    let one = first_wrong(rt.alloc(), Kind::Table, &ONE_ROW, 1)?;
-    let two = first_wrong(rt.alloc(), Kind::Search, &TWO_ROWS, 2)?;
-    assert_eq!(rt; (one, two), (None, None));
-    Ok(())
-}
-
 /// Coefficients of the first and of the second variable, and senses.
-const FIRSTS: [i64; 4] = [-3, -1, 0, 2];
+const FIRSTS: &[i64; 4] = &[-3, -1, 0, 2];
 
-const SECONDS: [i64; 4] = [-2, 0, 1, 3];
+const SECONDS: &[i64; 4] = &[-2, 0, 1, 3];
 
-const SENSES: [Sense; 4] = [Sense::Le, Sense::Ge, Sense::Eq, Sense::In];
+const SENSES: &[Sense; 4] = &[Sense::Le, Sense::Ge, Sense::Eq, Sense::In];
 
 /// Costs of both signs, none, and close to the greatest that a pricer takes.
-const COSTS: [[i128; 2]; 5] = [[-5, 3], [4, -7], [-1, -1], [0, 2], [1 << 113, -(1 << 113)]];
+const COSTS: &[[i128; 2]; 5] = &[[-5, 3], [4, -7], [-1, -1], [0, 2], [1 << 113, -(1 << 113)]];
 
 /// Zones within the root, narrow and whole.
-const ZONES: [[[i64; 2]; 2]; 3] = [[[-2, 3], [-2, 3]], [[-1, 3], [0, 1]], [[2, 2], [-2, 2]]];
+const ZONES: &[[[i64; 2]; 2]; 3] = &[[[-2, 3], [-2, 3]], [[-1, 3], [0, 1]], [[2, 2], [-2, 2]]];
 
 /// How many small rows there are, with lower sides from -4 to 4, and each upper one 1 above, with all costs and zones.
 const SMALL: usize = 4 * 4 * 4 * 9 * 5 * 3;
@@ -236,18 +210,66 @@ fn small(number: usize) -> Problem {
     let low = (number / 15 % 9) as i64 - 4;
     let sense = SENSES[number / 135 % 4];
     let coefs = [FIRSTS[number / 2160 % 4], SECONDS[number / 540 % 4], 0];
-    problem_of(&([(coefs, sense, [low, low + 1]), NONE], zone, costs), 1)
+    problem_of(&(&[(coefs, sense, [low, low + 1])], zone, costs), 1)
+}
+
+/// Which problems.
+#[derive(Clone, Copy)]
+enum Source {
+    /// These, with so many of their rows.
+    Shown(&'static [Shown<'static>], usize),
+    /// Those of small rows.
+    Small,
+}
+
+// The problem of a number.
+fn problem(source: Source, number: usize) -> Option<Problem> {
+    match source {
+        Source::Shown(all, rows) => match all.get(number) {
+            Some(shown) => Some(problem_of(shown, rows)),
+            None => None,
+        },
+        Source::Small => Some(small(number)),
+    }
+}
+
+// Whether a pricer answers to the problem of a number what all points tried give.
+fn is_right(alloc: Global, kind: Kind, source: Source, number: usize) -> Result<bool, AllocError> {
+    match problem(source, number) {
+        Some(problem) => agrees(alloc, kind, &problem, Cap::Never),
+        None => Ok(false),
+    }
+}
+
+// The last of so many problems to which it answers otherwise.
+fn wrong(
+    alloc: Global,
+    kind: Kind,
+    source: Source,
+    many: usize,
+) -> Result<Option<usize>, AllocError> {
+    let mut wrong = None;
+    for number in 0..many {
+        if !is_right(alloc, kind, source, number)? {
+            wrong = Some(number);
+        }
+    }
+    Ok(wrong)
+}
+
+#[test]
+fn one_row_with_each_sense(rt: HostRuntime) -> Result<(), Fail> {
+    let source = Source::Shown(ONE_ROW, 1);
+    check_none(&rt, wrong(rt.alloc(), Kind::Table, source, 12))
+}
+
+#[test]
+fn two_rows_at_a_time(rt: HostRuntime) -> Result<(), Fail> {
+    let source = Source::Shown(TWO_ROWS, 2);
+    check_none(&rt, wrong(rt.alloc(), Kind::Search, source, 12))
 }
 
 #[test]
 fn small_rows_of_each_sense(rt: HostRuntime) -> Result<(), Fail> {
-    let alloc = rt.alloc();
-    let mut wrong = None;
-    for number in 0..SMALL {
-        if !agrees(alloc, Kind::Table, &small(number), Cap::Never)? {
-            wrong = Some(number);
-        }
-    }
-    assert_eq!(rt; wrong, None);
-    Ok(())
+    check_none(&rt, wrong(rt.alloc(), Kind::Table, Source::Small, SMALL))
 }
