@@ -328,7 +328,9 @@ fn add_partition_if_asked(
     )
 }
 
-// Ends a round: generation ends where the known cost is reached, or the master's is and meets its rows, else the box moves.
+// Ends a round: generation ends where the known cost is reached, where no column is new and the master meets its rows with no box
+// round its multipliers (in a box the slack of a row may be cheaper than columns that are not there yet), or where the bound reaches
+// the master's cost; else the box moves.
 fn end_round(
     centre: &Centre,
     all: &mut Generation,
@@ -341,7 +343,7 @@ fn end_round(
     if is_reached(centre.value, effort.known) {
         return Step::Ended;
     }
-    if solved.is_whole && added == 0 || solved.is_reached(centre) {
+    if solved.is_whole && added == 0 && all.width.is_none() || solved.is_reached(centre) {
         return Step::Ended;
     }
     move_box(centre, all, added > 0, is_better)
