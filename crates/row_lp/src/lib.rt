@@ -1,5 +1,6 @@
-//! The linear relaxation of the rows of a program in blocks and of its cuts, for programs whose blocks have no rows:
-//! what the search without columns and the choice of cuts both begin from.
+//! The linear relaxation of a program in blocks over the rows that proofs may name, its cuts among them, without the rows of
+//! its blocks: what the search without columns and the choice of cuts both begin from. Where blocks have no rows it is the
+//! relaxation of the whole program, and else its ranges of rows serve the master over columns.
 #![tactic(auto)]
 
 use block_form::Blocked;
