@@ -4,7 +4,7 @@ use Rattle.std.specs.Prelude.{◌⊎◌, sum_by, All, IsTrue}
 use Rattle.std.specs.List.{AllByRecursion}
 use Rattle.std.proofs.lemmas.List.Elements.{recursion_from_All, All-from_recursion}
 use Rattle.std.proofs.lemmas.List.Sums.{sum_by-cons, sum_by-append}
-use Rattle.state_price.specs.Limits.{IsBeyond}
+use Rattle.state_graph.specs.Limits.{IsBeyond}
 use Rattle.lagr_bound.specs.Pricers.{is_search, most_graph_arcs, IsUngraphed, HasSpent}
 use Rattle.lagr_bound.specs.Desks.{form_of, begun_at, IsNear, IsGraphed, HaveGraphs}
 use Rattle.lagr_bound.proofs.DeskLemmas.{all_more}

@@ -1,6 +1,6 @@
 -- What desks show.
 use Rattle.std.specs.Prelude.{◌≡◌, ℕ, ◌<◌, List, [], sum_by, All, IsTrue, ℤ}
-use Rattle.state_price.specs.Limits.{beginnings, IsBeyond}
+use Rattle.state_graph.specs.Limits.{beginnings, IsBeyond}
 use Rattle.lagr_bound.specs.Forms.{BlockForm}
 use Rattle.lagr_bound.specs.Pricers.{rows_of, spans_of, kept_point, is_search, most_graph_arcs}
 use Rattle.lagr_bound.specs.declared.desk.Desk.{Desk}

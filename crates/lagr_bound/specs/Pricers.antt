@@ -6,7 +6,7 @@ use Rattle.knap_price.specs.Kept as by_table
 use Rattle.knap_price.specs.Rooms.{cells_of}
 use Rattle.knap_price.specs.Taken.{IsTaken}
 use Rattle.state_price.specs.Kept as by_states
-use Rattle.state_price.specs.Limits.{beginnings, IsBeyond}
+use Rattle.state_graph.specs.Limits.{beginnings, IsBeyond}
 use Rattle.search_price.specs.Kept as by_search
 use Rattle.lagr_bound.specs.Forms.{BlockForm}
 use Rattle.lagr_bound.specs.declared.pricers.GraphRoom.{GraphRoom}

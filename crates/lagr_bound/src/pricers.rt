@@ -29,7 +29,7 @@ impl GraphRoom {
     ghost use Rattle.std.specs.Prelude.{◌≡◌, ◌+◌, ◌≤◌, ◌⊎◌, [], IfSome, IfNone};
     ghost use Rattle.std.specs.Bool.{OnFalse};
     ghost use Rattle.state_price.specs.Kept.{spans_of};
-    ghost use Rattle.state_price.specs.Limits.{beginnings};
+    ghost use Rattle.state_graph.specs.Limits.{beginnings};
     ghost use Rattle.lagr_bound.specs.Pricers.{IsSpent, most_graph_arcs};
 
     /// All that may be spent for a program.

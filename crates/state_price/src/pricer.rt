@@ -6,31 +6,22 @@ ghost use Rattle.pricing.specs.Form.{IsForm, IsPriceable, cost_size};
 ghost use Rattle.pricing.specs.Priced.{IsCheapest, HasNoPoint};
 ghost use Rattle.bp_theory.specs.declared.Span.{Span};
 ghost use Rattle.bp_theory.specs.declared.Row.{Row};
-ghost use Rattle.state_price.specs.Graphs.{IsFaithful};
-ghost use Rattle.state_price.specs.Best.{IsLeastFrom};
-ghost use Rattle.state_price.specs.Pairs.{steps_with, AreLinked};
-ghost use Rattle.state_price.specs.Rooms.{HasRoom};
-ghost use Rattle.state_price.specs.Limits.{beginnings, IsBeyond};
-ghost use Rattle.state_price.specs.Orders.{rows_by, spans_by};
+ghost use Rattle.layer_graph.specs.Graphs.{IsFaithful};
+ghost use Rattle.graph_pass.specs.Pairs.{steps_with, AreLinked};
+ghost use Rattle.graph_pass.specs.Rooms.{HasRoom};
+ghost use Rattle.state_graph.specs.Limits.{beginnings, IsBeyond};
+ghost use Rattle.var_order.specs.Orders.{rows_by, spans_by};
 ghost use Rattle.state_price.specs.Arranged.{graph_rows, graph_spans, block_point};
 
 use crate::arranged::Arranged;
-use crate::beginnings::has_beginnings;
-use crate::beside::write_way;
-use crate::build::build;
-use crate::graph::Graph;
-use crate::least::{long_least, short_least};
-use crate::margins::Margins;
-use crate::order::{Order, arrange_spans, renamed_rows};
-use crate::pairs::{Pair, pairs_in};
-use crate::pass::{Work, has_way};
-use crate::rule::other_order;
-use crate::short::are_short;
-use crate::walk::walk;
 use block_form::Block;
 use bp_theory::{Items, Row, Span};
+use graph_pass::{Margins, Pair, Work, are_short, pairs_in, price_zone, write_way};
+use layer_graph::Graph;
 use pricing::{Cap, Priced, Pricer, copied_rows, copied_spans};
+use state_graph::{build, has_beginnings};
 use std::alloc::{AllocError, Global};
+use var_order::{Order, arrange_spans, other_order, renamed_rows};
 
 /// Prices a block by a graph of states, which is made once, as is all memory that a price needs. It is never cut. Where the graph
 /// takes the block's variables in another order, zone and costs are written in that order, and the point is written back.
@@ -60,7 +51,7 @@ impl StatePricer {
     ghost use Rattle.bp_theory.specs.Bound.{IsPoint};
     ghost use Rattle.pricing.specs.Form.{IsForm, AreOf};
     ghost use Rattle.state_price.specs.Kept.{rows_of, spans_of, kept_point};
-    ghost use Rattle.state_price.specs.Limits.{beginnings, IsBeyond};
+    ghost use Rattle.state_graph.specs.Limits.{beginnings, IsBeyond};
 
     /// The pricer of a block, if its graph keeps the limits: at most 2^18 arcs and 2^25 windows that they lead to
     /// (arcs times rows), at most 2^22 windows that the arcs of a layer lead to, at most 2^21 nodes if each layer had as many
@@ -256,85 +247,6 @@ fn ruled_pricer(
     let arranged = Arranged::make(alloc, order)?;
     let pricer = kept(alloc, rows, spans, graph, Some(arranged))?;
     Ok(Some(pricer))
-}
-
-/// A number as it is.
-fn copied(number: &i128) -> i128
-    ensures { result ≡ number.now }
-{
-    *number
-}
-
-/// The least cost of a way within a zone, if there is one, whose numbers the point then has, where the picks lead it.
-fn answer_of(
-    graph: &Graph,
-    lists: &[Items<Pair>],
-    work: &mut Work,
-    zone: &[Span],
-    costs: &[i128],
-    least: &i128,
-) -> Option<i128>
-    requires room { HasRoom graph.now work.old }
-    requires linked { AreLinked graph.now.wide graph.now.steps.items lists.now }
-    requires zone { length zone.now ≡ vec_len graph.now.steps }
-    requires costs { length costs.now ≡ vec_len graph.now.steps }
-    requires least { IsLeastFrom (steps_with graph.now.wide graph.now.steps.items lists.now)
-        work.old.picks.items zone.now costs.now 0 least.now }
-    ensures room { HasRoom graph.now work.new }
-    ensures answer { (rows : List Row) (spans : List Span) →
-        IsFaithful rows spans (steps_with graph.now.wide graph.now.steps.items lists.now) →
-        IsPriceable spans zone.now costs.now → MatchOption result (HasNoPoint rows zone.now)
-        (λ v. IsCheapest rows zone.now costs.now work.new.point.items v) }
-{
-    if !has_way(least) {
-        return None;
-    }
-    walk(&mut work.point, graph, lists, &work.picks, zone, costs);
-    Some(copied(least))
-}
-
-/// The least cost of a way within a zone, if there is one, whose numbers the point then has: in 128 bits.
-fn price_long(graph: &Graph, work: &mut Work, zone: &[Span], costs: &[i128]) -> Option<i128>
-    requires room { HasRoom graph.now work.old }
-    requires zone { length zone.now ≡ vec_len graph.now.steps }
-    requires costs { length costs.now ≡ vec_len graph.now.steps }
-    requires sizes { cost_size zone.now costs.now ≤ 2 ^ 116 }
-    ensures room { HasRoom graph.now work.new }
-    ensures answer { (rows : List Row) (spans : List Span) →
-        IsFaithful rows spans graph.now.steps.items → IsPriceable spans zone.now costs.now →
-        MatchOption result (HasNoPoint rows zone.now)
-        (λ v. IsCheapest rows zone.now costs.now work.new.point.items v) }
-{
-    let least = long_least(graph, work, zone, costs);
-    answer_of(graph, &[], work, zone, costs, &least)
-}
-
-/// The least cost of a way within a zone, if there is one, whose numbers the point then has: in 64 bits where that is enough.
-fn price_zone(
-    graph: &Graph,
-    lists: &[Items<Pair>],
-    work: &mut Work,
-    zone: &[Span],
-    costs: &[i128],
-) -> Option<i128>
-    requires room { HasRoom graph.now work.old }
-    requires linked { AreLinked graph.now.wide graph.now.steps.items lists.now }
-    requires zone { length zone.now ≡ vec_len graph.now.steps }
-    requires costs { length costs.now ≡ vec_len graph.now.steps }
-    requires sizes { cost_size zone.now costs.now ≤ 2 ^ 116 }
-    ensures room { HasRoom graph.now work.new }
-    ensures answer { (rows : List Row) (spans : List Span) →
-        IsFaithful rows spans graph.now.steps.items →
-        IsFaithful rows spans (steps_with graph.now.wide graph.now.steps.items lists.now) →
-        IsPriceable spans zone.now costs.now →
-        MatchOption result (HasNoPoint rows zone.now)
-        (λ v. IsCheapest rows zone.now costs.now work.new.point.items v) }
-{
-    if are_short(zone, costs) {
-        let least = short_least(graph, lists, work, zone, costs);
-        return answer_of(graph, lists, work, zone, costs, &least);
-    }
-    price_long(graph, work, zone, costs)
 }
 
 /// The least cost of a way by a graph in another order, if there is one, and its point in the block's own.

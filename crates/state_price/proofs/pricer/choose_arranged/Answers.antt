@@ -4,9 +4,9 @@ use Rattle.std.specs.Bool.{OnTrue}
 use Rattle.bp_theory.specs.Program.{IsInside}
 use Rattle.bp_theory.specs.Bound.{IsPoint}
 use Rattle.bp_theory.specs.declared.Span.{Span}
-use Rattle.state_price.specs.Orders.{spans_by, numbers_by}
-use Rattle.state_price.specs.declared.order.Order.{Order}
-use Rattle.state_price.proofs.BesideLaws.{way_back}
+use Rattle.var_order.specs.Orders.{spans_by, numbers_by}
+use Rattle.var_order.specs.declared.order.Order.{Order}
+use Rattle.state_price.proofs.WayLaws.{way_back}
 use Rattle.state_price.proofs.pricer.choose_arranged.Goals as goal
 
 pub returns-clause-point : goal.returns-clause-point

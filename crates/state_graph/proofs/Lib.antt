@@ -1,0 +1,10 @@
+pub mod WindowLaws
+pub mod GraphLaws
+pub mod ExpandLaws
+pub mod ColumnLaws
+pub mod BlockLaws
+pub mod TwinLaws
+pub mod LayerLaws
+pub mod LimitLaws
+pub mod SizeLaws
+pub mod MergeLaws

@@ -1,6 +1,0 @@
-use Rattle.std.proofs.Common.{◌≤◌, drop}
-use Rattle.bp_theory.specs.Classes.{prefixes}
-use Rattle.state_price.proofs.beginnings.has_beginnings.Given as goal
-
-abbrev pub invariant-loop-k : goal.invariant-loop-k
-invariant-loop-k l = l.prefixes ≤ prefixes (drop l.k l.spans)

@@ -1,9 +1,0 @@
-use Rattle.std.proofs.Common.{◌≡◌, vec_len}
-use Rattle.state_price.specs.Pairs.{ArePairs}
-use Rattle.state_price.proofs.pairs.pairs_of.Given as goal
-
-abbrev pub invariant-loop-place : goal.invariant-loop-place
-invariant-loop-place l = record {
-  nodes : vec_len l.pairs ≡ l.nodes;
-  pairs : ArePairs l.dead l.arcs l.place l.pairs.items;
-}

@@ -1,9 +1,0 @@
-use Rattle.std.proofs.Common.{◌≡◌, length, vec_len}
-use Rattle.state_price.specs.Windows.{IsJoined}
-use Rattle.state_price.proofs.twins.join_all.Given as goal
-
-abbrev pub invariant-loop-row : goal.invariant-loop-row
-invariant-loop-row l = record {
-  room : vec_len l.windows ≡ length l.twins;
-  joined : IsJoined l.twins l.initial.windows.items l.windows.items;
-}
