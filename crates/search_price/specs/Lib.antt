@@ -1,13 +1,2 @@
--- Other crates cite Kept. The rest are words of contracts here alone.
-pub mod Orders
-pub mod Columns
-pub mod Shifts
-pub mod Reach
-pub mod Best
-pub mod Search
-pub mod Levels
-pub mod Relax
-pub mod Sizes
-pub mod Caps
+-- Other crates cite Kept.
 pub mod Kept
-pub mod Divisors

@@ -1,19 +1,13 @@
 // The pricer by search.
 ghost use Rattle.std.specs.Prelude.{◌≡◌, vec_len};
-ghost use Rattle.search_price.specs.Sizes.{HasPlaces};
+ghost use Rattle.depth_search.specs.Sizes.{HasPlaces};
 
-use crate::begin::{begin, least_cost};
-use crate::caps::visits_under;
-use crate::dive::Dive;
-use crate::form::Form;
-use crate::frame::Frame;
-use crate::moves::rows_can_meet;
-use crate::multipliers::Multipliers;
-use crate::order::set_order;
-use crate::relax::Relaxed;
-use crate::search::explore;
 use block_form::Block;
 use bp_theory::Span;
+use depth_search::{
+    Dive, Form, Frame, Multipliers, Relaxed, begin, explore, least_cost, rows_can_meet, set_order,
+    visits_under,
+};
 use pricing::{Cap, Priced, Pricer};
 use std::alloc::{AllocError, Global};
 

@@ -13,7 +13,7 @@ use std::alloc::{AllocError, Global};
 pub struct Order {
     pub vars: Vec<usize>,
     pub places: Vec<usize>,
-    ghost order: { IsOrder (length vars.items) vars.items places.items },
+    pub ghost order: { IsOrder (length vars.items) vars.items places.items },
 }
 
 impl Order {
