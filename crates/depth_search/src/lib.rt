@@ -2,7 +2,6 @@
 //! and by cost with rows added. All memory that it needs is taken before.
 #![tactic(auto)]
 
-mod begin;
 mod caps;
 mod columns;
 mod dive;
@@ -15,9 +14,9 @@ mod order;
 mod relax;
 mod search;
 mod shifts;
+mod start;
 mod steps;
 
-pub use begin::{begin, least_cost};
 pub use caps::{prefixes, visits_under};
 pub use columns::Entry;
 pub use dive::{Dive, Visits};
@@ -28,3 +27,4 @@ pub use multipliers::Multipliers;
 pub use order::set_order;
 pub use relax::Relaxed;
 pub use search::explore;
+pub use start::{begin, least_cost};

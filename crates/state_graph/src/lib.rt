@@ -5,11 +5,11 @@
 #![tactic(auto)]
 
 mod beginnings;
-mod build;
 mod clip;
 mod columns;
 mod expand;
 mod fans;
+mod graph;
 mod layers;
 mod merge;
 mod root;
@@ -17,4 +17,4 @@ mod states;
 mod twins;
 
 pub use beginnings::has_beginnings;
-pub use build::build;
+pub use graph::build;

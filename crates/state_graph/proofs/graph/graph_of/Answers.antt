@@ -15,7 +15,7 @@ use Rattle.state_graph.specs.declared.expand.Frontier.{Frontier}
 use Rattle.state_graph.proofs.GraphLaws.{layer_at, last_bare, graph_more, ordered_more, graph_safe, end_right}
 use Rattle.state_graph.proofs.LimitLaws.{with_empty, layers_behind, begun_more, begun_full}
 use Rattle.std.proofs.lemmas.Bool.{cases_lt}
-use Rattle.state_graph.proofs.build.graph_of.Goals as goal
+use Rattle.state_graph.proofs.graph.graph_of.Goals as goal
 
 shape_of : (rows : ℕ) (layers : List Layer) (k : ℕ) (l : Layer) → l ≡ get_or layers k l
     → IsShaped rows (get_or layers k l) × AreHulls (drop (suc k) layers) (get_or layers k l).hulls × AreTwins (drop (suc k) layers) (get_or layers k l).twins → IsShaped rows l

@@ -1,6 +1,6 @@
 use Rattle.std.proofs.Common.{pos, arith}
 use Rattle.std.proofs.lemmas.List.{ext_get_or}
-use Rattle.depth_search.proofs.begin.copy_spans.Goals as goal
+use Rattle.depth_search.proofs.start.copy_spans.Goals as goal
 
 pub returns : goal.returns
 returns c =

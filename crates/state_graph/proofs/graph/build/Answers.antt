@@ -9,7 +9,7 @@ use Rattle.state_graph.specs.declared.layers.Layer.{Layer}
 use Rattle.state_graph.specs.declared.columns.Layers.{Layers}
 use Rattle.layer_graph.specs.declared.graph.Graph.{Graph}
 use Rattle.state_graph.proofs.BlockLaws.{layers_short, block_graph, beyond_by}
-use Rattle.state_graph.proofs.build.build.Goals as goal
+use Rattle.state_graph.proofs.graph.build.Goals as goal
 
 pub merged_of-requires-clause-short : goal.merged_of-requires-clause-short
 merged_of-requires-clause-short c =

@@ -1,7 +1,7 @@
 use Rattle.std.proofs.Common.{◌≡◌, ℕ, ◌<◌, get_or, length, pos}
 use Rattle.bp_theory.specs.declared.Row.{Row}
 use Rattle.depth_search.specs.Reach.{low_reach, high_reach}
-use Rattle.depth_search.proofs.begin.begin.Given as goal
+use Rattle.depth_search.proofs.start.begin.Given as goal
 
 abbrev pub invariant-loop-row : goal.invariant-loop-row
 invariant-loop-row l = record {

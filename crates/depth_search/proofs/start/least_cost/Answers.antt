@@ -4,7 +4,7 @@ use mir.Val.{of_z, to_z}
 use Rattle.bp_theory.specs.Bound.{box_least}
 use Rattle.pricing.proofs.Passed.{passed}
 use Rattle.depth_search.proofs.BeginLaws.{cost_fits, cost_total_fits, box_least_more}
-use Rattle.depth_search.proofs.begin.least_cost.Goals as goal
+use Rattle.depth_search.proofs.start.least_cost.Goals as goal
 
 pub least_end-end-requires : goal.least_end-end-requires
 least_end-end-requires c = cost_fits c.args.zone.now c.args.costs.now c.loop-k.k c.loop-k-test.true c.requires.sizes

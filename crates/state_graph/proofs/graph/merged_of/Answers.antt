@@ -6,7 +6,7 @@ use Rattle.layer_graph.specs.Graphs.{AreOrdered, HasSameWays}
 use Rattle.state_graph.specs.Limits.{HasManyArcs}
 use Rattle.layer_graph.specs.declared.graph.Graph.{Graph}
 use Rattle.state_graph.proofs.MergeLaws.{same_right}
-use Rattle.state_graph.proofs.build.merged_of.Goals as goal
+use Rattle.state_graph.proofs.graph.merged_of.Goals as goal
 
 pub returns-clause-right : goal.returns-clause-right
 returns-clause-right c =

@@ -6,7 +6,7 @@ use Rattle.bp_theory.specs.Bound.{end_cost}
 use Rattle.pricing.proofs.EndLaws.{end_cost-within}
 use Rattle.pricing.proofs.Passed.{passed}
 use Rattle.depth_search.proofs.BeginLaws.{term_short, row_sum_fits, reach_by_more}
-use Rattle.depth_search.proofs.begin.sum_of_lows.Goals as goal
+use Rattle.depth_search.proofs.start.sum_of_lows.Goals as goal
 
 pub least_of-end-requires-clause-short : goal.least_of-end-requires-clause-short
 least_of-end-requires-clause-short c =

@@ -6,7 +6,7 @@ use Rattle.pricing.specs.Ends.{top_cost}
 use Rattle.pricing.proofs.EndLaws.{top_cost-within}
 use Rattle.pricing.proofs.Passed.{passed}
 use Rattle.depth_search.proofs.BeginLaws.{term_short, row_sum_fits, reach_by_more}
-use Rattle.depth_search.proofs.begin.sum_of_highs.Goals as goal
+use Rattle.depth_search.proofs.start.sum_of_highs.Goals as goal
 
 pub top_of-end-requires-clause-short : goal.top_of-end-requires-clause-short
 top_of-end-requires-clause-short c =

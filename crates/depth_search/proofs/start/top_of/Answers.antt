@@ -4,7 +4,7 @@ use Rattle.bp_theory.specs.Program.{span_at}
 use Rattle.pricing.specs.Ends.{top_cost}
 use Rattle.pricing.proofs.EndLaws.{top_cost-within}
 use Rattle.pricing.proofs.Passed.{passed}
-use Rattle.depth_search.proofs.begin.top_of.Goals as goal
+use Rattle.depth_search.proofs.start.top_of.Goals as goal
 
 pub returns-clause-small : goal.returns-clause-small
 returns-clause-small c =

@@ -6,7 +6,7 @@ use Rattle.state_graph.specs.Limits.{beginnings}
 use Rattle.layer_graph.specs.Graphs.{IsSafe, AreOrdered}
 use Rattle.state_graph.specs.Expansions.{HaveRows, IsRight, AreRight, IsEndState}
 use Rattle.layer_graph.specs.declared.graph.Arc.{Arc}
-use Rattle.state_graph.proofs.build.graph_of.Given as goal
+use Rattle.state_graph.proofs.graph.graph_of.Given as goal
 
 abbrev pub invariant-loop-layer : goal.invariant-loop-layer
 invariant-loop-layer l = record {

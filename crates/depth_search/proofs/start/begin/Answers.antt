@@ -9,7 +9,7 @@ use Rattle.pricing.proofs.Passed.{passed}
 use Rattle.depth_search.specs.Reach.{low_reach, high_reach}
 use Rattle.depth_search.proofs.BeginLaws.{map_from_places, zone_itself, read_places, sum_set}
 use Rattle.depth_search.proofs.PlaceLaws.{many_spans}
-use Rattle.depth_search.proofs.begin.begin.Goals as goal
+use Rattle.depth_search.proofs.start.begin.Goals as goal
 
 pub returns-clause-tracked : goal.returns-clause-tracked
 returns-clause-tracked c =
