@@ -60,7 +60,7 @@ impl StatePricer {
     /// while it is made at most 230 MiB. There is none only where a graph with an arc for each beginning of an assignment would
     /// pass one of these, or where there are no variables and no point (`IsBeyond`): a block of few beginnings has a graph. One of
     /// many beginnings may have a graph too, since its beginnings share states; whether it has, no clause tells. The graph takes
-    /// the block's variables in the order that a rule gives (`rule.rt`), or in the block's own where the rule gives none, or none
+    /// the block's variables in the order that a rule gives (`var_order`), or in the block's own where the rule gives none, or none
     /// whose graph keeps the limits and took no more arcs than there are beginnings.
     pub fn make(alloc: Global, block: &Block) -> Result<Option<StatePricer>, AllocError>
         requires { IsForm block.now.block.rows block.now.spans }
