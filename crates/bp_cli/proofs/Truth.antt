@@ -21,9 +21,9 @@ use Rattle.search_laws.specs.Grove.{GrowingTree}
 use Rattle.lp_read.specs.Reading as lp_text
 use Rattle.lp_read.proofs.Readings as lp_laws
 use Rattle.block_form.specs.Blocked.{BlockedProgram, IsFormed}
-use Rattle.cert_text.specs.Cert.{Frame}
-use Rattle.cert_text.specs.Fault.{IsCertText}
-use Rattle.cert_text.specs.Written.{cert_of}
+use Rattle.cert_form.specs.Cert.{Frame}
+use Rattle.cert_form.specs.Fault.{IsCertText}
+use Rattle.cert_form.specs.Written.{cert_of}
 use Rattle.cert_text.specs.Programs.{frame_for}
 use Rattle.cert_load.specs.Recut.{with_cuts}
 use Rattle.cert_load.proofs.Frames.{same_frame}

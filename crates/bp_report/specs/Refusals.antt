@@ -7,9 +7,9 @@ use Rattle.lp_token.specs.declared.fault.LpFault.TheVariants as lp_fault
 use Rattle.dec_read.specs.declared.fault.DecKind.{DecKind}
 use Rattle.dec_read.specs.declared.fault.DecKind.TheVariants as dec
 use Rattle.dec_read.specs.declared.fault.DecFault.TheVariants as dec_fault
-use Rattle.cert_text.specs.declared.fault.CertKind.{CertKind}
-use Rattle.cert_text.specs.declared.fault.CertKind.TheVariants as cert
-use Rattle.cert_text.specs.declared.fault.CertFault.TheVariants as cert_fault
+use Rattle.cert_form.specs.declared.fault.CertKind.{CertKind}
+use Rattle.cert_form.specs.declared.fault.CertKind.TheVariants as cert
+use Rattle.cert_form.specs.declared.fault.CertFault.TheVariants as cert_fault
 use Rattle.block_form.specs.declared.fault.BlockFault.{BlockFault}
 use Rattle.block_form.specs.declared.fault.BlockFault.TheVariants as block
 use Rattle.dec_find.specs.declared.fault.RowsKind.{RowsKind}

@@ -25,7 +25,7 @@ use Rattle.bp_theory.proofs.CutProof.{certified_is_true_lem}
 use Rattle.block_form.specs.Blocked.{BlockedProgram, IsFormed}
 use Rattle.block_form.specs.Cuts.{KeepsCuts}
 use Rattle.bp_model.specs.Named.{NamedProgram}
-use Rattle.cert_text.specs.Written.{certificate}
+use Rattle.cert_form.specs.Written.{certificate}
 use Rattle.cert_text.specs.Programs as texts
 use Rattle.cert_text.specs.Programs.{AreOver, GoesWith}
 use Rattle.round_cut.specs.Cutting.{IsWhole}

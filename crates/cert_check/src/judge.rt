@@ -1,7 +1,7 @@
 // The judgement of a whole certificate.
 ghost use Rattle.std.specs.Prelude.{◌≡◌, [], ◌+◌, ◌<◌, ◌^◌, length, IfOk, None, Ok};
 ghost use Rattle.bp_theory.specs.Judgement.{named_value, point_lines, tree_lines, blocking_with};
-ghost use Rattle.cert_text.specs.Kept.{certificate_of};
+ghost use Rattle.cert_form.specs.Kept.{certificate_of};
 ghost use Rattle.cert_text.specs.Programs.{GoesWith, IsSmallClaim};
 ghost use Rattle.round_cut.specs.Several.{AreRowsOfCuts};
 ghost use Rattle.cert_check.specs.Judging.{JudgesLines, JudgesPoint, ProofsFit, stopped_at, verdict_of, IsJudgedWithin, IsTrueIfAccepted};

@@ -5,7 +5,7 @@ ghost use Rattle.bp_theory.specs.Blocking.{Blocking};
 ghost use Rattle.bp_theory.specs.Claims.{Reaches};
 ghost use Rattle.bp_theory.specs.Judgement.{HasFault, point_line, point_lines, named_value};
 ghost use Rattle.bp_theory.specs.declared.Claim as claims;
-ghost use Rattle.cert_text.specs.Kept.{certificate_of};
+ghost use Rattle.cert_form.specs.Kept.{certificate_of};
 ghost use Rattle.cert_check.specs.Judging.{kind_of, JudgesPoint};
 
 use crate::place::Rejection;

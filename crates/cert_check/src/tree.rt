@@ -3,7 +3,7 @@ ghost use Rattle.std.specs.Prelude.{◌≡◌, ◌↔◌, [], ◌+◌, ◌<◌, 
 ghost use Rattle.bp_theory.specs.Program.{span_at};
 ghost use Rattle.bp_theory.specs.Trees.{IsZone, IsSoundSplit, low_part};
 ghost use Rattle.bp_theory.specs.Judgement.{tree_lines};
-ghost use Rattle.cert_text.specs.Sketch.{tree_of};
+ghost use Rattle.cert_form.specs.Sketch.{tree_of};
 ghost use Rattle.cert_text.specs.Programs.{IsSmallClaim};
 ghost use Rattle.lagr_bound.specs.Forms.{forms_in};
 ghost use Rattle.lagr_bound.specs.Works.{forms_of};

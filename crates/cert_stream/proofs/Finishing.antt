@@ -9,21 +9,21 @@ use Rattle.bp_theory.specs.declared.Span.{Span}
 use Rattle.bp_theory.specs.declared.Claim.{Claim}
 use Rattle.bp_theory.specs.declared.Cut.{Cut}
 use Rattle.block_form.specs.Blocked.{BlockedProgram, IsFormed}
-use Rattle.cert_text.specs.Cert as texts
-use Rattle.cert_text.specs.Fault.{IsCertText, IsFirstCertFault}
-use Rattle.cert_text.specs.Frames.{frame_of}
+use Rattle.cert_form.specs.Cert as texts
+use Rattle.cert_form.specs.Fault.{IsCertText, IsFirstCertFault}
+use Rattle.cert_form.specs.Frames.{frame_of}
 use Rattle.cert_text.specs.Programs.{frame_for, GoesWith}
-use Rattle.cert_text.specs.Stages.{Wait}
-use Rattle.cert_text.specs.Standing.{StandsFor, EndsWell}
-use Rattle.cert_text.specs.Telling.{past, phase_at, phase_of}
-use Rattle.cert_text.specs.Written.{written_cut, written_tree, cert_of, certificate}
-use Rattle.cert_text.specs.declared.fault.CertFault.{CertFault}
-use Rattle.cert_text.specs.declared.fault.CertFault.TheVariants as c
-use Rattle.cert_text.specs.declared.frame.Frame.{Frame}
-use Rattle.cert_text.specs.declared.lines.Lines.{Lines}
-use Rattle.cert_text.proofs.Finishing.{read_whole}
+use Rattle.cert_form.specs.Stages.{Wait}
+use Rattle.cert_lines.specs.Standing.{StandsFor, EndsWell}
+use Rattle.cert_lines.specs.Telling.{past, phase_at, phase_of}
+use Rattle.cert_form.specs.Written.{written_cut, written_tree, cert_of, certificate}
+use Rattle.cert_form.specs.declared.fault.CertFault.{CertFault}
+use Rattle.cert_form.specs.declared.fault.CertFault.TheVariants as c
+use Rattle.cert_form.specs.declared.frame.Frame.{Frame}
+use Rattle.cert_lines.specs.declared.lines.Lines.{Lines}
+use Rattle.cert_lines.proofs.Finishing.{read_whole}
 use Rattle.cert_text.proofs.GoesWithProof.{text_goes_with}
-use Rattle.cert_text.proofs.LawProofs.{seen_faults_are_first}
+use Rattle.cert_form.proofs.LawProofs.{seen_faults_are_first}
 use Rattle.cert_check.specs.Cutting.{blocking_over}
 use Rattle.cert_check.specs.Judging.{IsLeft, stopped_at}
 use Rattle.cert_check.specs.declared.judge.Judged.{Judged}

@@ -16,26 +16,26 @@ use Rattle.bp_theory.specs.declared.Proof.{Proof}
 use Rattle.bp_theory.specs.declared.Picked.TheVariants.{Every}
 use Rattle.bp_model.specs.Named.{NamedProgram}
 use Rattle.block_form.specs.Blocked.{BlockedProgram, IsFormed}
-use Rattle.cert_text.specs.Cert as texts
-use Rattle.cert_text.specs.Fault.{IsSeenFault}
-use Rattle.cert_text.specs.Frames.{frame_of}
+use Rattle.cert_form.specs.Cert as texts
+use Rattle.cert_form.specs.Fault.{IsSeenFault}
+use Rattle.cert_form.specs.Frames.{frame_of}
 use Rattle.cert_text.specs.Programs.{frame_for}
-use Rattle.cert_text.specs.Readers as readers
-use Rattle.cert_text.specs.Readers.{kept_depth, highs_of}
-use Rattle.cert_text.specs.Stages.{Wait, leaf_of}
-use Rattle.cert_text.specs.Standing.{StandsFor, Steps}
-use Rattle.cert_text.specs.Telling.{Phase, ahead, cutting, within, past, phase_of, phase_behind, HasSameClaim, StaysFrom, IsShallow, GoesOn, Passes, Tells}
-use Rattle.cert_text.specs.Text.{is_deep}
-use Rattle.cert_text.specs.Written.{written_cut, written_tree, written_proof}
-use Rattle.cert_text.specs.declared.fault.CertFault.{CertFault}
-use Rattle.cert_text.specs.declared.fault.CertFault.TheVariants as c
-use Rattle.cert_text.specs.declared.frame.Frame.{Frame}
-use Rattle.cert_text.specs.declared.lines.Event.{Event}
-use Rattle.cert_text.specs.declared.lines.Event.TheVariants as e
-use Rattle.cert_text.specs.declared.lines.Lines.{Lines}
-use Rattle.cert_text.specs.declared.lines.SplitPlace.{SplitPlace}
+use Rattle.cert_lines.specs.Readers as readers
+use Rattle.cert_lines.specs.Readers.{kept_depth, highs_of}
+use Rattle.cert_form.specs.Stages.{Wait, leaf_of}
+use Rattle.cert_lines.specs.Standing.{StandsFor, Steps}
+use Rattle.cert_lines.specs.Telling.{Phase, ahead, cutting, within, past, phase_of, phase_behind, HasSameClaim, StaysFrom, IsShallow, GoesOn, Passes, Tells}
+use Rattle.cert_form.specs.Text.{is_deep}
+use Rattle.cert_form.specs.Written.{written_cut, written_tree, written_proof}
+use Rattle.cert_form.specs.declared.fault.CertFault.{CertFault}
+use Rattle.cert_form.specs.declared.fault.CertFault.TheVariants as c
+use Rattle.cert_form.specs.declared.frame.Frame.{Frame}
+use Rattle.cert_lines.specs.declared.lines.Event.{Event}
+use Rattle.cert_lines.specs.declared.lines.Event.TheVariants as e
+use Rattle.cert_lines.specs.declared.lines.Lines.{Lines}
+use Rattle.cert_lines.specs.declared.lines.SplitPlace.{SplitPlace}
 use Rattle.cert_text.proofs.Feeding.{joined}
-use Rattle.cert_text.proofs.LawProofs.{seen_faults_stay}
+use Rattle.cert_form.proofs.LawProofs.{seen_faults_stay}
 use Rattle.cert_stream.specs.Turns.{Turn, to_low, to_high, turns_behind, root_behind, wait_of}
 use Rattle.lagr_bound.specs.Forms.{forms_in}
 use Rattle.lagr_bound.specs.Works.{forms_of}

@@ -10,17 +10,17 @@ use Rattle.search_laws.specs.Grove.{certificate_tree}
 use Rattle.branch_tree.specs.Groves.{IsStanding}
 use Rattle.cert_text.specs.Outcomes.{grove_of, claim_of, point_of, IsWritable}
 use Rattle.cert_text.proofs.OutcomeText.{outcome_text}
-use Rattle.cert_text.proofs.ChangeText.{rewritten}
-use Rattle.cert_text.proofs.CutTexts.{whole_text, written_text}
-use Rattle.cert_text.specs.Cert.{Frame}
-use Rattle.cert_text.specs.Fault.{IsText}
-use Rattle.cert_text.specs.Kept.{certificate_of, kept_cert}
-use Rattle.cert_text.specs.Sketch.{tree_of as sketched}
-use Rattle.cert_text.specs.Text.{Version, Two, numeral, signed_numeral}
-use Rattle.cert_text.specs.Written.{certificate}
-use Rattle.cert_text.specs.declared.cert.Cert.{Cert}
-use Rattle.cert_text.specs.Plain.{version_with, head_text, tree_text, plain_text}
-use Rattle.cert_text.specs.Changes.{changing_nodes, last_mults}
+use Rattle.cert_write.proofs.ChangeText.{rewritten}
+use Rattle.cert_write.proofs.CutTexts.{whole_text, written_text}
+use Rattle.cert_form.specs.Cert.{Frame}
+use Rattle.cert_form.specs.Fault.{IsText}
+use Rattle.cert_form.specs.Kept.{certificate_of, kept_cert}
+use Rattle.cert_form.specs.Sketch.{tree_of as sketched}
+use Rattle.cert_form.specs.Text.{Version, Two, numeral, signed_numeral}
+use Rattle.cert_form.specs.Written.{certificate}
+use Rattle.cert_form.specs.declared.cert.Cert.{Cert}
+use Rattle.cert_form.specs.Plain.{version_with, head_text, tree_text, plain_text}
+use Rattle.cert_write.specs.Changes.{changing_nodes, last_mults}
 use Rattle.bp_shelf.specs.Shelf.{Files, OthersAsBefore}
 use Rattle.branch_tree.specs.declared.outcome.Outcome.{Outcome}
 use Rattle.block_form.specs.Blocked.{BlockedProgram, IsFormed}

@@ -6,12 +6,12 @@ use Rattle.bp_theory.specs.Trees.{Tree}
 use Rattle.bp_theory.specs.declared.Claim.{Claim}
 use Rattle.bp_theory.specs.declared.Cut.{Cut}
 use Rattle.block_form.specs.Blocked.{BlockedProgram, IsFormed}
-use Rattle.cert_text.specs.Fault.{IsCertText, IsFirstCertFault, IsSeenFault}
-use Rattle.cert_text.specs.Frames.{frame_of}
+use Rattle.cert_form.specs.Fault.{IsCertText, IsFirstCertFault, IsSeenFault}
+use Rattle.cert_form.specs.Frames.{frame_of}
 use Rattle.cert_text.specs.Programs.{frame_for, GoesWith}
-use Rattle.cert_text.specs.Standing.{StandsFor}
-use Rattle.cert_text.specs.Telling.{Phase, ahead, cutting, within, past, phase_of, IsShallow}
-use Rattle.cert_text.specs.Written.{written_cut, written_tree, cert_of, certificate}
+use Rattle.cert_lines.specs.Standing.{StandsFor}
+use Rattle.cert_lines.specs.Telling.{Phase, ahead, cutting, within, past, phase_of, IsShallow}
+use Rattle.cert_form.specs.Written.{written_cut, written_tree, cert_of, certificate}
 use Rattle.lagr_bound.specs.Forms.{forms_in}
 use Rattle.lagr_bound.specs.Works.{forms_of}
 use Rattle.lagr_bound.specs.declared.work.Work.{Work}
@@ -19,8 +19,8 @@ use Rattle.cert_check.specs.Cutting.{blocking_over}
 use Rattle.cert_check.specs.Judging.{IsJudgedWithin, IsTrueIfAccepted}
 use Rattle.cert_check.specs.declared.judge.Judged.{Judged}
 use Rattle.cert_stream.specs.Turns.{Turn, to_low, to_high, wait_of}
-use Rattle.cert_text.specs.declared.lines.Event.{Event}
-use Rattle.cert_text.specs.declared.lines.Event.TheVariants as e
+use Rattle.cert_lines.specs.declared.lines.Event.{Event}
+use Rattle.cert_lines.specs.declared.lines.Event.TheVariants as e
 use Rattle.cert_stream.specs.Cuttings.{program_by, IsCutting, HoldsCuts}
 use Rattle.cert_stream.specs.Walks.{whole, Front, Judges, WalksBelow, WalksBehind, IsFresh, IsWalkIn, IsWithin, leaf_with}
 use Rattle.cert_stream.specs.declared.cutting.Cutting.{Cutting}

@@ -3,7 +3,7 @@ ghost use Rattle.std.specs.Prelude.{◌≡◌, ℕ, ◌+◌, ◌≤◌, ◌<◌,
 ghost use Rattle.bp_theory.specs.Limits.{greatest_depth};
 ghost use Rattle.bp_theory.specs.declared.Span.{Span};
 ghost use Rattle.block_form.specs.Blocked.{BlockedProgram, IsFormed};
-ghost use Rattle.cert_text.specs.declared.lines.Event.TheVariants as e;
+ghost use Rattle.cert_lines.specs.declared.lines.Event.TheVariants as e;
 ghost use Rattle.lagr_bound.specs.Forms.{forms_in};
 ghost use Rattle.lagr_bound.specs.Works.{forms_of};
 ghost use Rattle.cert_check.specs.Judging.{stopped_at};

@@ -1,21 +1,21 @@
 -- A text that is fed byte by byte.
-use Rattle.std.proofs.Common.{◌≡◌, ℕ, ◌+◌, ◌^◌, ◌<◌, List, [], ◌∷◌, ◌++◌, length, take, Result, Err, sym, ap, ◌∙◌, subst, arith, append_assoc, length-append, get_or}
+use Rattle.std.proofs.Common.{◌≡◌, ℕ, ◌+◌, ◌^◌, ◌<◌, List, [], ◌∷◌, ◌++◌, length, take, Err, sym, ap, ◌∙◌, subst, arith, append_assoc, length-append, get_or}
 use Rattle.std.proofs.lemmas.List.{take_more}
-use Rattle.cert_text.specs.Text.{Kind}
-use Rattle.cert_text.specs.Fault.{IsSeenFault, IsFirstCertFault}
-use Rattle.cert_text.specs.Frames.{frame_of}
-use Rattle.cert_text.specs.Cert.{Cut, Tree}
-use Rattle.cert_text.specs.Stages.{Wait}
-use Rattle.cert_text.specs.Standing.{EndsWell, ReadsCertificate}
+use Rattle.cert_form.specs.Fault.{IsSeenFault}
+use Rattle.cert_form.specs.Frames.{frame_of}
+use Rattle.cert_form.specs.Cert.{Cut, Tree}
+use Rattle.cert_form.specs.Stages.{Wait}
+use Rattle.cert_form.specs.Kept.{ReadsCertificate}
+use Rattle.cert_lines.specs.Standing.{EndsWell}
 use Rattle.cert_text.specs.Builders.{BuildsOn, Feeds}
-use Rattle.cert_text.specs.declared.fault.CertFault.{CertFault}
-use Rattle.cert_text.specs.declared.fault.CertFault.TheVariants.{At, NoMemory}
-use Rattle.cert_text.specs.declared.frame.Frame.{Frame}
-use Rattle.cert_text.specs.declared.lines.Lines.{Lines}
+use Rattle.cert_form.specs.declared.fault.CertFault.{CertFault}
+use Rattle.cert_form.specs.declared.fault.CertFault.TheVariants.{At, NoMemory}
+use Rattle.cert_form.specs.declared.frame.Frame.{Frame}
+use Rattle.cert_lines.specs.declared.lines.Lines.{Lines}
 use Rattle.cert_text.specs.declared.reader.Reader.{Reader}
-use Rattle.cert_text.proofs.LawProofs.{seen_faults_stay, seen_faults_are_first}
-use Rattle.cert_text.proofs.Leaving.{split_at}
-use Rattle.cert_text.proofs.WordSteps.{nth_at}
+use Rattle.cert_form.proofs.LawProofs.{seen_faults_stay, seen_faults_are_first}
+use Rattle.cert_lines.proofs.Leaving.{split_at}
+use Rattle.cert_lines.proofs.WordSteps.{nth_at}
 
 -- the rest of a piece behind a byte
 rest_of : (piece : List ℕ) (i byte : ℕ) → i < length piece → get_or piece i 0 ≡ byte → (tail : List ℕ) × (piece ≡ take i piece ++ byte ∷ tail)
@@ -49,10 +49,6 @@ fed_fault frame new text piece i byte (At line kind) less is steps =
 pub read_fault : (frame : Frame) (new : Reader) (text : List ℕ) (e : CertFault) → Feeds frame new [] text (Err e) → ReadsCertificate frame text (Err e)
 read_fault frame new text NoMemory feeds = tt
 read_fault frame new text (At line kind) feeds = seen_faults_are_first (frame_of frame) text line kind feeds
-
--- a fault at the end
-pub end_fault : (above : List Wait) (root : Tree) (cuts : List Cut) (frame : Frame) (new : Lines) (text : List ℕ) (line : ℕ) (kind : Kind) (result : Result (Unit {0}) CertFault) → result ≡ Err (At line kind) → IsFirstCertFault (frame_of frame) text line kind → EndsWell above root cuts frame new text result
-end_fault above root cuts frame new text line kind result is fault = let P : Result (Unit {0}) CertFault → Type 0 = λ r. EndsWell above root cuts frame new text r in subst P (sym is) fault
 
 -- a fault that is there at the end
 pub finish_fault : (above : List Wait) (root : Tree) (cuts : List Cut) (frame : Frame) (new : Lines) (text : List ℕ) (e : CertFault) → EndsWell above root cuts frame new text (Err e) → ReadsCertificate frame text (Err e)

@@ -26,15 +26,15 @@ use Rattle.search_laws.proofs.OutcomeProof.{of_leaves}
 use Rattle.branch_tree.specs.Groves.{IsStanding}
 use Rattle.branch_tree.specs.declared.outcome.Outcome.{Outcome}
 use Rattle.branch_tree.specs.declared.outcome.Outcome.TheVariants.{Optimal, Infeasible, Budget}
-use Rattle.cert_text.specs.Cert as texts
-use Rattle.cert_text.specs.Text.{Version}
-use Rattle.cert_text.specs.Fault.{IsText}
-use Rattle.cert_text.specs.Written.{written_cut, written_tree, cert_of, certificate}
-use Rattle.cert_text.specs.Plain.{version_with, plain_text}
+use Rattle.cert_form.specs.Cert as texts
+use Rattle.cert_form.specs.Text.{Version}
+use Rattle.cert_form.specs.Fault.{IsText}
+use Rattle.cert_form.specs.Written.{written_cut, written_tree, cert_of, certificate}
+use Rattle.cert_form.specs.Plain.{version_with, plain_text}
 use Rattle.cert_text.specs.Programs.{frame_for, IsWhole, AreOver, IsSmall, IsSmallClaim, IsSmallPoint, CanWrite}
 use Rattle.cert_text.specs.Outcomes.{grove_of, claim_of, point_of, HasSmallNumbers, IsWritable}
-use Rattle.cert_text.proofs.PlainProof.{same_claim}
-use Rattle.cert_text.specs.Changes.{changing_nodes}
+use Rattle.cert_form.proofs.PlainProof.{same_claim}
+use Rattle.cert_write.specs.Changes.{changing_nodes}
 use Rattle.cert_text.proofs.WritesProof.{has_text, has_changed_text}
 
 small_sense : (m : Bool) (z : ℤ) → unsigned_abs z < 2 ^ 62 → IsSmall (in_sense m z)

@@ -1,18 +1,18 @@
 -- The splits above the next tree, as a reader of certificates keeps them.
 use Rattle.std.proofs.Common.{◌≡◌, ℕ, List, [], ◌∷◌, ◌++◌, refl, sym, ap, ◌∙◌, subst}
 use Rattle.std.specs.Prelude.{Err}
-use Rattle.cert_text.specs.Cert.{Cut, Tree, Split}
-use Rattle.cert_text.specs.Written.{in_text}
-use Rattle.cert_text.specs.Stages.{Wait}
-use Rattle.cert_text.specs.Readers.{waits_behind, root_behind}
-use Rattle.cert_text.specs.Standing.{StandsFor, Steps}
+use Rattle.cert_form.specs.Cert.{Cut, Tree, Split}
+use Rattle.cert_form.specs.Written.{in_text}
+use Rattle.cert_form.specs.Stages.{Wait}
+use Rattle.cert_lines.specs.Readers.{waits_behind, root_behind}
+use Rattle.cert_lines.specs.Standing.{StandsFor, Steps}
 use Rattle.cert_text.specs.Builders.{wait_of, waits_on, waits_of, root_of, BuildsOn}
-use Rattle.cert_text.specs.declared.fault.CertFault.{CertFault}
-use Rattle.cert_text.specs.declared.fault.CertFault.TheVariants.{At, NoMemory}
-use Rattle.cert_text.specs.declared.frame.Frame.{Frame}
-use Rattle.cert_text.specs.declared.lines.Lines.{Lines}
-use Rattle.cert_text.specs.declared.lines.SplitPlace.{SplitPlace}
-use Rattle.cert_text.specs.declared.sketch.Sketch.{Sketch}
+use Rattle.cert_form.specs.declared.fault.CertFault.{CertFault}
+use Rattle.cert_form.specs.declared.fault.CertFault.TheVariants.{At, NoMemory}
+use Rattle.cert_form.specs.declared.frame.Frame.{Frame}
+use Rattle.cert_lines.specs.declared.lines.Lines.{Lines}
+use Rattle.cert_lines.specs.declared.lines.SplitPlace.{SplitPlace}
+use Rattle.cert_form.specs.declared.sketch.Sketch.{Sketch}
 use Rattle.cert_text.specs.declared.reader.Pending.{Pending}
 use Rattle.cert_text.specs.declared.reader.Pending.TheVariants.{Low, High}
 use Rattle.cert_text.specs.declared.reader.Reader.{Reader}

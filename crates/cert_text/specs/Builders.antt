@@ -1,16 +1,16 @@
 -- The tree that a reader of certificates has built, and the texts that it stands for.
 use Rattle.std.specs.Prelude.{ℕ, List, map, [], ◌∷◌, ◌++◌, Result, Ok, Err}
-use Rattle.cert_text.specs.Cert.{Cut, Tree}
-use Rattle.cert_text.specs.Sketch.{tree_of}
-use Rattle.cert_text.specs.Written.{in_text, written_cut, written_tree}
-use Rattle.cert_text.specs.Fault.{IsSeenFault}
-use Rattle.cert_text.specs.Frames.{frame_of}
-use Rattle.cert_text.specs.Stages.{Wait, low_of, high_of}
-use Rattle.cert_text.specs.Standing.{StandsFor}
-use Rattle.cert_text.specs.declared.fault.CertFault.{CertFault}
-use Rattle.cert_text.specs.declared.fault.CertFault.TheVariants.{At, NoMemory}
-use Rattle.cert_text.specs.declared.frame.Frame.{Frame}
-use Rattle.cert_text.specs.declared.sketch.Sketch.{Sketch}
+use Rattle.cert_form.specs.Cert.{Cut, Tree}
+use Rattle.cert_form.specs.Sketch.{tree_of}
+use Rattle.cert_form.specs.Written.{in_text, written_cut, written_tree}
+use Rattle.cert_form.specs.Fault.{IsSeenFault}
+use Rattle.cert_form.specs.Frames.{frame_of}
+use Rattle.cert_form.specs.Stages.{Wait, low_of, high_of}
+use Rattle.cert_lines.specs.Standing.{StandsFor}
+use Rattle.cert_form.specs.declared.fault.CertFault.{CertFault}
+use Rattle.cert_form.specs.declared.fault.CertFault.TheVariants.{At, NoMemory}
+use Rattle.cert_form.specs.declared.frame.Frame.{Frame}
+use Rattle.cert_form.specs.declared.sketch.Sketch.{Sketch}
 use Rattle.cert_text.specs.declared.reader.Pending.{Pending}
 use Rattle.cert_text.specs.declared.reader.Pending.TheVariants.{Low, High}
 use Rattle.cert_text.specs.declared.reader.Reader.{Reader}

@@ -5,18 +5,18 @@ ghost use Rattle.bp_theory.specs.Program.{in_sense};
 ghost use Rattle.search_laws.specs.Grove.{certificate_tree};
 ghost use Rattle.search_laws.specs.Outcomes.{read_off};
 ghost use Rattle.branch_tree.specs.Trees.{tree_of};
-ghost use Rattle.cert_text.specs.Fault.{IsText};
-ghost use Rattle.cert_text.specs.Text.{Two};
-ghost use Rattle.cert_text.specs.Written.{cert_of};
-ghost use Rattle.cert_text.specs.Plain.{version_with, plain_text, tree_text};
-ghost use Rattle.cert_text.specs.Changes.{changing_nodes, last_mults};
+ghost use Rattle.cert_form.specs.Fault.{IsText};
+ghost use Rattle.cert_form.specs.Text.{Two};
+ghost use Rattle.cert_form.specs.Written.{cert_of};
+ghost use Rattle.cert_form.specs.Plain.{version_with, plain_text, tree_text};
+ghost use Rattle.cert_write.specs.Changes.{changing_nodes, last_mults};
 ghost use Rattle.cert_text.specs.Programs.{frame_for};
 ghost use Rattle.cert_text.specs.Outcomes.{grove_of, claim_of, point_of, HasSmallNumbers, IsWritable};
 
-use crate::writer::{put_changed_leaf, put_head, put_split};
 use block_form::Blocked;
 use bp_theory::{Claim, Cut, Items};
 use branch_tree::{Grove, Outcome, Tree};
+use cert_write::{put_changed_leaf, put_head, put_split};
 use std::alloc::{AllocError, Global};
 
 /// The text of the certificate of a search's outcome: its claim, its best point where there is one, the cuts of the
@@ -43,7 +43,7 @@ pub fn write_cert(alloc: Global, b: &Blocked, outcome: &Outcome) -> Result<Vec<u
 }
 
 // The text of a claim, a point, cuts and a tree.
-#[tactic(auto, using(crate::proofs::CutTexts::whole_text))]
+#[tactic(auto, using(cert_write::proofs::CutTexts::whole_text))]
 fn put_outcome(
     out: &mut Vec<u8>,
     alloc: Global,

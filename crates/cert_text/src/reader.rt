@@ -1,20 +1,17 @@
 // A reader of a certificate's text, which keeps the cuts and builds the tree that its lines say.
 ghost use Rattle.std.specs.Prelude.{◌≡◌, List, ℕ, [], OnOk, IfOk, length, Some, ◌++◌, ◌+◌, ◌<◌, ◌^◌};
-ghost use Rattle.cert_text.specs.Sketch.{tree_of};
-ghost use Rattle.cert_text.specs.Cert.{Split};
-ghost use Rattle.cert_text.specs.declared.frame.Frame.{Frame};
-ghost use Rattle.cert_text.specs.Written.{in_text, written_tree, written_proof};
-ghost use Rattle.cert_text.specs.Stages.{leaf_of};
-ghost use Rattle.cert_text.specs.Readers.{waits_behind, root_behind, waits_after, root_after, cuts_after};
+ghost use Rattle.cert_form.specs.Sketch.{tree_of};
+ghost use Rattle.cert_form.specs.Cert.{Split};
+ghost use Rattle.cert_form.specs.declared.frame.Frame.{Frame};
+ghost use Rattle.cert_form.specs.Written.{in_text, written_tree, written_proof};
+ghost use Rattle.cert_form.specs.Stages.{leaf_of};
+ghost use Rattle.cert_lines.specs.Readers.{waits_behind, root_behind, waits_after, root_after, cuts_after};
 ghost use Rattle.cert_text.specs.Builders.{waits_of, root_of, cuts_of, Builds, BuildsOn, Feeds};
-ghost use Rattle.cert_text.specs.Standing.{ReadsCertificate};
+ghost use Rattle.cert_form.specs.Kept.{ReadsCertificate};
 
-use crate::cert::Cert;
-use crate::fault::CertFault;
-use crate::frame::Frame;
-use crate::lines::{Event, Lines, SplitPlace};
-use crate::sketch::Sketch;
 use bp_theory::{Cut, Items, Picked, Proof};
+use cert_form::{Cert, CertFault, Frame, Sketch};
+use cert_lines::{Event, Lines, SplitPlace};
 use std::alloc::{AllocError, Global};
 
 // A split above the tree that comes next: its low part is still to come, or there.

@@ -11,12 +11,12 @@ use Rattle.bp_shelf.specs.declared.shelf.ShelfFault.TheVariants.{Missing, Failed
 use Rattle.bp_front.specs.Answers.{AnswersBy, IsOnly}
 use Rattle.bp_front.specs.Endings.{status_of}
 use Rattle.block_form.specs.Blocked.{BlockedProgram}
-use Rattle.cert_text.specs.Fault.{IsCertText}
-use Rattle.cert_text.specs.Fault as texts
-use Rattle.cert_text.specs.Written.{cert_of}
+use Rattle.cert_form.specs.Fault.{IsCertText}
+use Rattle.cert_form.specs.Fault as texts
+use Rattle.cert_form.specs.Written.{cert_of}
 use Rattle.cert_text.specs.Programs.{frame_for}
-use Rattle.cert_text.specs.declared.fault.CertKind.{CertKind}
-use Rattle.cert_text.proofs.LawProofs.{certificates_are_one, certificates_are_faultless}
+use Rattle.cert_form.specs.declared.fault.CertKind.{CertKind}
+use Rattle.cert_form.proofs.LawProofs.{certificates_are_one, certificates_are_faultless}
 use Rattle.cmd_check.specs.Checks.{ChecksBlocked, ChecksWithin, ChecksVisiting, missing, faulty, accepted, rejected, unknown, known}
 use Rattle.cmd_check.proofs.Certificates.{one_written, fitting_point}
 

@@ -5,11 +5,11 @@ use Rattle.bp_theory.specs.Judgement.{HasItsPoint, named_value}
 use Rattle.bp_theory.specs.declared.Claim.{Claim}
 use Rattle.bp_shelf.specs.Shelf.{Files}
 use Rattle.block_form.specs.Blocked.{BlockedProgram}
-use Rattle.cert_text.specs.Fault.{IsCertText, IsFirstCertFault}
-use Rattle.cert_text.specs.Written.{cert_of}
+use Rattle.cert_form.specs.Fault.{IsCertText, IsFirstCertFault}
+use Rattle.cert_form.specs.Written.{cert_of}
 use Rattle.cert_text.specs.Programs.{frame_for}
-use Rattle.cert_text.specs.declared.fault.CertKind.{CertKind}
-use Rattle.cert_text.proofs.LawProofs.{certificates_are_one}
+use Rattle.cert_form.specs.declared.fault.CertKind.{CertKind}
+use Rattle.cert_form.proofs.LawProofs.{certificates_are_one}
 use Rattle.cert_check.specs.Judging.{IsJudged, NoneUnpriced, IsJudgedWithin, IsTrueIfAccepted}
 use Rattle.cert_check.specs.Visits.{IsFirstUnpriced}
 use Rattle.cert_check.specs.declared.judge.Judged.{Judged}

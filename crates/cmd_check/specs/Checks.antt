@@ -5,11 +5,11 @@ use Rattle.bp_theory.specs.Judgement.{IsFirstFault, HasItsPoint, named_value}
 use Rattle.bp_theory.specs.declared.CheckKind.{CheckKind}
 use Rattle.bp_shelf.specs.Shelf.{Files}
 use Rattle.block_form.specs.Blocked.{BlockedProgram}
-use Rattle.cert_text.specs.Fault.{IsCertText}
-use Rattle.cert_text.specs.Fault as texts
-use Rattle.cert_text.specs.Written.{cert_of}
+use Rattle.cert_form.specs.Fault.{IsCertText}
+use Rattle.cert_form.specs.Fault as texts
+use Rattle.cert_form.specs.Written.{cert_of}
 use Rattle.cert_text.specs.Programs.{frame_for}
-use Rattle.cert_text.specs.declared.fault.CertKind.{CertKind}
+use Rattle.cert_form.specs.declared.fault.CertKind.{CertKind}
 use Rattle.bp_report.specs.Report.{accepted_report, rejected_report, unknown_report}
 use Rattle.bp_report.specs.Refusals.{cert_refusal}
 use Rattle.bp_front.specs.Answers.{AnswersFront}

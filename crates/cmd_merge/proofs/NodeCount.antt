@@ -6,14 +6,14 @@ use Rattle.search_laws.specs.GroveFacts.{best_cost}
 use Rattle.block_form.specs.Blocked.{BlockedProgram}
 use Rattle.branch_tree.specs.Groves.{made}
 use Rattle.branch_tree.specs.declared.loaded.Loaded.{Loaded}
-use Rattle.cert_text.specs.Fault.{IsCertText}
-use Rattle.cert_text.specs.Sketch.{tree_of}
-use Rattle.cert_text.specs.Written.{written_tree}
-use Rattle.cert_text.specs.Kept.{certificate_of, kept_cert}
+use Rattle.cert_form.specs.Fault.{IsCertText}
+use Rattle.cert_form.specs.Sketch.{tree_of}
+use Rattle.cert_form.specs.Written.{written_tree}
+use Rattle.cert_form.specs.Kept.{certificate_of, kept_cert}
 use Rattle.cert_text.specs.Programs.{frame_for}
-use Rattle.cert_text.specs.declared.cert.Cert.{Cert}
-use Rattle.cert_text.specs.Nodes.{nodes}
-use Rattle.cert_text.proofs.Fine.{text_nodes}
+use Rattle.cert_form.specs.declared.cert.Cert.{Cert}
+use Rattle.cert_form.specs.Nodes.{nodes}
+use Rattle.cert_form.proofs.Fine.{text_nodes}
 use Rattle.cert_load.specs.Rooms.{node_count}
 use Rattle.cert_load.specs.Loadings.{IsLoadedOf}
 use Rattle.cert_load.proofs.Descent.{made_of}

@@ -3,8 +3,8 @@ use Rattle.std.proofs.Common.{◌≡◌, refl, sym, ap, subst, ◌∙◌, ℕ, L
 use Rattle.std.proofs.lemmas.List.{get_or_append_left}
 use Rattle.bp_theory.specs.Claims.{Certificate}
 use Rattle.bp_theory.specs.declared.Cut.{Cut}
-use Rattle.cert_text.specs.Fault.{IsCertText}
-use Rattle.cert_text.specs.Written.{cert_of}
+use Rattle.cert_form.specs.Fault.{IsCertText}
+use Rattle.cert_form.specs.Written.{cert_of}
 use Rattle.cert_text.specs.Programs.{frame_for}
 use Rattle.bp_shelf.specs.Shelf.{Files}
 use Rattle.block_form.specs.Blocked.{BlockedProgram, IsFormed}

@@ -9,10 +9,10 @@ use Rattle.branch_tree.specs.declared.loaded.Loaded.{Loaded}
 use Rattle.cert_load.specs.Loadings.{IsTooDeep}
 use Rattle.cert_load.specs.Recut.{with_cuts}
 use Rattle.cert_load.proofs.Reaching.{loaded_is_low}
-use Rattle.cert_text.specs.Fault.{IsCertText}
-use Rattle.cert_text.specs.Written.{cert_of}
+use Rattle.cert_form.specs.Fault.{IsCertText}
+use Rattle.cert_form.specs.Written.{cert_of}
 use Rattle.cert_text.specs.Programs.{frame_for}
-use Rattle.cert_text.proofs.LawProofs.{certificates_are_one}
+use Rattle.cert_form.proofs.LawProofs.{certificates_are_one}
 use Rattle.bp_report.specs.Report.{accepted_report, rejected_report}
 use Rattle.bp_report.specs.Refusals.{cert_refusal}
 use Rattle.cmd_check.specs.Checks as checks

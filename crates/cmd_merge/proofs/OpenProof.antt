@@ -9,10 +9,10 @@ use Rattle.bp_shelf.specs.declared.shelf.ShelfFault.TheVariants.{Missing, Failed
 use Rattle.block_form.specs.Blocked.{BlockedProgram}
 use Rattle.cert_load.specs.Loadings.{IsLoadedOf, IsTooDeep}
 use Rattle.cert_load.specs.Recut.{with_cuts}
-use Rattle.cert_text.specs.Fault.{IsCertText}
-use Rattle.cert_text.specs.Kept.{certificate_of, kept_cert}
+use Rattle.cert_form.specs.Fault.{IsCertText}
+use Rattle.cert_form.specs.Kept.{certificate_of, kept_cert}
 use Rattle.cert_text.specs.Programs.{GoesWith, frame_for}
-use Rattle.cert_text.specs.declared.cert.Cert.{Cert}
+use Rattle.cert_form.specs.declared.cert.Cert.{Cert}
 use Rattle.bp_theory.specs.declared.Claim.{Claim}
 use Rattle.cert_check.specs.Judging.{IsJudged}
 use Rattle.cert_check.specs.declared.judge.Judged.{Judged}

@@ -16,9 +16,9 @@ use Rattle.bp_search.specs.Ends.{EndsWithin, HasStopped, grove_in, point_of}
 use Rattle.bp_search.specs.Searches.{kept_point, as_pair, HasItsCost, IsRunning}
 use Rattle.bp_search.specs.declared.kept.Kept.{Kept}
 use Rattle.bp_theory.specs.Program.{Program, cost}
-use Rattle.cert_text.specs.Plain.{version_with}
-use Rattle.cert_text.specs.Fault.{IsText}
-use Rattle.cert_text.specs.Written.{cert_of}
+use Rattle.cert_form.specs.Plain.{version_with}
+use Rattle.cert_form.specs.Fault.{IsText}
+use Rattle.cert_form.specs.Written.{cert_of}
 use Rattle.cert_text.specs.Programs.{frame_for}
 use Rattle.bp_report.specs.Report.{merged_report}
 use Rattle.cmd_solve.specs.Solves.{outcome_certificate}

@@ -8,11 +8,11 @@ use Rattle.block_form.specs.Blocked.{BlockedProgram}
 use Rattle.branch_tree.specs.Groves.{made}
 use Rattle.branch_tree.specs.Loads.{IsLoaded}
 use Rattle.branch_tree.specs.declared.loaded.Loaded.{Loaded}
-use Rattle.cert_text.specs.Fault.{IsCertText}
-use Rattle.cert_text.specs.Fault as texts
-use Rattle.cert_text.specs.Written.{cert_of}
+use Rattle.cert_form.specs.Fault.{IsCertText}
+use Rattle.cert_form.specs.Fault as texts
+use Rattle.cert_form.specs.Written.{cert_of}
 use Rattle.cert_text.specs.Programs.{GoesWith, frame_for}
-use Rattle.cert_text.specs.declared.fault.CertKind.{CertKind}
+use Rattle.cert_form.specs.declared.fault.CertKind.{CertKind}
 use Rattle.cert_load.specs.Loadings.{IsLoadedOf, IsTooDeep}
 use Rattle.cert_load.specs.Recut.{with_cuts}
 use Rattle.cmd_merge.specs.declared.opening.Opened.{Opened}

@@ -2,8 +2,8 @@
 ghost use Rattle.std.specs.Prelude.{◌≡◌, ◌⊎◌, ℕ, List, [], IfOk, IfErr, IsTrue, Some};
 ghost use Rattle.bp_theory.specs.Claims.{IsCertified};
 ghost use Rattle.bp_shelf.specs.declared.shelf.ShelfFault.TheVariants.{NoMemory};
-ghost use Rattle.cert_text.specs.Fault.{IsCertText};
-ghost use Rattle.cert_text.specs.Kept.{certificate_of, kept_cert};
+ghost use Rattle.cert_form.specs.Fault.{IsCertText};
+ghost use Rattle.cert_form.specs.Kept.{certificate_of, kept_cert};
 ghost use Rattle.cert_text.specs.Programs.{GoesWith, frame_for};
 ghost use Rattle.cmd_merge.specs.Opens.{IsOpenedText, IsOpenedFile, IsLoadedOver, CanJoin, RefusesFile};
 ghost use Rattle.cmd_merge.specs.Stops.{IsStop, IsTextStop, IsRefusal, CountsStopped};

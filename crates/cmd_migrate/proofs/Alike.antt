@@ -3,14 +3,14 @@ use Rattle.std.proofs.Common.{◌≡◌, ◌∙◌, sym, subst, ℕ, List, Optio
 use Rattle.bp_theory.specs.Claims.{Certificate}
 use Rattle.bp_shelf.specs.Shelf.{Files}
 use Rattle.block_form.specs.Blocked.{BlockedProgram}
-use Rattle.cert_text.specs.Cert.{Cert}
-use Rattle.cert_text.specs.Fault.{IsText, IsCertText, IsFirstCertFault}
-use Rattle.cert_text.specs.Written.{cert_of}
-use Rattle.cert_text.specs.Kept.{kept_cert}
+use Rattle.cert_form.specs.Cert.{Cert}
+use Rattle.cert_form.specs.Fault.{IsText, IsCertText, IsFirstCertFault}
+use Rattle.cert_form.specs.Written.{cert_of}
+use Rattle.cert_form.specs.Kept.{kept_cert}
 use Rattle.cert_text.specs.Programs.{frame_for}
-use Rattle.cert_text.specs.declared.cert.Cert.{Cert as Kept}
-use Rattle.cert_text.specs.declared.fault.CertKind.{CertKind}
-use Rattle.cert_text.proofs.LawProofs.{certificates_are_one, certificates_are_faultless}
+use Rattle.cert_form.specs.declared.cert.Cert.{Cert as Kept}
+use Rattle.cert_form.specs.declared.fault.CertKind.{CertKind}
+use Rattle.cert_form.proofs.LawProofs.{certificates_are_one, certificates_are_faultless}
 use Rattle.cmd_check.specs.Checks.{ChecksBlocked, missing, faulty, accepted, rejected}
 use Rattle.bp_front.proofs.Written.{one_text, no_text}
 use Rattle.cmd_migrate.specs.Laws.{AreReadAlike, AreJudgedAlike}

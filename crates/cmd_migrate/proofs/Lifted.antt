@@ -6,13 +6,13 @@ use Rattle.bp_shelf.specs.Shelf.{Files, AllShort}
 use Rattle.bp_shelf.specs.declared.shelf.ShelfFault.{ShelfFault}
 use Rattle.bp_shelf.specs.declared.shelf.ShelfFault.TheVariants.{Missing, Failed, NoMemory}
 use Rattle.block_form.specs.Blocked.{BlockedProgram}
-use Rattle.cert_text.specs.Cert.{Cert}
-use Rattle.cert_text.specs.Fault.{IsCertText}
-use Rattle.cert_text.specs.Kept.{kept_cert}
-use Rattle.cert_text.specs.Nodes.{nodes}
-use Rattle.cert_text.specs.declared.cert.Cert.{Cert as Kept}
+use Rattle.cert_form.specs.Cert.{Cert}
+use Rattle.cert_form.specs.Fault.{IsCertText}
+use Rattle.cert_form.specs.Kept.{kept_cert}
+use Rattle.cert_form.specs.Nodes.{nodes}
+use Rattle.cert_form.specs.declared.cert.Cert.{Cert as Kept}
 use Rattle.cert_text.specs.Programs.{frame_for}
-use Rattle.cert_text.proofs.Fine.{text_nodes}
+use Rattle.cert_form.proofs.Fine.{text_nodes}
 use Rattle.bp_report.specs.Report.{migrated_report}
 use Rattle.bp_front.specs.Answers.{AnswersBy}
 use Rattle.bp_front.specs.Endings.{status_of}

@@ -2,11 +2,11 @@
 use Rattle.std.proofs.Common.{◌≡◌, refl, sym, subst, ℕ, List, Option, Some, None}
 use Rattle.bp_shelf.specs.Shelf.{Files}
 use Rattle.block_form.specs.Blocked.{BlockedProgram}
-use Rattle.cert_text.specs.Cert.{Cert}
-use Rattle.cert_text.specs.Fault.{IsCertText, IsFirstCertFault}
+use Rattle.cert_form.specs.Cert.{Cert}
+use Rattle.cert_form.specs.Fault.{IsCertText, IsFirstCertFault}
 use Rattle.cert_text.specs.Programs.{frame_for}
-use Rattle.cert_text.specs.declared.fault.CertKind.{CertKind}
-use Rattle.cert_text.proofs.LawProofs.{certificates_are_faultless}
+use Rattle.cert_form.specs.declared.fault.CertKind.{CertKind}
+use Rattle.cert_form.proofs.LawProofs.{certificates_are_faultless}
 use Rattle.bp_front.specs.Front.{blocked, ends}
 use Rattle.bp_front.specs.Written.{Answer}
 use Rattle.bp_front.proofs.OneFront.{one_front}

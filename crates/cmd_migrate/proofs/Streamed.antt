@@ -3,16 +3,16 @@ use Rattle.std.proofs.Common.{◌≡◌, ◌⊎◌, inl, inr, refl, sym, subst, 
 use Rattle.bp_shelf.specs.Shelf.{Files, OthersAsBefore}
 use Rattle.block_form.specs.Blocked.{BlockedProgram}
 use Rattle.bp_theory.specs.declared.Cut.{Cut}
-use Rattle.cert_text.specs.Text.{Version}
-use Rattle.cert_text.specs.Written.{written_cut}
-use Rattle.cert_text.specs.Fault.{IsText, IsCertText}
-use Rattle.cert_text.specs.Kept.{kept_cert}
-use Rattle.cert_text.specs.Sketch.{tree_of}
-use Rattle.cert_text.specs.Plain.{version_with, plain_text}
-use Rattle.cert_text.specs.Changes.{changing_nodes}
-use Rattle.cert_text.specs.Nodes.{nodes}
+use Rattle.cert_form.specs.Text.{Version}
+use Rattle.cert_form.specs.Written.{written_cut}
+use Rattle.cert_form.specs.Fault.{IsText, IsCertText}
+use Rattle.cert_form.specs.Kept.{kept_cert}
+use Rattle.cert_form.specs.Sketch.{tree_of}
+use Rattle.cert_form.specs.Plain.{version_with, plain_text}
+use Rattle.cert_write.specs.Changes.{changing_nodes}
+use Rattle.cert_form.specs.Nodes.{nodes}
 use Rattle.cert_text.specs.Programs.{frame_for}
-use Rattle.cert_text.proofs.ChangeText.{rewritten}
+use Rattle.cert_write.proofs.ChangeText.{rewritten}
 use Rattle.cert_stream.specs.Streams.{Rewrites}
 use Rattle.cert_stream.specs.declared.stream.StreamStop.{StreamStop}
 use Rattle.cert_stream.specs.declared.stream.StreamStop.TheVariants.{NoMemory}

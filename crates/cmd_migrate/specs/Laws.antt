@@ -2,11 +2,11 @@
 use Rattle.std.specs.Prelude.{◌≡◌, ℕ, List, Ok, Some}
 use Rattle.bp_shelf.specs.Shelf.{Files}
 use Rattle.block_form.specs.Blocked.{BlockedProgram}
-use Rattle.cert_text.specs.Cert.{Cert}
-use Rattle.cert_text.specs.Fault.{IsText, IsCertText}
-use Rattle.cert_text.specs.Kept.{kept_cert}
+use Rattle.cert_form.specs.Cert.{Cert}
+use Rattle.cert_form.specs.Fault.{IsText, IsCertText}
+use Rattle.cert_form.specs.Kept.{kept_cert}
 use Rattle.cert_text.specs.Programs.{frame_for, ReadsFor}
-use Rattle.cert_text.specs.declared.cert.Cert.{Cert as Kept}
+use Rattle.cert_form.specs.declared.cert.Cert.{Cert as Kept}
 use Rattle.cmd_check.specs.Checks.{ChecksBlocked}
 use Rattle.cmd_migrate.specs.Migrates.{version_anew}
 

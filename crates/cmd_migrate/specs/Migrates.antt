@@ -2,13 +2,13 @@
 use Rattle.std.specs.Prelude.{◌≡◌, ℕ, List, [], ◌∷◌, Option, Some, None}
 use Rattle.bp_shelf.specs.Shelf.{Files}
 use Rattle.block_form.specs.Blocked.{BlockedProgram}
-use Rattle.cert_text.specs.Cert.{Cut, Cert}
-use Rattle.cert_text.specs.Text.{Version, Two, Three}
-use Rattle.cert_text.specs.Fault.{IsText, IsCertText, IsFirstCertFault}
-use Rattle.cert_text.specs.Kept.{kept_cert}
-use Rattle.cert_text.specs.Nodes.{nodes}
+use Rattle.cert_form.specs.Cert.{Cut, Cert}
+use Rattle.cert_form.specs.Text.{Version, Two, Three}
+use Rattle.cert_form.specs.Fault.{IsText, IsCertText, IsFirstCertFault}
+use Rattle.cert_form.specs.Kept.{kept_cert}
+use Rattle.cert_form.specs.Nodes.{nodes}
 use Rattle.cert_text.specs.Programs.{frame_for}
-use Rattle.cert_text.specs.declared.fault.CertKind.{CertKind}
+use Rattle.cert_form.specs.declared.fault.CertKind.{CertKind}
 use Rattle.bp_report.specs.Refusals.{cert_refusal}
 use Rattle.bp_report.specs.Report.{migrated_report}
 use Rattle.bp_front.specs.Front.{FilesCome, blocked, ends}

@@ -14,17 +14,17 @@ use Rattle.branch_tree.specs.declared.loaded.Loaded.{Loaded}
 use Rattle.cert_load.specs.Loadings.{IsLoadedOf, IsTooDeep}
 use Rattle.cert_load.specs.Recut.{with_cuts}
 use Rattle.cert_load.proofs.Reaching.{loaded_is_low}
-use Rattle.cert_text.specs.Fault.{IsCertText}
-use Rattle.cert_text.specs.Written.{cert_of}
+use Rattle.cert_form.specs.Fault.{IsCertText}
+use Rattle.cert_form.specs.Written.{cert_of}
 use Rattle.cert_text.specs.Programs.{frame_for}
-use Rattle.cert_text.specs.Kept.{certificate_of, kept_cert}
-use Rattle.cert_text.specs.declared.cert.Cert.{Cert as Kept}
+use Rattle.cert_form.specs.Kept.{certificate_of, kept_cert}
+use Rattle.cert_form.specs.declared.cert.Cert.{Cert as Kept}
 use Rattle.cert_check.specs.Judging.{IsJudged}
 use Rattle.cert_check.specs.declared.judge.Judged.{Judged}
 use Rattle.cert_check.specs.declared.judge.Judged.TheVariants.{Accepted, Rejected, Unknown}
 use Rattle.bp_theory.specs.declared.Claim.{Claim}
 use Rattle.std.proofs.lemmas.List.{take_all}
-use Rattle.cert_text.proofs.LawProofs.{certificates_are_one}
+use Rattle.cert_form.proofs.LawProofs.{certificates_are_one}
 use Rattle.bp_report.specs.Report.{accepted_report, rejected_report, check_report}
 use Rattle.bp_report.specs.Refusals.{cert_refusal, from_refusal, leaf_refusal}
 use Rattle.bp_front.specs.Answers.{AnswersBy, IsOnly, CutsOff}

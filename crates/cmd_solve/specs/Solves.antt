@@ -12,9 +12,9 @@ use Rattle.branch_tree.specs.declared.outcome.Outcome.TheVariants.{Optimal, Infe
 use Rattle.branch_tree.specs.declared.loaded.Loaded.{Loaded}
 use Rattle.bp_search.specs.Ends.{EndsWithin, given_steps}
 use Rattle.bp_search.specs.Below.{EndsBelow}
-use Rattle.cert_text.specs.Plain.{version_with}
-use Rattle.cert_text.specs.Fault.{IsText}
-use Rattle.cert_text.specs.Written.{cert_of}
+use Rattle.cert_form.specs.Plain.{version_with}
+use Rattle.cert_form.specs.Fault.{IsText}
+use Rattle.cert_form.specs.Written.{cert_of}
 use Rattle.cert_text.specs.Programs.{frame_for}
 use Rattle.cert_text.specs.Outcomes.{grove_of, claim_of, point_of}
 use Rattle.bp_report.specs.Report.{solve_report}

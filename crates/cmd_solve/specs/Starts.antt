@@ -15,13 +15,13 @@ use Rattle.bp_search.specs.Ends.{EndsWithin, given_steps}
 use Rattle.bp_search.specs.Below.{EndsBelow}
 use Rattle.cert_load.specs.Loadings.{IsLoadedOf, IsTooDeep}
 use Rattle.cert_load.specs.Recut.{with_cuts}
-use Rattle.cert_text.specs.Fault.{IsCertText}
-use Rattle.cert_text.specs.Fault as texts
-use Rattle.cert_text.specs.Written.{cert_of}
-use Rattle.cert_text.specs.Kept.{kept_cert}
-use Rattle.cert_text.specs.declared.cert.Cert.{Cert}
+use Rattle.cert_form.specs.Fault.{IsCertText}
+use Rattle.cert_form.specs.Fault as texts
+use Rattle.cert_form.specs.Written.{cert_of}
+use Rattle.cert_form.specs.Kept.{kept_cert}
+use Rattle.cert_form.specs.declared.cert.Cert.{Cert}
 use Rattle.cert_text.specs.Programs.{frame_for}
-use Rattle.cert_text.specs.declared.fault.CertKind.{CertKind}
+use Rattle.cert_form.specs.declared.fault.CertKind.{CertKind}
 use Rattle.bp_report.specs.Report.{rejected_report}
 use Rattle.bp_report.specs.Refusals.{cert_refusal, from_refusal, leaf_refusal}
 use Rattle.cmd_solve.specs.Cuttings.{HasCuts}

@@ -4,7 +4,7 @@ ghost use Rattle.std.specs.Option.{option_map};
 ghost use Rattle.bp_theory.specs.Claims.{IsCertified};
 ghost use Rattle.bp_shelf.specs.Shelf.{CountsFailed};
 ghost use Rattle.bp_shelf.specs.declared.shelf.ShelfFault.TheVariants.{Missing};
-ghost use Rattle.cert_text.specs.Kept.{certificate_of};
+ghost use Rattle.cert_form.specs.Kept.{certificate_of};
 ghost use Rattle.cert_text.specs.Programs.{GoesWith};
 ghost use Rattle.branch_tree.specs.Loads.{IsLoaded};
 ghost use Rattle.cert_load.specs.Loadings.{IsLoadedOf};

@@ -1,7 +1,7 @@
 use Rattle.std.proofs.Common.{List, [], Result, subst, sym, Err}
 use Rattle.bp_theory.specs.declared.Cut.{Cut}
 use Rattle.bp_theory.specs.declared.Row.{Row}
-use Rattle.cert_text.specs.Sketch.{tree_of}
+use Rattle.cert_form.specs.Sketch.{tree_of}
 use Rattle.round_cut.specs.Several.{AreCutsOver}
 use Rattle.cert_check.specs.Cutting.{JudgesCuts}
 use Rattle.cert_check.specs.declared.place.Rejection.{Rejection}

@@ -1,7 +1,7 @@
 use Rattle.std.proofs.Common.{◌≡◌, ◌+◌, sym, ap, subst, ◌∙◌, length, arith}
 use Rattle.bp_theory.specs.declared.Claim.{Claim}
-use Rattle.cert_text.specs.Sketch.{tree_of}
-use Rattle.cert_text.specs.Written.{certificate}
+use Rattle.cert_form.specs.Sketch.{tree_of}
+use Rattle.cert_form.specs.Written.{certificate}
 use Rattle.cert_check.specs.Judging.{IsJudgedWithin, IsTrueIfAccepted, verdict_of}
 use Rattle.cert_check.specs.declared.judge.Judged.{Judged}
 use Rattle.cert_check.proofs.CutLines.{rows_many}

@@ -3,7 +3,7 @@ use Rattle.std.specs.Prelude.{IfOk}
 use Rattle.bp_theory.specs.Blocking.{Blocking}
 use Rattle.bp_theory.specs.Judgement.{tree_lines}
 use Rattle.bp_theory.specs.declared.Cut.{Cut}
-use Rattle.cert_text.specs.Sketch.{tree_of}
+use Rattle.cert_form.specs.Sketch.{tree_of}
 use Rattle.round_cut.specs.Several.{AreCutsOver}
 use Rattle.cert_check.specs.Cutting.{blocking_over, HasCuts}
 use Rattle.cert_check.specs.Judging.{JudgesLines, ProofsFit}

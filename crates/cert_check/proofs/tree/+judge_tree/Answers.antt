@@ -1,8 +1,8 @@
 use Rattle.std.proofs.Common.{◌≡◌, sym, ap, subst, ◌∙◌, ◌+◌, ◌<◌, ◌^◌, length, arith}
 use Rattle.bp_theory.specs.Trees.{split, high_part}
 use Rattle.bp_theory.specs.Judgement.{tree_lines}
-use Rattle.cert_text.specs.Sketch.{tree_of}
-use Rattle.cert_text.specs.declared.sketch.Sketch.{Sketch}
+use Rattle.cert_form.specs.Sketch.{tree_of}
+use Rattle.cert_form.specs.declared.sketch.Sketch.{Sketch}
 use Rattle.cert_check.specs.Judging.{ProofsFit}
 use Rattle.cert_check.proofs.Lines.{split_end, lines_pass, lines_end, parts_fit, low_few, low_zone, high_zone, high_few, high_is, back_is, low_end, high_end, fork_passes, nodes, fewer_nodes}
 use Rattle.std.specs.List.{AllByRecursion}

@@ -1,4 +1,4 @@
-use Rattle.cert_text.specs.Sketch.{tree_of}
+use Rattle.cert_form.specs.Sketch.{tree_of}
 use Rattle.cert_check.proofs.Lines.{nodes}
 use Rattle.cert_check.proofs.tree.+judge_tree.Given as goal
 

@@ -1,8 +1,8 @@
 use Rattle.std.proofs.Common.{◌≡◌, ◌<◌, sym, ap, subst, arith}
 use Rattle.bp_theory.specs.Trees.{Tree, split}
 use Rattle.search_laws.specs.Grove.{GrowingTree}
-use Rattle.cert_text.specs.Sketch.{tree_of}
-use Rattle.cert_text.specs.declared.sketch.Sketch.{Sketch}
+use Rattle.cert_form.specs.Sketch.{tree_of}
+use Rattle.cert_form.specs.declared.sketch.Sketch.{Sketch}
 use Rattle.branch_tree.specs.Trees as growing
 use Rattle.cert_check.proofs.Lines.{nodes, fewer_nodes}
 use Rattle.cert_load.specs.Loadings.{MayLoad, IsLoadedNode}

@@ -1,7 +1,7 @@
 use Rattle.std.proofs.Common.{◌≡◌, refl, sym, ap, subst, ◌∙◌, None, Option, ℕ}
 use Rattle.bp_theory.specs.Trees.{Tree as theory}
-use Rattle.cert_text.specs.Kept.{certificate_of}
-use Rattle.cert_text.specs.Sketch.{tree_of}
+use Rattle.cert_form.specs.Kept.{certificate_of}
+use Rattle.cert_form.specs.Sketch.{tree_of}
 use Rattle.branch_tree.specs.Trees as growing
 use Rattle.branch_tree.specs.declared.tree.Tree.{Tree}
 use Rattle.cert_load.specs.Rooms.{rooms, FindsDeep, root_line}

@@ -3,9 +3,9 @@ use Rattle.std.specs.Prelude.{IsTrue}
 use Rattle.search_laws.specs.Grove.{certificate_tree}
 use Rattle.branch_tree.specs.Trees.{tree_of}
 use Rattle.branch_tree.specs.declared.tree.Tree.{Tree}
-use Rattle.cert_text.specs.Text.{Two}
-use Rattle.cert_text.specs.Plain.{tree_text}
-use Rattle.cert_text.specs.Changes.{changing_nodes, last_mults}
+use Rattle.cert_form.specs.Text.{Two}
+use Rattle.cert_form.specs.Plain.{tree_text}
+use Rattle.cert_write.specs.Changes.{changing_nodes, last_mults}
 use Rattle.cert_stream.specs.Streams.{Appends}
 use Rattle.cert_stream.proofs.Streaming.{fork_stopped, low_stopped, fork_added}
 use Rattle.cert_stream.proofs.stream.+put_nodes.Goals as goal

@@ -1,10 +1,10 @@
 use Rattle.std.proofs.Common.{Bool, Bor, List, ℕ, ℤ, Err, Ok, sym, ap, subst, ◌∙◌}
 use Rattle.std.specs.Prelude.{IsTrue}
-use Rattle.cert_text.specs.Sketch.{tree_of as sketched}
-use Rattle.cert_text.specs.declared.sketch.Sketch.{Sketch}
-use Rattle.cert_text.specs.Text.{Two}
-use Rattle.cert_text.specs.Plain.{tree_text}
-use Rattle.cert_text.specs.Changes.{changing_nodes, last_mults}
+use Rattle.cert_form.specs.Sketch.{tree_of as sketched}
+use Rattle.cert_form.specs.declared.sketch.Sketch.{Sketch}
+use Rattle.cert_form.specs.Text.{Two}
+use Rattle.cert_form.specs.Plain.{tree_text}
+use Rattle.cert_write.specs.Changes.{changing_nodes, last_mults}
 use Rattle.cert_stream.specs.Streams.{Appends}
 use Rattle.cert_stream.proofs.Streaming.{fork_stopped, low_stopped, fork_added}
 use Rattle.cert_stream.proofs.stream.+put_sketch.Goals as goal

@@ -4,9 +4,9 @@ use Rattle.bp_model.specs.Named.{NamedProgram}
 use Rattle.search_laws.specs.Grove.{certificate_tree}
 use Rattle.branch_tree.specs.Groves.{GroveState, IsStanding}
 use Rattle.branch_tree.specs.Trees.{tree_of}
-use Rattle.cert_text.specs.Text.{Two}
-use Rattle.cert_text.specs.Plain.{tree_text}
-use Rattle.cert_text.specs.Changes.{changing_nodes}
+use Rattle.cert_form.specs.Text.{Two}
+use Rattle.cert_form.specs.Plain.{tree_text}
+use Rattle.cert_write.specs.Changes.{changing_nodes}
 use Rattle.cert_text.specs.Outcomes.{claim_of}
 use Rattle.cert_stream.proofs.Streaming.{stopped_before, added_on, put_whole}
 use Rattle.cert_stream.proofs.stream.write_stream.Goals as goal

@@ -4,7 +4,7 @@ use Rattle.block_form.specs.Blocked.{BlockedProgram}
 use Rattle.cert_load.proofs.CutPrograms.{goes_along}
 use Rattle.cert_text.specs.Programs.{GoesWith}
 use Rattle.cert_load.specs.Loadings.{LoadsCert}
-use Rattle.cert_text.specs.Kept.{certificate_of}
+use Rattle.cert_form.specs.Kept.{certificate_of}
 use Rattle.cmd_merge.proofs.OpenProof.{cert_deep}
 use Rattle.cmd_merge.proofs.opening.loaded.Goals as goal
 

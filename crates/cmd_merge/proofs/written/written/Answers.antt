@@ -2,10 +2,10 @@ use Rattle.std.proofs.Common.{◌≡◌, refl, sym, subst}
 use Rattle.block_form.specs.Blocked.{BlockedProgram}
 use Rattle.bp_report.specs.Report.{merged_report}
 use Rattle.bp_search.specs.Ends.{EndsWithin}
-use Rattle.cert_text.specs.Fault.{IsText}
-use Rattle.cert_text.specs.Plain.{version_with}
+use Rattle.cert_form.specs.Fault.{IsText}
+use Rattle.cert_form.specs.Plain.{version_with}
 use Rattle.cert_text.specs.Programs.{frame_for}
-use Rattle.cert_text.specs.Written.{cert_of}
+use Rattle.cert_form.specs.Written.{cert_of}
 use Rattle.cmd_solve.specs.Solves.{outcome_certificate}
 use Rattle.cmd_merge.specs.Merges.{AnswersBoth, answer_of}
 use Rattle.cmd_merge.specs.declared.written.Merged.{Merged}

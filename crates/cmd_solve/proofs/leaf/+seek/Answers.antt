@@ -1,7 +1,7 @@
 use Rattle.std.proofs.Common.{◌≡◌, ◌∙◌, ap, arith, rules, ◌++◌, ◌∷◌, [], List}
 use Rattle.search_laws.specs.declared.Side.{Side}
 use Rattle.search_laws.specs.declared.Side.TheVariants.{Low, High}
-use Rattle.cert_text.specs.Sketch.{tree_of}
+use Rattle.cert_form.specs.Sketch.{tree_of}
 use Rattle.cmd_solve.proofs.Paths.{low_there, high_there, passed_by, popped}
 use Rattle.cmd_solve.proofs.leaf.+seek.Goals as goal
 

@@ -2,8 +2,8 @@ use Rattle.std.proofs.Common.{◌≡◌, ◌∙◌, refl, sym, ap, subst, ℕ, L
 use Rattle.std.proofs.lemmas.Result.{IfOk-weaker}
 use Rattle.bp_theory.specs.Trees.{Tree}
 use Rattle.search_laws.specs.declared.Side.{Side}
-use Rattle.cert_text.specs.Kept.{certificate_of}
-use Rattle.cert_text.specs.Sketch.{tree_of}
+use Rattle.cert_form.specs.Kept.{certificate_of}
+use Rattle.cert_form.specs.Sketch.{tree_of}
 use Rattle.cmd_solve.specs.Leaves.{open_path, IsWorkedOn}
 use Rattle.cmd_solve.specs.Starts.{IsReady, StartsOf, RefusesStart, CanBegin}
 use Rattle.cmd_solve.proofs.Starting.{start_ready, ready_can, start_without}

@@ -1,5 +1,5 @@
 use Rattle.std.proofs.Common.{◌≡◌, vec_len}
-use Rattle.cert_text.specs.Readers.{waits_behind, root_behind}
+use Rattle.cert_lines.specs.Readers.{waits_behind, root_behind}
 use Rattle.cert_text.specs.Builders.{waits_of, root_of}
 use Rattle.cert_text.proofs.reader.Reader.complete.Given as goal
 

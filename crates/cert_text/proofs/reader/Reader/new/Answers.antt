@@ -1,6 +1,6 @@
 use Rattle.std.proofs.Common.{[], refl, ap, map}
 use Rattle.cert_text.specs.Builders.{waits_of}
-use Rattle.cert_text.specs.Written.{written_cut}
+use Rattle.cert_form.specs.Written.{written_cut}
 use Rattle.cert_text.proofs.ReaderFacts.{builds_on}
 use Rattle.cert_text.proofs.reader.Reader.new.Goals as goal
 

@@ -1,10 +1,10 @@
 use Rattle.std.proofs.Common.{◌∙◌, ap, sym, Some, [], ◌∷◌, List, map}
 use Rattle.std.proofs.lemmas.List.{map-append}
 use Rattle.bp_theory.specs.declared.Cut.{Cut}
-use Rattle.cert_text.specs.Readers.{waits_after, cuts_after}
-use Rattle.cert_text.specs.Written.{written_cut}
+use Rattle.cert_lines.specs.Readers.{waits_after, cuts_after}
+use Rattle.cert_form.specs.Written.{written_cut}
 use Rattle.cert_text.specs.Builders.{waits_of, cuts_of}
-use Rattle.cert_text.specs.declared.lines.Event.{Event}
+use Rattle.cert_lines.specs.declared.lines.Event.{Event}
 use Rattle.cert_text.specs.declared.reader.Pending.TheVariants.{Low}
 use Rattle.cert_text.proofs.ReaderFacts.{pushed}
 use Rattle.cert_text.proofs.reader.Reader.take.Goals as goal

@@ -1,0 +1,5 @@
+pub mod Decimals
+pub mod DifferProof
+pub mod BothTexts
+pub mod ChangeText
+pub mod CutTexts
