@@ -2,9 +2,9 @@
 use Rattle.std.proofs.Common.{◌≡◌, ℕ, ◌+◌, ◌<◌, Bool, true, false, List, [], ◌∷◌, ◌++◌, length, map, take, codes, None, ℤ, negsuc, refl, sym, ap, ◌∙◌, subst, inl, inr, ⊎_elim, arith, append-nil}
 use Rattle.cert_form.specs.Cert.{Tree, Cut, Cert}
 use Rattle.cert_form.specs.Cert as texts
-use Rattle.cert_form.specs.Text.{Token, Words, LineEnd, Version, One, Two, Three, version_word, HasForm, cut_lines, text_of, tree_lines, claim_lines, tokens_of, meant, meant_tree}
+use Rattle.cert_form.specs.Text.{Kind, Token, Words, LineEnd, Version, One, Two, Three, version_word, HasForm, cut_lines, text_of, tree_lines, claim_lines, tokens_of, meant, meant_tree}
 use Rattle.cert_form.specs.Fault.{AreClean, IsCertText, IsFirstCertFault, line_behind}
-use Rattle.std.specs.Prelude.{unwrap_or}
+use Rattle.std.specs.Prelude.{Result, Err, unwrap_or}
 use Rattle.std.specs.Option.{option_map}
 use Rattle.bp_theory.specs.Judgement.{named_value}
 use Rattle.bp_theory.specs.declared.Claim.{Claim}
@@ -18,9 +18,11 @@ use Rattle.cert_lines.specs.Readers.{cutting, told_of, place_of, stage_of}
 use Rattle.cert_form.specs.Stages.{Wait, Told, plain_of, whole_of, told, with_cuts, meaning, at_bpcert, IsOfSort, IsOf, Follows, AtNode, Begin, AtClaim, AtFirstEnd, over}
 use Rattle.cert_form.specs.Grammar.{Prefixed}
 use Rattle.cert_form.specs.Reached.{MayStand, Reached, IsInWord, IsBehindMinus}
-use Rattle.cert_lines.specs.Standing.{IsPart, StandsFor, Between}
+use Rattle.cert_lines.specs.Standing.{IsPart, StandsFor, Between, EndsWell}
 use Rattle.cert_form.specs.Kept.{kept_cert}
 use Rattle.cert_form.specs.declared.cert.Cert.{Cert as Kept}
+use Rattle.cert_form.specs.declared.fault.CertFault.{CertFault}
+use Rattle.cert_form.specs.declared.fault.CertFault.TheVariants.{At}
 use Rattle.cert_form.specs.declared.fault.CertKind.TheVariants.{Syntax}
 use Rattle.cert_form.specs.declared.frame.Frame.{Frame}
 use Rattle.cert_lines.specs.declared.lines.Part.{Part}

@@ -5,6 +5,7 @@ use Rattle.cert_form.specs.Cert.{Cut, Tree}
 use Rattle.cert_form.specs.Fault.{line_behind, IsSeenFault, IsFirstCertFault}
 use Rattle.cert_form.specs.Frames.{frame_of}
 use Rattle.cert_form.specs.Stages.{Wait, Stage, sort}
+use Rattle.cert_form.specs.Reached.{Reached, IsInWord, IsInNumber, IsBehindMinus, IsBehindDeepMinus}
 use Rattle.cert_lines.specs.Readers.{HasHighs, waits_after, root_after, cuts_after, stage_of, slack}
 use Rattle.cert_form.specs.declared.fault.CertFault.{CertFault}
 use Rattle.cert_form.specs.declared.fault.CertFault.TheVariants.{At, NoMemory}

@@ -22,7 +22,10 @@ mod cuts;
 
 use crate::multipliers::Multipliers;
 use bp_theory::{Claim, Cut, Items, Picked, Proof};
-use cert_form::{MAX_MULTIPLIER, CertFault, CertKind, Frame, Spot, Version, Word, first_spot, is_too_deep, judge_block, judge_coordinate, judge_multiplier, judge_scale, judge_value, judge_variable};
+use cert_form::{
+    CertFault, CertKind, Frame, MAX_MULTIPLIER, Spot, Version, Word, first_spot, is_too_deep,
+    judge_block, judge_coordinate, judge_multiplier, judge_scale, judge_value, judge_variable,
+};
 use std::alloc::{AllocError, Global};
 use std::mem;
 

@@ -79,7 +79,7 @@ impl Multipliers {
     }
 
     // Some rows get others, one after another.
-    #[tactic(auto, using(crate::proofs::Putting::changed_more))]
+    #[tactic(auto, using(cert_form::proofs::Putting::changed_more))]
     fn change(&mut self, changes: &[(u32, i64)]) -> Result<(), AllocError>
         ensures { OnOk result (self.new.pairs.items ≡ changed self.old.pairs.items changes.now) }
     {

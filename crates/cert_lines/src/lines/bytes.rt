@@ -18,7 +18,10 @@ ghost use Rattle.cert_lines.specs.Standing.{StandsFor, Between, InWordAt, Steps,
 ghost use Rattle.cert_lines.specs.declared.lines.Part.TheVariants.{Digits, Minus, DeepMinus};
 
 use crate::lines::{Event, Lines, Part};
-use cert_form::{MAX_DIVISOR, MAX_MULTIPLIER, CertFault, CertKind, Frame, Sort, Spot, Word, bytes_of, ends_line, judge_block, judge_coordinate, judge_multiplier, judge_value, pick, sort_of, words_at};
+use cert_form::{
+    CertFault, CertKind, Frame, MAX_DIVISOR, MAX_MULTIPLIER, Sort, Spot, Word, bytes_of, ends_line,
+    judge_block, judge_coordinate, judge_multiplier, judge_value, pick, sort_of, words_at,
+};
 use std::alloc::Global;
 
 // Whether a byte is a digit.

@@ -15,7 +15,10 @@ ghost use Rattle.cert_lines.specs.Telling.{Stays, Tells};
 
 use crate::lines::{Event, Lines};
 use bp_theory::{Cut, Items};
-use cert_form::{MAX_DIVISOR, CertFault, CertKind, Frame, Spot, Word, is_last_cut, judge_combined, judge_divisor, judge_multiplier, judge_row};
+use cert_form::{
+    CertFault, CertKind, Frame, MAX_DIVISOR, Spot, Word, is_last_cut, judge_combined,
+    judge_divisor, judge_multiplier, judge_row,
+};
 use std::alloc::{AllocError, Global};
 use std::mem;
 
