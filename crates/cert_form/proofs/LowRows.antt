@@ -1,5 +1,5 @@
 -- Rows that may be named are among those of the model, the link rows and the cuts.
-use Rattle.std.proofs.Common.{◌≡◌, ◌≢◌, ℕ, ◌+◌, ◌-◌, ◌≤◌, Bool, true, false, ◌&&◌, ◌||◌, length, refl, sym, arith, nat_lt, nat_le}
+use Rattle.std.proofs.Common.{◌≡◌, ℕ, ◌+◌, ◌≤◌, Bool, true, false, ◌&&◌, ◌||◌, length, refl, sym, arith, nat_lt, nat_le}
 use Rattle.std.proofs.lemmas.Bool.{leb-true, true≢false}
 use Rattle.cert_form.specs.Text.{may_name, may_combine}
 use Rattle.cert_form.specs.Frames.{is_master, frame_of}

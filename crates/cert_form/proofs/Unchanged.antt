@@ -7,7 +7,6 @@ use Rattle.cert_form.specs.Cert.{Proof, Tree, Shut, Open, Split, multiplier, put
 use Rattle.cert_form.specs.Cert as texts
 use Rattle.cert_form.specs.Text.{One, may_name, leaf_line, tree_lines, kept_behind, tokens_of, meant, meant_proof, meant_tree}
 use Rattle.cert_form.specs.Fault.{AreClean}
-use Rattle.cert_form.specs.Written.{certificate}
 use Rattle.cert_form.specs.Stages.{plain_of}
 use Rattle.cert_form.proofs.Changes.{AscendAbove, Differ}
 use Rattle.cert_form.proofs.Coherent.{proof_one, cert_one}

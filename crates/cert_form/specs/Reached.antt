@@ -1,5 +1,5 @@
 -- How far a text has come, whatever reads it: its tokens are whole, or the next one has begun.
-use Rattle.std.specs.Prelude.{◌≡◌, ◌⊎◌, ℕ, ◌+◌, ◌-◌, ◌^◌, ◌<◌, Bool, true, false, IsTrue, List, [], ◌∷◌, ◌++◌, length, take, min, nat_le, ◌&&◌}
+use Rattle.std.specs.Prelude.{◌≡◌, ◌⊎◌, ℕ, ◌-◌, ◌^◌, ◌<◌, Bool, true, false, IsTrue, List, [], ◌∷◌, ◌++◌, length, take, min, nat_le, ◌&&◌}
 use Rattle.cert_form.specs.Cert as texts
 use Rattle.cert_form.specs.Cert.{Cert}
 use Rattle.cert_form.specs.Text.{Token, text_of, signed_numeral}
