@@ -17,11 +17,11 @@ PICTURE = TOP / "docs/pictures/layers.svg"
 ROOMS = {  # a room's title: its colour, and its crates
     "theory: definitions and laws": ("#fff3c4", "bp_theory search_laws"),
     "texts and models": ("#d9ead3", "lp_token bp_model lp_read dec_read dec_find dec_guess bp_gen"),
-    "blocks": ("#cfe2f3", "block_form round_cut block_class disagg"),
+    "blocks": ("#cfe2f3", "block_form round_sums round_cut block_class disagg"),
     "pricing and bounds": ("#d0e0e3", "pricing depth_search search_price knap_price layer_graph state_graph graph_pass var_order state_price lagr_bound"),
     "hints: nothing proved rests on how good they are": (
         "#eeeeee", "col_pool master_lp lp_factor lp_core row_lp cut_hint column_lp lone_leaf point_hint hint_pools column_hint node_hint"),
-    "search": ("#f4cccc", "branch_tree node_eval bp_search bp_crew tree_merge"),
+    "search": ("#f4cccc", "grove_parts branch_tree node_eval bp_search bp_crew tree_merge"),
     "certificates": ("#ead1dc", "cert_form cert_lines cert_write cert_text cert_check cert_load cert_stream"),
     "files, words and reports": ("#fce5cd", "bp_shelf bp_real bp_watch bp_reason bp_words bp_report bp_front"),
     "commands": ("#d9d2e9", "cmd_show cmd_solve cmd_check cmd_gen cmd_detect cmd_propose cmd_merge cmd_migrate cmd_demo bp_cli bprice"),

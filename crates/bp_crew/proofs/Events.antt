@@ -23,7 +23,7 @@ use Rattle.search_laws.proofs.CrewProof.{events_keep_lem}
 use Rattle.search_laws.proofs.ListedProof.{free_is_the_rest_lem}
 use Rattle.search_laws.proofs.PathProof.{live_leaves_change_lem}
 use Rattle.branch_tree.specs.Groves.{GroveState, IsLiveTurn}
-use Rattle.branch_tree.specs.declared.turn.Turn.{Turn}
+use Rattle.grove_parts.specs.declared.turn.Turn.{Turn}
 use Rattle.branch_tree.specs.declared.loaded.Loaded.{Loaded}
 use Rattle.branch_tree.specs.Loads.{IsLoaded}
 use Rattle.branch_tree.proofs.Standing.{leaf_of_turn}

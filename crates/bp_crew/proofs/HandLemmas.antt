@@ -5,10 +5,10 @@ use Rattle.std.proofs.lemmas.List.Sums.{sum_by-cons}
 use Rattle.std.proofs.lemmas.Bool.{cases_lt}
 use Rattle.search_laws.specs.declared.Side.{Side}
 use Rattle.search_laws.specs.Grove.{LiveLeaf, live_at}
-use Rattle.branch_tree.specs.declared.turn.Turn.{Turn}
+use Rattle.grove_parts.specs.declared.turn.Turn.{Turn}
 use Rattle.branch_tree.specs.Groves.{GroveState, IsStanding, IsTurnAt}
 use Rattle.branch_tree.proofs.TurnPlaces.{first_free_turn}
-use Rattle.branch_tree.specs.Queues.{queue_of, count_before}
+use Rattle.grove_parts.specs.Queues.{queue_of, count_before}
 use Rattle.bp_crew.specs.declared.hand.Hand.{Hand}
 use Rattle.bp_crew.specs.Hands.{IsHeld, IsHeldAt, IsFirstFree}
 

@@ -6,11 +6,11 @@ use Rattle.search_laws.specs.declared.Next.{Next}
 use Rattle.search_laws.specs.declared.Holding.{Holding}
 use Rattle.search_laws.specs.Queue.{ComesFirst}
 use Rattle.search_laws.specs.Verdicts.{grown}
-use Rattle.branch_tree.specs.Queues.{queue_of}
+use Rattle.grove_parts.specs.Queues.{queue_of}
 use Rattle.branch_tree.specs.Groves.{GroveState, IsStanding, IsLiveTurn, IsTurnAt}
 use Rattle.bp_search.specs.Searches.{CanGrow}
 use Rattle.bp_crew.specs.declared.hand.Hand.{Hand}
-use Rattle.branch_tree.specs.declared.turn.Turn.{Turn}
+use Rattle.grove_parts.specs.declared.turn.Turn.{Turn}
 
 -- a hand as the laws of a crew see it
 abbrev pub holding_of : Hand → Holding

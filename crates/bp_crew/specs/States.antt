@@ -10,7 +10,7 @@ use Rattle.search_laws.specs.contracts.Event as event_type
 use Rattle.search_laws.specs.Crew.{Crew, CrewEvent, Leads, IsCrew, listed}
 use Rattle.search_laws.specs.Verdicts.{IsVerdict}
 use Rattle.branch_tree.specs.Groves.{GroveState, coded_grove, IsLiveTurn}
-use Rattle.branch_tree.specs.declared.turn.Turn.{Turn}
+use Rattle.grove_parts.specs.declared.turn.Turn.{Turn}
 use Rattle.branch_tree.specs.declared.loaded.Loaded.{Loaded}
 use Rattle.bp_search.specs.declared.kept.Kept.{Kept}
 use Rattle.bp_search.specs.contracts.kept.Kept as kept_type

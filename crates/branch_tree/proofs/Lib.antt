@@ -1,9 +1,4 @@
-pub mod Walks
-pub mod Keys
-pub mod Places
-pub mod Held
 pub mod Standing
 pub mod TurnPlaces
 pub mod Adopting
 pub mod Below
-pub mod PlainBound

@@ -19,11 +19,11 @@ use Rattle.search_laws.specs.declared.Side.TheVariants.{Low, High}
 use Rattle.search_laws.proofs.Places.{leaf_at_path, splits_put}
 use Rattle.search_laws.proofs.GroveProof.{plant_keeps_lem, shut_keeps_lem, fork_keeps_lem, counts_change_by_one_lem}
 use Rattle.search_laws.proofs.QueueProof.{queue_keeps_lem}
-use Rattle.branch_tree.specs.Queues.{Entries, queue_of, key_cmp, IsDivided}
+use Rattle.grove_parts.specs.Queues.{Entries, queue_of, key_cmp, IsDivided, IsParted}
 use Rattle.branch_tree.specs.Groves.{GroveState, IsStanding, AreCounts, IsGroveOf, IsPlanted, IsLiveTurn, IsNextTurn, IsShutQueue, IsForkedQueue, made}
 use Rattle.branch_tree.specs.Turns.{IsTurn}
-use Rattle.branch_tree.specs.declared.turn.Turn.{Turn}
-use Rattle.branch_tree.proofs.Keys.{at_itself, at_other, same_key_of, apart_of}
+use Rattle.grove_parts.specs.declared.turn.Turn.{Turn}
+use Rattle.grove_parts.proofs.Keys.{at_itself, at_other, same_key_of, apart_of}
 
 -- the depth of a tree is that of its nodes: where a live leaf is shut it stays, where it is forked the parts are one deeper
 depth_shut : (t : GrowingTree) (path : List Side) (leaf : LiveLeaf) (proof : Proof) → live_at t path ≡ Some leaf
@@ -317,39 +317,50 @@ shut_from_queue t root q g turn path z n after is s alive same found without =
     })
 
 -- a divided queue by equal names
-divided_as : (before : Queue) (z y : ℤ) (n : ℕ) (next bound : ℤ) (number made : ℕ) (low left high right : List Side) (after : Queue)
-    → z ≡ y → next ≡ bound → number ≡ made → low ≡ left → high ≡ right → IsDivided before z n next number low high after
-    → IsDivided before y n bound made left right after
-divided_as before z y n next bound number made low left high right after z_is next_is number_is low_is high_is d =
-    subst (λ y. IsDivided before y n bound made left right after) z_is
-    (subst (λ b. IsDivided before z n b made left right after) next_is
-    (subst (λ m. IsDivided before z n next m left right after) number_is
-    (subst (λ l. IsDivided before z n next number l right after) low_is
-    (subst (λ r. IsDivided before z n next number low r after) high_is d))))
+divided_as : (before : Queue) (z y : ℤ) (n : ℕ) (next : ℤ) (number made : ℕ) (low high : List Side) (after : Queue)
+    → z ≡ y → number ≡ made → IsDivided before z n next number low high after → IsDivided before y n next made low high after
+divided_as before z y n next number made low high after z_is number_is d =
+    subst (λ y. IsDivided before y n next made low high after) z_is (subst (λ m. IsDivided before z n next m low high after) number_is d)
+
+-- there is a leaf to be forked, and room for its parts in the queue
+pub fork_there : (t : GrowingTree) (root : List Span) (q : Entries) (lives count deepest : ℕ) (g : GroveState) (turn : Turn)
+    → record { tree = t; root = root; queue = q } ≡ g → IsStanding (record { tree = t; root = root; queue = q }) × AreCounts t lives count deepest
+    → IsLiveTurn g turn → (n : ℕ) × (queue_of q turn.bound n ≡ Some turn.path)
+fork_there t root q lives count deepest g turn is s alive =
+    entry_of t (queue_of q) (made t) turn.path turn.proof turn.bound s.0.queued (turn_in t root q g turn is alive).live
+
+pub fork_free : (t : GrowingTree) (root : List Span) (q : Entries) (lives count deepest : ℕ) (bound : ℤ) (number : ℕ)
+    → IsStanding (record { tree = t; root = root; queue = q }) × AreCounts t lives count deepest → lives + count ≤ number → queue_of q bound number ≡ None
+fork_free t root q lives count deepest bound number s behind =
+    fresh t (queue_of q) (made t) s.0.queued bound number (omega (arith, behind, s.1.lives_is, s.1.count_is))
+
+pub fork_fits : (t : GrowingTree) (root : List Span) (q : Entries) (lives count deepest : ℕ) (g : GroveState) → record { tree = t; root = root; queue = q } ≡ g
+    → IsStanding (record { tree = t; root = root; queue = q }) × AreCounts t lives count deepest → steps (certificate_tree g.tree) < 2 ^ 63 - 1
+    → lives + count + 1 < 2 ^ 64
+fork_fits t root q lives count deepest g is s few =
+    let least : steps (certificate_tree t) < 2 ^ 63 - 1 = subst (λ (h : GroveState). steps (certificate_tree h.tree) < 2 ^ 63 - 1) (sym is) few in
+    omega (arith, least, s.0.fewer, s.1.lives_is, s.1.count_is)
 
 -- a leaf is forked: what stands then
 pub fork_whole : (t : GrowingTree) (root : List Span) (q : Entries) (lives count deepest deeper : ℕ) (g : GroveState) (turn : Turn) (v : ℕ) (at : ℤ) (proof : Proof) (bound : ℤ)
-    (path low high : List Side) (z : ℤ) (n : ℕ) (next : ℤ) (number : ℕ) (after : Entries) (new : GrowingTree)
+    (number : ℕ) (after : Entries) (new : GrowingTree)
     → record { tree = t; root = root; queue = q } ≡ g → IsStanding (record { tree = t; root = root; queue = q }) × AreCounts t lives count deepest
-    → IsLiveTurn g turn → IsSoundSplit turn.zone v at → turn.depth < 8256 → steps (certificate_tree g.tree) < 2 ^ 63 - 1
-    → path ≡ turn.path → low ≡ path ++ Low ∷ [] → high ≡ path ++ High ∷ [] → queue_of q z n ≡ Some path → next ≡ bound → number ≡ lives + count
-    → IsDivided (queue_of q) z n next number low high (queue_of after) → new ≡ fork_at t path v at proof bound → deeper ≡ max deepest (turn.depth + 1)
+    → IsLiveTurn g turn → IsSoundSplit turn.zone v at → turn.depth < 8256 → steps (certificate_tree g.tree) < 2 ^ 63 - 1 → number ≡ lives + count
+    → IsParted (queue_of q) turn.path bound number (queue_of after) → new ≡ fork_at t turn.path v at proof bound → deeper ≡ max deepest (turn.depth + 1)
     → IsStanding (record { tree = new; root = root; queue = after }) × AreCounts new (lives + 1) (count + 1) deeper
-fork_whole t root q lives count deepest deeper g turn v at proof bound path low high z n next number after new
-    is s alive split short few same low_is high_is found next_is number_is divided becomes deeper_is =
+fork_whole t root q lives count deepest deeper g turn v at proof bound number after new is s alive split short few number_is p becomes deeper_is =
     let here = turn_in t root q g turn is alive in
-    let h : live_at t path ≡ Some (leaf_of_turn turn) = ap (live_at t) same ∙ here.live in
-    let key : z ≡ turn.bound = key_bound t (queue_of q) (made t) path turn.proof turn.bound z n s.0.queued h found in
+    let key : p.bound ≡ turn.bound = key_bound t (queue_of q) (made t) turn.path turn.proof turn.bound p.bound p.made s.0.queued here.live p.there in
     let made_is : number ≡ made t = omega (arith, number_is, s.1.lives_is, s.1.count_is) in
-    let far : turn.depth ≡ length path = here.far ∙ sym (ap length same) in
-    let sound : IsSoundSplit (zone_at t root path) v at =
-    subst (λ zone. IsSoundSplit zone v at) (here.in_zone ∙ sym (ap (zone_at t root) same)) split in
+    let far : turn.depth ≡ length turn.path = here.far in
+    let sound : IsSoundSplit (zone_at t root turn.path) v at = subst (λ zone. IsSoundSplit zone v at) here.in_zone split in
     let least : steps (certificate_tree t) < 2 ^ 63 - 1 = subst (λ (h : GroveState). steps (certificate_tree h.tree) < 2 ^ 63 - 1) (sym is) few in
     subst (λ (u : GrowingTree). IsStanding (record { tree = u; root = root; queue = after }) × AreCounts u (lives + 1) (count + 1) deeper) (sym becomes) (
-      standing_fork t root q after path (leaf_of_turn turn) v at proof bound n s.0 h (subst (λ y. queue_of q y n ≡ Some path) key found)
-          (divided_as (queue_of q) z turn.bound n next bound number (made t) low (path ++ Low ∷ []) high (path ++ High ∷ []) (queue_of after)
-          key next_is made_is low_is high_is divided) sound (omega (arith, far, short)) least,
-      counts_fork t path (leaf_of_turn turn) v at proof bound lives count deepest (lives + 1) (count + 1) deeper s.1 h refl refl
+      standing_fork t root q after turn.path (leaf_of_turn turn) v at proof bound p.made s.0 here.live
+          (subst (λ y. queue_of q y p.made ≡ Some turn.path) key p.there)
+          (divided_as (queue_of q) p.bound turn.bound p.made bound number (made t) (turn.path ++ Low ∷ []) (turn.path ++ High ∷ []) (queue_of after)
+          key made_is p.divided) sound (omega (arith, far, short)) least,
+      counts_fork t turn.path (leaf_of_turn turn) v at proof bound lives count deepest (lives + 1) (count + 1) deeper s.1 here.live refl refl
           (deeper_is ∙ ap (λ d. max deepest (d + 1)) far),
     )
 
@@ -371,23 +382,21 @@ fork_kept b t root q g turn v at proof bound path after new is s kept alive spli
           (subst (λ zone. IsSoundSplit zone v at) zone_is split) sound (subst (λ zone. KeepsBound b.blocking zone proof bound) zone_is keeps));
     }
 
-pub fork_from_queue : (t : GrowingTree) (root : List Span) (q : Entries) (lives count deepest : ℕ) (g : GroveState) (turn : Turn) (bound : ℤ) (path low high : List Side)
-    (z : ℤ) (n : ℕ) (next : ℤ) (number : ℕ) (after : Entries)
+pub fork_from_queue : (t : GrowingTree) (root : List Span) (q : Entries) (lives count deepest : ℕ) (g : GroveState) (turn : Turn) (bound : ℤ) (number : ℕ) (after : Entries)
     → record { tree = t; root = root; queue = q } ≡ g → IsStanding (record { tree = t; root = root; queue = q }) × AreCounts t lives count deepest
-    → IsLiveTurn g turn → path ≡ turn.path → low ≡ path ++ Low ∷ [] → high ≡ path ++ High ∷ [] → queue_of q z n ≡ Some path
-    → next ≡ bound → number ≡ lives + count → IsDivided (queue_of q) z n next number low high (queue_of after)
+    → IsLiveTurn g turn → number ≡ lives + count → IsParted (queue_of q) turn.path bound number (queue_of after)
     → IsForkedQueue (queue_of g.queue) turn bound (made g.tree) (queue_of after)
-fork_from_queue t root q lives count deepest g turn bound path low high z n next number after is s alive same low_is high_is found next_is number_is divided =
-    let h : live_at t path ≡ Some (leaf_of_turn turn) = ap (live_at t) same ∙ (turn_in t root q g turn is alive).live in
-    let key : z ≡ turn.bound = key_bound t (queue_of q) (made t) path turn.proof turn.bound z n s.0.queued h found in
+fork_from_queue t root q lives count deepest g turn bound number after is s alive number_is p =
+    let here = turn_in t root q g turn is alive in
+    let key : p.bound ≡ turn.bound = key_bound t (queue_of q) (made t) turn.path turn.proof turn.bound p.bound p.made s.0.queued here.live p.there in
     let made_is : number ≡ made t = omega (arith, number_is, s.1.lives_is, s.1.count_is) in
-    let d : IsDivided (queue_of q) turn.bound n bound (made t) (turn.path ++ Low ∷ []) (turn.path ++ High ∷ []) (queue_of after) =
-    divided_as (queue_of q) z turn.bound n next bound number (made t) low (turn.path ++ Low ∷ []) high (turn.path ++ High ∷ []) (queue_of after)
-    key next_is made_is (low_is ∙ ap (λ (p : List Side). p ++ Low ∷ []) same) (high_is ∙ ap (λ (p : List Side). p ++ High ∷ []) same) divided in
+    let d : IsDivided (queue_of q) turn.bound p.made bound (made t) (turn.path ++ Low ∷ []) (turn.path ++ High ∷ []) (queue_of after) =
+    divided_as (queue_of q) p.bound turn.bound p.made bound number (made t) (turn.path ++ Low ∷ []) (turn.path ++ High ∷ []) (queue_of after)
+    key made_is p.divided in
     subst (λ (h : GroveState). IsForkedQueue (queue_of h.queue) turn bound (made h.tree) (queue_of after)) is
     (record {
-      number = n;
-      there = subst (λ y. queue_of q y n ≡ Some path) key found ∙ ap Some same;
+      number = p.made;
+      there = subst (λ y. queue_of q y p.made ≡ Some turn.path) key p.there;
       gone = d.gone;
       low = d.low;
       high = d.high;

@@ -1,17 +1,10 @@
 // The tree of a search with the queue of its live leaves.
-ghost use Rattle.std.specs.Prelude.{◌≡◌, ◌<◌, ◌^◌, length, IfOk, Some};
-ghost use Rattle.bp_theory.specs.Trees.{HasSoundSplits};
-ghost use Rattle.search_laws.specs.Grove.{LiveLeaf, live_at, zone_at, certificate_tree};
-ghost use Rattle.branch_tree.specs.Trees.{tree_of};
-
-use crate::adopt::{depth_in, fill, steps_in};
-use crate::bound::plain_bound;
-use crate::copies::{path_copy, path_to, plain_proof, proof_copy};
-use crate::queue::{LeafQueue, bound_of, key_at};
-use crate::tree::{Tree, forked, put, walk};
-use crate::turn::Turn;
 use block_form::{Blocked, Zone};
 use bp_theory::{Items, Proof};
+use grove_parts::{
+    LeafQueue, Tree, Turn, bound_of, depth_in, filled_queue, fork_leaf, key_at, plain_bound,
+    plain_proof, put, steps_in, turn_at,
+};
 use search_laws::Side;
 use std::alloc::{AllocError, Global};
 
@@ -50,7 +43,7 @@ impl std::marker::Model for Grove {
 
     ghost coded = { coded_grove };
 
-    ghost use Rattle.branch_tree.specs.Trees.{tree_of};
+    ghost use Rattle.grove_parts.specs.Trees.{tree_of};
 
     ghost view = { λ g. record { tree = tree_of g.tree; root = g.root; queue = g.queue } };
 
@@ -65,8 +58,8 @@ impl Grove {
     ghost use Rattle.search_laws.specs.GroveFacts.{IsGrove, IsSoundProof, KeepsBound, IsLeastOf};
     ghost use Rattle.block_form.specs.Blocked.{BlockedProgram};
     ghost use Rattle.branch_tree.specs.Turns.{IsTurn};
-    ghost use Rattle.branch_tree.specs.Trees.{tree_of};
-    ghost use Rattle.branch_tree.specs.Queues.{queue_of};
+    ghost use Rattle.grove_parts.specs.Trees.{tree_of};
+    ghost use Rattle.grove_parts.specs.Queues.{queue_of};
     ghost use Rattle.branch_tree.specs.Groves.{IsStanding, IsGroveOf, IsPlanted, IsLiveTurn, IsNextTurn, IsTurnAt, IsTurnBelow, NoneLiveBelow, IsShutQueue, IsForkedQueue, made};
     ghost use Rattle.branch_tree.specs.Adopted.{IsAdopted};
 
@@ -102,9 +95,7 @@ impl Grove {
         ensures standing { IfOk result IsStanding }
     {
         let root = Zone::root(alloc, b)?;
-        let mut queue = LeafQueue::new(alloc);
-        let mut path = Vec::new(alloc);
-        let live = fill(alloc, &mut queue, &tree, &mut path, 0)?;
+        let (queue, live) = filled_queue(alloc, &tree)?;
         let count = steps_in(&tree);
         let depth = depth_in(&tree);
         Ok(Grove {
@@ -129,8 +120,7 @@ impl Grove {
         let Some((_, path)) = self.queue.first() else {
             return Ok(None);
         };
-        let root = self.root.copy(alloc)?;
-        let turn = turn_at(alloc, &self.tree, path, root)?;
+        let turn = turn_at(alloc, &self.tree, path, &self.root)?;
         Ok(Some(turn))
     }
 
@@ -151,8 +141,7 @@ impl Grove {
         let Some((_, path)) = self.queue.at_place(place) else {
             return Ok(None);
         };
-        let root = self.root.copy(alloc)?;
-        let leaf = turn_at(alloc, &self.tree, path, root)?;
+        let leaf = turn_at(alloc, &self.tree, path, &self.root)?;
         Ok(Some(leaf))
     }
 
@@ -169,8 +158,7 @@ impl Grove {
         let Some((_, path)) = self.queue.first_below(above) else {
             return Ok(None);
         };
-        let root = self.root.copy(alloc)?;
-        let leaf = turn_at(alloc, &self.tree, path, root)?;
+        let leaf = turn_at(alloc, &self.tree, path, &self.root)?;
         Ok(Some(leaf))
     }
 
@@ -226,15 +214,17 @@ impl Grove {
         // For the proof alone: `b` stands in the contract.
         let _ = b;
         let number = self.live + self.count;
-        let path = turn.path.as_slice();
-        let low = path_to(alloc, path, Side::Low)?;
-        let high = path_to(alloc, path, Side::High)?;
-        let second = proof_copy(alloc, &proof)?;
-        let node = forked(alloc, var, &at, (proof, second), &bound)?;
-        let key = self.queue.key_of(&turn.bound, path);
-        let next = key_at(&bound, number);
-        self.queue.divide(&key, next, low, high)?;
-        put(&mut self.tree, path, node);
+        fork_leaf(
+            alloc,
+            &mut self.tree,
+            &mut self.queue,
+            turn,
+            number,
+            var,
+            at,
+            proof,
+            bound,
+        )?;
         self.live += 1;
         self.count += 1;
         self.depth = self.depth.max(turn.depth + 1);
@@ -282,33 +272,5 @@ impl Grove {
             None => unreachable!(),
             Some((key, _)) => bound_of(key),
         }
-    }
-}
-
-// The live leaf at a path, with its zone.
-fn turn_at(alloc: Global, tree: &Tree, path: &[Side], root: Zone) -> Result<Turn, AllocError>
-    requires splits { HasSoundSplits (certificate_tree (tree_of tree.now)) root }
-    requires live { (leaf : LiveLeaf) × (live_at (tree_of tree.now) path.now ≡ Some leaf) }
-    requires deep { length path.now < 2 ^ 32 }
-    ensures live { IfOk result (λ turn. live_at (tree_of tree.now) path.now ≡
-        Some (record { proof = turn.proof; bound = turn.bound })) }
-    ensures zone { IfOk result (λ turn. turn.zone ≡ zone_at (tree_of tree.now) root path.now) }
-    ensures path { IfOk result (λ turn. turn.path ≡ path.now) }
-    ensures depth { IfOk result (λ turn. turn.depth ≡ length path.now) }
-{
-    let copy = path_copy(alloc, path)?;
-    let (node, zone) = walk(tree, path, root);
-    match node {
-        Tree::Live(proof, bound) => {
-            let proof = proof_copy(alloc, proof)?;
-            Ok(Turn {
-                path: copy,
-                zone,
-                depth: path.len() as u32,
-                proof,
-                bound: *bound,
-            })
-        }
-        _ => unreachable!(),
     }
 }

@@ -2,20 +2,12 @@
 //! what stands in the tree once a leaf is shut or forked.
 #![tactic(auto)]
 
-mod adopt;
-mod bound;
-mod copies;
 mod grove;
 mod loaded;
 mod outcome;
-mod queue;
-mod tree;
-mod turn;
 
-pub use crate::copies::proof_copy;
 pub use crate::grove::{Grove, MAX_DEPTH};
 pub use crate::loaded::Loaded;
 pub use crate::outcome::Outcome;
-pub use crate::tree::Tree;
-pub use crate::turn::Turn;
+pub use grove_parts::{Tree, Turn, proof_copy};
 pub use search_laws::{Next, Side, Verdict};

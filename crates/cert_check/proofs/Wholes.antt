@@ -28,7 +28,7 @@ use Rattle.bp_model.specs.Named.{NamedProgram}
 use Rattle.cert_form.specs.Written.{certificate}
 use Rattle.cert_text.specs.Programs as texts
 use Rattle.cert_text.specs.Programs.{AreOver, GoesWith}
-use Rattle.round_cut.specs.Cutting.{IsWhole}
+use Rattle.round_sums.specs.Cutting.{IsWhole}
 use Rattle.round_cut.specs.Several.{AreCutsOver, AreRowsOfCuts}
 use Rattle.cert_check.specs.declared.judge.Judged.{Judged}
 use Rattle.cert_check.specs.declared.judge.Judged.TheVariants.{Accepted, Rejected, Unknown}

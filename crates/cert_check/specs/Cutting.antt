@@ -10,7 +10,7 @@ use Rattle.bp_theory.specs.declared.Claim.{Claim}
 use Rattle.bp_theory.specs.declared.Cut.{Cut}
 use Rattle.bp_theory.specs.declared.Row.{Row}
 use Rattle.block_form.specs.Blocked.{BlockedProgram, IsFormed}
-use Rattle.round_cut.specs.Cutting.{IsEarlierCut, HasFittingSigns}
+use Rattle.round_sums.specs.Cutting.{IsEarlierCut, HasFittingSigns}
 use Rattle.round_cut.specs.Several.{AreRowsOfCuts}
 use Rattle.cert_check.specs.Judging.{IsFirstBad}
 use Rattle.cert_check.specs.declared.place.Rejection.{Rejection}

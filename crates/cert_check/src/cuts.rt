@@ -2,7 +2,7 @@
 ghost use Rattle.std.specs.Prelude.{◌≡◌, [], ◌+◌, ◌<◌, ◌≤◌, ◌^◌, length, All, IfOk};
 ghost use Rattle.bp_theory.specs.Decomposition.{proof_rows};
 ghost use Rattle.bp_theory.specs.Limits.{most_cuts};
-ghost use Rattle.round_cut.specs.Cutting.{IsCutOver, IsEarlierCut};
+ghost use Rattle.round_sums.specs.Cutting.{IsCutOver, IsEarlierCut};
 ghost use Rattle.round_cut.specs.Several.{AreCutsOver};
 ghost use Rattle.cert_check.specs.Cutting.{JudgesCut, JudgesCuts};
 

@@ -4,7 +4,7 @@ ghost use Rattle.bp_theory.specs.Trees.{IsZone};
 ghost use Rattle.lagr_bound.specs.Forms.{forms_in};
 ghost use Rattle.lagr_bound.specs.Works.{forms_of};
 ghost use Rattle.search_laws.specs.Loading.{LoadsLeaf};
-ghost use Rattle.branch_tree.specs.Trees.{tree_of};
+ghost use Rattle.grove_parts.specs.Trees.{tree_of};
 ghost use Rattle.cert_load.specs.Rooms.{CanLoadLeaf, SettlesBy};
 
 use block_form::{Blocked, Zone};

@@ -12,7 +12,7 @@ ghost use Rattle.search_laws.specs.GroveFacts.{best_cost};
 ghost use Rattle.cert_form.specs.Kept.{certificate_of};
 ghost use Rattle.cert_text.specs.Programs.{GoesWith};
 ghost use Rattle.cert_form.specs.Sketch as sketches;
-ghost use Rattle.branch_tree.specs.Trees.{tree_of};
+ghost use Rattle.grove_parts.specs.Trees.{tree_of};
 ghost use Rattle.branch_tree.specs.Adopted.{point_in};
 ghost use Rattle.cert_load.specs.Rooms.{rooms, FindsDeep, root_line, CanLoadLeaf};
 ghost use Rattle.cert_load.specs.Loadings.{IsLoadedTree, LoadsCert, MayLoad, IsLoadedNode};

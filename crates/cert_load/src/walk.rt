@@ -3,7 +3,7 @@ ghost use Rattle.std.specs.Prelude.{◌≡◌, ◌+◌, ◌-◌, ◌<◌, ◌≤
 ghost use Rattle.bp_theory.specs.Digits.{binary_digits, span_bits, zone_bits};
 ghost use Rattle.bp_theory.specs.Trees.{IsSoundSplit, IsZone, low_part};
 ghost use Rattle.std.specs.Int.{int_gap};
-ghost use Rattle.branch_tree.specs.Trees.{tree_of};
+ghost use Rattle.grove_parts.specs.Trees.{tree_of};
 ghost use Rattle.cert_load.specs.Rooms.{rooms, FindsDeep, FindsBehind, IsLeaf};
 
 use block_form::Zone;

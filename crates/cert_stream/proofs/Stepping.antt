@@ -41,7 +41,7 @@ use Rattle.lagr_bound.specs.Forms.{forms_in}
 use Rattle.lagr_bound.specs.Works.{forms_of}
 use Rattle.lagr_bound.specs.declared.work.Work.{Work}
 use Rattle.round_cut.specs.Several.{AreRowsOfCuts}
-use Rattle.round_cut.specs.Cutting.{IsCutOver}
+use Rattle.round_sums.specs.Cutting.{IsCutOver}
 use Rattle.round_cut.proofs.SeveralLemmas.{no_rows, one_row_more}
 use Rattle.cert_check.specs.Cutting.{JudgesCut, blocking_over, HasCuts}
 use Rattle.cert_check.proofs.CutLines.{rows_many}

@@ -24,7 +24,7 @@ use Rattle.bp_theory.specs.declared.CheckKind.{CheckKind}
 use Rattle.bp_theory.specs.declared.CheckKind.TheVariants.{Split}
 use Rattle.block_form.specs.Blocked.{BlockedProgram}
 use Rattle.cert_text.specs.Programs.{IsSmallClaim}
-use Rattle.round_cut.specs.Cutting.{IsCutOver}
+use Rattle.round_sums.specs.Cutting.{IsCutOver}
 use Rattle.round_cut.specs.Several.{AreRowsOfCuts}
 use Rattle.cert_check.specs.Cutting.{JudgesCut}
 use Rattle.cert_check.specs.Judging.{IsFirstBad, IsLeft, IsEnd, JudgesLines, JudgesPoint}

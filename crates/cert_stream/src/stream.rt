@@ -3,7 +3,7 @@ ghost use Rattle.std.specs.Prelude.{◌≡◌, ℕ, ◌+◌, ◌++◌, List, [],
 ghost use Rattle.bp_theory.specs.declared.Claim as claims;
 ghost use Rattle.bp_shelf.specs.Shelf.{OthersAsBefore};
 ghost use Rattle.search_laws.specs.Grove.{certificate_tree};
-ghost use Rattle.branch_tree.specs.Trees.{tree_of};
+ghost use Rattle.grove_parts.specs.Trees.{tree_of};
 ghost use Rattle.cert_form.specs.Fault.{IsCertText};
 ghost use Rattle.cert_form.specs.Kept.{certificate_of, kept_cert};
 ghost use Rattle.cert_form.specs.Sketch.{tree_of as sketched};

@@ -4,7 +4,7 @@ ghost use Rattle.std.specs.Option.{option_map};
 ghost use Rattle.bp_theory.specs.Program.{in_sense};
 ghost use Rattle.search_laws.specs.Grove.{certificate_tree};
 ghost use Rattle.search_laws.specs.Outcomes.{read_off};
-ghost use Rattle.branch_tree.specs.Trees.{tree_of};
+ghost use Rattle.grove_parts.specs.Trees.{tree_of};
 ghost use Rattle.cert_form.specs.Fault.{IsText};
 ghost use Rattle.cert_form.specs.Text.{Two};
 ghost use Rattle.cert_form.specs.Written.{cert_of};

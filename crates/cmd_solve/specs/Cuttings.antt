@@ -4,7 +4,7 @@ use Rattle.bp_theory.specs.Limits.{most_cuts}
 use Rattle.bp_theory.specs.declared.Cut.{Cut}
 use Rattle.block_form.specs.Blocked.{BlockedProgram}
 use Rattle.block_form.specs.Cuts.{KeepsCuts}
-use Rattle.round_cut.specs.Plain.{AreFirstPlain}
+use Rattle.round_sums.specs.Plain.{AreFirstPlain}
 use Rattle.cut_hint.specs.Taken.{GoesOn}
 use Rattle.cert_load.specs.Recut.{with_cuts}
 

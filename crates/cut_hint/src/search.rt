@@ -1,6 +1,6 @@
 // The search for cuts: rounds of finding, taking and solving anew, while the bound rises.
 ghost use Rattle.std.specs.Prelude.{All, OnOk};
-ghost use Rattle.round_cut.specs.Cutting.{IsEarlierCut};
+ghost use Rattle.round_sums.specs.Cutting.{IsEarlierCut};
 
 use crate::bind::{Front, Made, bound_cuts};
 use crate::missed::{numbered, search_missed};

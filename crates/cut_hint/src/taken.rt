@@ -1,6 +1,6 @@
 // Cuts that keep the rules, with their rows.
 ghost use Rattle.std.specs.Prelude.{◌≡◌, ◌≤◌, ◌⊎◌, length, All, IfOk, IfSome};
-ghost use Rattle.round_cut.specs.Cutting.{IsEarlierCut};
+ghost use Rattle.round_sums.specs.Cutting.{IsEarlierCut};
 ghost use Rattle.round_cut.specs.Several.{AreRowsOfCuts};
 ghost use Rattle.cut_hint.specs.Taken.{BeginsWith, GoesOn, IsTaken};
 

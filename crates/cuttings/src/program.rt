@@ -1,6 +1,6 @@
 // Programs in blocks from their parts, and cuts of them.
 ghost use Rattle.std.specs.Prelude.{◌≤◌, length, All, IfOk, IfSome};
-ghost use Rattle.round_cut.specs.Cutting.{IsEarlierCut};
+ghost use Rattle.round_sums.specs.Cutting.{IsEarlierCut};
 
 use block_form::{Blocked, check_blocks};
 use bp_model::{Dec, Model, Names, Parts};

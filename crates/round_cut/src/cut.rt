@@ -3,28 +3,13 @@ ghost use Rattle.std.specs.Prelude.{◌≡◌, ◌≤◌, ℤ, List, length, All
 ghost use Rattle.bp_theory.specs.Program.{IsFeasible, MeetsRow};
 ghost use Rattle.bp_theory.specs.Decomposition.{proof_rows};
 ghost use Rattle.bp_theory.specs.Cuts.{cut_row};
-ghost use Rattle.round_cut.specs.Cutting.{HasCutFault, HasFittingSigns, IsCutOver, IsEarlierCut};
-ghost use Rattle.round_cut.specs.Rows.{program_of, rows_in, IsRows};
+ghost use Rattle.round_sums.specs.Cutting.{HasCutFault, HasFittingSigns, IsCutOver, IsEarlierCut};
+ghost use Rattle.round_sums.specs.Rows.{program_of, rows_in, IsRows};
 
-use crate::bounded::bounded_row;
-use crate::demand::demand;
-use crate::rounding::{round_up, rounded};
-use crate::rows::Rows;
-use crate::signs::signs_fit;
 use block_form::Blocked;
 use bp_theory::{Cut, Row};
+use round_sums::{CutFault, Rows, bounded_row, demand, round_up, rounded, signs_fit};
 use std::alloc::Global;
-
-/// What a cut is refused for.
-#[derive(Clone, Copy, Debug, PartialEq, Eq)]
-pub enum CutFault {
-    /// A multiplier's sign doesn't fit its row.
-    Sign,
-    /// The sums of the cut's row may leave 62 bits.
-    Large,
-    /// Want of memory.
-    NoMemory,
-}
 
 /// The row of a cut of a program in blocks, over its master rows and the rows of earlier cuts, of which there are at most 255;
 /// the first of them is numbered behind the link rows. Each feasible point that meets the earlier cuts meets it.

@@ -4,18 +4,13 @@
 //! problems, 1973), over spans whose lower ends need not be 0.
 #![tactic(auto)]
 
-mod bounded;
-mod combine;
 mod cut;
-mod demand;
 mod plain;
-mod rounding;
-mod rows;
 mod rules;
 mod several;
-mod signs;
 
-pub use cut::{CutFault, cut_row};
-pub use plain::first_cuts;
-pub use rules::{MAX_DIVISOR, keeps_rules};
-pub use several::with_cuts;
+pub use crate::cut::cut_row;
+pub use crate::plain::first_cuts;
+pub use crate::rules::keeps_rules;
+pub use crate::several::with_cuts;
+pub use round_sums::{CutFault, MAX_DIVISOR};

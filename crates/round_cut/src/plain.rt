@@ -1,17 +1,14 @@
 // The plain cuts of a program in blocks.
-ghost use Rattle.std.specs.Prelude.{◌≡◌, ◌≢◌, ◌↔◌, ℕ, ◌+◌, ◌*◌, ◌<◌, ◌≤◌, [], ◌∷◌, length, IfOk, IsTrue, None, OnOk, MatchOption, unsigned_abs};
-ghost use Rattle.std.specs.Int.{◌∣◌, IsGcd};
-ghost use Rattle.round_cut.specs.Cutting.{IsWhole};
-ghost use Rattle.round_cut.specs.declared.cut.CutFault.TheVariants.{NoMemory};
-ghost use Rattle.round_cut.specs.Plain.{AreFirstPlain, IsDivisor, Sharpens};
-ghost use Rattle.round_cut.specs.PlainSteps.{rank_of, AreFirstBelow, IsPlainOf, IsUnit, SharpensRow};
-ghost use Rattle.round_cut.specs.Rows.{program_of, row_in, IsRows};
+ghost use Rattle.std.specs.Prelude.{◌≡◌, ◌≢◌, ◌+◌, ◌*◌, [], IfOk, None, OnOk};
+ghost use Rattle.round_sums.specs.declared.fault.CutFault.TheVariants.{NoMemory};
+ghost use Rattle.round_sums.specs.Plain.{AreFirstPlain};
+ghost use Rattle.round_sums.specs.PlainSteps.{rank_of, AreFirstBelow, IsPlainOf, IsUnit, SharpensRow};
+ghost use Rattle.round_sums.specs.Rows.{program_of, row_in, IsRows};
 
-use crate::cut::{CutFault, row_over};
-use crate::rows::Rows;
-use crate::rules::MAX_DIVISOR;
+use crate::cut::row_over;
 use block_form::Blocked;
-use bp_theory::{Cut, Items, Row, Term};
+use bp_theory::Cut;
+use round_sums::{CutFault, Rows, lone_cut, sharpening};
 use std::alloc::{AllocError, Global};
 
 /// The first plain cuts of a program in blocks, at most so many, in their order. A master row gives some where the greatest
@@ -144,73 +141,4 @@ fn none_for(fault: CutFault) -> Result<Option<Cut>, AllocError>
         CutFault::Large => Ok(None),
         CutFault::NoMemory => Err(AllocError),
     }
-}
-
-// The cut of one row.
-fn lone_cut(alloc: Global, q: u32, mult: &(u32, i64)) -> Result<Cut, AllocError>
-    ensures divisor { IfOk result (λ cut. cut.q ≡ q) }
-    ensures rows { IfOk result (λ cut. cut.rows ≡ mult.now ∷ []) }
-{
-    let mut rows = Items::with_capacity(alloc, 1)?;
-    rows.push(*mult)?;
-    Ok(Cut { q, rows })
-}
-
-// The divisor that gives a row's cuts, where there is one.
-fn sharpening(row: &Row) -> Option<u32>
-    ensures { MatchOption result ((q : ℕ) → Sharpens row.now q → ⊥) (Sharpens row.now) }
-{
-    let q = divisor(row.terms.as_slice());
-    let most = u64::from(MAX_DIVISOR);
-    if q < 2 {
-        return None;
-    }
-    if q > most {
-        return None;
-    }
-    if divides_sides(row, q) {
-        return None;
-    }
-    Some(q as u32)
-}
-
-// Whether a number divides both sides of a row.
-fn divides_sides(row: &Row, q: u64) -> bool
-    requires { 0 < q }
-    ensures { IsTrue result ↔ ((q ∣ unsigned_abs row.now.low) × (q ∣ unsigned_abs row.now.rhs)) }
-{
-    divides(q, &row.low) && divides(q, &row.rhs)
-}
-
-// Whether a number divides another.
-fn divides(q: u64, number: &i64) -> bool
-    requires { 0 < q }
-    ensures { IsTrue result ↔ (q ∣ unsigned_abs number.now) }
-{
-    number.unsigned_abs() % q == 0
-}
-
-// The greatest common divisor of coefficients, 0 of none.
-fn divisor(terms: &[Term]) -> u64
-    ensures { IsDivisor terms.now result }
-{
-    let mut q = 0;
-    for term in terms {
-        q = greatest_common_divisor(q, term.coef.unsigned_abs());
-    }
-    q
-}
-
-// The greatest common divisor of two numbers, by Euclid's algorithm.
-fn greatest_common_divisor(a: u64, b: u64) -> u64
-    ensures { IsGcd a b result }
-{
-    let mut x = a;
-    let mut y = b;
-    while y != 0 {
-        let rest = x % y;
-        x = y;
-        y = rest;
-    }
-    x
 }

@@ -4,9 +4,10 @@ ghost use Rattle.bp_theory.specs.Limits.{most_cuts};
 ghost use Rattle.block_form.specs.Blocked.{IsFormed};
 ghost use Rattle.round_cut.specs.Several.{AreCutsOver, AreRowsOfCuts, HasCutsFault};
 
-use crate::cut::{CutFault, cut_row};
+use crate::cut::cut_row;
 use block_form::{Blocked, recut};
 use bp_theory::{Cut, Items, Row};
+use round_sums::{CutFault, copies_of};
 use std::alloc::{AllocError, Global};
 
 /// The program in blocks of the same model and decomposition that has these cuts in place of its own; there are at most 256,
@@ -60,27 +61,4 @@ fn rows_of(alloc: Global, b: &Blocked, cuts: &[Cut]) -> Result<Vec<Row>, CutFaul
         }
     }
     Ok(rows)
-}
-
-// Copies of cuts.
-fn copies_of(alloc: Global, cuts: &[Cut]) -> Result<Vec<Cut>, AllocError>
-    ensures { IfOk result (λ copies. copies.items ≡ cuts.now) }
-{
-    let mut copies = Vec::with_capacity(alloc, cuts.len())?;
-    for cut in cuts {
-        let copy = copy_of(alloc, cut)?;
-        copies.push(copy)?;
-    }
-    Ok(copies)
-}
-
-// A copy of a cut.
-fn copy_of(alloc: Global, cut: &Cut) -> Result<Cut, AllocError>
-    ensures { IfOk result (λ copy. copy ≡ cut.now) }
-{
-    let rows = cut.rows.as_slice().to_vec(alloc)?;
-    Ok(Cut {
-        q: cut.q,
-        rows: Items::from_vec(rows),
-    })
 }

@@ -1,7 +1,7 @@
 use Rattle.std.proofs.Common.{◌≡◌, ◌≤◌, false, true, Option, subst, sym, refl, arith}
 use Rattle.std.specs.Prelude.{MatchOption}
 use Rattle.search_laws.specs.Grove.{live_count}
-use Rattle.branch_tree.specs.declared.turn.Turn.{Turn}
+use Rattle.grove_parts.specs.declared.turn.Turn.{Turn}
 use Rattle.branch_tree.specs.Groves.{IsTurnAt}
 use Rattle.bp_crew.specs.Hands.{IsHeld}
 use Rattle.bp_crew.proofs.HandLemmas.{is_first, held_more, too_many}

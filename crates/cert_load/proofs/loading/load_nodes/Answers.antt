@@ -2,8 +2,8 @@ use Rattle.std.proofs.Common.{◌≡◌, refl, sym, ap, subst, ◌∙◌, None, 
 use Rattle.bp_theory.specs.Trees.{Tree as theory}
 use Rattle.cert_form.specs.Kept.{certificate_of}
 use Rattle.cert_form.specs.Sketch.{tree_of}
-use Rattle.branch_tree.specs.Trees as growing
-use Rattle.branch_tree.specs.declared.tree.Tree.{Tree}
+use Rattle.grove_parts.specs.Trees as growing
+use Rattle.grove_parts.specs.declared.tree.Tree.{Tree}
 use Rattle.cert_load.specs.Rooms.{rooms, FindsDeep, root_line}
 use Rattle.cert_load.specs.Loadings.{MayLoad, IsLoadedTree}
 use Rattle.cert_load.specs.declared.walk.Walk.{Walk}

@@ -1,8 +1,8 @@
 use Rattle.std.proofs.Common.{Bool, Bor, List, ℕ, ℤ, Err, Ok, sym, ap, subst, ◌∙◌}
 use Rattle.std.specs.Prelude.{IsTrue}
 use Rattle.search_laws.specs.Grove.{certificate_tree}
-use Rattle.branch_tree.specs.Trees.{tree_of}
-use Rattle.branch_tree.specs.declared.tree.Tree.{Tree}
+use Rattle.grove_parts.specs.Trees.{tree_of}
+use Rattle.grove_parts.specs.declared.tree.Tree.{Tree}
 use Rattle.cert_form.specs.Text.{Two}
 use Rattle.cert_form.specs.Plain.{tree_text}
 use Rattle.cert_write.specs.Changes.{changing_nodes, last_mults}

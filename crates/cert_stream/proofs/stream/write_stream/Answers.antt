@@ -3,7 +3,7 @@ use Rattle.std.specs.Prelude.{[], codes, IsTrue}
 use Rattle.bp_model.specs.Named.{NamedProgram}
 use Rattle.search_laws.specs.Grove.{certificate_tree}
 use Rattle.branch_tree.specs.Groves.{GroveState, IsStanding}
-use Rattle.branch_tree.specs.Trees.{tree_of}
+use Rattle.grove_parts.specs.Trees.{tree_of}
 use Rattle.cert_form.specs.Text.{Two}
 use Rattle.cert_form.specs.Plain.{tree_text}
 use Rattle.cert_write.specs.Changes.{changing_nodes}

@@ -1,5 +1,5 @@
 use Rattle.std.proofs.Common.{All}
-use Rattle.round_cut.specs.Cutting.{IsEarlierCut}
+use Rattle.round_sums.specs.Cutting.{IsEarlierCut}
 use Rattle.cut_hint.proofs.search.search_cuts.Given as goal
 
 abbrev pub invariant-loop : goal.invariant-loop

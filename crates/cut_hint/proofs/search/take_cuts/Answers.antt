@@ -2,7 +2,7 @@ use Rattle.std.proofs.Common.{◌≡◌, List, [], ◌∷◌, ◌++◌, sym, sub
 use Rattle.std.proofs.lemmas.List.Elements.{All-push}
 use Rattle.bp_theory.specs.declared.Cut.{Cut}
 use Rattle.bp_theory.specs.declared.Row.{Row}
-use Rattle.round_cut.specs.Cutting.{IsEarlierCut}
+use Rattle.round_sums.specs.Cutting.{IsEarlierCut}
 use Rattle.cut_hint.specs.Taken.{IsTaken}
 use Rattle.cut_hint.proofs.search.take_cuts.Goals as goal
 

@@ -2,8 +2,8 @@ use Rattle.std.proofs.Common.{◌≡◌, List, [], ◌∷◌, Option, Some, Resu
 use Rattle.std.specs.Prelude.{IfSome}
 use Rattle.std.proofs.lemmas.List.Elements.{All-cons, All-nil}
 use Rattle.bp_theory.specs.declared.Row.{Row}
-use Rattle.round_cut.specs.Cutting.{IsEarlierCut}
-use Rattle.round_cut.specs.declared.cut.CutFault.{CutFault}
+use Rattle.round_sums.specs.Cutting.{IsEarlierCut}
+use Rattle.round_sums.specs.declared.fault.CutFault.{CutFault}
 use Rattle.cuttings.proofs.worked.a_later_cut_names_an_earlier_one_behind_the_links.Goals as goal
 
 -- one row that was found

@@ -1,7 +1,7 @@
 use Rattle.std.proofs.Common.{List, [], sym, subst}
 use Rattle.std.proofs.lemmas.List.Elements.{recursion_from_All}
 use Rattle.bp_theory.specs.declared.Cut.{Cut}
-use Rattle.round_cut.specs.Plain.{IsPlain}
+use Rattle.round_sums.specs.Plain.{IsPlain}
 use Rattle.round_cut.specs.Several.{AreCutsOver}
 use Rattle.round_cut.proofs.PlainCuts.{plain_cuts_over}
 use Rattle.cuttings.proofs.worked.a_program_takes_its_plain_cuts.Goals as goal

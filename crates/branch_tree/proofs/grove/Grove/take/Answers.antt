@@ -1,4 +1,5 @@
-use Rattle.branch_tree.specs.Trees.{tree_of}
+use Rattle.std.proofs.Common.{refl}
+use Rattle.grove_parts.specs.Trees.{tree_of}
 use Rattle.branch_tree.proofs.Standing.{next_turn, none_is_live, first_is_short, kept_turn, standing_of}
 use Rattle.branch_tree.proofs.grove.Grove.take.Goals as goal
 
@@ -12,8 +13,8 @@ turn_at-requires-clause-deep c =
 
 pub returns-clause-next : goal.returns-clause-next
 returns-clause-next c =
-    next_turn (tree_of c.self.inside.tree) c.self.inside.root c.in_ok-root.root c.self.inside.queue c.args.self.now c.in_ok-turn.turn _ _ c.in-Some.path.now
-    c.self.view_is c.self.invariant.0 c.in-Some.ensures.some c.in_ok-root.ensures c.in_ok-turn.ensures.live c.in_ok-turn.ensures.zone
+    next_turn (tree_of c.self.inside.tree) c.self.inside.root c.self.inside.root c.self.inside.queue c.args.self.now c.in_ok-turn.turn _ _ c.in-Some.path.now
+    c.self.view_is c.self.invariant.0 c.in-Some.ensures.some refl c.in_ok-turn.ensures.live c.in_ok-turn.ensures.zone
     c.in_ok-turn.ensures.path c.in_ok-turn.ensures.depth
 
 pub returns-clause-kept : goal.returns-clause-kept

@@ -1,4 +1,5 @@
-use Rattle.branch_tree.specs.Trees.{tree_of}
+use Rattle.std.proofs.Common.{refl}
+use Rattle.grove_parts.specs.Trees.{tree_of}
 use Rattle.branch_tree.proofs.Standing.{kept_turn, standing_of}
 use Rattle.branch_tree.proofs.Below.{none_live, below_is_short, turn_below}
 use Rattle.branch_tree.proofs.grove.Grove.take_below.Goals as goal
@@ -15,8 +16,8 @@ turn_at-requires-clause-deep c =
 
 pub returns-clause-next : goal.returns-clause-next
 returns-clause-next c =
-    turn_below (tree_of c.self.inside.tree) c.self.inside.root c.in_ok-root.root c.self.inside.queue c.args.self.now c.in_ok-leaf.leaf c.args.above.now _ _
-    c.in-Some.path.now c.self.view_is c.self.invariant.0 c.in-Some.ensures.some c.in_ok-root.ensures c.in_ok-leaf.ensures.live c.in_ok-leaf.ensures.zone
+    turn_below (tree_of c.self.inside.tree) c.self.inside.root c.self.inside.root c.self.inside.queue c.args.self.now c.in_ok-leaf.leaf c.args.above.now _ _
+    c.in-Some.path.now c.self.view_is c.self.invariant.0 c.in-Some.ensures.some refl c.in_ok-leaf.ensures.live c.in_ok-leaf.ensures.zone
     c.in_ok-leaf.ensures.path c.in_ok-leaf.ensures.depth
 
 pub returns-clause-kept : goal.returns-clause-kept

@@ -2,7 +2,7 @@ use Rattle.std.proofs.Common.{◌≤◌, List, Option, None, Some, Result, Ok, E
 use Rattle.std.proofs.lemmas.Bool.{true≢false}
 use Rattle.bp_theory.specs.Decomposition.{proof_rows}
 use Rattle.bp_theory.specs.declared.Row.{Row}
-use Rattle.round_cut.specs.Cutting.{IsCutOver}
+use Rattle.round_sums.specs.Cutting.{IsCutOver}
 use Rattle.cert_check.specs.Cutting.{JudgesCut}
 use Rattle.cert_check.specs.declared.place.Rejection.{Rejection}
 use Rattle.cert_stream.specs.Cuttings.{cuts_by}
