@@ -8,7 +8,7 @@ use Rattle.bp_shelf.specs.Shelf.{Files}
 use Rattle.dec_read.specs.Reading.{ReadsDecomposition}
 use Rattle.dec_find.specs.Text.{text_of}
 use Rattle.dec_find.proofs.FoundLemmas.{found_accepted}
-use Rattle.dec_guess.specs.Guess.{IsGuess}
+use Rattle.dec_beside.specs.Guess.{IsGuess}
 use Rattle.block_form.specs.Blocked.{BlockedProgram}
 use Rattle.block_form.specs.Checks.{HasBlockFault}
 use Rattle.block_form.specs.declared.fault.BlockFault.{BlockFault}

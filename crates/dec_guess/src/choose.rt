@@ -1,17 +1,17 @@
 // The decomposition of the best of many lists of master rows.
-ghost use Rattle.std.specs.Prelude.{◌≡◌, ◌<◌, All, IfOk, length};
+ghost use Rattle.std.specs.Prelude.{IfOk};
 ghost use Rattle.bp_model.specs.Named.{IsKept};
-ghost use Rattle.dec_guess.specs.Guess.{IsGuess};
+ghost use Rattle.dec_beside.specs.Guess.{IsGuess};
 
 use crate::borders::{border_marks, open_counts};
 use crate::columns::{Lists, columns_of};
-use crate::groups::{Choice, Keyed, Likeness, chosen_rows, mix};
+use crate::groups::{Choice, Keyed, Likeness, chosen_marks, mix};
 use crate::order::{breadth_first, shortest_first, text_order, twice_mean_terms};
 use crate::partition::Levels;
 use crate::peel::peeled_marks;
 use crate::score::score_of;
 use bp_model::{Dec, Model};
-use dec_find::{FindFault, find};
+use dec_beside::{beside, beside_or_plain};
 use std::alloc::{AllocError, Global};
 
 // How much is looked at for all lists by names and forms together, and how much for all by structure: rows, variables
@@ -52,12 +52,12 @@ const PAIRED: [Likeness; 5] = [
     Likeness::Sides,
 ];
 
-// The best decomposition so far with its score, by how much the first by structure has to be better, hashes of the
-// lists that were looked at, how much one look takes, how much may still be looked at, and whether memory was wanting, with
-// which no decomposition is proposed.
+// The master rows, marked, of the best decomposition so far with its score, by how much the first by structure has to be better,
+// hashes of the lists that were looked at, how much one look takes, how much may still be looked at, and whether memory was
+// wanting, with which no decomposition is proposed.
 #[derive(Drop)]
 struct Proposal {
-    dec: Dec,
+    marks: Vec<bool>,
     score: u64,
     margin: u64,
     seen: Vec<u64>,
@@ -77,21 +77,30 @@ fn size_of(m: &Model) -> u64 {
     size
 }
 
-// A hash of a list.
-fn hash_of(master: &[u32]) -> u64 {
+// A hash of a list of rows, which are marked.
+fn hash_of(marks: &[bool]) -> u64 {
     let mut hash = 0;
-    for row in master {
-        hash = mix(hash, u64::from(*row));
+    for (row, mark) in marks.iter().enumerate() {
+        if *mark {
+            hash = mix(hash, row as u64);
+        }
     }
     hash
 }
 
+// The score of the decomposition beside marked rows, 0 where there is none.
+fn score_beside(alloc: Global, m: &Model, marks: &[bool]) -> Result<u64, AllocError> {
+    let found = beside(alloc, m, marks)?;
+    match found {
+        Some(dec) => score_of(alloc, m, &dec),
+        None => Ok(0),
+    }
+}
+
 impl Proposal {
     // Whether a list wasn't seen; it then is.
-    fn is_new(&mut self, master: &[u32]) -> bool
-        ensures { self.new.dec ≡ self.old.dec }
-    {
-        let hash = hash_of(master);
+    fn is_new(&mut self, marks: &[bool]) -> bool {
+        let hash = hash_of(marks);
         if self.seen.as_slice().contains(&hash) {
             return false;
         }
@@ -102,9 +111,7 @@ impl Proposal {
     }
 
     // Whether so many looks more may be taken; they are then counted.
-    fn may_look(&mut self, looks: u64) -> bool
-        ensures { self.new.dec ≡ self.old.dec }
-    {
+    fn may_look(&mut self, looks: u64) -> bool {
         let work = self.size.saturating_mul(looks);
         if self.lacks || self.work_left < work {
             return false;
@@ -113,40 +120,19 @@ impl Proposal {
         true
     }
 
-    // Looks at the decomposition beside these master rows, unless they were seen, and keeps it where its score is greater.
-    fn consider(&mut self, alloc: Global, m: &Model, master: &[u32])
-        requires below { All (λ r. r < length m.now.program.rows) master.now }
-        requires guess { IsGuess m.now.program self.old.dec }
-        ensures { IsGuess m.now.program self.new.dec }
-    {
-        if self.is_new(master) && self.may_look(1) {
-            self.take_found(alloc, m, master);
+    // Looks at the decomposition beside marked rows, unless they were seen, and keeps it where its score is greater.
+    fn consider(&mut self, alloc: Global, m: &Model, marks: Vec<bool>) {
+        if self.is_new(marks.as_slice()) && self.may_look(1) {
+            self.take_if_better(alloc, m, marks);
         }
     }
 
-    // Finds the decomposition beside these master rows, and keeps it where its score is greater.
-    fn take_found(&mut self, alloc: Global, m: &Model, master: &[u32])
-        requires below { All (λ r. r < length m.now.program.rows) master.now }
-        requires guess { IsGuess m.now.program self.old.dec }
-        ensures { IsGuess m.now.program self.new.dec }
-    {
-        match find(alloc, m, master) {
-            Ok(dec) => self.take_if_better(alloc, m, dec),
-            Err(FindFault::Blocks) => {}
-            Err(FindFault::NoMemory) => self.lacks = true,
-        }
-    }
-
-    // Takes a decomposition where its score is greater by more than the margin.
-    fn take_if_better(&mut self, alloc: Global, m: &Model, dec: Dec)
-        requires found { IsGuess m.now.program dec }
-        requires guess { IsGuess m.now.program self.old.dec }
-        ensures { IsGuess m.now.program self.new.dec }
-    {
-        match score_of(alloc, m, &dec) {
+    // Takes the decomposition beside marked rows where its score is greater by more than the margin.
+    fn take_if_better(&mut self, alloc: Global, m: &Model, marks: Vec<bool>) {
+        match score_beside(alloc, m, marks.as_slice()) {
             Ok(score) => {
                 if score > self.score.saturating_add(self.margin) {
-                    self.dec = dec;
+                    self.marks = marks;
                     self.score = score;
                     self.margin = 0;
                 }
@@ -156,21 +142,15 @@ impl Proposal {
     }
 
     // Looks at the rows that are chosen as master rows.
-    fn consider_chosen(&mut self, alloc: Global, m: &Model, choice: Choice)
-        requires guess { IsGuess m.now.program self.old.dec }
-        ensures { IsGuess m.now.program self.new.dec }
-    {
-        match chosen_rows(alloc, m, choice) {
-            Ok(rows) => self.consider(alloc, m, rows.as_slice()),
+    fn consider_chosen(&mut self, alloc: Global, m: &Model, choice: Choice) {
+        match chosen_marks(alloc, m, choice) {
+            Ok(marks) => self.consider(alloc, m, marks),
             Err(AllocError) => self.lacks = true,
         }
     }
 
     // Looks at the rows of each group as master rows, and at all others.
-    fn consider_single(&mut self, alloc: Global, m: &Model, likeness: Likeness)
-        requires guess { IsGuess m.now.program self.old.dec }
-        ensures { IsGuess m.now.program self.new.dec }
-    {
+    fn consider_single(&mut self, alloc: Global, m: &Model, likeness: Likeness) {
         match Keyed::new(alloc, m, likeness) {
             Ok(keyed) => {
                 self.consider_groups(alloc, m, &keyed);
@@ -181,10 +161,7 @@ impl Proposal {
     }
 
     // Looks at the rows of each group as master rows.
-    fn consider_groups(&mut self, alloc: Global, m: &Model, keyed: &Keyed)
-        requires guess { IsGuess m.now.program self.old.dec }
-        ensures { IsGuess m.now.program self.new.dec }
-    {
+    fn consider_groups(&mut self, alloc: Global, m: &Model, keyed: &Keyed) {
         let keys = keyed.keys.as_slice();
         for group in keyed.groups.as_slice() {
             self.consider_chosen(alloc, m, Choice::Alike(keys, *group, *group));
@@ -192,10 +169,7 @@ impl Proposal {
     }
 
     // Looks at the rows of all groups but one as master rows.
-    fn consider_others(&mut self, alloc: Global, m: &Model, keyed: &Keyed)
-        requires guess { IsGuess m.now.program self.old.dec }
-        ensures { IsGuess m.now.program self.new.dec }
-    {
+    fn consider_others(&mut self, alloc: Global, m: &Model, keyed: &Keyed) {
         let keys = keyed.keys.as_slice();
         for group in keyed.groups.as_slice() {
             self.consider_chosen(alloc, m, Choice::Others(keys, *group));
@@ -203,10 +177,7 @@ impl Proposal {
     }
 
     // Looks at the rows of each two groups as master rows.
-    fn consider_paired(&mut self, alloc: Global, m: &Model, likeness: Likeness)
-        requires guess { IsGuess m.now.program self.old.dec }
-        ensures { IsGuess m.now.program self.new.dec }
-    {
+    fn consider_paired(&mut self, alloc: Global, m: &Model, likeness: Likeness) {
         match Keyed::new(alloc, m, likeness) {
             Ok(keyed) => self.consider_pairs(
                 alloc,
@@ -219,10 +190,7 @@ impl Proposal {
     }
 
     // Looks at the rows of each two of these groups as master rows.
-    fn consider_pairs(&mut self, alloc: Global, m: &Model, keys: &[u64], groups: &[u64])
-        requires guess { IsGuess m.now.program self.old.dec }
-        ensures { IsGuess m.now.program self.new.dec }
-    {
+    fn consider_pairs(&mut self, alloc: Global, m: &Model, keys: &[u64], groups: &[u64]) {
         for at in 0..groups.len() {
             self.consider_pairs_of(alloc, m, keys, groups[at], &groups[at..]);
         }
@@ -236,20 +204,14 @@ impl Proposal {
         keys: &[u64],
         one: u64,
         others: &[u64],
-    )
-        requires guess { IsGuess m.now.program self.old.dec }
-        ensures { IsGuess m.now.program self.new.dec }
-    {
+    ) {
         for other in others {
             self.consider_chosen(alloc, m, Choice::Alike(keys, one, *other));
         }
     }
 
     // Looks at the longest rows as master rows: for each number of terms those with more.
-    fn consider_long(&mut self, alloc: Global, m: &Model)
-        requires guess { IsGuess m.now.program self.old.dec }
-        ensures { IsGuess m.now.program self.new.dec }
-    {
+    fn consider_long(&mut self, alloc: Global, m: &Model) {
         match lengths_of(alloc, m) {
             Ok(lengths) => self.consider_longer(alloc, m, lengths.as_slice()),
             Err(AllocError) => self.lacks = true,
@@ -257,24 +219,18 @@ impl Proposal {
     }
 
     // Looks at the rows with more terms than each of these numbers as master rows.
-    fn consider_longer(&mut self, alloc: Global, m: &Model, lengths: &[usize])
-        requires guess { IsGuess m.now.program self.old.dec }
-        ensures { IsGuess m.now.program self.new.dec }
-    {
+    fn consider_longer(&mut self, alloc: Global, m: &Model, lengths: &[usize]) {
         for length in lengths {
             self.consider_chosen(alloc, m, Choice::Longer(*length));
         }
     }
 
     // Looks at marked rows as master rows, where they are few.
-    fn consider_marked(&mut self, alloc: Global, m: &Model, marks: Result<Vec<bool>, AllocError>)
-        requires guess { IsGuess m.now.program self.old.dec }
-        ensures { IsGuess m.now.program self.new.dec }
-    {
+    fn consider_marked(&mut self, alloc: Global, m: &Model, marks: Result<Vec<bool>, AllocError>) {
         match marks {
             Ok(marks) => {
                 if are_few(m, marks.as_slice()) {
-                    self.consider_chosen(alloc, m, Choice::Marked(marks.as_slice()));
+                    self.consider(alloc, m, marks);
                 }
             }
             Err(AllocError) => self.lacks = true,
@@ -282,10 +238,7 @@ impl Proposal {
     }
 
     // Looks at the rows as master rows that would join too much, where rows are taken in an order.
-    fn consider_peeled(&mut self, alloc: Global, m: &Model, order: &[u32])
-        requires guess { IsGuess m.now.program self.old.dec }
-        ensures { IsGuess m.now.program self.new.dec }
-    {
+    fn consider_peeled(&mut self, alloc: Global, m: &Model, order: &[u32]) {
         for count in COUNTS.as_slice() {
             if !self.may_look(1) {
                 return;
@@ -298,10 +251,7 @@ impl Proposal {
 
     // Looks at the rows as master rows that cross the narrowest cuts of an order, where so many variables are open behind
     // its rows.
-    fn consider_borders(&mut self, alloc: Global, m: &Model, order: &[u32], open: &[u32])
-        requires guess { IsGuess m.now.program self.old.dec }
-        ensures { IsGuess m.now.program self.new.dec }
-    {
+    fn consider_borders(&mut self, alloc: Global, m: &Model, order: &[u32], open: &[u32]) {
         for count in COUNTS.as_slice() {
             if !self.may_look(1) {
                 return;
@@ -312,10 +262,7 @@ impl Proposal {
     }
 
     // Looks at the rows as master rows that cross parts with few common variables.
-    fn consider_partitions(&mut self, alloc: Global, m: &Model, levels: &Levels)
-        requires guess { IsGuess m.now.program self.old.dec }
-        ensures { IsGuess m.now.program self.new.dec }
-    {
+    fn consider_partitions(&mut self, alloc: Global, m: &Model, levels: &Levels) {
         for count in COUNTS.as_slice() {
             if !self.may_look(LOOKS_OF_LEVELS) {
                 return;
@@ -326,10 +273,7 @@ impl Proposal {
     }
 
     // Looks at what an order of rows gives.
-    fn consider_order(&mut self, alloc: Global, m: &Model, order: Result<Vec<u32>, AllocError>)
-        requires guess { IsGuess m.now.program self.old.dec }
-        ensures { IsGuess m.now.program self.new.dec }
-    {
+    fn consider_order(&mut self, alloc: Global, m: &Model, order: Result<Vec<u32>, AllocError>) {
         match order {
             Ok(order) => {
                 self.consider_peeled(alloc, m, order.as_slice());
@@ -340,10 +284,7 @@ impl Proposal {
     }
 
     // Looks at what the narrowest cuts of an order give.
-    fn consider_cuts(&mut self, alloc: Global, m: &Model, order: &[u32])
-        requires guess { IsGuess m.now.program self.old.dec }
-        ensures { IsGuess m.now.program self.new.dec }
-    {
+    fn consider_cuts(&mut self, alloc: Global, m: &Model, order: &[u32]) {
         match open_counts(alloc, m, order) {
             Ok(open) => self.consider_borders(alloc, m, order, open.as_slice()),
             Err(AllocError) => self.lacks = true,
@@ -351,10 +292,7 @@ impl Proposal {
     }
 
     // Looks at what names and forms of rows give.
-    fn consider_alike(&mut self, alloc: Global, m: &Model)
-        requires guess { IsGuess m.now.program self.old.dec }
-        ensures { IsGuess m.now.program self.new.dec }
-    {
+    fn consider_alike(&mut self, alloc: Global, m: &Model) {
         for likeness in SINGLE.as_slice() {
             self.consider_single(alloc, m, *likeness);
         }
@@ -364,10 +302,7 @@ impl Proposal {
     }
 
     // Looks at what the lengths of rows and an order by them give.
-    fn consider_lengths(&mut self, alloc: Global, m: &Model)
-        requires guess { IsGuess m.now.program self.old.dec }
-        ensures { IsGuess m.now.program self.new.dec }
-    {
+    fn consider_lengths(&mut self, alloc: Global, m: &Model) {
         self.consider_long(alloc, m);
         match shortest_first(alloc, m) {
             Ok(shortest) => self.consider_peeled(alloc, m, shortest.as_slice()),
@@ -376,10 +311,7 @@ impl Proposal {
     }
 
     // Looks at what orders give in which rows stand together.
-    fn consider_orders(&mut self, alloc: Global, m: &Model)
-        requires guess { IsGuess m.now.program self.old.dec }
-        ensures { IsGuess m.now.program self.new.dec }
-    {
+    fn consider_orders(&mut self, alloc: Global, m: &Model) {
         self.consider_order(alloc, m, text_order(alloc, m));
         match columns_of(alloc, m) {
             Ok(columns) => self.consider_near(alloc, m, &columns),
@@ -388,10 +320,7 @@ impl Proposal {
     }
 
     // Looks at what breadth-first orders and parts of the graph of rows give.
-    fn consider_near(&mut self, alloc: Global, m: &Model, columns: &Lists)
-        requires guess { IsGuess m.now.program self.old.dec }
-        ensures { IsGuess m.now.program self.new.dec }
-    {
+    fn consider_near(&mut self, alloc: Global, m: &Model, columns: &Lists) {
         self.consider_order(alloc, m, breadth_first(alloc, m, columns, usize::MAX));
         self.consider_order(
             alloc,
@@ -445,7 +374,7 @@ pub fn guess(alloc: Global, m: &Model) -> Result<Dec, AllocError>
     ensures { IfOk result (IsGuess m.now.program) }
 {
     let mut best = Proposal {
-        dec: Dec::plain(alloc, m)?,
+        marks: Vec::from_elem(alloc, true, m.rows() as usize)?,
         score: 0,
         margin: 0,
         seen: Vec::new(alloc),
@@ -461,5 +390,5 @@ pub fn guess(alloc: Global, m: &Model) -> Result<Dec, AllocError>
     if best.lacks {
         return Err(AllocError);
     }
-    Ok(best.dec)
+    beside_or_plain(alloc, m, best.marks.as_slice())
 }

@@ -1,5 +1,5 @@
 // Keys of rows, by which rows that are alike in their names or in their forms have one, and the rows that are chosen by them.
-ghost use Rattle.std.specs.Prelude.{◌≡◌, ◌<◌, All, IfOk, length};
+ghost use Rattle.std.specs.Prelude.{◌≡◌, ◌<◌, IfOk, length};
 
 use bp_model::{Model, Row, Sense};
 use std::alloc::{AllocError, Global};
@@ -59,8 +59,6 @@ pub enum Choice<'a> {
     Others(&'a [u64], u64),
     /// Those with more terms than a number.
     Longer(usize),
-    /// Those that are marked.
-    Marked(&'a [bool]),
 }
 
 /// A hash with one value more. (Fowler, Noll and Vo, FNV-1a.)
@@ -206,19 +204,14 @@ fn is_chosen(m: &Model, row: u32, choice: Choice) -> bool
             None => false,
         },
         Choice::Longer(terms) => m.row(row).terms.len() > terms,
-        Choice::Marked(marks) => marks.get(row as usize) == Some(&true),
     }
 }
 
-/// The rows that are chosen.
-pub fn chosen_rows(alloc: Global, m: &Model, choice: Choice) -> Result<Vec<u32>, AllocError>
-    ensures { IfOk result (λ rows. All (λ r. r < length m.now.program.rows) rows.items) }
-{
-    let mut rows = Vec::new(alloc);
+/// Marks for the rows that are chosen.
+pub fn chosen_marks(alloc: Global, m: &Model, choice: Choice) -> Result<Vec<bool>, AllocError> {
+    let mut marks = Vec::with_capacity(alloc, m.rows() as usize)?;
     for row in 0..m.rows() {
-        if is_chosen(m, row, choice) {
-            rows.push(row)?;
-        }
+        marks.push(is_chosen(m, row, choice))?;
     }
-    Ok(rows)
+    Ok(marks)
 }
