@@ -5,7 +5,7 @@ use Rattle.bp_theory.specs.declared.Cut.{Cut}
 use Rattle.block_form.specs.Blocked.{BlockedProgram}
 use Rattle.block_form.specs.Cuts.{KeepsCuts}
 use Rattle.round_sums.specs.Plain.{AreFirstPlain}
-use Rattle.cut_hint.specs.Taken.{GoesOn}
+use Rattle.cut_list.specs.Taken.{GoesOn}
 use Rattle.cert_load.specs.Recut.{with_cuts}
 
 -- how many cuts may be added behind those that there are: at most so many as are ordered, and no more than 256 in all

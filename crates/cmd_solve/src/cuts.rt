@@ -7,7 +7,8 @@ ghost use Rattle.cmd_solve.specs.Cuttings.{room_behind, HasCuts, HasPlain, HasOt
 
 use block_form::Blocked;
 use bp_theory::Cut;
-use cut_hint::{choose, copies_of};
+use cut_hint::choose;
+use cut_list::copies_of;
 use round_cut::{CutFault, first_cuts, with_cuts};
 use std::alloc::{AllocError, Global};
 

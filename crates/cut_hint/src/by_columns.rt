@@ -7,10 +7,10 @@ use crate::columns::{Root, root_of};
 use crate::missed::{numbered, search_missed};
 use crate::numbers::whole_at;
 use crate::state::{State, above_of, master_sides};
-use crate::taken::{MOST_CUTS, copies_of, extended, rows_of_cuts};
 use crate::trial::{Found, Trial};
 use block_form::{Blocked, recut};
 use bp_theory::{Cut, Items, Row};
+use cut_list::{MOST_CUTS, copies_of, extended, rows_of_cuts};
 use lp_factor::place;
 use std::alloc::{AllocError, Global};
 
@@ -74,11 +74,11 @@ pub fn search_by_columns(alloc: Global, b: &Blocked, most: u32) -> Result<Vec<Cu
         idle: 0,
     };
     let mut trial = Trial::make(alloc, b.model().vars() as usize)?;
-    for _ in 0..ROUNDS {
+    for round in 1..ROUNDS + 1 {
         let Some(rows) = rows_of_cuts(alloc, b, rounds.cuts.as_slice())? else {
             break;
         };
-        if !rounds.go_on(alloc, b, rows, &mut trial, most)? {
+        if !rounds.go_on(alloc, b, rows, &mut trial, most, round == ROUNDS)? {
             break;
         }
     }
@@ -87,7 +87,8 @@ pub fn search_by_columns(alloc: Global, b: &Blocked, most: u32) -> Result<Vec<Cu
 }
 
 impl Rounds {
-    // Makes a round over the cuts, whose rows are given; whether another may come.
+    // Makes a round over the cuts, whose rows are given, and searches for others behind them, but in the last: nothing would
+    // judge these. Whether another round may come.
     fn go_on(
         &mut self,
         alloc: Global,
@@ -95,6 +96,7 @@ impl Rounds {
         rows: Vec<Row>,
         trial: &mut Trial,
         most: u32,
+        is_last: bool,
     ) -> Result<bool, AllocError>
         requires { AreRowsOfCuts b.now.named.program b.now.dec self.old.cuts.items rows.items }
     {
@@ -105,7 +107,7 @@ impl Rounds {
         let Some(root) = root_of(alloc, &program, mults)? else {
             return Ok(false);
         };
-        if !self.take(alloc, b, cuts.as_slice(), &root)? || trial.is_spent() {
+        if !self.take(alloc, b, cuts.as_slice(), &root)? || is_last || trial.is_spent() {
             return Ok(false);
         }
         let found = found_at(alloc, &program, rows.as_slice(), &root, trial, most)?;

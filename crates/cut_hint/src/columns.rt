@@ -11,7 +11,7 @@ use crate::bind::Front;
 use crate::numbers::low_at;
 use crate::relaxation::Relaxation;
 use block_class::Classes;
-use block_form::{Blocked, Zone};
+use block_form::Blocked;
 use branch_tree::{Grove, Turn};
 use col_pool::Column;
 use column_hint::{Centre, Effort, Pools, RestrictedMaster, generate_columns, take_steps};
@@ -21,11 +21,6 @@ use point_hint::{is_first_copy, whole};
 use row_lp::relaxation_of;
 use std::alloc::{AllocError, Global};
 use std::num::nearest_i64_to_f64;
-
-// How many rounds are made behind those of column generation, and how many pivots a round may take.
-const FURTHER_ROUNDS: u32 = 60;
-
-const ROUND_PIVOTS: u32 = 5_000;
 
 /// A root: multipliers by row with a great bound, this bound in units, the values of the variables, and the relaxation over the
 /// columns. The relaxation has a row for each row of the model, each cut, each link, and each class of blocks, in this order.
@@ -79,12 +74,11 @@ fn root_at(
         known: None,
         with_partitions: true,
     };
-    let zone = &turn.zone;
-    let Some(mut master) = generate_columns(
+    let Some(master) = generate_columns(
         alloc,
         b,
         &classes,
-        zone,
+        &turn.zone,
         &mut pools,
         &mut centre,
         effort,
@@ -92,15 +86,6 @@ fn root_at(
     else {
         return Ok(None);
     };
-    complete(
-        alloc,
-        b,
-        &classes,
-        zone,
-        &mut pools,
-        &mut master,
-        &mut centre,
-    )?;
     solved(alloc, b, &classes, &pools, &master, centre)
 }
 
@@ -129,86 +114,6 @@ fn first_centre(
         mults: steps.best,
         value: steps.value,
     })
-}
-
-// Makes rounds behind those of column generation until no column is new: the box that keeps its multipliers near those of the
-// greatest bound may end it before.
-fn complete(
-    alloc: Global,
-    b: &Blocked,
-    classes: &Classes,
-    zone: &Zone,
-    pools: &mut Pools,
-    master: &mut RestrictedMaster,
-    centre: &mut Centre,
-) -> Result<(), AllocError>
-    requires made_for { AreMadeFor b.now pools.old }
-    requires classes { AreSameClasses zone.now b.now.blocking classes.now }
-    requires zone { IsZone b.now.named.program.spans zone.now }
-{
-    let mut mults = centre.mults.as_slice().to_vec(alloc)?;
-    let mut point = Vec::from_elem(alloc, 0i64, b.model().vars() as usize)?;
-    for _ in 0..FURTHER_ROUNDS {
-        master.solve(alloc, ROUND_PIVOTS)?;
-        master.write_mults(b, mults.as_mut_slice());
-        let prices = mults.as_slice();
-        let Some(value) = pools.price(alloc, b, classes, zone, prices, point.as_mut_slice())? else {
-            break;
-        };
-        if value > centre.value {
-            centre.value = value;
-            centre.mults = mults.as_slice().to_vec(alloc)?;
-        }
-        if !add_priced(alloc, b, classes, pools, master)? {
-            break;
-        }
-    }
-    Ok(())
-}
-
-// Adds the points that the last bound told, where they are columns of reduced costs below zero; whether one is new.
-fn add_priced(
-    alloc: Global,
-    b: &Blocked,
-    classes: &Classes,
-    pools: &mut Pools,
-    master: &mut RestrictedMaster,
-) -> Result<bool, AllocError>
-    requires { AreMadeFor b.now pools.old }
-    ensures { AreMadeFor b.now pools.new }
-{
-    let mut is_new = false;
-    for class in 0..classes.len() {
-        let first = classes.first(class);
-        if add_class(alloc, b, pools, master, class, first)? {
-            is_new = true;
-        }
-    }
-    Ok(is_new)
-}
-
-// Adds the point that the last bound told of a class's first block; whether it is a new column.
-fn add_class(
-    alloc: Global,
-    b: &Blocked,
-    pools: &mut Pools,
-    master: &mut RestrictedMaster,
-    class: u32,
-    block: u32,
-) -> Result<bool, AllocError>
-    requires { AreMadeFor b.now pools.old }
-    ensures { AreMadeFor b.now pools.new }
-{
-    if block >= b.blocks() {
-        return Ok(false);
-    }
-    let Some(place) = pools.add_priced(alloc, b, block)? else {
-        return Ok(false);
-    };
-    match pools.column(place) {
-        None => Ok(false),
-        Some(column) => master.add_if_better(alloc, column, class, place),
-    }
 }
 
 // What the columns of a master come to.

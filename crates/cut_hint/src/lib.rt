@@ -1,6 +1,6 @@
 //! Which rounding cuts serve a program: where no block has rows those that its relaxation's values miss, and else those that
-//! the columns of its root miss, over the rows that cuts may combine. What guides the search is measured and not proved: of each cut that is given the rules were tested, and its
-//! row was computed exactly.
+//! the columns of its root miss, over the rows that cuts may combine. What guides the search is measured and not proved: of
+//! each cut that is given the rules were tested, and its row was computed exactly (`cut_list`).
 #![tactic(auto)]
 
 mod bind;
@@ -16,8 +16,6 @@ mod search;
 mod select;
 mod state;
 mod tableau;
-mod taken;
 mod trial;
 
 pub use choice::choose;
-pub use taken::copies_of;

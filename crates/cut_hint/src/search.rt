@@ -6,10 +6,10 @@ use crate::bind::{Front, Made, bound_cuts};
 use crate::missed::{numbered, search_missed};
 use crate::relaxation::Relaxation;
 use crate::state::{State, above_of, sides_of};
-use crate::taken::row_of_cut;
 use crate::trial::{Found, Trial};
 use block_form::Blocked;
 use bp_theory::{Cut, Row};
+use cut_list::row_of_cut;
 use lp_core::End;
 use std::alloc::{AllocError, Global};
 

@@ -3,7 +3,7 @@ use Rattle.std.proofs.lemmas.List.Elements.{All-push}
 use Rattle.bp_theory.specs.declared.Cut.{Cut}
 use Rattle.bp_theory.specs.declared.Row.{Row}
 use Rattle.round_sums.specs.Cutting.{IsEarlierCut}
-use Rattle.cut_hint.specs.Taken.{IsTaken}
+use Rattle.cut_list.specs.Taken.{IsTaken}
 use Rattle.cut_hint.proofs.search.take_cuts.Goals as goal
 
 pub loop-one-preserved-in-Some-branch-3 : goal.loop-one-preserved-in-Some-branch-3

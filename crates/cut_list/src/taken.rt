@@ -2,7 +2,7 @@
 ghost use Rattle.std.specs.Prelude.{◌≡◌, ◌≤◌, ◌⊎◌, length, All, IfOk, IfSome};
 ghost use Rattle.round_sums.specs.Cutting.{IsEarlierCut};
 ghost use Rattle.round_cut.specs.Several.{AreRowsOfCuts};
-ghost use Rattle.cut_hint.specs.Taken.{BeginsWith, GoesOn, IsTaken};
+ghost use Rattle.cut_list.specs.Taken.{BeginsWith, GoesOn, IsTaken};
 
 use block_form::Blocked;
 use bp_theory::{Cut, Items, Row};
@@ -109,4 +109,24 @@ pub fn extended(
         }
     }
     Ok(all)
+}
+
+/// A program's cuts, and behind them others, until there are so many in all or one doesn't keep the rules; the program's alone
+/// where it has as many.
+pub fn with_others(
+    alloc: Global,
+    b: &Blocked,
+    others: Vec<Cut>,
+    most: u32,
+) -> Result<Vec<Cut>, AllocError>
+    ensures { IfOk result (λ cuts. GoesOn b.now.named.program b.now.dec b.now.cuts most cuts.items) }
+{
+    let own = copies_of(alloc, b.cuts())?;
+    if own.len() >= most as usize {
+        return Ok(own);
+    }
+    let Some(rows) = rows_of_cuts(alloc, b, own.as_slice())? else {
+        return Ok(own);
+    };
+    extended(alloc, b, own, rows, others, most)
 }

@@ -2,9 +2,9 @@ use Rattle.std.proofs.Common.{◌≡◌, inr, List, [], ◌∷◌, ◌++◌, len
 use Rattle.bp_theory.specs.declared.Cut.{Cut}
 use Rattle.bp_theory.specs.declared.Row.{Row}
 use Rattle.round_cut.specs.Several.{AreRowsOfCuts}
-use Rattle.cut_hint.specs.Taken.{BeginsWith, IsTaken}
-use Rattle.cut_hint.proofs.TakenLemmas.{begins_more, taken_more}
-use Rattle.cut_hint.proofs.taken.extended.Goals as goal
+use Rattle.cut_list.specs.Taken.{BeginsWith, IsTaken}
+use Rattle.cut_list.proofs.TakenLemmas.{begins_more, taken_more}
+use Rattle.cut_list.proofs.taken.extended.Goals as goal
 
 pub loop-cut-preserved : goal.loop-cut-preserved
 loop-cut-preserved c =

@@ -1,7 +1,7 @@
 use Rattle.std.proofs.Common.{◌≡◌, ◌≤◌, ◌⊎◌, length}
 use Rattle.round_cut.specs.Several.{AreRowsOfCuts}
-use Rattle.cut_hint.specs.Taken.{BeginsWith}
-use Rattle.cut_hint.proofs.taken.extended.Given as goal
+use Rattle.cut_list.specs.Taken.{BeginsWith}
+use Rattle.cut_list.proofs.taken.extended.Given as goal
 
 abbrev pub invariant-loop-cut : goal.invariant-loop-cut
 invariant-loop-cut l = record {

@@ -3,9 +3,9 @@ use Rattle.bp_theory.specs.declared.Cut.{Cut}
 use Rattle.bp_theory.specs.declared.Row.{Row}
 use Rattle.round_cut.specs.Several.{AreRowsOfCuts}
 use Rattle.round_cut.proofs.SeveralLemmas.{no_rows_yet}
-use Rattle.cut_hint.specs.Taken.{IsTaken}
-use Rattle.cut_hint.proofs.TakenLemmas.{next_taken}
-use Rattle.cut_hint.proofs.taken.rows_of_cuts.Goals as goal
+use Rattle.cut_list.specs.Taken.{IsTaken}
+use Rattle.cut_list.proofs.TakenLemmas.{next_taken}
+use Rattle.cut_list.proofs.taken.rows_of_cuts.Goals as goal
 
 pub loop-cut-init : goal.loop-cut-init
 loop-cut-init c =

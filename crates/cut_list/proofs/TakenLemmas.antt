@@ -8,7 +8,7 @@ use Rattle.bp_theory.specs.declared.Cut.{Cut}
 use Rattle.block_form.specs.Cuts.{KeepsCuts}
 use Rattle.round_cut.specs.Several.{AreRowsOfCuts}
 use Rattle.round_cut.proofs.SeveralLemmas.{as_many_rows, one_row_more}
-use Rattle.cut_hint.specs.Taken.{BeginsWith, GoesOn, IsTaken}
+use Rattle.cut_list.specs.Taken.{BeginsWith, GoesOn, IsTaken}
 
 -- a cut more with its row
 pub taken_more : (p : Program) (d : Decomposition) (cuts : List Cut) (rows : List Row) (cut : Cut) (row : Row) → AreRowsOfCuts p d cuts rows
