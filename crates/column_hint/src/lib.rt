@@ -17,7 +17,7 @@ mod var_dives;
 
 pub use dives::{Dived, Style, dive_by_columns, drawn};
 pub use generation::{Centre, Effort, generate_columns, mean_mult, round_up};
-pub use hint_pools::{MOST_VISITS, Place, Pools, PricingBudget, Store};
+pub use hint_pools::{MOST_VISITS, Place, Pools, PricingBudget};
 pub use master::{MasterColumn, RestrictedMaster, Weighted, block_spans, serves};
 pub use subgradient::{Subgradient, are_alike, leaf_mults, take_steps};
 pub use var_dives::dive_by_variables;

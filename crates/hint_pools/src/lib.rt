@@ -7,4 +7,4 @@ mod pools;
 mod wide;
 
 pub use budget::{MOST_VISITS, PricingBudget, alone, is_settled};
-pub use pools::{Place, Pools, Store};
+pub use pools::{Place, Pools};

@@ -2,26 +2,21 @@
 ghost use Rattle.std.specs.Prelude.{◌≡◌, ◌<◌, IfOk, All, length};
 ghost use Rattle.lagr_bound.specs.Forms.{forms_in};
 ghost use Rattle.lagr_bound.specs.Works.{forms_of};
-ghost use Rattle.hint_pools.specs.Pools.{AreMadeFor, IsStoreOf};
+ghost use Rattle.col_store.specs.Stores.{IsStoreOf};
+ghost use Rattle.hint_pools.specs.Pools.{AreMadeFor};
 
 use crate::budget::PricingBudget;
 use block_class::Classes;
 use block_form::{Blocked, Zone};
 use bp_theory::Proof;
-use col_pool::{Added, Column, Pool, PoolFault};
+use col_pool::{Column, Pool};
+use col_store::Store;
 use lone_leaf::{LoneLeaves, serves};
 use pricing::Cap;
 use std::alloc::{AllocError, Global};
 
 /// How many numbers the points of all columns may have until pools are emptied.
 const MOST_NUMBERS: usize = 1 << 22;
-
-/// The columns of the blocks that are the same at the root: points of the first of them.
-#[derive(Drop)]
-pub struct Store {
-    pub owner: u32,
-    pub pool: Pool,
-}
 
 /// The pricers of a program's blocks, and the columns that they gave: a pool for each class of blocks at the root. Each
 /// column is a point of its class's first block, and no pool has two with the same point. Where no block has rows, the
@@ -197,7 +192,7 @@ impl Pools {
             return Ok(None);
         };
         self.size = self.size.saturating_add(point.len());
-        match add(alloc, b, &mut self.stores[place], point)? {
+        match self.stores[place].add(alloc, b, point)? {
             None => Ok(None),
             Some(id) => Ok(Some(Place { home, id })),
         }
@@ -223,7 +218,7 @@ impl Pools {
             return Ok(None);
         }
         self.size = self.size.saturating_add(point.len());
-        match add(alloc, b, &mut self.stores[place], point)? {
+        match self.stores[place].add(alloc, b, point)? {
             None => Ok(None),
             Some(id) => Ok(Some(Place { home, id })),
         }
@@ -245,40 +240,9 @@ fn empty_all(alloc: Global, b: &Blocked, stores: &mut Vec<Store>) -> Result<(), 
     ensures { All (IsStoreOf b.now) stores.new.items }
 {
     for place in 0..stores.len() {
-        empty(alloc, b, &mut stores[place])?;
+        stores[place].empty(alloc, b)?;
     }
     Ok(())
-}
-
-// Takes all columns out of a pool.
-fn empty(alloc: Global, b: &Blocked, store: &mut Store) -> Result<(), AllocError>
-    requires { IsStoreOf b.now store.old }
-    ensures { IsStoreOf b.now store.new }
-{
-    store.pool = Pool::make(alloc, b, store.owner)?;
-    Ok(())
-}
-
-// Adds a point to the columns of its blocks, and tells its number.
-fn add(
-    alloc: Global,
-    b: &Blocked,
-    store: &mut Store,
-    point: &[i64],
-) -> Result<Option<u32>, AllocError>
-    requires { IsStoreOf b.now store.old }
-    ensures { IsStoreOf b.now store.new }
-{
-    let block = b.block(store.owner);
-    if point.len() != block.vars().len() {
-        return Ok(None);
-    }
-    match store.pool.add(alloc, block, point) {
-        Ok(Added::New(id)) => Ok(Some(id)),
-        Ok(Added::Known(id)) => Ok(Some(id)),
-        Err(PoolFault::NoMemory) => Err(AllocError),
-        Err(_) => Ok(None),
-    }
 }
 
 // One pool more: that of a block, without columns.
@@ -292,8 +256,7 @@ fn push_store(
     requires before { All (IsStoreOf b.now) stores.old.items }
     ensures { All (IsStoreOf b.now) stores.new.items }
 {
-    let pool = Pool::make(alloc, b, owner)?;
-    stores.push(Store { owner, pool })?;
+    stores.push(Store::make(alloc, b, owner)?)?;
     Ok(())
 }
 
