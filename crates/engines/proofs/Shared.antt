@@ -6,7 +6,7 @@ use Rattle.bp_theory.specs.declared.Sense.TheVariants.{Le}
 use Rattle.bp_theory.specs.declared.MasterRow.{MasterRow}
 use Rattle.search_laws.specs.declared.Column.{Column}
 use Rattle.search_laws.specs.Master.{column_activity, master_row, IsKnownColumn}
-use Rattle.master_lp.specs.Restricted.{Restricted, reach, IsModest}
+use Rattle.master_measure.specs.Restricted.{Restricted, reach, IsModest}
 
 -- a column that does nothing
 abbrev pub idle : Column

@@ -3,7 +3,7 @@ ghost use Rattle.std.specs.Prelude.{◌≡◌, ℤ, pos, negsuc, List, [], ◌�
 ghost use Rattle.bp_theory.specs.declared.Sense.TheVariants.{Le};
 ghost use Rattle.bp_theory.specs.declared.MasterRow.{MasterRow as ARow};
 ghost use Rattle.search_laws.specs.declared.Column.{Column as AColumn};
-ghost use Rattle.master_lp.specs.Restricted.{IsModest};
+ghost use Rattle.master_measure.specs.Restricted.{IsModest};
 
 use bp_theory::{Items, MasterRow, Sense};
 use master_lp::{Master, MasterAnswer, solve_master};

@@ -1,5 +1,1 @@
-pub mod Steps
-pub mod LeastLaws
 pub mod Near
-pub mod Bounds
-pub mod Ends

@@ -1,23 +1,9 @@
 -- What an answer to a restricted master says, whatever led to it.
-use Rattle.std.specs.Prelude.{◌≡◌, ◌↔◌, ℕ, ◌^◌, ◌<◌, ◌≤◌, List, zip, length, ℤ, pos, ◌+ℤ◌, ◌*ℤ◌, ◌≤ℤ◌, unsigned_abs, All}
-use Rattle.bp_theory.specs.Limits.{greatest_multiplier, greatest_weight}
-use Rattle.bp_theory.specs.declared.MasterRow.{MasterRow}
-use Rattle.search_laws.specs.declared.Column.{Column}
-use Rattle.search_laws.specs.Master.{class_weight, AreConvex, HaveFittingSigns, FitsTimes, one_weight, weighted_cost, gap, short}
+use Rattle.std.specs.Prelude.{◌≡◌, ◌↔◌, ℕ, List, zip, length, ℤ, pos, ◌+ℤ◌, ◌*ℤ◌, ◌≤ℤ◌, All}
+use Rattle.search_laws.specs.Master.{AreConvex, FitsTimes, one_weight, weighted_cost, gap, short}
 use Rattle.master_lp.specs.declared.answer.MasterAnswer.{MasterAnswer}
-use Rattle.master_lp.specs.Restricted.{Restricted}
-
--- one weight for each column, from 0 to 2^33, also summed over a class
-pub record AreWeights (cols : List Column) (classes : ℕ) (weights : List ℤ) : Type 0 where
-  pub each : length weights ≡ length cols
-  pub sizes : All (λ w. (pos 0 ≤ℤ w) × (w ≤ℤ pos (greatest_weight))) weights
-  pub together : (k : ℕ) → k < classes → class_weight (zip cols weights) k ≤ℤ pos (greatest_weight)
-
--- one multiplier for each row, at most 2^40 in magnitude, 0 or of the row's sign
-pub record AreMultipliers (rows : List MasterRow) (mults : List ℤ) : Type 0 where
-  pub each : length mults ≡ length rows
-  pub sizes : All (λ p. unsigned_abs p ≤ greatest_multiplier) mults
-  pub signs : HaveFittingSigns rows mults
+use Rattle.master_measure.specs.Restricted.{Restricted}
+use Rattle.master_measure.specs.Ranges.{AreWeights, AreMultipliers}
 
 -- weights and multipliers as they should be, and each class's least price, the gap and what is short, exactly
 pub record IsAnswer (m : Restricted) (a : MasterAnswer) : Type 0 where

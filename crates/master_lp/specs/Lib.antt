@@ -1,3 +1,2 @@
--- The tests in `engines` cite `Restricted`; else these are words of contracts here alone.
-pub mod Restricted
+-- The words of contracts here.
 pub mod Answer

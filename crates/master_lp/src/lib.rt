@@ -3,19 +3,9 @@
 #![tactic(auto)]
 
 mod answer;
-mod clip;
-mod fixed;
-mod line;
-mod load;
 mod master;
 mod measure;
-mod numbers;
-mod price;
-mod proposal;
-mod short;
-mod simplex;
-mod worth;
 
 pub use answer::MasterAnswer;
 pub use master::{Master, solve_master};
-pub use proposal::Proposal;
+pub use master_simplex::Proposal;

@@ -1,20 +1,18 @@
 // The restricted master, kept between rounds.
 ghost use Rattle.std.specs.Prelude.{◌≡◌, IfOk, OnOk, OnErr};
-ghost use Rattle.master_lp.specs.Restricted.{IsModest, without_columns, with_column};
+ghost use Rattle.master_measure.specs.Restricted.{IsModest, without_columns, with_column};
 ghost use Rattle.master_lp.specs.Answer.{IsAnswer, IsNearBest};
 
 use crate::answer::MasterAnswer;
 use crate::measure::measured;
-use crate::proposal::Proposal;
-use crate::simplex::Simplex;
 use bp_theory::{Items, MasterRow};
+use master_simplex::{Proposal, Simplex};
 use search_laws::Column;
 use std::alloc::{AllocError, Global};
 use std::marker::Model;
 
 /// A restricted master: rows, how many blocks each class has, and the columns that were added so far.
 /// Contracts see these. It keeps the basis of its last solution, so that the next one begins there.
-#[derive(Drop)]
 pub struct Master {
     cols: Vec<Column>,
     rows: Vec<MasterRow>,
@@ -22,8 +20,20 @@ pub struct Master {
     simplex: Simplex,
 }
 
+// What goes with one is proved here once, and not again wherever one goes.
+impl Drop for Master {
+    fn drop(self) {
+        let Master {
+            cols: _,
+            rows: _,
+            counts: _,
+            simplex: _,
+        } = self;
+    }
+}
+
 impl Model for Master {
-    ghost use Rattle.master_lp.specs.Restricted.{Restricted};
+    ghost use Rattle.master_measure.specs.Restricted.{Restricted};
 
     ghost Value = { Restricted };
 
@@ -35,12 +45,11 @@ impl Master {
     pub fn make(alloc: Global, rows: &[MasterRow], counts: &[u32]) -> Result<Master, AllocError>
         ensures { IfOk result (λ m. m ≡ without_columns rows.now counts.now) }
     {
-        let simplex = Simplex::make(alloc, rows, counts)?;
         Ok(Master {
             cols: Vec::new(alloc),
             rows: rows.to_vec(alloc)?,
             counts: counts.to_vec(alloc)?,
-            simplex,
+            simplex: Simplex::make(alloc, rows, counts)?,
         })
     }
 

@@ -1,0 +1,4 @@
+pub mod Steps
+pub mod LeastLaws
+pub mod Bounds
+pub mod Ends

@@ -1,0 +1,3 @@
+-- Other crates cite these.
+pub mod Restricted
+pub mod Ranges
