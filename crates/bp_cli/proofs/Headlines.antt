@@ -3,10 +3,10 @@ use Rattle.std.proofs.Common.{◌≡◌, ◌≢◌, subst, inl, inr, ◌⊎◌, 
 use Rattle.bp_theory.specs.declared.Claim.{Claim}
 use Rattle.bp_shelf.specs.Shelf.{Files}
 use Rattle.branch_tree.specs.declared.outcome.Outcome.{Outcome}
-use Rattle.bp_words.specs.Orders.{IsOrderOf}
-use Rattle.bp_words.specs.declared.order.Order.{Order}
-use Rattle.bp_words.specs.declared.order.SolveOrder.{SolveOrder}
-use Rattle.bp_words.specs.declared.order.Order.TheVariants.{Solve, Check, Show, Gen, Demo, Detect, Propose, Merge, Migrate}
+use Rattle.word_orders.specs.Orders.{IsOrderOf}
+use Rattle.word_orders.specs.declared.order.Order.{Order}
+use Rattle.word_orders.specs.declared.order.SolveOrder.{SolveOrder}
+use Rattle.word_orders.specs.declared.order.Order.TheVariants.{Solve, Check, Show, Gen, Demo, Detect, Propose, Merge, Migrate}
 use Rattle.bp_report.specs.Report.{accepted_report}
 use Rattle.bp_front.specs.Answers.{AnswersBy, FilesStand, IsStatus}
 use Rattle.cmd_check.specs.Checks.{AnswersCheck}

@@ -2,9 +2,9 @@
 use Rattle.std.proofs.Common.{◌≡◌, ◌≢◌, ◌⊎◌, refl, subst, inl, inr, ℕ, Bool, List, Option, Some, None}
 use Rattle.bp_shelf.specs.Shelf.{Files}
 use Rattle.branch_tree.specs.declared.outcome.Outcome.{Outcome}
-use Rattle.bp_words.specs.Orders.{IsOrderOf, AreRefused}
-use Rattle.bp_words.specs.declared.order.Order.{Order}
-use Rattle.bp_words.specs.declared.order.Order.TheVariants.{Solve, Check, Show, Gen, Demo, Detect, Propose, Merge, Migrate}
+use Rattle.word_orders.specs.Orders.{IsOrderOf, AreRefused}
+use Rattle.word_orders.specs.declared.order.Order.{Order}
+use Rattle.word_orders.specs.declared.order.Order.TheVariants.{Solve, Check, Show, Gen, Demo, Detect, Propose, Merge, Migrate}
 use Rattle.bp_front.specs.Answers.{AnswersBy, IsOnly, CutsOff, FilesStand}
 use Rattle.bp_cli.specs.Promises.{Demonstrates}
 use Rattle.bp_cli.specs.Running.{Answers, refused, ordered, AnswersOrder, OfOrder, HasWritten}

@@ -13,8 +13,8 @@ use Rattle.branch_tree.specs.Groves.{GroveState}
 use Rattle.branch_tree.specs.declared.outcome.Outcome.{Outcome}
 use Rattle.branch_tree.specs.declared.outcome.Outcome.TheVariants.{Budget}
 use Rattle.bp_search.specs.Ends.{given_steps}
-use Rattle.bp_words.specs.declared.order.Order.{Order}
-use Rattle.bp_words.specs.declared.order.Order.TheVariants.{Solve, Check, Show, Gen, Demo, Detect, Propose, Merge, Migrate}
+use Rattle.word_orders.specs.declared.order.Order.{Order}
+use Rattle.word_orders.specs.declared.order.Order.TheVariants.{Solve, Check, Show, Gen, Demo, Detect, Propose, Merge, Migrate}
 use Rattle.bp_report.specs.Report.{count_line, value_line, variable_lines, known_line, known_lines, accepted_report}
 
 -- A report of `solve` is true of a program: `optimal V`, and behind it a point that meets every row and bound, that has the

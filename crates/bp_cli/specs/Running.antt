@@ -3,9 +3,9 @@ use Rattle.std.specs.Prelude.{◌≡◌, ℕ, List, [], Option, None}
 use Rattle.bp_shelf.specs.Shelf.{Files}
 use Rattle.search_laws.specs.declared.Event.{Event}
 use Rattle.branch_tree.specs.declared.outcome.Outcome.{Outcome}
-use Rattle.bp_words.specs.Orders.{IsOrderOf, AreRefused}
-use Rattle.bp_words.specs.declared.order.Order.{Order}
-use Rattle.bp_words.specs.declared.order.Order.TheVariants.{Solve, Check, Show, Gen, Demo, Detect, Propose, Merge, Migrate}
+use Rattle.word_orders.specs.Orders.{IsOrderOf, AreRefused}
+use Rattle.word_orders.specs.declared.order.Order.{Order}
+use Rattle.word_orders.specs.declared.order.Order.TheVariants.{Solve, Check, Show, Gen, Demo, Detect, Propose, Merge, Migrate}
 use Rattle.bp_report.specs.Refusals.{words_refusal}
 use Rattle.bp_front.specs.Answers.{FilesStand}
 use Rattle.cmd_solve.specs.Solves.{AnswersSolve}

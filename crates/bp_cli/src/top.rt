@@ -2,7 +2,7 @@
 ghost use Rattle.std.specs.Prelude.{◌≡◌, ◌≢◌, ◌<◌, ◌⊎◌, ◌++◌, ℕ, [], map, string_bytes, IsTrue, None, take};
 ghost use Rattle.std.specs.Option.{option_map};
 ghost use Rattle.bp_shelf.specs.Shelf.{Rose, next_count};
-ghost use Rattle.bp_words.specs.Orders.{IsInRange, AreRefused};
+ghost use Rattle.word_orders.specs.Orders.{IsInRange, AreRefused};
 ghost use Rattle.bp_report.specs.Refusals.{words_refusal};
 ghost use Rattle.bp_front.specs.Answers.{AnswersBy, IsOnly, CutsOff, HasCauses, PutsReport, FailsToWrite};
 ghost use Rattle.bp_cli.specs.Headline.{SolvesTruly, SolvesAccepted, ChecksTruly};

@@ -2,11 +2,7 @@
 #![tactic(auto)]
 
 mod command;
-mod order;
-mod parts;
 mod read;
-mod text;
 
-pub use order::{CheckOrder, MergeOrder, Order, SolveOrder, WordFault};
 pub use read::read_words;
-pub use text::Text;
+pub use word_orders::{CheckOrder, MergeOrder, Order, SolveOrder, Text, WordFault};

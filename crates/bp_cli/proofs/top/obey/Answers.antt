@@ -1,6 +1,6 @@
 use Rattle.std.proofs.Common.{inr, refl, sym, subst}
 use Rattle.std.specs.Option.{option_map}
-use Rattle.bp_words.specs.declared.order.Order.{Order}
+use Rattle.word_orders.specs.declared.order.Order.{Order}
 use Rattle.bp_front.specs.Answers.{AnswersBy, IsOnly, CutsOff}
 use Rattle.cmd_check.specs.Checks.{AnswersCheck}
 use Rattle.cmd_show.specs.Shows.{AnswersShow}

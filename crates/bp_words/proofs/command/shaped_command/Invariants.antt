@@ -1,7 +1,0 @@
-use Rattle.std.proofs.Common.{take}
-use Rattle.bp_words.specs.CommandLine.{IsShaped}
-use Rattle.bp_words.specs.Tables.{shape_by}
-use Rattle.bp_words.proofs.command.shaped_command.Given as goal
-
-abbrev pub invariant-loop-argument : goal.invariant-loop-argument
-invariant-loop-argument l = IsShaped l.command (shape_by l.subcommand.name.now (take l.argument-index l.argument-items))
