@@ -14,11 +14,11 @@ use Rattle.bp_theory.specs.Decomposition.{Decomposition}
 use Rattle.bp_model.specs.Named.{NamedProgram}
 use Rattle.bp_model.specs.Dec.{plain_of}
 use Rattle.bp_shelf.specs.Shelf.{Files, OthersAsBefore}
-use Rattle.lp_read.specs.Model.{Means}
+use Rattle.lp_meaning.specs.Model.{Means}
 use Rattle.bp_theory.specs.Trees.{Tree}
 use Rattle.search_laws.specs.declared.Side.{Side}
 use Rattle.search_laws.specs.Grove.{GrowingTree}
-use Rattle.lp_read.specs.Reading as lp_text
+use Rattle.lp_meaning.specs.Reading as lp_text
 use Rattle.lp_read.proofs.Readings as lp_laws
 use Rattle.block_form.specs.Blocked.{BlockedProgram, IsFormed}
 use Rattle.cert_form.specs.Cert.{Frame}

@@ -7,7 +7,7 @@ use Rattle.bp_theory.specs.Claims.{NoneBetter, IsTrueClaim}
 use Rattle.bp_theory.specs.declared.Claim.{Claim}
 use Rattle.bp_model.specs.Named.{NamedProgram}
 use Rattle.bp_shelf.specs.Shelf.{Files}
-use Rattle.lp_read.specs.Model.{Means}
+use Rattle.lp_meaning.specs.Model.{Means}
 use Rattle.search_laws.specs.Grove.{certificate_tree}
 use Rattle.branch_tree.specs.Groves.{GroveState}
 use Rattle.branch_tree.specs.declared.outcome.Outcome.{Outcome}

@@ -10,7 +10,7 @@ use Rattle.block_form.specs.Blocked.{BlockedProgram}
 use Rattle.block_form.specs.Checks.{HasBlockFault}
 use Rattle.block_form.specs.declared.fault.BlockFault.{BlockFault}
 use Rattle.block_form.specs.declared.fault.BlockFault.TheVariants.{VarPlace, Links, NoMemory}
-use Rattle.lp_read.specs.Model.{Means}
+use Rattle.lp_meaning.specs.Model.{Means}
 use Rattle.dec_read.specs.Reading.{ReadsDecomposition}
 use Rattle.bp_report.specs.Refusals.{dec_refusal, HasNamed}
 use Rattle.bp_front.specs.Front.{Front, blocked, ends, BlocksCome, TextsCome, plain, missing, faulty, read, FilesCome, missing_lp, faulty_lp, read_lp, HasModel, HasDec}

@@ -6,8 +6,8 @@ use Rattle.bp_theory.specs.Blocking.{Blocking}
 use Rattle.bp_theory.specs.Decomposition.{Decomposition, IsMisplaced, HasLargeLinks, blocking_of}
 use Rattle.bp_model.specs.Named.{NamedProgram}
 use Rattle.bp_shelf.specs.Shelf.{Files}
-use Rattle.lp_read.specs.Reading as lp_text
-use Rattle.lp_read.specs.Model.{Means}
+use Rattle.lp_meaning.specs.Reading as lp_text
+use Rattle.lp_meaning.specs.Model.{Means}
 use Rattle.lp_read.proofs.Readings as lp_laws
 use Rattle.dec_read.specs.Reading as dec_text
 use Rattle.dec_read.specs.declared.fault.DecKind.{DecKind}

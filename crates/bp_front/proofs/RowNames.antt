@@ -16,15 +16,15 @@ use Rattle.lp_token.specs.declared.LpKind.TheVariants.{NotWhole, TooLarge, Featu
 use Rattle.lp_token.specs.Cut.{in_comment, is_word_at, kind_at, IsToken, is_long, is_end, CutFrom, Cut}
 use Rattle.lp_token.specs.Lexeme.{is_number, is_name, is_mark, is_name_byte, is_point}
 use Rattle.lp_token.specs.Word.{entry_of, section_of}
-use Rattle.lp_read.specs.Number.{is_whole, whole_value}
-use Rattle.lp_read.specs.Tree.{Name, Symbol, word, name, number, infinity, sign, comparison, colon, unfit, SyntaxTree, sites as sites_of, spelling}
-use Rattle.lp_read.specs.declared.tree.Site.{Site}
-use Rattle.lp_read.specs.declared.tree.Site.TheVariants as sites
-use Rattle.lp_read.specs.Symbols.{greatest, infinite_from, number_symbol, name_symbol, mark_symbol, mark_symbols, word_symbol, symbol_of, symbols_from, symbols, stays_in_bounds}
-use Rattle.lp_read.specs.Roles.{Seen, seen, first_of_symbols, is_colon, label_of, row_of, names_from, row_names}
-use Rattle.lp_read.specs.Meaning.{tokens_of, model_of}
-use Rattle.lp_read.specs.Reading.{ReadsModel, IsTextOf}
-use Rattle.lp_read.specs.Model.{Means}
+use Rattle.lp_tree.specs.Number.{is_whole, whole_value}
+use Rattle.lp_tree.specs.Tree.{Name, Symbol, word, name, number, infinity, sign, comparison, colon, unfit, SyntaxTree, sites as sites_of, spelling}
+use Rattle.lp_tree.specs.declared.tree.Site.{Site}
+use Rattle.lp_tree.specs.declared.tree.Site.TheVariants as sites
+use Rattle.lp_tree.specs.Symbols.{greatest, infinite_from, number_symbol, name_symbol, mark_symbol, mark_symbols, word_symbol, symbol_of, symbols_from, symbols, stays_in_bounds}
+use Rattle.lp_tree.specs.Roles.{Seen, seen, first_of_symbols, is_colon, label_of, row_of, names_from, row_names}
+use Rattle.lp_meaning.specs.Meaning.{tokens_of, model_of}
+use Rattle.lp_meaning.specs.Reading.{ReadsModel, IsTextOf}
+use Rattle.lp_meaning.specs.Model.{Means}
 use Rattle.bp_model.specs.Named.{NamedProgram, IsKept}
 use Rattle.dec_find.specs.Text.{IsRowName}
 use Rattle.dec_find.proofs.WordLemmas.{decimal_digits}

@@ -13,8 +13,8 @@ use Rattle.bp_theory.specs.declared.Sense.{Sense}
 use Rattle.bp_theory.specs.declared.Row.{Row}
 use Rattle.bp_theory.proofs.KeyLaws.{if_same, if_other}
 use Rattle.bp_model.specs.Named.{NamedProgram}
-use Rattle.lp_read.specs.Meaning.{TextModel, ModelRow}
-use Rattle.lp_read.specs.Model.{HasCoefficients, IsRowOf, IsProgramOf, Means}
+use Rattle.lp_meaning.specs.Meaning.{TextModel, ModelRow}
+use Rattle.lp_meaning.specs.Model.{HasCoefficients, IsRowOf, IsProgramOf, Means}
 use Rattle.lp_read.proofs.Readings.{one_model}
 
 -- tidy terms from a number on give no coefficient before it

@@ -6,8 +6,8 @@ use Rattle.bp_shelf.specs.Shelf.{Files, OthersAsBefore}
 use Rattle.bp_shelf.specs.declared.shelf.ShelfFault.{ShelfFault}
 use Rattle.bp_shelf.specs.declared.shelf.ShelfFault.TheVariants.{Missing, Failed, NoMemory}
 use Rattle.branch_tree.specs.declared.outcome.Outcome.{Outcome}
-use Rattle.lp_read.specs.Reading as lp_text
-use Rattle.lp_read.specs.Model.{Means}
+use Rattle.lp_meaning.specs.Reading as lp_text
+use Rattle.lp_meaning.specs.Model.{Means}
 use Rattle.lp_read.proofs.Readings as lp_laws
 use Rattle.bp_front.specs.Answers.{AnswersBy, IsOnly, CutsOff}
 use Rattle.bp_front.specs.Endings.{status_of}

@@ -5,8 +5,8 @@ use Rattle.bp_model.specs.Named.{NamedProgram}
 use Rattle.bp_model.specs.Dec.{plain_of}
 use Rattle.bp_shelf.specs.Shelf.{Files}
 use Rattle.lp_token.specs.declared.LpKind.{LpKind}
-use Rattle.lp_read.specs.Reading as lp_text
-use Rattle.lp_read.specs.Model.{Means}
+use Rattle.lp_meaning.specs.Reading as lp_text
+use Rattle.lp_meaning.specs.Model.{Means}
 use Rattle.dec_read.specs.declared.fault.DecKind.{DecKind}
 use Rattle.dec_read.specs.Reading as dec_text
 use Rattle.block_form.specs.Blocked.{BlockedProgram, IsFormed}

@@ -5,7 +5,7 @@ use Rattle.bp_shelf.specs.Shelf.{Files, Rose}
 use Rattle.bp_shelf.specs.declared.shelf.ShelfFault.TheVariants.{Missing, Failed, NoMemory}
 use Rattle.bp_theory.specs.Decomposition.{Decomposition}
 use Rattle.lp_token.specs.declared.LpKind.{LpKind}
-use Rattle.lp_read.specs.Reading as lp_text
+use Rattle.lp_meaning.specs.Reading as lp_text
 use Rattle.dec_read.specs.declared.fault.DecKind.{DecKind}
 use Rattle.dec_read.specs.Reading as dec_text
 use Rattle.bp_report.specs.Refusals.{lp_refusal, dec_refusal}

@@ -6,7 +6,7 @@ ghost use Rattle.bp_model.specs.Dec.{HasListed};
 ghost use Rattle.bp_model.specs.Named.{IsKept};
 ghost use Rattle.dec_find.specs.Text.{IsRowName};
 ghost use Rattle.bp_front.specs.Front.{FilesCome, BlocksCome, TextsCome, HasModel, HasDec, blocked, ends};
-ghost use Rattle.lp_read.specs.Model.{Means};
+ghost use Rattle.lp_meaning.specs.Model.{Means};
 ghost use Rattle.dec_read.specs.Reading.{ReadsDecomposition};
 ghost use Rattle.bp_front.specs.Halts.{ComesToHalt, TextsHalt, LpHalts, DecHalts, CountsHalted, IsLpHalt, IsDecHalt, IsBlocksHalt};
 ghost use Rattle.bp_front.specs.declared.front.Halt.TheVariants.{Refused, Stopped};

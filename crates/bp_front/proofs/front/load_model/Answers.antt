@@ -1,5 +1,5 @@
 use Rattle.std.proofs.Common.{refl, lit<, subst, List, ℕ, IfOk, IfErr}
-use Rattle.lp_read.specs.Model.{Means}
+use Rattle.lp_meaning.specs.Model.{Means}
 use Rattle.bp_front.specs.Halts.{IsLpHalt}
 use Rattle.bp_front.proofs.Fronts.{models, halted_models}
 use Rattle.bp_front.proofs.front.load_model.Goals as goal

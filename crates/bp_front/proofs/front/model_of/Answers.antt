@@ -1,4 +1,4 @@
-use Rattle.lp_read.specs.Model.{IsFaultOf}
+use Rattle.lp_meaning.specs.Model.{IsFaultOf}
 use Rattle.bp_front.proofs.RowNames.{rows_named}
 use Rattle.bp_front.proofs.front.model_of.Goals as goal
 

@@ -1,0 +1,5 @@
+pub mod Steps
+pub mod Accepts
+pub mod Shown
+pub mod Kept
+pub mod Good

@@ -1,0 +1,14 @@
+pub mod SignLemmas
+pub mod NameNumbers
+pub mod TermLemmas
+pub mod WalkLemmas
+pub mod FitProof
+pub mod FineProof
+pub mod TableLemmas
+pub mod FaultLemmas
+pub mod RowLemmas
+pub mod PartsProof
+pub mod CoefficientProof
+pub mod CountProof
+pub mod LimitProof
+pub mod ModelProof

@@ -1,0 +1,4 @@
+pub mod Ascii
+pub mod SymbolLemmas
+pub mod Roles
+pub mod NumberLemmas
