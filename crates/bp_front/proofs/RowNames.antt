@@ -26,8 +26,8 @@ use Rattle.lp_meaning.specs.Meaning.{tokens_of, model_of}
 use Rattle.lp_meaning.specs.Reading.{ReadsModel, IsTextOf}
 use Rattle.lp_meaning.specs.Model.{Means}
 use Rattle.bp_model.specs.Named.{NamedProgram, IsKept}
-use Rattle.dec_find.specs.Text.{IsRowName}
-use Rattle.dec_find.proofs.WordLemmas.{decimal_digits}
+use Rattle.dec_words.specs.Text.{IsRowName}
+use Rattle.dec_words.proofs.WordLemmas.{decimal_digits}
 
 -- ---- tokens that are names
 

@@ -4,7 +4,7 @@ ghost use Rattle.std.specs.Option.{option_map};
 ghost use Rattle.bp_theory.specs.Decomposition.{HasPlaces};
 ghost use Rattle.bp_model.specs.Dec.{HasListed};
 ghost use Rattle.bp_model.specs.Named.{IsKept};
-ghost use Rattle.dec_find.specs.Text.{IsRowName};
+ghost use Rattle.dec_words.specs.Text.{IsRowName};
 ghost use Rattle.bp_front.specs.Front.{FilesCome, BlocksCome, TextsCome, HasModel, HasDec, blocked, ends};
 ghost use Rattle.lp_meaning.specs.Model.{Means};
 ghost use Rattle.dec_read.specs.Reading.{ReadsDecomposition};

@@ -16,7 +16,7 @@ use Rattle.bp_model.specs.Named.{NamedProgram}
 use Rattle.block_form.specs.Blocked.{BlockedProgram, IsFormed}
 use Rattle.block_form.proofs.GatherLemmas.{passing_below}
 use Rattle.block_form.proofs.StandLemmas.{passing_more}
-use Rattle.dec_find.specs.Text.{spaced}
+use Rattle.dec_words.specs.Text.{spaced}
 use Rattle.search_laws.specs.Spread.{block_at}
 use Rattle.bp_report.specs.Report.{rows_of_block, name_of, counted_names, shown_block}
 

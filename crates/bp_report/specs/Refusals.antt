@@ -12,9 +12,9 @@ use Rattle.cert_form.specs.declared.fault.CertKind.TheVariants as cert
 use Rattle.cert_form.specs.declared.fault.CertFault.TheVariants as cert_fault
 use Rattle.block_form.specs.declared.fault.BlockFault.{BlockFault}
 use Rattle.block_form.specs.declared.fault.BlockFault.TheVariants as block
-use Rattle.dec_find.specs.declared.fault.RowsKind.{RowsKind}
-use Rattle.dec_find.specs.declared.fault.RowsKind.TheVariants as rows
-use Rattle.dec_find.specs.declared.fault.RowsFault.TheVariants as rows_fault
+use Rattle.dec_words.specs.declared.fault.RowsKind.{RowsKind}
+use Rattle.dec_words.specs.declared.fault.RowsKind.TheVariants as rows
+use Rattle.dec_words.specs.declared.fault.RowsFault.TheVariants as rows_fault
 use Rattle.bp_report.specs.Report.{count_line, fault_line}
 use Rattle.bp_report.specs.declared.refused.Refusal.{Refusal}
 use Rattle.bp_report.specs.declared.refused.Refusal.TheVariants.{Words, Lp, Dec, Cert, Blocks, Rows}

@@ -16,7 +16,7 @@ use Rattle.block_form.specs.Blocked.{BlockedProgram}
 use Rattle.search_laws.specs.Grove.{live_count}
 use Rattle.search_laws.specs.Spread.{block_at, class_at, class_blocks}
 use Rattle.block_class.specs.Classes.{Grouping}
-use Rattle.dec_find.specs.Text.{spaced}
+use Rattle.dec_words.specs.Text.{spaced}
 use Rattle.branch_tree.specs.declared.outcome.Outcome.{Outcome}
 use Rattle.branch_tree.specs.declared.outcome.Outcome.TheVariants as outcome
 use Rattle.cert_text.specs.Outcomes.{grove_of, claim_of}

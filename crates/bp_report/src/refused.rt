@@ -7,8 +7,8 @@ use crate::lines::{fault_text, push_count_line};
 use block_form::BlockFault;
 use bp_model::Model;
 use cert_text::{CertFault, CertKind};
-use dec_find::{RowsFault, RowsKind};
 use dec_read::{DecFault, DecKind};
+use dec_words::{RowsFault, RowsKind};
 use lp_token::{LpFault, LpKind};
 use std::alloc::{AllocError, Global};
 

@@ -7,11 +7,11 @@ use Rattle.bp_model.specs.Named.{NamedProgram}
 use Rattle.bp_shelf.specs.Shelf.{Files}
 use Rattle.bp_shelf.specs.declared.shelf.ShelfFault.{ShelfFault}
 use Rattle.bp_shelf.specs.declared.shelf.ShelfFault.TheVariants.{Missing, Failed, NoMemory}
-use Rattle.dec_find.specs.declared.fault.RowsKind.{RowsKind}
-use Rattle.dec_find.specs.declared.fault.RowsKind.TheVariants.{Blocks}
-use Rattle.dec_find.specs.Rows.{ListsRows, HasRowsFault, too_long, at_token}
-use Rattle.dec_find.specs.Joined.{IsFound, HasTooMany}
-use Rattle.dec_find.specs.Text.{text_of}
+use Rattle.dec_words.specs.declared.fault.RowsKind.{RowsKind}
+use Rattle.dec_words.specs.declared.fault.RowsKind.TheVariants.{Blocks}
+use Rattle.dec_words.specs.Rows.{ListsRows, HasRowsFault, too_long, at_token}
+use Rattle.row_blocks.specs.Joined.{IsFound, HasTooMany}
+use Rattle.dec_words.specs.Text.{text_of}
 use Rattle.bp_report.specs.Report.{detected_report}
 use Rattle.bp_report.specs.Refusals.{rows_refusal}
 use Rattle.bp_front.specs.Front.{HasModel}

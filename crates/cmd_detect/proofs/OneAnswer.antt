@@ -4,10 +4,10 @@ use Rattle.std.proofs.lemmas.Bool.{cases_order}
 use Rattle.bp_theory.specs.Decomposition.{Decomposition}
 use Rattle.bp_model.specs.Named.{NamedProgram}
 use Rattle.bp_shelf.specs.Shelf.{Files}
-use Rattle.dec_find.specs.declared.fault.RowsKind.{RowsKind}
-use Rattle.dec_find.specs.Rows.{ListsRows, HasRowsFault, too_long, at_token}
-use Rattle.dec_find.specs.Joined.{IsFound}
-use Rattle.dec_find.proofs.FoundLemmas.{found_once}
+use Rattle.dec_words.specs.declared.fault.RowsKind.{RowsKind}
+use Rattle.dec_words.specs.Rows.{ListsRows, HasRowsFault, too_long, at_token}
+use Rattle.row_blocks.specs.Joined.{IsFound}
+use Rattle.row_blocks.proofs.FoundLemmas.{found_once}
 use Rattle.bp_front.specs.Written.{Answer}
 use Rattle.bp_front.proofs.Written.{one_text, no_text, one_model, model_or_fault, HasOneStatus}
 use Rattle.cmd_detect.specs.Detects.{DetectsBeside, many, found, RowsCome, missing, faulty, read, Detects, missing_lp, faulty_lp, with_model}

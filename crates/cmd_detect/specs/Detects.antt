@@ -4,11 +4,11 @@ use Rattle.bp_theory.specs.Limits.{most_blocks}
 use Rattle.bp_shelf.specs.Shelf.{Files}
 use Rattle.bp_theory.specs.Decomposition.{Decomposition}
 use Rattle.bp_model.specs.Named.{NamedProgram}
-use Rattle.dec_find.specs.declared.fault.RowsKind.{RowsKind}
-use Rattle.dec_find.specs.declared.fault.RowsKind.TheVariants.{Blocks}
-use Rattle.dec_find.specs.Rows.{ListsRows, HasRowsFault}
-use Rattle.dec_find.specs.Joined.{IsFound, HasTooMany}
-use Rattle.dec_find.specs.Text.{text_of}
+use Rattle.dec_words.specs.declared.fault.RowsKind.{RowsKind}
+use Rattle.dec_words.specs.declared.fault.RowsKind.TheVariants.{Blocks}
+use Rattle.dec_words.specs.Rows.{ListsRows, HasRowsFault}
+use Rattle.row_blocks.specs.Joined.{IsFound, HasTooMany}
+use Rattle.dec_words.specs.Text.{text_of}
 use Rattle.bp_report.specs.Report.{detected_report}
 use Rattle.bp_report.specs.Refusals.{rows_refusal}
 use Rattle.bp_front.specs.Front.{HasModel, HasLpFault}

@@ -5,8 +5,8 @@ ghost use Rattle.std.specs.Prelude.{◌≡◌, ◌≢◌, ◌⊎◌, ◌<◌, []
 ghost use Rattle.bp_shelf.specs.Shelf.{OthersAsBefore};
 ghost use Rattle.bp_theory.specs.Decomposition.{HasPlaces};
 ghost use Rattle.bp_model.specs.Named.{IsKept};
-ghost use Rattle.dec_find.specs.Rows.{ListsRows};
-ghost use Rattle.dec_find.specs.Text.{IsRowName, text_of};
+ghost use Rattle.dec_words.specs.Rows.{ListsRows};
+ghost use Rattle.dec_words.specs.Text.{IsRowName, text_of};
 ghost use Rattle.bp_report.specs.Report.{detected_report};
 ghost use Rattle.bp_front.specs.Halts.{CountsHalted};
 ghost use Rattle.bp_front.specs.Answers.{AnswersBy, IsOnly, CutsOff, HasCauses, PutsReport, FailsToWrite};

@@ -6,8 +6,8 @@ use Rattle.bp_model.specs.Named.{NamedProgram, IsKept}
 use Rattle.bp_model.specs.Dec.{HasListed}
 use Rattle.bp_shelf.specs.Shelf.{Files}
 use Rattle.dec_read.specs.Reading.{ReadsDecomposition}
-use Rattle.dec_find.specs.Text.{text_of}
-use Rattle.dec_find.proofs.FoundLemmas.{found_accepted}
+use Rattle.dec_words.specs.Text.{text_of}
+use Rattle.row_blocks.proofs.FoundLemmas.{found_accepted}
 use Rattle.dec_beside.specs.Guess.{IsGuess}
 use Rattle.block_form.specs.Blocked.{BlockedProgram}
 use Rattle.block_form.specs.Checks.{HasBlockFault}

@@ -4,7 +4,7 @@ use Rattle.bp_shelf.specs.Shelf.{Files}
 use Rattle.bp_theory.specs.Decomposition.{Decomposition}
 use Rattle.bp_model.specs.Named.{NamedProgram}
 use Rattle.dec_read.specs.Reading.{ReadsDecomposition}
-use Rattle.dec_find.specs.Text.{text_of}
+use Rattle.dec_words.specs.Text.{text_of}
 use Rattle.dec_beside.specs.Guess.{IsGuess}
 use Rattle.block_form.specs.Blocked.{BlockedProgram}
 use Rattle.block_class.specs.Classes.{Grouping, AreSameClasses}

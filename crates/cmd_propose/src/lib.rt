@@ -4,7 +4,7 @@
 ghost use Rattle.std.specs.Prelude.{◌≡◌, ◌≢◌, ◌⊎◌, ◌<◌, [], All, IfOk, IfErr, IsTrue, None};
 ghost use Rattle.bp_shelf.specs.Shelf.{OthersAsBefore};
 ghost use Rattle.bp_model.specs.Named.{IsKept};
-ghost use Rattle.dec_find.specs.Text.{IsRowName};
+ghost use Rattle.dec_words.specs.Text.{IsRowName};
 ghost use Rattle.dec_beside.specs.Guess.{IsGuess};
 ghost use Rattle.block_class.specs.Classes.{AreSameClasses};
 ghost use Rattle.bp_front.specs.Front.{BlocksCome, blocked};

@@ -7,7 +7,7 @@ use Rattle.bp_theory.specs.Program.{Program}
 use Rattle.bp_theory.specs.Decomposition.{IsPlace}
 use Rattle.bp_theory.specs.declared.Row.{Row}
 use Rattle.bp_model.specs.Dec.{plain_of}
-use Rattle.dec_find.proofs.NumberLemmas.{no_some}
+use Rattle.row_blocks.proofs.NumberLemmas.{no_some}
 use Rattle.dec_beside.specs.Guess.{IsGuess}
 
 no_place : (rows : List Row) (r : ℕ) (d : Option ℕ) → r < length rows → get_or (map (λ (row : Row). let none : Option ℕ = None in none) rows) r d ≡ None

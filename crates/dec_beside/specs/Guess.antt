@@ -2,7 +2,7 @@
 use Rattle.std.specs.Prelude.{ℕ, List}
 use Rattle.bp_theory.specs.Program.{Program}
 use Rattle.bp_theory.specs.Decomposition.{Decomposition}
-use Rattle.dec_find.specs.Joined.{IsFound}
+use Rattle.row_blocks.specs.Joined.{IsFound}
 
 -- the decomposition of a program beside some master rows
 abbrev pub IsGuess : Program → Decomposition → Type 0

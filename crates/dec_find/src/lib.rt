@@ -2,8 +2,6 @@
 //! of a decomposition.
 #![tactic(auto)]
 
-mod fault;
-mod join;
 mod rows;
 mod text;
 mod trees;
@@ -15,11 +13,12 @@ ghost use Rattle.bp_model.specs.Named.{NamedProgram, IsKept};
 ghost use Rattle.block_form.specs.Checks.{HasBlockFault};
 ghost use Rattle.block_form.specs.declared.fault.BlockFault.{BlockFault};
 ghost use Rattle.block_form.specs.declared.fault.BlockFault.TheVariants as block;
-ghost use Rattle.dec_find.specs.declared.fault.RowsKind.{RowsKind};
-ghost use Rattle.dec_find.specs.Rows.{ListsRows, HasRowsFault};
-ghost use Rattle.dec_find.specs.Joined.{Joined, IsFound, HasMaster, place_at};
+ghost use Rattle.dec_words.specs.declared.fault.RowsKind.{RowsKind};
+ghost use Rattle.dec_words.specs.Rows.{ListsRows, HasRowsFault};
+ghost use Rattle.row_blocks.specs.Joined.{Joined, IsFound, HasMaster, place_at};
 
-pub use fault::{FindFault, RowsFault, RowsKind};
+pub use dec_words::{RowsFault, RowsKind};
+pub use row_blocks::FindFault;
 pub use rows::read_rows;
 pub use text::dec_text;
 pub use trees::find;

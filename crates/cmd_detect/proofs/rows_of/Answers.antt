@@ -1,5 +1,5 @@
 use Rattle.std.proofs.Common.{◌≡◌, refl, sym, subst, ℕ, List, Some}
-use Rattle.dec_find.specs.Rows.{IsRowsFault}
+use Rattle.dec_words.specs.Rows.{IsRowsFault}
 use Rattle.bp_report.specs.Refusals.{rows_refusal}
 use Rattle.bp_front.specs.Written.{stops}
 use Rattle.cmd_detect.specs.Detects.{RowsCome, faulty}

@@ -1,5 +1,5 @@
 use Rattle.std.proofs.Common.{◌≡◌, ◌++◌, map, take}
-use Rattle.dec_find.specs.Text.{spaced}
+use Rattle.dec_words.specs.Text.{spaced}
 use Rattle.bp_report.specs.Report.{name_of}
 use Rattle.bp_report.proofs.blocks.push_row_names.Given as goal
 

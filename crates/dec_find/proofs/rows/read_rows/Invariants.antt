@@ -1,6 +1,6 @@
 use Rattle.std.proofs.Common.{◌≡◌, ◌-◌, length}
 use Rattle.dec_read.specs.Scan.{StandsIn, tokens_at}
-use Rattle.dec_find.specs.Listing.{StandsBefore}
+use Rattle.dec_words.specs.Listing.{StandsBefore}
 use Rattle.dec_find.proofs.rows.read_rows.Given as goal
 
 abbrev pub invariant-loop-word : goal.invariant-loop-word

@@ -1,0 +1,4 @@
+pub mod ChainLemmas
+pub mod TreeLemmas
+pub mod NumberLemmas
+pub mod FoundLemmas

@@ -1,0 +1,3 @@
+-- Other crates cite Joined.
+pub mod Joined
+pub mod Forest
