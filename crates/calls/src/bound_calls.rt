@@ -25,58 +25,92 @@ enum Pick {
     Second,
 }
 
+// A proof of a multiplier of the row and of picked blocks, with the words for it and for where it is tried.
+#[derive(Clone, Copy)]
+struct Case {
+    mult: i64,
+    pick: Pick,
+    name: &'static str,
+}
+
+const AT_ROOT: &[Case] = &[
+    Case {
+        mult: -3,
+        pick: Pick::Every,
+        name: "-3, all picked",
+    },
+    Case {
+        mult: -3,
+        pick: Pick::Nothing,
+        name: "-3, none picked",
+    },
+    Case {
+        mult: -3,
+        pick: Pick::Second,
+        name: "-3, block 1 picked",
+    },
+    Case {
+        mult: -5,
+        pick: Pick::Every,
+        name: "-5, all picked",
+    },
+    Case {
+        mult: -5,
+        pick: Pick::Nothing,
+        name: "-5, none picked",
+    },
+];
+
+const NARROWED: &[Case] = &[Case {
+    mult: -3,
+    pick: Pick::Every,
+    name: "-3, all picked, a1 up to 1",
+}];
+
+const NARROWED_TWICE: &[Case] = &[Case {
+    mult: -3,
+    pick: Pick::Every,
+    name: "-3, all picked, a1 and a2 up to 1",
+}];
+
+const LINKED: &[Case] = &[
+    Case {
+        mult: -1,
+        pick: Pick::Every,
+        name: "a link's -1, all picked",
+    },
+    Case {
+        mult: 1,
+        pick: Pick::Every,
+        name: "a link's 1, all picked",
+    },
+    Case {
+        mult: -1,
+        pick: Pick::Nothing,
+        name: "a link's -1, none picked",
+    },
+];
+
+const LINKED_WITHOUT: &[Case] = &[Case {
+    mult: 1,
+    pick: Pick::Every,
+    name: "a link's 1, all picked, x up to 0",
+}];
+
 /// Bounds of proofs with a multiplier of the row over both blocks, at the root and in two smaller zones.
 pub fn tell_all(alloc: Global, b: &Blocked, told: &mut Told) -> Result<(), AllocError> {
     let root = Zone::root(alloc, b)?;
     tell_points(alloc, b, &root, told)?;
-    tell_root(alloc, b, &root, told)?;
+    tell_cases(alloc, b, &root, AT_ROOT, told)?;
     tell_narrowed(alloc, b, &root, told)
 }
 
 /// Bounds of proofs with a multiplier of the link row of two blocks, at the root and where the variable that links them is 0.
 pub fn tell_linked(alloc: Global, b: &Blocked, told: &mut Told) -> Result<(), AllocError> {
     let root = Zone::root(alloc, b)?;
-    tell_case(
-        alloc,
-        b,
-        &root,
-        -1,
-        Pick::Every,
-        "a link's -1, all picked",
-        told,
-    )?;
-    tell_case(
-        alloc,
-        b,
-        &root,
-        1,
-        Pick::Every,
-        "a link's 1, all picked",
-        told,
-    )?;
-    tell_case(
-        alloc,
-        b,
-        &root,
-        -1,
-        Pick::Nothing,
-        "a link's -1, none picked",
-        told,
-    )?;
+    tell_cases(alloc, b, &root, LINKED, told)?;
     let without = narrowed(alloc, b, &root, 0, 0)?;
-    let name = "a link's 1, all picked, x up to 0";
-    tell_case(alloc, b, &without, 1, Pick::Every, name, told)
-}
-
-// Bounds at the root, by the multiplier and the picked blocks.
-fn tell_root(alloc: Global, b: &Blocked, root: &Zone, told: &mut Told) -> Result<(), AllocError>
-    requires { IsZone b.now.named.program.spans root.now }
-{
-    tell_case(alloc, b, root, -3, Pick::Every, "-3, all picked", told)?;
-    tell_case(alloc, b, root, -3, Pick::Nothing, "-3, none picked", told)?;
-    tell_case(alloc, b, root, -3, Pick::Second, "-3, block 1 picked", told)?;
-    tell_case(alloc, b, root, -5, Pick::Every, "-5, all picked", told)?;
-    tell_case(alloc, b, root, -5, Pick::Nothing, "-5, none picked", told)
+    tell_cases(alloc, b, &without, LINKED_WITHOUT, told)
 }
 
 // Bounds where the first block's first variable ends at 1, and where that of the second does too.
@@ -84,11 +118,25 @@ fn tell_narrowed(alloc: Global, b: &Blocked, root: &Zone, told: &mut Told) -> Re
     requires { IsZone b.now.named.program.spans root.now }
 {
     let one = narrowed(alloc, b, root, 0, 1)?;
-    let name = "-3, all picked, a1 up to 1";
-    tell_case(alloc, b, &one, -3, Pick::Every, name, told)?;
+    tell_cases(alloc, b, &one, NARROWED, told)?;
     let both = narrowed(alloc, b, &one, 2, 1)?;
-    let name = "-3, all picked, a1 and a2 up to 1";
-    tell_case(alloc, b, &both, -3, Pick::Every, name, told)
+    tell_cases(alloc, b, &both, NARROWED_TWICE, told)
+}
+
+// The bounds of cases in a zone.
+fn tell_cases(
+    alloc: Global,
+    b: &Blocked,
+    zone: &Zone,
+    cases: &[Case],
+    told: &mut Told,
+) -> Result<(), AllocError>
+    requires { IsZone b.now.named.program.spans zone.now }
+{
+    for case in cases {
+        tell_case(alloc, b, zone, case, told)?;
+    }
+    Ok(())
 }
 
 // The bounds of the proof of a multiplier and picked blocks in a zone.
@@ -96,20 +144,24 @@ fn tell_case(
     alloc: Global,
     b: &Blocked,
     zone: &Zone,
-    mult: i64,
-    pick: Pick,
-    name: &str,
+    case: &Case,
     told: &mut Told,
 ) -> Result<(), AllocError>
     requires { IsZone b.now.named.program.spans zone.now }
 {
-    let proof = proof_of(alloc, mult, pick)?;
+    let proof = proof_of(alloc, case.mult, case.pick)?;
     if !fits(b, &proof) {
-        return told.line("bound: not tried, the proof doesn't fit");
+        told.line("bound: not tried, the proof doesn't fit");
+        return Ok(());
     }
     let shared = shared_bound(alloc, b, zone, &proof)?;
     let single = single_bound(alloc, b, zone, &proof)?;
-    tell_answers(name, shared, single, told)
+    told.text("bound with ");
+    told.text(case.name);
+    tell_answer(": ", shared, told);
+    tell_answer(" by classes, ", single, told);
+    told.line(" block by block");
+    Ok(())
 }
 
 // The proof of scale 1 with this multiplier of the row of both blocks.
@@ -169,35 +221,14 @@ fn single_bound(
     Ok(sum_bound(&mut work, b, zone, proof, Cap::Never))
 }
 
-// The answers of both ways.
-fn tell_answers(
-    name: &str,
-    shared: Bounded,
-    single: Bounded,
-    told: &mut Told,
-) -> Result<(), AllocError> {
-    told.text("bound with ")?;
-    told.text(name)?;
-    told.text(": ")?;
-    tell_answer(shared, told)?;
-    told.text(" by classes, ")?;
-    tell_answer(single, told)?;
-    told.line(" block by block")
-}
-
-// One answer.
-fn tell_answer(answer: Bounded, told: &mut Told) -> Result<(), AllocError> {
+// One answer, behind some words.
+fn tell_answer(words: &str, answer: Bounded, told: &mut Told) {
+    told.text(words);
     match answer {
-        Bounded::Whole(whole) => told.number(whole),
+        Bounded::Whole(whole) => told.number("", whole),
         Bounded::Endless => told.text("endless"),
-        Bounded::Cut(block) => tell_cut(block, told),
+        Bounded::Cut(block) => told.number("cut at block ", i128::from(block)),
     }
-}
-
-// The block whose pricing was cut.
-fn tell_cut(block: u32, told: &mut Told) -> Result<(), AllocError> {
-    told.text("cut at block ")?;
-    told.number(i128::from(block))
 }
 
 // The points that a bound by classes tells.
@@ -206,11 +237,12 @@ fn tell_points(alloc: Global, b: &Blocked, zone: &Zone, told: &mut Told) -> Resu
 {
     let proof = proof_of(alloc, -3, Pick::Every)?;
     if !fits(b, &proof) {
-        return told.line("points: not tried, the proof doesn't fit");
+        told.line("points: not tried, the proof doesn't fit");
+        return Ok(());
     }
     let work = worked(alloc, b, zone, &proof)?;
     for block in 0..b.blocks() {
-        tell_point(b, &work, block, told)?;
+        tell_point(b, &work, block, told);
     }
     Ok(())
 }
@@ -228,18 +260,18 @@ fn worked(alloc: Global, b: &Blocked, zone: &Zone, proof: &Proof) -> Result<Work
 }
 
 // The point of a block that the last bound told.
-fn tell_point(b: &Blocked, work: &Work, block: u32, told: &mut Told) -> Result<(), AllocError>
+fn tell_point(b: &Blocked, work: &Work, block: u32, told: &mut Told)
     requires { forms_of work.now ≡ forms_in b.now }
 {
     if block >= b.blocks() {
-        return told.line("point: not tried, the block isn't there");
+        told.line("point: not tried, the block isn't there");
+        return;
     }
-    told.text("point of block ")?;
-    told.number(i128::from(block))?;
-    told.text(" that a bound by classes tells:")?;
+    told.number("point of block ", i128::from(block));
+    told.text(" that a bound by classes tells:");
     match work.point(block) {
-        None => told.text(" none")?,
-        Some(point) => told.point(point)?,
+        None => told.text(" none"),
+        Some(point) => told.point(point),
     }
-    told.end()
+    told.line("");
 }

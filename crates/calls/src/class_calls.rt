@@ -28,9 +28,9 @@ fn tell_count(
     requires { IsZone b.now.named.program.spans zone.now }
 {
     let count = Classes::of(alloc, b, zone)?.len();
-    told.text("classes of two.lp ")?;
-    told.text(place)?;
-    told.text(": ")?;
-    told.number(i128::from(count))?;
-    told.end()
+    told.text("classes of two.lp ");
+    told.text(place);
+    told.number(": ", i128::from(count));
+    told.line("");
+    Ok(())
 }

@@ -24,55 +24,52 @@ pub fn tell_all(alloc: Global, b: &Blocked, told: &mut Told) -> Result<(), Alloc
     tell_next(alloc, &grove, "after a fork at 99", told)?;
     fork_next(alloc, b, &mut grove, 49, told)?;
     tell_next(alloc, &grove, "after a fork of that leaf at 49", told)?;
-    tell_counts(grove.live(), grove.count(), told)
+    tell_counts(grove.live(), grove.count(), told);
+    Ok(())
 }
 
 // The bound of the leaf that is next.
 fn tell_first(alloc: Global, grove: &Grove, told: &mut Told) -> Result<(), AllocError> {
-    let Some(turn) = grove.take(alloc)? else {
-        return told.line("first leaf: not tried, no leaf is live");
-    };
-    told.text("first leaf of tall.lp: the bound ")?;
-    told.number(i128::from(turn.bound))?;
-    told.end()
+    match grove.take(alloc)? {
+        None => told.line("first leaf: not tried, no leaf is live"),
+        Some(turn) => tell_bound(turn.bound, told),
+    }
+    Ok(())
+}
+
+// The bound of the first leaf.
+fn tell_bound(bound: i64, told: &mut Told) {
+    told.number("first leaf of tall.lp: the bound ", i128::from(bound));
+    told.line("");
 }
 
 // The leaf that is next: its bound and the span of the variable that is split.
 fn tell_next(alloc: Global, grove: &Grove, when: &str, told: &mut Told) -> Result<(), AllocError> {
-    let Some(turn) = grove.take(alloc)? else {
-        return told.line("next leaf: not tried, no leaf is live");
-    };
-    told.text("next leaf of tall.lp ")?;
-    told.text(when)?;
-    tell_leaf(turn.bound, &turn.zone, told)
+    match grove.take(alloc)? {
+        None => told.line("next leaf: not tried, no leaf is live"),
+        Some(turn) => tell_leaf(turn.bound, &turn.zone, when, told),
+    }
+    Ok(())
 }
 
 // A leaf's bound and the span of the variable that is split.
-fn tell_leaf(bound: i64, zone: &Zone, told: &mut Told) -> Result<(), AllocError> {
-    told.text(": the bound ")?;
-    told.number(i128::from(bound))?;
+fn tell_leaf(bound: i64, zone: &Zone, when: &str, told: &mut Told) {
+    told.text("next leaf of tall.lp ");
+    told.text(when);
+    told.number(": the bound ", i128::from(bound));
     if (VAR as usize) < zone.spans().len() {
         let span = zone.span(VAR);
-        tell_span(span.lo, span.hi, told)?;
+        told.number(" over the numbers ", i128::from(span.lo));
+        told.number(" to ", i128::from(span.hi));
     }
-    told.end()
-}
-
-// The numbers of a span, by its ends.
-fn tell_span(low: i64, high: i64, told: &mut Told) -> Result<(), AllocError> {
-    told.text(" over the numbers ")?;
-    told.number(i128::from(low))?;
-    told.text(" to ")?;
-    told.number(i128::from(high))
+    told.line("");
 }
 
 // How many leaves are live, and how many splits and shut leaves there are together.
-fn tell_counts(live: u64, count: u64, told: &mut Told) -> Result<(), AllocError> {
-    told.text("tree of tall.lp then: ")?;
-    told.number(i128::from(live))?;
-    told.text(" live leaves, ")?;
-    told.number(i128::from(count))?;
-    told.line(" splits and shut leaves")
+fn tell_counts(live: u64, count: u64, told: &mut Told) {
+    told.number("tree of tall.lp then: ", i128::from(live));
+    told.number(" live leaves, ", i128::from(count));
+    told.line(" splits and shut leaves");
 }
 
 // Forks the leaf that is next behind a number, with the leaf's own proof and bound.
@@ -86,10 +83,11 @@ fn fork_next(
     requires { IsGroveOf b.now grove.old }
     ensures { IsGroveOf b.now grove.new }
 {
-    match next_turn(alloc, b, grove)? {
-        None => told.line("fork: not tried, no leaf is live"),
-        Some(turn) => fork_leaf(alloc, b, grove, &turn, at, told),
-    }
+    let Some(turn) = next_turn(alloc, b, grove)? else {
+        told.line("fork: not tried, no leaf is live");
+        return Ok(());
+    };
+    fork_leaf(alloc, b, grove, &turn, at, told)
 }
 
 // The leaf that is next, of a grove of a program.
@@ -119,10 +117,12 @@ fn fork_leaf(
     ensures { IsGroveOf b.now grove.new }
 {
     if !is_sound(&turn.zone, VAR, at) {
-        return told.line("fork: not tried, a part has no number");
+        told.line("fork: not tried, a part has no number");
+        return Ok(());
     }
     if turn.depth >= MAX_DEPTH || grove.count() >= MOST_STEPS {
-        return told.line("fork: not tried, the tree is too deep or has too many steps");
+        told.line("fork: not tried, the tree is too deep or has too many steps");
+        return Ok(());
     }
     let proof = proof_copy(alloc, &turn.proof)?;
     let again = proof_copy(alloc, &turn.proof)?;

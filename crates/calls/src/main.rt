@@ -27,7 +27,7 @@ fn main(rt: HostRuntime) -> io::Result<()> {
     tell_linked(&rt, &mut told)?;
     tell_line(&rt, &mut told)?;
     tell_tall(&rt, &mut told)?;
-    io::writer(&rt).write_all(told.bytes())?;
+    io::writer(&rt).write_all(told.bytes()?)?;
     Ok(())
 }
 
@@ -35,7 +35,7 @@ fn main(rt: HostRuntime) -> io::Result<()> {
 fn tell_two(rt: &(impl Files + AllocGlobal), told: &mut Told) -> io::Result<()> {
     let alloc = rt.alloc();
     match blocks_in(rt, "two.lp", "two.dec")? {
-        None => told.line("two.lp: not tried, a text is refused")?,
+        None => told.line("two.lp: not tried, a text is refused"),
         Some(b) => tell_blocks(alloc, &b, told)?,
     }
     Ok(())
@@ -53,7 +53,7 @@ fn tell_blocks(alloc: Global, b: &Blocked, told: &mut Told) -> Result<(), AllocE
 fn tell_linked(rt: &(impl Files + AllocGlobal), told: &mut Told) -> io::Result<()> {
     let alloc = rt.alloc();
     match blocks_in(rt, "linked.lp", "linked.dec")? {
-        None => told.line("linked.lp: not tried, a text is refused")?,
+        None => told.line("linked.lp: not tried, a text is refused"),
         Some(b) => bound_calls::tell_linked(alloc, &b, told)?,
     }
     Ok(())
@@ -63,7 +63,7 @@ fn tell_linked(rt: &(impl Files + AllocGlobal), told: &mut Told) -> io::Result<(
 fn tell_line(rt: &(impl Files + AllocGlobal), told: &mut Told) -> io::Result<()> {
     let alloc = rt.alloc();
     match blocks_in(rt, "line.lp", "line.dec")? {
-        None => told.line("line.lp: not tried, a text is refused")?,
+        None => told.line("line.lp: not tried, a text is refused"),
         Some(b) => pool_calls::tell_all(alloc, &b, told)?,
     }
     Ok(())
@@ -73,7 +73,7 @@ fn tell_line(rt: &(impl Files + AllocGlobal), told: &mut Told) -> io::Result<()>
 fn tell_tall(rt: &(impl Files + AllocGlobal), told: &mut Told) -> io::Result<()> {
     let alloc = rt.alloc();
     match plain_blocks_in(rt, "tall.lp")? {
-        None => told.line("tall.lp: not tried, a text is refused")?,
+        None => told.line("tall.lp: not tried, a text is refused"),
         Some(b) => leaf_calls::tell_all(alloc, &b, told)?,
     }
     Ok(())

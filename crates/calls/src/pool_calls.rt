@@ -10,18 +10,24 @@ use std::alloc::{AllocError, Global};
 // How many columns a pool has room for.
 const ROOM: u32 = 65_536;
 
-/// Points of a block of one variable, added until the pool is full, and three more.
+/// Points of a block of one variable, added until the pool is full, and three more: one that it lacks, one that it has, and
+/// one outside the span.
 pub fn tell_all(alloc: Global, b: &Blocked, told: &mut Told) -> Result<(), AllocError> {
     if b.blocks() == 0 {
-        return told.line("pool: not tried, there is no block");
+        told.line("pool: not tried, there is no block");
+        return Ok(());
     }
     let block = b.block(0);
     if block.var_count() != 1 {
-        return told.line("pool: not tried, the block has not one variable");
+        told.line("pool: not tried, the block has not one variable");
+        return Ok(());
     }
     let mut pool = Pool::make(alloc, b, 0)?;
-    told.line(filled_words(is_filled(alloc, block, &mut pool)))?;
-    tell_more(alloc, block, &mut pool, told)
+    told.line(filled_words(is_filled(alloc, block, &mut pool)));
+    tell_added(alloc, block, &mut pool, 65_536, told);
+    tell_added(alloc, block, &mut pool, 5, told);
+    tell_added(alloc, block, &mut pool, 70_000, told);
+    Ok(())
 }
 
 // What became of the points from 0 on, as many as there is room for.
@@ -31,21 +37,6 @@ fn filled_words(is_filled: bool) -> &'static str {
     } else {
         "the points 0 to 65535: not all new"
     }
-}
-
-// What adding three points to a full pool answers: one that it lacks, one that it has, and one outside the span.
-fn tell_more(
-    alloc: Global,
-    block: &Block,
-    pool: &mut Pool,
-    told: &mut Told,
-) -> Result<(), AllocError>
-    requires pool { IsPoolOf block.now pool.old }
-    requires one { length block.now.block.copies ≡ 1 }
-{
-    tell_added(alloc, block, pool, 65_536, told)?;
-    tell_added(alloc, block, pool, 5, told)?;
-    tell_added(alloc, block, pool, 70_000, told)
 }
 
 // Whether the points from 0 on become the columns of their own numbers, as many as there is room for.
@@ -74,19 +65,14 @@ fn is_added(alloc: Global, block: &Block, pool: &mut Pool, number: u32) -> bool
 }
 
 // What adding a number answers.
-fn tell_added(
-    alloc: Global,
-    block: &Block,
-    pool: &mut Pool,
-    number: i64,
-    told: &mut Told,
-) -> Result<(), AllocError>
+fn tell_added(alloc: Global, block: &Block, pool: &mut Pool, number: i64, told: &mut Told)
     requires pool { IsPoolOf block.now pool.old }
     requires one { length block.now.block.copies ≡ 1 }
     ensures pool { IsPoolOf block.now pool.new }
 {
     let answer = added(alloc, block, pool, number);
-    tell_answer(number, answer, told)
+    told.number("then the point ", i128::from(number));
+    tell_answer(answer, told);
 }
 
 // Adds a number, a second time where memory was short: the pool is then as it was.
@@ -101,27 +87,17 @@ fn added(alloc: Global, block: &Block, pool: &mut Pool, number: i64) -> Result<A
     }
 }
 
-// A number and the answer to adding it.
-fn tell_answer(
-    number: i64,
-    answer: Result<Added, PoolFault>,
-    told: &mut Told,
-) -> Result<(), AllocError> {
-    told.text("then the point ")?;
-    told.number(i128::from(number))?;
+// The answer to adding a number.
+fn tell_answer(answer: Result<Added, PoolFault>, told: &mut Told) {
     match answer {
-        Ok(Added::New(id)) => tell_place(": new, the column ", id, told),
-        Ok(Added::Known(id)) => tell_place(": known, the column ", id, told),
-        Err(PoolFault::Outside(place)) => tell_place(": outside the span at place ", place, told),
-        Err(PoolFault::Row(row)) => tell_place(": doesn't meet the row ", row, told),
-        Err(PoolFault::Full) => told.line(": the pool is full"),
-        Err(PoolFault::NoMemory) => told.line(": memory is short"),
+        Ok(Added::New(id)) => told.number(": new, the column ", i128::from(id)),
+        Ok(Added::Known(id)) => told.number(": known, the column ", i128::from(id)),
+        Err(PoolFault::Outside(place)) => {
+            told.number(": outside the span at place ", i128::from(place));
+        }
+        Err(PoolFault::Row(row)) => told.number(": doesn't meet the row ", i128::from(row)),
+        Err(PoolFault::Full) => told.text(": the pool is full"),
+        Err(PoolFault::NoMemory) => told.text(": memory is short"),
     }
-}
-
-// The end of a line: some words and a number.
-fn tell_place(words: &str, place: u32, told: &mut Told) -> Result<(), AllocError> {
-    told.text(words)?;
-    told.number(i128::from(place))?;
-    told.end()
+    told.line("");
 }

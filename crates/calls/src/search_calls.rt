@@ -18,9 +18,10 @@ pub fn tell_all(alloc: Global, b: &Blocked, told: &mut Told) -> Result<(), Alloc
 // How a search ends.
 fn tell_search(alloc: Global, b: &Blocked, told: &mut Told) -> Result<(), AllocError> {
     let ended = searched(alloc, b)?;
-    told.text("search of two.lp: ")?;
-    tell_cost(&ended, told)?;
-    told.end()
+    told.text("search of two.lp: ");
+    tell_cost(&ended, told);
+    told.line("");
+    Ok(())
 }
 
 // How a search ends, begun a second time where memory was short.
@@ -40,16 +41,11 @@ fn searched_once(alloc: Global, b: &Blocked) -> Result<Outcome, AllocError> {
 // How a crew's search ends, and how many events it lists.
 fn tell_run(alloc: Global, b: &Blocked, told: &mut Told) -> Result<(), AllocError> {
     let (ended, events) = crew_run(alloc, b)?;
-    tell_ended(&ended, events.as_slice(), told)
-}
-
-// The end of a crew's search, and how many events there are.
-fn tell_ended(ended: &Outcome, events: &[Event], told: &mut Told) -> Result<(), AllocError> {
-    told.text("search of two.lp by a crew: ")?;
-    tell_cost(ended, told)?;
-    told.text(", ")?;
-    told.number(i128::from(events.len() as u64))?;
-    told.line(" events")
+    told.text("search of two.lp by a crew: ");
+    tell_cost(&ended, told);
+    told.number(", ", i128::from(events.len() as u64));
+    told.line(" events");
+    Ok(())
 }
 
 // How a crew's search ends, with its events, begun a second time where memory was short.
@@ -67,12 +63,9 @@ fn crew_run_once(alloc: Global, b: &Blocked) -> Result<(Outcome, Vec<Event>), Al
 }
 
 // The cost of an outcome's best point.
-fn tell_cost(ended: &Outcome, told: &mut Told) -> Result<(), AllocError> {
+fn tell_cost(ended: &Outcome, told: &mut Told) {
     match ended {
-        Outcome::Optimal { cost, .. } => {
-            told.text("the least cost ")?;
-            told.number(i128::from(*cost))
-        }
+        Outcome::Optimal { cost, .. } => told.number("the least cost ", i128::from(*cost)),
         _ => told.text("no best point"),
     }
 }
@@ -82,11 +75,13 @@ fn tell_take(alloc: Global, b: &Blocked, told: &mut Told) -> Result<(), AllocErr
     let from = Loaded::fresh(alloc, b)?;
     let mut crew = Crew::make(alloc, b, from, 2)?;
     take(alloc, &mut crew)?;
-    told.text("crew of two.lp once a leaf is taken: ")?;
-    told.number(i128::from(crew.events().len() as u64))?;
-    told.text(" event, ")?;
-    told.number(i128::from(crew.free()))?;
-    told.line(" free leaves")
+    told.number(
+        "crew of two.lp once a leaf is taken: ",
+        i128::from(crew.events().len() as u64),
+    );
+    told.number(" event, ", i128::from(crew.free()));
+    told.line(" free leaves");
+    Ok(())
 }
 
 // The first worker takes a leaf, where it holds none and one is free; a second time where memory was short, since the crew

@@ -19,12 +19,13 @@ const ONE: i64 = 1_048_576;
 /// Two points of the first class, each of weight one, spread over the class's blocks at the root.
 pub fn tell_all(alloc: Global, b: &Blocked, told: &mut Told) -> Result<(), AllocError> {
     let point = found_point(alloc, b)?;
-    told.text("spread of the points 2 0 and 1 0 of weight one:")?;
+    told.text("spread of the points 2 0 and 1 0 of weight one:");
     match point {
-        None => told.text(" none")?,
-        Some(point) => told.point(point.as_slice())?,
+        None => told.text(" none"),
+        Some(point) => told.point(point.as_slice()),
     }
-    told.end()
+    told.line("");
+    Ok(())
 }
 
 // The point that the two points give, where there is a class.

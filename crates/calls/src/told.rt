@@ -1,11 +1,14 @@
 // What the calls answered, line by line.
 use std::alloc::{AllocError, Global};
+use std::string::String;
 
-/// Lines of text, in the order in which they came.
+/// Lines of text, in the order in which they came. Where memory is short for a part it is left out, and the lines are none
+/// at their end.
 #[derive(Drop)]
 pub struct Told {
     alloc: Global,
     bytes: Vec<u8>,
+    is_short: bool,
 }
 
 impl Told {
@@ -14,44 +17,47 @@ impl Told {
         Told {
             alloc,
             bytes: Vec::new(alloc),
+            is_short: false,
         }
     }
 
     /// One line more, or the rest of the line that was begun.
-    pub fn line(&mut self, line: &str) -> Result<(), AllocError> {
-        self.text(line)?;
-        self.end()
-    }
-
-    /// The end of a line.
-    pub fn end(&mut self) -> Result<(), AllocError> {
-        self.bytes.push(b'\n')?;
-        Ok(())
+    pub fn line(&mut self, line: &str) {
+        self.text(line);
+        self.text("\n");
     }
 
     /// A part of a line.
-    pub fn text(&mut self, text: &str) -> Result<(), AllocError> {
-        self.bytes.extend_from_slice(text.as_bytes())?;
-        Ok(())
+    pub fn text(&mut self, text: &str) {
+        if self.bytes.extend_from_slice(text.as_bytes()).is_err() {
+            self.is_short = true;
+        }
     }
 
-    /// A number in a line.
-    pub fn number(&mut self, number: i128) -> Result<(), AllocError> {
-        let digits = format!(in self.alloc; "{number}")?;
-        self.text(digits.as_str())
+    /// A part of a line and a number behind it.
+    pub fn number(&mut self, words: &str, number: i128) {
+        self.text(words);
+        match format!(in self.alloc; "{number}") {
+            Ok(digits) => self.text(digits.as_str()),
+            Err(_) => self.is_short = true,
+        }
     }
 
     /// The numbers of a point in a line, each behind a space.
-    pub fn point(&mut self, point: &[i64]) -> Result<(), AllocError> {
+    pub fn point(&mut self, point: &[i64]) {
         for number in point {
-            self.text(" ")?;
-            self.number(i128::from(*number))?;
+            self.number(" ", i128::from(*number));
         }
-        Ok(())
     }
 
     /// The lines, each with its line feed.
-    pub fn bytes(&self) -> &[u8] {
-        &self.bytes
+    ///
+    /// # Errors
+    /// Where memory was short for one of them.
+    pub fn bytes(&self) -> Result<&[u8], AllocError> {
+        if self.is_short {
+            return Err(AllocError);
+        }
+        Ok(&self.bytes)
     }
 }
