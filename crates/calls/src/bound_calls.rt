@@ -2,8 +2,8 @@
 ghost use Rattle.std.specs.Prelude.{◌≡◌, IfOk};
 ghost use Rattle.bp_theory.specs.Bound.{Fits};
 ghost use Rattle.bp_theory.specs.Trees.{IsZone};
-ghost use Rattle.lagr_bound.specs.Forms.{forms_in};
-ghost use Rattle.lagr_bound.specs.Works.{forms_of};
+ghost use Rattle.block_forms.specs.Forms.{forms_in};
+ghost use Rattle.block_pricers.specs.Works.{forms_of};
 
 use crate::told::Told;
 use crate::zones::narrowed;

@@ -6,7 +6,7 @@ use Rattle.bp_theory.specs.Classes.{prefixes}
 use Rattle.bp_theory.specs.declared.Span.{Span}
 use Rattle.bp_theory.specs.declared.Picked.{Picked}
 use Rattle.search_laws.specs.Spread.{block_at, class_at}
-use Rattle.knap_price.specs.Taken.{IsTaken}
+use Rattle.load_table.specs.Taken.{IsTaken}
 use Rattle.cert_check.specs.Visits.{IsBlockVisits, AreBlockVisits}
 use Rattle.cert_check.specs.declared.visits.Spent.{Spent}
 use Rattle.cert_check.specs.declared.visits.Spent.TheVariants.{Within, Exceeding}

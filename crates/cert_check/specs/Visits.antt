@@ -12,7 +12,7 @@ use Rattle.bp_theory.specs.Judgement.{Line, point_line, cut_line, split_line, le
 use Rattle.bp_theory.specs.declared.Span.{Span}
 use Rattle.bp_theory.specs.declared.Picked.{Picked}
 use Rattle.search_laws.specs.Spread.{block_at}
-use Rattle.knap_price.specs.Taken.{IsTaken}
+use Rattle.load_table.specs.Taken.{IsTaken}
 
 -- a block is picked, and no lower picked block is the same in a zone
 pub record IsLowestPicked (b : Blocking) (zone : List Span) (picked : Picked) (k : ℕ) : Type 0 where

@@ -8,8 +8,8 @@ ghost use Rattle.bp_theory.specs.Judgement.{Passes, HasFault, leaf_line};
 ghost use Rattle.bp_theory.specs.declared.Span.{Span};
 ghost use Rattle.bp_theory.specs.declared.Proof as proofs;
 ghost use Rattle.cert_text.specs.Programs.{IsSmallClaim};
-ghost use Rattle.lagr_bound.specs.Forms.{forms_in};
-ghost use Rattle.lagr_bound.specs.Works.{forms_of};
+ghost use Rattle.block_forms.specs.Forms.{forms_in};
+ghost use Rattle.block_pricers.specs.Works.{forms_of};
 ghost use Rattle.cert_check.specs.Judging.{JudgesLines, LeavesOf};
 
 use crate::place::{NodePlace, Stop};

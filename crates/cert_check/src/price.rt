@@ -5,8 +5,8 @@ ghost use Rattle.bp_theory.specs.Trees.{IsZone};
 ghost use Rattle.bp_theory.specs.declared.Picked.TheVariants.{These};
 ghost use Rattle.pricing.specs.declared.Cap.TheVariants.{Never};
 ghost use Rattle.lagr_bound.specs.Bounded.{IsBounded};
-ghost use Rattle.lagr_bound.specs.Forms.{forms_in};
-ghost use Rattle.lagr_bound.specs.Works.{forms_of};
+ghost use Rattle.block_forms.specs.Forms.{forms_in};
+ghost use Rattle.block_pricers.specs.Works.{forms_of};
 ghost use Rattle.cert_check.specs.Judging.{whole_of};
 
 use block_class::Classes;

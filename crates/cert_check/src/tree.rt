@@ -5,8 +5,8 @@ ghost use Rattle.bp_theory.specs.Trees.{IsZone, IsSoundSplit, low_part};
 ghost use Rattle.bp_theory.specs.Judgement.{tree_lines};
 ghost use Rattle.cert_form.specs.Sketch.{tree_of};
 ghost use Rattle.cert_text.specs.Programs.{IsSmallClaim};
-ghost use Rattle.lagr_bound.specs.Forms.{forms_in};
-ghost use Rattle.lagr_bound.specs.Works.{forms_of};
+ghost use Rattle.block_forms.specs.Forms.{forms_in};
+ghost use Rattle.block_pricers.specs.Works.{forms_of};
 ghost use Rattle.cert_check.specs.Judging.{ProofsFit, JudgesLines};
 
 use crate::leaf::judge_leaf;

@@ -37,9 +37,9 @@ use Rattle.cert_lines.specs.declared.lines.SplitPlace.{SplitPlace}
 use Rattle.cert_text.proofs.Feeding.{joined}
 use Rattle.cert_form.proofs.LawProofs.{seen_faults_stay}
 use Rattle.cert_stream.specs.Turns.{Turn, to_low, to_high, turns_behind, root_behind, wait_of}
-use Rattle.lagr_bound.specs.Forms.{forms_in}
-use Rattle.lagr_bound.specs.Works.{forms_of}
-use Rattle.lagr_bound.specs.declared.work.Work.{Work}
+use Rattle.block_forms.specs.Forms.{forms_in}
+use Rattle.block_pricers.specs.Works.{forms_of}
+use Rattle.block_pricers.specs.declared.work.Work.{Work}
 use Rattle.round_cut.specs.Several.{AreRowsOfCuts}
 use Rattle.round_sums.specs.Cutting.{IsCutOver}
 use Rattle.round_cut.proofs.SeveralLemmas.{no_rows, one_row_more}

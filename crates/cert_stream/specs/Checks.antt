@@ -12,9 +12,9 @@ use Rattle.cert_text.specs.Programs.{frame_for, GoesWith}
 use Rattle.cert_lines.specs.Standing.{StandsFor}
 use Rattle.cert_lines.specs.Telling.{Phase, ahead, cutting, within, past, phase_of, IsShallow}
 use Rattle.cert_form.specs.Written.{written_cut, written_tree, cert_of, certificate}
-use Rattle.lagr_bound.specs.Forms.{forms_in}
-use Rattle.lagr_bound.specs.Works.{forms_of}
-use Rattle.lagr_bound.specs.declared.work.Work.{Work}
+use Rattle.block_forms.specs.Forms.{forms_in}
+use Rattle.block_pricers.specs.Works.{forms_of}
+use Rattle.block_pricers.specs.declared.work.Work.{Work}
 use Rattle.cert_check.specs.Cutting.{blocking_over}
 use Rattle.cert_check.specs.Judging.{IsJudgedWithin, IsTrueIfAccepted}
 use Rattle.cert_check.specs.declared.judge.Judged.{Judged}

@@ -26,9 +26,9 @@ use Rattle.bp_theory.proofs.DecompositionProof.{first_takes, copies_at, copies_p
 use Rattle.bp_theory.proofs.CutProof.{cuts_are_met_lem}
 use Rattle.block_form.specs.Blocked.{BlockedProgram, IsFormed}
 use Rattle.search_laws.specs.Verdicts.{every_block}
-use Rattle.lagr_bound.specs.Sizes.{block_size}
+use Rattle.proof_costs.specs.Sizes.{block_size}
 use Rattle.lagr_bound.proofs.PartLemmas.{part_within}
-use Rattle.lagr_bound.proofs.Sums.{sum_by-flat_map, copies_within, cost_size-maps}
+use Rattle.proof_costs.proofs.Sums.{sum_by-flat_map, copies_within, cost_size-maps}
 
 -- ---- what the copies cost together
 

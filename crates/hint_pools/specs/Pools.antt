@@ -1,8 +1,8 @@
 -- What a search keeps from leaf to leaf, and which program it is made for.
 use Rattle.std.specs.Prelude.{◌≡◌, All}
 use Rattle.block_form.specs.Blocked.{BlockedProgram}
-use Rattle.lagr_bound.specs.Forms.{forms_in}
-use Rattle.lagr_bound.specs.Works.{forms_of}
+use Rattle.block_forms.specs.Forms.{forms_in}
+use Rattle.block_pricers.specs.Works.{forms_of}
 use Rattle.col_store.specs.Stores.{IsStoreOf}
 use Rattle.hint_pools.specs.declared.pools.Pools.{Pools}
 

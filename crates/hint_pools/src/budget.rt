@@ -54,8 +54,8 @@ impl PricingBudget {
     ghost use Rattle.hint_pools.specs.Wide.{IsWide};
     ghost use Rattle.bp_theory.specs.Trees.{IsZone};
     ghost use Rattle.block_class.specs.Classes.{AreSameClasses};
-    ghost use Rattle.lagr_bound.specs.Forms.{forms_in};
-    ghost use Rattle.lagr_bound.specs.Works.{forms_of};
+    ghost use Rattle.block_forms.specs.Forms.{forms_in};
+    ghost use Rattle.block_pricers.specs.Works.{forms_of};
 
     /// The pricers of a program's blocks, where hints price all.
     pub fn make(alloc: Global, b: &Blocked) -> Result<PricingBudget, AllocError>

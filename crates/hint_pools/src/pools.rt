@@ -1,7 +1,7 @@
 // What a search keeps from leaf to leaf: the pricers, and the points that they gave, as columns.
 ghost use Rattle.std.specs.Prelude.{◌≡◌, ◌<◌, IfOk, All, length};
-ghost use Rattle.lagr_bound.specs.Forms.{forms_in};
-ghost use Rattle.lagr_bound.specs.Works.{forms_of};
+ghost use Rattle.block_forms.specs.Forms.{forms_in};
+ghost use Rattle.block_pricers.specs.Works.{forms_of};
 ghost use Rattle.col_store.specs.Stores.{IsStoreOf};
 ghost use Rattle.hint_pools.specs.Pools.{AreMadeFor};
 

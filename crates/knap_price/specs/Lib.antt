@@ -1,9 +1,2 @@
--- Other crates cite Taken, Rooms and Kept. The rest are words of contracts here alone.
-pub mod Loads
-pub mod Tables
-pub mod Taken
-pub mod Choices
-pub mod Rooms
+-- Other crates cite Kept.
 pub mod Kept
-pub mod Parts
-pub mod Narrowed

@@ -1,14 +1,10 @@
 // The pricer by a table.
-ghost use Rattle.knap_price.specs.Rooms.{HasRoom, cells_of, count_of};
+ghost use Rattle.load_table.specs.Rooms.{HasRoom, cells_of, count_of};
 ghost use Rattle.std.specs.Prelude.{◌≡◌, ◌≤◌, length, vec_len};
 
-use crate::cells::Cells;
-use crate::coefs::is_taken;
-use crate::form::{Form, Table};
-use crate::items::Item;
-use crate::price::price_zone;
 use block_form::Block;
 use bp_theory::Span;
+use load_table::{Cells, Form, Table, is_taken, price_zone};
 use pricing::{Cap, Priced, Pricer, copied_spans};
 use std::alloc::{AllocError, Global};
 
@@ -28,8 +24,8 @@ impl KnapPlan {
     ghost use Rattle.pricing.specs.Priced.{IsPriced};
     ghost use Rattle.pricing.specs.declared.Cap.TheVariants.{Never};
     ghost use Rattle.knap_price.specs.Kept.{plan_rows, plan_spans, plan_point};
-    ghost use Rattle.knap_price.specs.Rooms.{cells_of, count_of};
-    ghost use Rattle.knap_price.specs.Taken.{IsTaken};
+    ghost use Rattle.load_table.specs.Rooms.{cells_of, count_of};
+    ghost use Rattle.load_table.specs.Taken.{IsTaken};
 
     /// The plan of a block that a table takes.
     pub fn make(alloc: Global, block: &Block) -> Result<KnapPlan, AllocError>
@@ -38,16 +34,9 @@ impl KnapPlan {
         ensures { IfOk result (λ plan. AreOf block.now (plan_rows plan) (plan_spans plan)) }
     {
         let spans = block.spans();
-        let form = Form::make(alloc, block.rows(), spans)?;
-        let none = Item {
-            weight: 0,
-            width: 0,
-            cost: 0,
-        };
-        let items = Vec::from_elem(alloc, none, spans.len())?;
-        let point = Vec::from_elem(alloc, 0, spans.len())?;
+        let table = Table::make(alloc, spans.len())?;
         let part = copied_spans(alloc, spans)?;
-        let table = Table { items, point };
+        let form = Form::make(alloc, block.rows(), spans)?;
         Ok(KnapPlan { form, table, part })
     }
 
@@ -109,7 +98,7 @@ impl KnapPricer {
     ghost use Rattle.std.specs.Prelude.{◌↔◌, IsTrue, IfOk};
     ghost use Rattle.pricing.specs.Form.{IsForm, AreOf};
     ghost use Rattle.knap_price.specs.Kept.{rows_of, spans_of};
-    ghost use Rattle.knap_price.specs.Taken.{IsTaken};
+    ghost use Rattle.load_table.specs.Taken.{IsTaken};
 
     /// Whether a table takes a block: exactly where the block has one row, and one more than its variables times one
     /// more than the row's reach is at most 1,048,576. The reach is the sum of each coefficient's magnitude times how

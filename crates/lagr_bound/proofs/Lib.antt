@@ -1,10 +1,2 @@
-pub mod MultLemmas
-pub mod Sums
-pub mod Magnitude
-pub mod Steps
-pub mod PickedLemmas
 pub mod PartLemmas
 pub mod SharedLemmas
-pub mod DeskLemmas
-pub mod GraphLemmas
-pub mod SeatLemmas

@@ -29,14 +29,12 @@ use Rattle.pricing.specs.declared.Cap.TheVariants.{Never}
 use Rattle.pricing.specs.declared.Priced.{Priced}
 use Rattle.pricing.specs.declared.Priced.TheVariants.{Least, Nothing, Cut}
 use Rattle.pricing.proofs.EndLaws.{number-le_reach, product-within}
-use Rattle.lagr_bound.specs.Sizes.{reduced_costs, block_least, block_size, base_size, bound_size}
+use Rattle.proof_costs.specs.Sizes.{reduced_costs, block_least, block_size, base_size, bound_size}
 use Rattle.lagr_bound.specs.Bounded.{IsPartAnswer, IsBounded, IsBestPoint}
 use Rattle.lagr_bound.specs.declared.bounded.Bounded.{Bounded}
 use Rattle.lagr_bound.specs.declared.bounded.Bounded.TheVariants as bounds
-use Rattle.lagr_bound.proofs.Steps.{base_within}
-
-abbrev pub no_block : Block
-no_block = record { copies = []; rows = [] }
+use Rattle.proof_costs.proofs.Steps.{base_within}
+use Rattle.proof_costs.proofs.FillLemmas.{no_block}
 
 -- ---- the size of a part
 

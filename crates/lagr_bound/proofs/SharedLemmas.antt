@@ -1,21 +1,14 @@
 -- Classes of blocks that are priced once.
-use Rattle.std.proofs.Common.{◌≡◌, ◌≢◌, refl, sym, ap, subst, ◌∙◌, ℕ, ◌+◌, ◌<◌, true, List, map, length, get_or, set, Option, Some, None, ⊎_elim, arith}
+use Rattle.std.proofs.Common.{◌≡◌, ◌≢◌, refl, sym, ap, subst, ◌∙◌, ℕ, ◌+◌, ◌<◌, true, List, length, get_or, set, Option, Some, None, ⊎_elim, arith}
 use Rattle.std.proofs.Math.IntN.{ℤ}
 use Rattle.std.proofs.lemmas.Bool.{cases_lt, cases_eq}
-use Rattle.std.proofs.lemmas.List.{get_or-set_same, get_or-set_other, length-map}
+use Rattle.std.proofs.lemmas.List.{get_or-set_same, get_or-set_other}
 use Rattle.bp_theory.specs.Blocking.{Blocking}
 use Rattle.bp_theory.specs.Bound.{is_picked, IsPart}
 use Rattle.bp_theory.specs.Classes.{IsSame}
 use Rattle.bp_theory.specs.declared.Span.{Span}
 use Rattle.bp_theory.specs.declared.Proof.{Proof}
 use Rattle.bp_theory.proofs.ClassProof.{same_price_lem}
-use Rattle.block_form.specs.Blocked.{BlockedProgram}
-use Rattle.lagr_bound.specs.Desks.{form_of}
-use Rattle.lagr_bound.specs.Told.{told_point, room_of}
-use Rattle.lagr_bound.specs.Forms.{form_at, forms_in, span_count}
-use Rattle.lagr_bound.proofs.DeskLemmas.{seats_many}
-use Rattle.lagr_bound.specs.Works.{forms_of}
-use Rattle.lagr_bound.specs.declared.work.Work.{Work}
 use Rattle.search_laws.specs.Spread.{block_at, class_at}
 use Rattle.block_class.specs.Classes.{Grouping, AreSameClasses}
 use Rattle.lagr_bound.specs.Bounded.{IsLowest, IsBestPoint, IsTold, AreTold, IsKnown, AreKnown, IfLeast}
@@ -48,25 +41,6 @@ if_not_least Cut P h = tt
 pub none_is : {X : Type 0} (o : Option X) → ((x : X) → o ≡ Some x → ⊥) → o ≡ None
 none_is None h = refl
 none_is (Some x) h = absurd (h x refl)
-
--- there is room for what is known of each block
-pub known_wide : (b : BlockedProgram) (work : Work) → forms_of work ≡ forms_in b → length work.known.items ≡ length b.blocking.blocks
-known_wide b work e =
-    omega (arith, seats_many b work.desks.items work.seats.items e, work.room, work.known.ok.0, work.seats.ok.0)
-
--- there is room for what is told of each block
-pub told_wide : (b : BlockedProgram) (work : Work) → forms_of work ≡ forms_in b → length (map told_point work.told.items) ≡ length b.blocking.blocks
-told_wide b work e =
-    let many : length (map room_of work.told.items) ≡ length (map span_count (forms_of work)) = ap (λ (ns : List ℕ). length ns) work.points in
-    omega (
-      arith,
-      many,
-      length-map (forms_of work) span_count,
-      length-map work.seats.items (form_at (map form_of work.desks.items)),
-      length-map work.told.items room_of,
-      length-map work.told.items told_point,
-      seats_many b work.desks.items work.seats.items e,
-    )
 
 -- the class of the first block of a class, and first blocks are there
 pub first_there : (b : Blocking) (zone : List Span) (g : Grouping) (c : ℕ) → AreSameClasses zone b g → c < length g.firsts → class_at g.firsts c < length b.blocks

@@ -11,7 +11,7 @@ use Rattle.pricing.specs.Priced.{IsExceeded, HasNoPoint}
 use Rattle.pricing.specs.declared.Cap.{Cap}
 use Rattle.pricing.specs.declared.Priced.{Priced}
 use Rattle.pricing.specs.declared.Priced.TheVariants.{Least, Nothing, Cut}
-use Rattle.lagr_bound.specs.Sizes.{reduced_costs}
+use Rattle.proof_costs.specs.Sizes.{reduced_costs}
 use Rattle.lagr_bound.specs.declared.bounded.Bounded.{Bounded}
 use Rattle.lagr_bound.specs.declared.bounded.Bounded.TheVariants as bounds
 

@@ -5,20 +5,19 @@ ghost use Rattle.bp_theory.specs.Bound.{Fits, IsEndless};
 ghost use Rattle.bp_theory.specs.Trees.{IsZone};
 ghost use Rattle.block_class.specs.Classes.{AreSameClasses};
 ghost use Rattle.pricing.specs.declared.Cap.TheVariants.{Never};
-ghost use Rattle.lagr_bound.specs.Told.{told_point};
-ghost use Rattle.lagr_bound.specs.Forms.{forms_in};
-ghost use Rattle.lagr_bound.specs.Works.{forms_of, point_at, IsSilent};
+ghost use Rattle.block_forms.specs.Told.{told_point};
+ghost use Rattle.block_forms.specs.Forms.{forms_in};
+ghost use Rattle.block_pricers.specs.Works.{forms_of, point_at, IsSilent};
 ghost use Rattle.lagr_bound.specs.Bounded.{IsBounded, IfWhole, IsPartAnswer, TellsPoints, AreTold, AreKnown, IfLeast};
 
 use crate::bounded::Bounded;
-use crate::costs::base;
 use crate::parts::box_part;
-use crate::picked::is_picked;
-use crate::work::Work;
 use block_class::Classes;
 use block_form::{Blocked, Zone};
+use block_pricers::Work;
 use bp_theory::Proof;
 use pricing::{Cap, Priced, plus};
+use proof_costs::{base, is_picked};
 
 /// The weak Lagrangian bound of a proof in a zone with the zone's classes, whose picked blocks are priced once a class:
 /// the lowest picked block, since blocks that are the same in the zone have the same least. It is the sum over all

@@ -4,16 +4,16 @@ ghost use Rattle.bp_theory.specs.Limits.{price_limit};
 ghost use Rattle.bp_theory.specs.Bound.{Fits, IsEndless};
 ghost use Rattle.bp_theory.specs.Trees.{IsZone};
 ghost use Rattle.pricing.specs.declared.Cap.TheVariants.{Never};
-ghost use Rattle.lagr_bound.specs.Forms.{forms_in};
-ghost use Rattle.lagr_bound.specs.Works.{forms_of, IsSilent};
+ghost use Rattle.block_forms.specs.Forms.{forms_in};
+ghost use Rattle.block_pricers.specs.Works.{forms_of, IsSilent};
 ghost use Rattle.lagr_bound.specs.Bounded.{IsBounded, IfWhole};
 
-use crate::costs::base;
 use crate::parts::part;
-use crate::work::Work;
 use block_form::{Blocked, Zone};
+use block_pricers::Work;
 use bp_theory::Proof;
 use pricing::{Cap, Priced, plus};
+use proof_costs::base;
 
 /// The weak Lagrangian bound of a proof in a zone, as far as it was priced.
 #[derive(Clone, Copy, Debug, PartialEq, Eq)]

@@ -1,4 +1,4 @@
-use Rattle.lagr_bound.proofs.DeskLemmas.{has_form}
+use Rattle.block_forms.proofs.FormLemmas.{has_form}
 use Rattle.cert_check.proofs.Counting.{copies_there}
 use Rattle.cert_check.proofs.visits.searched.Goals as goal
 

@@ -1,5 +1,5 @@
 use Rattle.std.proofs.Common.{◌≡◌, ◌≤◌}
-use Rattle.lagr_bound.specs.Works.{forms_of, IsSilent}
+use Rattle.block_pricers.specs.Works.{forms_of, IsSilent}
 use Rattle.lagr_bound.proofs.PartLemmas.{HasParts}
 use Rattle.lagr_bound.proofs.bounded.sum_bound.Given as goal
 

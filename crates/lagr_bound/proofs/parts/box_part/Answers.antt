@@ -4,9 +4,10 @@ use Rattle.std.specs.Int.{w128}
 use Rattle.std.proofs.lemmas.Int.{ints}
 use Rattle.bp_theory.specs.Bound.{IsPart}
 use Rattle.search_laws.specs.Spread.{block_at}
-use Rattle.lagr_bound.specs.Sizes.{IsSmallBlock, block_least}
-use Rattle.lagr_bound.proofs.Magnitude.{blocks_small, proof_small}
-use Rattle.lagr_bound.proofs.PartLemmas.{no_block, box_is_part}
+use Rattle.proof_costs.specs.Sizes.{IsSmallBlock, block_least}
+use Rattle.proof_costs.proofs.Magnitude.{blocks_small, proof_small}
+use Rattle.proof_costs.proofs.FillLemmas.{no_block}
+use Rattle.lagr_bound.proofs.PartLemmas.{box_is_part}
 use Rattle.lagr_bound.proofs.parts.box_part.Goals as goal
 
 pub box_least-requires-clause-block : goal.box_least-requires-clause-block

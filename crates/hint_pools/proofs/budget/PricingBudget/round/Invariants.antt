@@ -1,5 +1,5 @@
 use Rattle.std.proofs.Common.{◌≡◌}
-use Rattle.lagr_bound.specs.Works.{forms_of}
+use Rattle.block_pricers.specs.Works.{forms_of}
 use Rattle.hint_pools.proofs.budget.PricingBudget.round.Given as goal
 
 abbrev pub invariant-loop : goal.invariant-loop

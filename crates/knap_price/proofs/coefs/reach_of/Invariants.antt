@@ -1,6 +1,0 @@
-use Rattle.std.proofs.Common.{◌≡◌, take}
-use Rattle.knap_price.specs.Taken.{row_reach}
-use Rattle.knap_price.proofs.coefs.reach_of.Given as goal
-
-abbrev pub invariant-loop-term : goal.invariant-loop-term
-invariant-loop-term l = l.sum ≡ row_reach l.spans (take l.term-index l.terms)

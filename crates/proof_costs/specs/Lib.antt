@@ -1,0 +1,2 @@
+-- Other crates cite Sizes.
+pub mod Sizes
