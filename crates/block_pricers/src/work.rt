@@ -25,8 +25,10 @@ use std::alloc::{AllocError, Global};
 pub struct Work {
     pub(crate) desks: Vec<Desk>,
     pub(crate) seats: Vec<usize>,
-    pub(crate) told: Vec<Told>,
-    pub(crate) known: Vec<Option<i128>>,
+    /// What is told of each block.
+    pub told: Vec<Told>,
+    /// What is known of each class of blocks, at its first block.
+    pub known: Vec<Option<i128>>,
     pub(crate) cells: Cells,
     ghost there: { All (λ seat. seat < vec_len desks) seats.items },
     ghost points: { map room_of told.items ≡ map span_count (map (form_at (map form_of desks.items)) seats.items) },
