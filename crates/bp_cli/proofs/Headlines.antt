@@ -7,7 +7,7 @@ use Rattle.word_orders.specs.Orders.{IsOrderOf}
 use Rattle.word_orders.specs.declared.order.Order.{Order}
 use Rattle.word_orders.specs.declared.order.SolveOrder.{SolveOrder}
 use Rattle.word_orders.specs.declared.order.Order.TheVariants.{Solve, Check, Show, Gen, Demo, Detect, Propose, Merge, Migrate}
-use Rattle.bp_report.specs.Report.{accepted_report}
+use Rattle.cert_report.specs.Certificates.{accepted_report}
 use Rattle.bp_front.specs.Answers.{AnswersBy, FilesStand, IsStatus}
 use Rattle.cmd_check.specs.Checks.{AnswersCheck}
 use Rattle.cmd_solve.specs.Solves.{AnswersSolve}

@@ -31,7 +31,8 @@ use Rattle.branch_tree.specs.declared.outcome.Outcome.{Outcome}
 use Rattle.branch_tree.specs.declared.outcome.Outcome.TheVariants.{Optimal, Infeasible, Budget}
 use Rattle.bp_search.specs.Ends.{EndsWithin, given_steps, last_step}
 use Rattle.bp_search.specs.Below.{steps_in}
-use Rattle.bp_report.specs.Report.{solve_report, accepted_report}
+use Rattle.bp_report.specs.Report.{solve_report}
+use Rattle.cert_report.specs.Certificates.{accepted_report}
 use Rattle.bp_front.specs.Front.{Front, blocked, ends, BlocksCome, formed, refused, DecComes, plain, missing, faulty, read, FilesCome, missing_lp, faulty_lp, read_lp}
 use Rattle.bp_front.specs.Answers.{AnswersBy, stopped, went_on, IsStatus}
 use Rattle.bp_front.proofs.OneFront.{one_front, plain_front}

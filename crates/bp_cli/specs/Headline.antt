@@ -15,7 +15,9 @@ use Rattle.branch_tree.specs.declared.outcome.Outcome.TheVariants.{Budget}
 use Rattle.bp_search.specs.Ends.{given_steps}
 use Rattle.word_orders.specs.declared.order.Order.{Order}
 use Rattle.word_orders.specs.declared.order.Order.TheVariants.{Solve, Check, Show, Gen, Demo, Detect, Propose, Merge, Migrate}
-use Rattle.bp_report.specs.Report.{count_line, value_line, variable_lines, known_line, known_lines, accepted_report}
+use Rattle.report_lines.specs.Lines.{count_line, value_line}
+use Rattle.search_lines.specs.Searches.{variable_lines, known_line, known_lines}
+use Rattle.cert_report.specs.Certificates.{accepted_report}
 
 -- A report of `solve` is true of a program: `optimal V`, and behind it a point that meets every row and bound, that has the
 -- value V, and that no such point betters; or `infeasible`, and no point meets every row and bound; or `budget N` with so many steps, a

@@ -1,4 +1,1 @@
-pub mod PointLines
-pub mod Pieces
-pub mod LinkRows
-pub mod BlockRows
+pub mod Proposed

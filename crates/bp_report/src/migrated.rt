@@ -2,7 +2,7 @@
 ghost use Rattle.std.specs.Prelude.{◌≡◌, IfOk};
 ghost use Rattle.bp_report.specs.Report.{migrated_report};
 
-use crate::lines::push_count_line;
+use report_lines::push_count_line;
 use std::alloc::{AllocError, Global};
 
 /// The report on a certificate of so many nodes that was written anew.

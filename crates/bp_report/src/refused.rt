@@ -1,15 +1,17 @@
 // The reports on words and texts that are refused.
 ghost use Rattle.std.specs.Prelude.{◌≡◌, ◌++◌, IfOk, OnOk};
 ghost use Rattle.std.specs.Option.{option_map};
-ghost use Rattle.bp_report.specs.Refusals.{words_refusal, lp_kind_name, lp_refusal, dec_kind_name, dec_refusal, cert_kind_name, cert_refusal, from_refusal, merge_refusal, leaf_refusal, rows_kind_name, rows_refusal, links_refusal, var_place_line, blocks_refusal, HasNamed, CanName, refusal_report};
+ghost use Rattle.bp_report.specs.Refusals.{words_refusal, lp_refusal, dec_refusal, cert_refusal, from_refusal, merge_refusal, leaf_refusal, rows_refusal, links_refusal, var_place_line, blocks_refusal, HasNamed, CanName, refusal_report};
 
-use crate::lines::{fault_text, push_count_line};
 use block_form::BlockFault;
 use bp_model::Model;
-use cert_text::{CertFault, CertKind};
+use cert_form::{CertFault, CertKind};
 use dec_read::{DecFault, DecKind};
 use dec_words::{RowsFault, RowsKind};
 use lp_token::{LpFault, LpKind};
+use report_lines::{
+    cert_kind_name, dec_kind_name, fault_text, lp_kind_name, push_count_line, rows_kind_name,
+};
 use std::alloc::{AllocError, Global};
 
 /// What is refused, and why.
@@ -139,70 +141,4 @@ fn var_place_text(alloc: Global, var: &str) -> Result<Vec<u8>, AllocError>
     text.extend_from_slice(var.as_bytes())?;
     text.extend_from_slice(b"\n")?;
     Ok(text)
-}
-
-// A kind of fault of an LP text as reports name it.
-fn lp_kind_name(kind: LpKind) -> &'static [u8]
-    ensures { result.now ≡ lp_kind_name kind }
-{
-    match kind {
-        LpKind::BadByte => b"bad-byte",
-        LpKind::NotWhole => b"not-whole",
-        LpKind::TooLarge => b"too-large",
-        LpKind::Syntax => b"syntax",
-        LpKind::Feature => b"feature",
-        LpKind::LongName => b"long-name",
-        LpKind::RowTwice => b"row-twice",
-        LpKind::NoEnd => b"no-end",
-        LpKind::Unbounded => b"unbounded",
-        LpKind::Continuous => b"continuous",
-        LpKind::Crossed => b"crossed",
-        LpKind::Activity => b"activity",
-        LpKind::Limit => b"limit",
-    }
-}
-
-// A kind of fault of the text of a decomposition.
-fn dec_kind_name(kind: DecKind) -> &'static [u8]
-    ensures { result.now ≡ dec_kind_name kind }
-{
-    match kind {
-        DecKind::BadByte => b"bad-byte",
-        DecKind::Syntax => b"syntax",
-        DecKind::Presolved => b"presolved",
-        DecKind::NoNblocks => b"no-nblocks",
-        DecKind::BlockNumber => b"block-number",
-        DecKind::UnknownRow => b"unknown-row",
-        DecKind::RowTwice => b"row-twice",
-        DecKind::Unassigned => b"unassigned",
-        DecKind::UnknownVar => b"unknown-var",
-        DecKind::Limit => b"limit",
-    }
-}
-
-// A kind of fault of a list of master rows.
-fn rows_kind_name(kind: RowsKind) -> &'static [u8]
-    ensures { result.now ≡ rows_kind_name kind }
-{
-    match kind {
-        RowsKind::BadByte => b"bad-byte",
-        RowsKind::UnknownRow => b"unknown-row",
-        RowsKind::RowTwice => b"row-twice",
-        RowsKind::Blocks => b"blocks",
-        RowsKind::Limit => b"limit",
-    }
-}
-
-// A kind of fault of the text of a certificate.
-fn cert_kind_name(kind: CertKind) -> &'static [u8]
-    ensures { result.now ≡ cert_kind_name kind }
-{
-    match kind {
-        CertKind::Syntax => b"syntax",
-        CertKind::TooLarge => b"too-large",
-        CertKind::Number => b"number",
-        CertKind::Length => b"length",
-        CertKind::Depth => b"depth",
-        CertKind::Limit => b"limit",
-    }
 }

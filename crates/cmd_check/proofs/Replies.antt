@@ -15,7 +15,7 @@ use Rattle.cert_check.specs.Visits.{IsFirstUnpriced}
 use Rattle.cert_check.specs.declared.judge.Judged.{Judged}
 use Rattle.cert_check.specs.declared.judge.Judged.TheVariants.{Accepted, Rejected, Unknown}
 use Rattle.cert_stream.specs.declared.checker.Checker.{Checker}
-use Rattle.bp_report.specs.Report.{accepted_report}
+use Rattle.cert_report.specs.Certificates.{accepted_report}
 use Rattle.bp_report.specs.Refusals.{cert_refusal}
 use Rattle.bp_front.specs.declared.ending.Reply.{Reply}
 use Rattle.cmd_check.specs.Checks.{ChecksBlocked, IsUnknownAt, faulty, accepted, rejected, unknown, known}

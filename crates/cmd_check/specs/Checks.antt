@@ -10,7 +10,7 @@ use Rattle.cert_form.specs.Fault as texts
 use Rattle.cert_form.specs.Written.{cert_of}
 use Rattle.cert_text.specs.Programs.{frame_for}
 use Rattle.cert_form.specs.declared.fault.CertKind.{CertKind}
-use Rattle.bp_report.specs.Report.{accepted_report, rejected_report, unknown_report}
+use Rattle.cert_report.specs.Certificates.{accepted_report, rejected_report, unknown_report}
 use Rattle.bp_report.specs.Refusals.{cert_refusal}
 use Rattle.bp_front.specs.Answers.{AnswersFront}
 use Rattle.cert_check.specs.Visits.{IsFirstUnpriced}

@@ -6,7 +6,7 @@ use Rattle.cert_check.specs.declared.judge.Judged.{Judged}
 use Rattle.cert_check.specs.declared.judge.Judged.TheVariants.{Accepted, Rejected, Unknown}
 use Rattle.cert_stream.specs.Checks.{ChecksFor}
 use Rattle.cert_stream.specs.declared.checker.Checker.{Checker}
-use Rattle.bp_report.specs.Report.{check_report}
+use Rattle.cert_report.specs.Certificates.{check_report}
 use Rattle.bp_front.specs.declared.ending.Reply.{Reply}
 use Rattle.cmd_check.specs.Checks.{ChecksVisiting}
 

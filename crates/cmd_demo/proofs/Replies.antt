@@ -7,7 +7,7 @@ use Rattle.branch_tree.specs.declared.outcome.Outcome.{Outcome}
 use Rattle.bp_search.specs.Ends.{IsOutcome}
 use Rattle.cert_check.specs.Judging.{IsJudged}
 use Rattle.cert_check.specs.declared.judge.Judged.{Judged}
-use Rattle.bp_report.specs.Report.{demo_report}
+use Rattle.cert_report.specs.Certificates.{demo_report}
 use Rattle.bp_front.specs.Front.{ends}
 use Rattle.bp_front.specs.Answers.{AnswersBy, IsOnly, CutsOff, stopped, went_on}
 use Rattle.bp_front.specs.declared.ending.Reply.{Reply}

@@ -9,7 +9,7 @@ use Rattle.branch_tree.specs.declared.outcome.Outcome.{Outcome}
 use Rattle.bp_search.specs.Ends.{IsOutcome}
 use Rattle.bp_gen.specs.Generator.{lp_text, dec_text}
 use Rattle.cert_check.specs.declared.judge.Judged.TheVariants.{Accepted}
-use Rattle.bp_report.specs.Report.{demo_report}
+use Rattle.cert_report.specs.Certificates.{demo_report}
 use Rattle.bp_front.specs.Front.{Front, FilesCome, blocked, ends}
 use Rattle.bp_front.specs.Answers.{AnswersFront}
 use Rattle.bp_front.specs.declared.ending.Reply.{Reply}

@@ -13,7 +13,7 @@ ghost use Rattle.cmd_demo.specs.Demos.{AnswersDemo, IsSummary, IsDemo, DemoHalts
 use block_form::Blocked;
 use bp_front::{Ended, Halt, Reply, blocks_of, print, stopped};
 use bp_gen::{make_dec, make_lp};
-use bp_report::{DEMO_STEPS, demo_text};
+use cert_report::{DEMO_STEPS, demo_text};
 use bp_search::search;
 use bp_shelf::Sink;
 use branch_tree::Outcome;

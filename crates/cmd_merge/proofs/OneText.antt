@@ -13,7 +13,7 @@ use Rattle.cert_form.specs.Fault.{IsCertText}
 use Rattle.cert_form.specs.Written.{cert_of}
 use Rattle.cert_text.specs.Programs.{frame_for}
 use Rattle.cert_form.proofs.LawProofs.{certificates_are_one}
-use Rattle.bp_report.specs.Report.{accepted_report, rejected_report}
+use Rattle.cert_report.specs.Certificates.{accepted_report, rejected_report}
 use Rattle.bp_report.specs.Refusals.{cert_refusal}
 use Rattle.cmd_check.specs.Checks as checks
 use Rattle.cmd_check.proofs.OneAnswer.{one_check}

@@ -17,7 +17,7 @@ use Rattle.bp_theory.specs.declared.Claim.{Claim}
 use Rattle.cert_check.specs.Judging.{IsJudged}
 use Rattle.cert_check.specs.declared.judge.Judged.{Judged}
 use Rattle.cert_check.specs.declared.judge.Judged.TheVariants.{Accepted, Rejected, Unknown}
-use Rattle.bp_report.specs.Report.{check_report}
+use Rattle.cert_report.specs.Certificates.{check_report}
 use Rattle.bp_report.specs.Refusals.{from_refusal}
 use Rattle.cmd_check.proofs.Certificates.{kept_point}
 use Rattle.cmd_merge.specs.Opens.{IsOpenedText, IsOpenedFile, IsLoadedOver, CanJoin, RefusesText, rejected, too_deep, RefusesFile, missing, refused}

@@ -20,7 +20,7 @@ use Rattle.cert_form.specs.Plain.{version_with}
 use Rattle.cert_form.specs.Fault.{IsText}
 use Rattle.cert_form.specs.Written.{cert_of}
 use Rattle.cert_text.specs.Programs.{frame_for}
-use Rattle.bp_report.specs.Report.{merged_report}
+use Rattle.cert_report.specs.Certificates.{merged_report}
 use Rattle.cmd_solve.specs.Solves.{outcome_certificate}
 use Rattle.cmd_solve.proofs.Outcomes.{outcome_certified}
 use Rattle.cmd_merge.specs.Opens.{IsOpened}

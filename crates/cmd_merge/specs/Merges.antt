@@ -14,7 +14,7 @@ use Rattle.branch_tree.specs.declared.outcome.Outcome.{Outcome}
 use Rattle.tree_merge.specs.Merges.{IsMergedOf}
 use Rattle.bp_search.specs.Ends.{EndsWithin, grove_in}
 use Rattle.cert_text.specs.Outcomes.{claim_of}
-use Rattle.bp_report.specs.Report.{merged_report}
+use Rattle.cert_report.specs.Certificates.{merged_report}
 use Rattle.bp_front.specs.Front.{FilesCome, blocked, ends}
 use Rattle.bp_front.specs.Written.{Answer, stops, Answered}
 use Rattle.cmd_solve.specs.Solves.{IsSpelledOut}

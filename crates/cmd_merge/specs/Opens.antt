@@ -16,7 +16,7 @@ use Rattle.cert_form.specs.declared.fault.CertKind.{CertKind}
 use Rattle.cert_load.specs.Loadings.{IsLoadedOf, IsTooDeep}
 use Rattle.cert_load.specs.Recut.{with_cuts}
 use Rattle.cmd_merge.specs.declared.opening.Opened.{Opened}
-use Rattle.bp_report.specs.Report.{rejected_report}
+use Rattle.cert_report.specs.Certificates.{rejected_report}
 use Rattle.bp_report.specs.Refusals.{cert_refusal, from_refusal}
 use Rattle.bp_front.specs.Written.{Answer, stops}
 

@@ -25,7 +25,7 @@ use Rattle.cert_check.specs.declared.judge.Judged.TheVariants.{Accepted, Rejecte
 use Rattle.bp_theory.specs.declared.Claim.{Claim}
 use Rattle.std.proofs.lemmas.List.{take_all}
 use Rattle.cert_form.proofs.LawProofs.{certificates_are_one}
-use Rattle.bp_report.specs.Report.{accepted_report, rejected_report, check_report}
+use Rattle.cert_report.specs.Certificates.{accepted_report, rejected_report, check_report}
 use Rattle.bp_report.specs.Refusals.{cert_refusal, from_refusal, leaf_refusal}
 use Rattle.bp_front.specs.Answers.{AnswersBy, IsOnly, CutsOff}
 use Rattle.bp_front.specs.Endings.{status_of}

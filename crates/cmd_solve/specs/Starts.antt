@@ -22,7 +22,7 @@ use Rattle.cert_form.specs.Kept.{kept_cert}
 use Rattle.cert_form.specs.declared.cert.Cert.{Cert}
 use Rattle.cert_text.specs.Programs.{frame_for}
 use Rattle.cert_form.specs.declared.fault.CertKind.{CertKind}
-use Rattle.bp_report.specs.Report.{rejected_report}
+use Rattle.cert_report.specs.Certificates.{rejected_report}
 use Rattle.bp_report.specs.Refusals.{cert_refusal, from_refusal, leaf_refusal}
 use Rattle.cmd_solve.specs.Cuttings.{HasCuts}
 use Rattle.cmd_solve.specs.Leaves.{open_path, IsWorkedOn}

@@ -6,9 +6,9 @@ use block_class::Classes;
 use block_form::{BlockFault, Blocked, Zone, check_blocks};
 use bp_model::Model;
 use bp_report::{
-    Refusal, blocks_text, budget_text, demo_text, ended_text, proposed_text, refusal_text,
-    show_blocks_text,
+    Refusal, blocks_text, budget_text, ended_text, proposed_text, refusal_text, show_blocks_text,
 };
+use cert_report::demo_text;
 use bp_theory::Claim;
 use branch_tree::{Grove, Outcome};
 use cert_check::Judged;

@@ -1,7 +1,7 @@
 use Rattle.std.proofs.Common.{◌∙◌, ap, List, ℕ}
 use Rattle.std.specs.Prelude.{Option, count_by, is_none}
 use Rattle.bp_theory.specs.Decomposition.{Decomposition}
-use Rattle.bp_report.proofs.Pieces.{proposed_as}
+use Rattle.bp_report.proofs.Proposed.{proposed_as}
 use Rattle.bp_report.proofs.sizes.proposed_text.Goals as goal
 
 pub returns : goal.returns

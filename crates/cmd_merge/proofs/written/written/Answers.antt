@@ -1,6 +1,6 @@
 use Rattle.std.proofs.Common.{◌≡◌, refl, sym, subst}
 use Rattle.block_form.specs.Blocked.{BlockedProgram}
-use Rattle.bp_report.specs.Report.{merged_report}
+use Rattle.cert_report.specs.Certificates.{merged_report}
 use Rattle.bp_search.specs.Ends.{EndsWithin}
 use Rattle.cert_form.specs.Fault.{IsText}
 use Rattle.cert_form.specs.Plain.{version_with}

@@ -1,0 +1,2 @@
+-- Other crates cite all of these.
+pub mod Certificates
