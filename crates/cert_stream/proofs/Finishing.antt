@@ -33,16 +33,16 @@ use Rattle.cert_check.specs.declared.place.Stop.{Stop}
 use Rattle.cert_check.proofs.Lines.{second_all}
 use Rattle.cert_check.proofs.LineVisits.{split_visits, lines_once}
 use Rattle.cert_check.proofs.Wholes.{heads_of, heads_left, cuts_over, goes_fit, judged_by, ended, never_accepted}
-use Rattle.cert_stream.specs.Turns.{Turn, wait_of}
-use Rattle.cert_stream.specs.Walks.{whole, Judges}
+use Rattle.cert_walk.specs.Turns.{Turn, wait_of}
+use Rattle.cert_walk.specs.Walks.{whole, Judges}
 use Rattle.cert_stream.specs.Checks.{IsMadeFor, front_of, IsJudgedTo, HasJudged, StandsBy, ChecksFor, Finishes}
 use Rattle.cert_stream.specs.Faults.{fault_as}
 use Rattle.cert_stream.specs.declared.fault.FeedFault.{FeedFault}
 use Rattle.cert_stream.specs.declared.fault.FeedFault.TheVariants as f
 use Rattle.cert_stream.specs.declared.checker.Checker.{Checker}
-use Rattle.cert_stream.specs.declared.path.Path.{Path}
-use Rattle.cert_stream.specs.declared.walk.Walk.{Walk}
-use Rattle.cert_stream.specs.declared.walk.Walk.TheVariants.{At, Ended, Misfit}
+use Rattle.cert_walk.specs.declared.path.Path.{Path}
+use Rattle.cert_walk.specs.declared.walk.Walk.{Walk}
+use Rattle.cert_walk.specs.declared.walk.Walk.TheVariants.{At, Ended, Misfit}
 
 first_all : {X : Type 0} (P : X → Type 0) (xs ys : List X) → AllByRecursion P (xs ++ ys) → AllByRecursion P xs
 first_all P [] ys h = tt

@@ -1,7 +1,3 @@
-pub mod Coming
-pub mod Pathing
-pub mod Judging
-pub mod Walking
 pub mod Stepping
 pub mod Waiting
 pub mod Finishing

@@ -3,18 +3,14 @@ use Rattle.std.proofs.Common.{◌≡◌, ⊎_elim, refl, sym, ap, subst, ◌∙�
 use Rattle.std.proofs.Math.IntN.{ℤ}
 use Rattle.std.proofs.lemmas.Bool.{ltb-false}
 use Rattle.std.proofs.lemmas.List.{take-append-drop, map-append}
-use Rattle.std.specs.Prelude.{IfSome}
 use Rattle.bp_theory.specs.Limits.{greatest_depth}
 use Rattle.bp_theory.specs.Program.{Program}
 use Rattle.bp_theory.specs.Blocking.{Blocking}
-use Rattle.bp_theory.specs.Decomposition.{proof_rows}
 use Rattle.bp_theory.specs.Trees.{Tree, shut_leaf, split}
 use Rattle.bp_theory.specs.declared.Claim.{Claim}
 use Rattle.bp_theory.specs.declared.Cut.{Cut}
-use Rattle.bp_theory.specs.declared.Row.{Row}
 use Rattle.bp_theory.specs.declared.Proof.{Proof}
 use Rattle.bp_theory.specs.declared.Picked.TheVariants.{Every}
-use Rattle.bp_model.specs.Named.{NamedProgram}
 use Rattle.block_form.specs.Blocked.{BlockedProgram, IsFormed}
 use Rattle.cert_form.specs.Cert as texts
 use Rattle.cert_form.specs.Fault.{IsSeenFault}
@@ -36,27 +32,21 @@ use Rattle.cert_lines.specs.declared.lines.Lines.{Lines}
 use Rattle.cert_lines.specs.declared.lines.SplitPlace.{SplitPlace}
 use Rattle.cert_text.proofs.Feeding.{joined}
 use Rattle.cert_form.proofs.LawProofs.{seen_faults_stay}
-use Rattle.cert_stream.specs.Turns.{Turn, to_low, to_high, turns_behind, root_behind, wait_of}
-use Rattle.block_forms.specs.Forms.{forms_in}
-use Rattle.block_pricers.specs.Works.{forms_of}
+use Rattle.cert_walk.specs.Turns.{Turn, to_low, to_high, turns_behind, root_behind, wait_of}
 use Rattle.block_pricers.specs.declared.work.Work.{Work}
-use Rattle.round_cut.specs.Several.{AreRowsOfCuts}
-use Rattle.round_sums.specs.Cutting.{IsCutOver}
-use Rattle.round_cut.proofs.SeveralLemmas.{no_rows, one_row_more}
-use Rattle.cert_check.specs.Cutting.{JudgesCut, blocking_over, HasCuts}
-use Rattle.cert_check.proofs.CutLines.{rows_many}
-use Rattle.cert_check.proofs.Wholes.{without_cuts, same_blocking}
-use Rattle.cert_stream.specs.Cuttings.{program_by, cuts_by, cuts_in, IsCutting, HoldsCuts, IsClosed}
-use Rattle.cert_stream.specs.Walks.{whole, Front, Judges, WalksBelow, WalksBehind, IsFresh, IsOn, GoesOver, IsWalkIn, IsWithin, leaf_with}
+use Rattle.cert_check.specs.Cutting.{blocking_over}
+use Rattle.cert_walk.specs.Cuttings.{program_by, cuts_by, cuts_in, IsCutting, HoldsCuts, IsClosed}
+use Rattle.cert_walk.specs.Walks.{whole, Front, Judges, WalksBelow, WalksBehind, IsFresh, IsOn, GoesOver, IsWalkIn, IsWithin, leaf_with}
 use Rattle.cert_stream.specs.Checks.{Keeps, IsMadeFor, highs, front_of, IsUnbegun, IsInFront, IsInTree, IsBehind, IsJudgedTo, HasJudged, TakesEvent, held_after, StandsBy, ChecksFor, answer_by}
 use Rattle.cert_stream.specs.Faults.{fault_as}
 use Rattle.cert_stream.specs.declared.fault.FeedFault.{FeedFault}
 use Rattle.cert_stream.specs.declared.fault.FeedFault.TheVariants as f
 use Rattle.cert_stream.specs.declared.checker.Checker.{Checker}
-use Rattle.cert_stream.specs.declared.cutting.Cutting.{Cutting}
-use Rattle.cert_stream.specs.declared.walk.Walk.{Walk}
-use Rattle.cert_stream.specs.declared.walk.Walk.TheVariants.{At, Ended, Misfit}
-use Rattle.cert_stream.proofs.Coming.{waits_are_turns, root_stays, root_is_read}
+use Rattle.cert_walk.specs.declared.cutting.Cutting.{Cutting}
+use Rattle.cert_walk.specs.declared.walk.Walk.{Walk}
+use Rattle.cert_walk.specs.declared.walk.Walk.TheVariants.{At, Ended, Misfit}
+use Rattle.cert_walk.proofs.CutFacts.{goes_over}
+use Rattle.cert_walk.proofs.Coming.{waits_are_turns, root_stays, root_is_read}
 
 -- ---- splits above a node
 
@@ -465,41 +455,6 @@ event_on b visits old new lines text byte event made none same reads tells takes
     stands_so b visits new (text ++ byte ∷ []) still
     (came b visits old new text byte so.0 so.1 so.2 event frame held fed (subst P (sym same) read) (subst Q (sym same) tells) (subst R (sym same) takes) so.3)
 
--- no cuts have come
-pub no_cutting : (b : BlockedProgram) (c : Cutting) → c.cuts ≡ [] → c.rows ≡ [] → c.program ≡ None → IsCutting b c
-no_cutting b c cuts rows program =
-    let M : Option BlockedProgram → Type 0 = λ o. IfSome o (λ x. HasCuts b x.cuts x) in
-    record {
-      rows = subst (λ (cs : List Cut). AreRowsOfCuts b.named.program b.dec cs c.rows) (sym cuts)
-          (subst (λ (rs : List Row). AreRowsOfCuts b.named.program b.dec [] rs) (sym rows) (no_rows b.named.program b.dec));
-      made = subst M (sym program) tt;
-    }
-
--- a cut more has passed
-pub cutting_more : (b : BlockedProgram) (c now : Cutting) (cut : Cut) (row : Row) (line : ℕ) → IsCutting b c → length c.rows ≤ 255
-    → IsCutOver (proof_rows b.named.program b.dec c.rows) cut → JudgesCut b.named.program (proof_rows b.named.program b.dec c.rows) cut line (Ok row)
-    → now.cuts ≡ c.cuts ++ cut ∷ [] → now.rows ≡ c.rows ++ row ∷ [] → now.program ≡ c.program → IsCutting b now
-cutting_more b c now cut row line h room over judged cuts rows program =
-    let p = b.named.program in
-    let d = b.dec in
-    let few : length c.cuts < 256 = omega (arith, room, rows_many p d c.cuts c.rows h.rows) in
-    let more = one_row_more p d c.cuts c.rows cut row h.rows few over judged.2 judged.0 judged.1 in
-    let M : Option BlockedProgram → Type 0 = λ o. IfSome o (λ x. HasCuts b x.cuts x) in
-    record {
-      rows = subst (λ (cs : List Cut). AreRowsOfCuts p d cs now.rows) (sym cuts) (subst (λ (rs : List Row). AreRowsOfCuts p d (c.cuts ++ cut ∷ []) rs) (sym rows) more);
-      made = subst M (sym program) h.made;
-    }
-
--- the program with the cuts is made
-pub closed_cutting : (b : BlockedProgram) (c : Cutting) (other : BlockedProgram) → c.cuts ≡ [] → c.rows ≡ [] → c.program ≡ Some other → HasCuts b other.cuts other → IsCutting b c
-closed_cutting b c other cuts rows program made =
-    let M : Option BlockedProgram → Type 0 = λ o. IfSome o (λ x. HasCuts b x.cuts x) in
-    record {
-      rows = subst (λ (cs : List Cut). AreRowsOfCuts b.named.program b.dec cs c.rows) (sym cuts)
-          (subst (λ (rs : List Row). AreRowsOfCuts b.named.program b.dec [] rs) (sym rows) (no_rows b.named.program b.dec));
-      made = subst M (sym program) made;
-    }
-
 -- a checker that was fed nothing
 pub begins : (b : BlockedProgram) (visits : Option ℕ) (checker : Checker) → checker.fault ≡ None → checker.held ≡ 0 → checker.fed ≡ 0
     → ((root : texts.Tree) (frame : Frame) → StandsFor [] root [] frame checker.lines []) → phase_of checker.lines ≡ ahead → IsShallow checker.lines
@@ -583,36 +538,6 @@ takes_split b claim zs had has old walk new place kept same on takes = λ visits
       holds = holds_on has cuts walk new on there.holds;
       walks = takes b.named.program (blocking_over b cuts) claim (front_of b zs cuts) visits ts there.walks;
     }
-
--- the program that leaves are judged over has the cuts that came
-holds_program : (b : BlockedProgram) (c : Cutting) (cuts : List Cut) → IsFormed b → b.cuts ≡ [] → IsCutting b c → IsClosed c → cuts_in c ≡ cuts → HasCuts b cuts (program_by b c.program)
-holds_program b c cuts formed uncut kept closed same = by c.program refl
-  where
-    by : (o : Option BlockedProgram) → c.program ≡ o → HasCuts b cuts (program_by b o)
-    by None is =
-        let none : cuts ≡ [] = sym same ∙ ap (cuts_by c.cuts) is ∙ closed is in
-        without_cuts b cuts formed uncut none
-    by (Some other) is =
-        let M : Option BlockedProgram → Type 0 = λ o. IfSome o (λ x. HasCuts b x.cuts x) in
-        let made : HasCuts b other.cuts other = subst M is kept.made in
-        let cuts_are : other.cuts ≡ cuts = sym (ap (cuts_by c.cuts) is) ∙ same in
-        subst (λ (cs : List Cut). HasCuts b cs other) cuts_are made
-
-pub goes_over : (b : BlockedProgram) (c : Cutting) (cuts : List Cut) (walk : Walk) → IsFormed b → b.cuts ≡ [] → IsCutting b c → (IsOn walk → IsClosed c) → HoldsCuts c cuts walk
-    → GoesOver (program_by b c.program) b.named.program (blocking_over b cuts) walk
-goes_over b c cuts (At path) formed uncut kept closed holds =
-    let h = holds_program b c cuts formed uncut kept (closed tt) holds in
-    (ap (λ (n : NamedProgram). n.program) (sym h.named), sym (same_blocking b cuts (program_by b c.program) h))
-goes_over b c cuts (Ended stop) formed uncut kept closed holds = tt
-goes_over b c cuts Misfit formed uncut kept closed holds = tt
-
--- its spans are those of the program that the checker was made for
-pub same_spans : (b : BlockedProgram) (c : Cutting) → IsCutting b c → (program_by b c.program).named.program.spans ≡ b.named.program.spans
-same_spans b c kept = by c.program kept.made
-  where
-    by : (o : Option BlockedProgram) → IfSome o (λ x. HasCuts b x.cuts x) → (program_by b o).named.program.spans ≡ b.named.program.spans
-    by None made = refl
-    by (Some other) made = ap (λ (n : NamedProgram). n.program.spans) made.named
 
 pub takes_leaf : (b : BlockedProgram) (claim k : Claim) (zs : List ℤ) (had has : Cutting) (old walk new : Walk) (is_open : Bool) (proof : Proof) → IsFormed b → b.cuts ≡ [] → IsCutting b has
     → walk ≡ old → k ≡ claim → cuts_in has ≡ cuts_in had → (IsOn walk → IsClosed has) → (IsOn new → IsOn walk)

@@ -31,7 +31,7 @@ use Rattle.cert_lines.proofs.Reaching.{LeavesAt, deep_there, number_reached}
 use Rattle.cert_lines.proofs.ReaderSteps.{deep_minus_leaves}
 use Rattle.cert_form.proofs.StageMoves.{IsOver, goes_on_from, number_leads}
 use Rattle.cert_lines.proofs.WordSteps.{stands_part}
-use Rattle.cert_stream.specs.Turns.{wait_of}
+use Rattle.cert_walk.specs.Turns.{wait_of}
 use Rattle.cert_stream.specs.Checks.{IsMadeFor, StandsBy, ChecksFor, answer_by}
 use Rattle.cert_stream.specs.Seen.{TellsSeen}
 use Rattle.cert_stream.specs.declared.checker.Checker.{Checker}

@@ -18,13 +18,13 @@ use Rattle.block_pricers.specs.declared.work.Work.{Work}
 use Rattle.cert_check.specs.Cutting.{blocking_over}
 use Rattle.cert_check.specs.Judging.{IsJudgedWithin, IsTrueIfAccepted}
 use Rattle.cert_check.specs.declared.judge.Judged.{Judged}
-use Rattle.cert_stream.specs.Turns.{Turn, to_low, to_high, wait_of}
+use Rattle.cert_walk.specs.Turns.{Turn, to_low, to_high, wait_of}
 use Rattle.cert_lines.specs.declared.lines.Event.{Event}
 use Rattle.cert_lines.specs.declared.lines.Event.TheVariants as e
-use Rattle.cert_stream.specs.Cuttings.{program_by, IsCutting, HoldsCuts}
-use Rattle.cert_stream.specs.Walks.{whole, Front, Judges, WalksBelow, WalksBehind, IsFresh, IsWalkIn, IsWithin, leaf_with}
-use Rattle.cert_stream.specs.declared.cutting.Cutting.{Cutting}
-use Rattle.cert_stream.specs.declared.walk.Walk.{Walk}
+use Rattle.cert_walk.specs.Cuttings.{program_by, IsCutting, HoldsCuts}
+use Rattle.cert_walk.specs.Walks.{whole, Front, Judges, WalksBelow, WalksBehind, IsFresh, IsWalkIn, IsWithin, leaf_with}
+use Rattle.cert_walk.specs.declared.cutting.Cutting.{Cutting}
+use Rattle.cert_walk.specs.declared.walk.Walk.{Walk}
 use Rattle.cert_stream.specs.declared.fault.FeedFault.{FeedFault}
 use Rattle.cert_stream.specs.declared.fault.FeedFault.TheVariants.{At, NoMemory}
 use Rattle.cert_stream.specs.declared.checker.Checker.{Checker}

@@ -7,20 +7,18 @@ ghost use Rattle.cert_lines.specs.declared.lines.Event.TheVariants as e;
 ghost use Rattle.block_forms.specs.Forms.{forms_in};
 ghost use Rattle.block_pricers.specs.Works.{forms_of};
 ghost use Rattle.cert_check.specs.Judging.{stopped_at};
-ghost use Rattle.cert_stream.specs.Cuttings.{IsCutting, IsClosed, cuts_in, program_by};
-ghost use Rattle.cert_stream.specs.Walks.{IsOn, IsWalkIn, IsWithin};
+ghost use Rattle.cert_walk.specs.Cuttings.{IsCutting, IsClosed, cuts_in, program_by};
+ghost use Rattle.cert_walk.specs.Walks.{IsOn, IsWalkIn, IsWithin};
 ghost use Rattle.cert_stream.specs.Checks.{Keeps, IsMadeFor, TakesEvent, held_after, ChecksFor, answer_by, Finishes};
 ghost use Rattle.cert_stream.specs.Seen.{TellsSeen};
 ghost use Rattle.cert_stream.specs.declared.fault.FeedFault as faults;
 
-use crate::cutting::Cutting;
 use crate::fault::{FeedFault, feed_fault};
-use crate::path::Path;
-use crate::walk::{Walk, begin, enter, goes_on, leave};
 use block_form::{Blocked, Zone};
 use bp_theory::{Cut, Proof};
 use cert_check::{Judged, NodePlace, Stop};
 use cert_text::{Event, Frame, Lines, SplitPlace, program_frame};
+use cert_walk::{Cutting, Path, Walk, begin, enter, goes_on, leave};
 use lagr_bound::Work;
 use std::alloc::{AllocError, Global};
 use std::mem;
@@ -288,16 +286,30 @@ impl Checker {
             result ≡ Err fault }
         ensures no_memory { IsErrOf result FeedFault.NoMemory → self.fault ≡ Some FeedFault.NoMemory }
     {
+        self.judged()
+    }
+
+    // The same, and nothing is let go.
+    fn judged(&self) -> Result<Judged, FeedFault>
+        requires stands { (b : BlockedProgram) × (visits : Option ℕ) × (text : List ℕ) ×
+            IsMadeFor b self.now × ChecksFor b visits self.now text }
+        ensures finishes { (b : BlockedProgram) (visits : Option ℕ) (text : List ℕ) →
+            IsMadeFor b self.now → ChecksFor b visits self.now text →
+            Finishes b visits text result }
+        ensures kept { (fault : faults.FeedFault) → self.now.fault ≡ Some fault →
+            result ≡ Err fault }
+        ensures no_memory { IsErrOf result FeedFault.NoMemory →
+            self.now.fault ≡ Some FeedFault.NoMemory }
+    {
         match self.fault {
             Some(fault) => return Err(fault),
             None => {}
         }
-        let lines = self.lines;
-        match lines.end(&self.frame) {
+        match self.lines.end(&self.frame) {
             Err(fault) => Err(feed_fault(&fault)),
-            Ok(()) => match self.walk {
-                Walk::At(_) => Ok(Judged::Accepted(lines.claim())),
-                Walk::Ended(stop) => Ok(stopped(&stop)),
+            Ok(()) => match &self.walk {
+                Walk::At(_) => Ok(Judged::Accepted(self.lines.claim())),
+                Walk::Ended(stop) => Ok(stopped(stop)),
                 Walk::Misfit => unreachable!(),
             },
         }

@@ -16,28 +16,15 @@
 #![tactic(auto)]
 
 mod checker;
-mod cutting;
 mod fault;
-mod path;
 mod stream;
-mod walk;
 
-ghost use Rattle.cert_stream.specs.Laws.{LinesCome, RootsCome, WaitsAreTurns, RootStays, RootIsRead};
 ghost use Rattle.cert_stream.specs.Wholes.{JudgedAsWhole, FaultyAsWhole, NotFaultyToo, NotJudgedToo};
 
+pub use cert_file::StreamStop;
 pub use checker::Checker;
 pub use fault::FeedFault;
-pub use stream::{StreamStop, rewrite_stream, write_stream};
-
-/// The lines of a tree come in the order in which they are judged, and what reading keeps of them is where the judgement
-/// stands.
-pub fn lines_come_in_order()
-    ensures lines { LinesCome }
-    ensures roots { RootsCome }
-    ensures waits { WaitsAreTurns }
-    ensures stays { RootStays }
-    ensures read { RootIsRead }
-{}
+pub use stream::{rewrite_stream, write_stream};
 
 /// What a checker answers of a text that it was fed in pieces is what reading the whole text and judging it answers.
 pub fn pieces_are_answered_as_the_whole()

@@ -1,37 +1,18 @@
 // A certificate that is written line by line.
-ghost use Rattle.std.specs.Prelude.{◌≡◌, ℕ, ◌+◌, ◌++◌, List, [], codes, unwrap_or, IsTrue, IfOk, Some};
-ghost use Rattle.bp_theory.specs.declared.Claim as claims;
-ghost use Rattle.bp_shelf.specs.Shelf.{OthersAsBefore};
-ghost use Rattle.search_laws.specs.Grove.{certificate_tree};
-ghost use Rattle.grove_parts.specs.Trees.{tree_of};
+ghost use Rattle.std.specs.Prelude.{◌≡◌, ℕ, List, [], codes, unwrap_or, IsTrue, Some};
 ghost use Rattle.cert_form.specs.Fault.{IsCertText};
 ghost use Rattle.cert_form.specs.Kept.{certificate_of, kept_cert};
-ghost use Rattle.cert_form.specs.Sketch.{tree_of as sketched};
-ghost use Rattle.cert_form.specs.Text.{Two, numeral, signed_numeral};
-ghost use Rattle.cert_form.specs.Plain.{version_with, head_text, proof_text, tree_text};
-ghost use Rattle.cert_write.specs.Changes.{changing_proof, changing_nodes, last_mults};
 ghost use Rattle.cert_text.specs.Outcomes.{IsWritable};
 ghost use Rattle.cert_text.specs.Programs.{frame_for};
-ghost use Rattle.cert_stream.specs.Streams.{Appends, CountsStop, Heads, Rewrites, Streams, stop_of};
+ghost use Rattle.cert_file.specs.Appends.{Appends, CountsStop};
+ghost use Rattle.cert_stream.specs.Streams.{Rewrites, Streams};
 
 use block_form::Blocked;
-use bp_shelf::{Shelf, ShelfFault};
-use bp_theory::{Claim, Cut, Proof};
-use branch_tree::{Outcome, Tree};
-use cert_text::{
-    Cert, Sketch, outcome_claim, outcome_grove, outcome_point, put_changed_leaf, put_head,
-    put_split,
-};
-use std::alloc::{AllocError, Global};
-
-/// Why a certificate was not written to its end.
-#[derive(Clone, Copy, Debug, PartialEq, Eq)]
-pub enum StreamStop {
-    /// A write failed, which the shelf counts.
-    Failed,
-    /// Memory was wanting.
-    NoMemory,
-}
+use bp_shelf::Shelf;
+use branch_tree::Outcome;
+use cert_file::{StreamStop, put_heads, put_line, put_nodes, put_sketch};
+use cert_text::{Cert, outcome_claim, outcome_grove, outcome_point};
+use std::alloc::Global;
 
 /// Writes the certificate of a search's outcome, with the cuts of the program, into a named file: the lines in front of the
 /// tree at once, then each further line by itself. After Ok the file holds the bytes of `cert_text::write_cert`.
@@ -97,151 +78,6 @@ fn named_point(cert: &Cert) -> &[i64]
     }
 }
 
-// The lines in front of a tree.
-fn put_heads<F: Shelf>(
-    alloc: Global,
-    shelf: &mut F,
-    name: &str,
-    claim: &Claim,
-    point: &[i64],
-    cuts: &[Cut],
-) -> Result<(), StreamStop>
-    ensures files { IsTrue (F.tells shelf.old) → Heads name.now (head_text (version_with cuts.now) claim.now point.now cuts.now) (F.file shelf.old) (F.file shelf.new) result }
-    ensures told { F.tells shelf.new ≡ F.tells shelf.old }
-    ensures cause { CountsStop (F.write_faults shelf.old) (F.write_faults shelf.new) result }
-    ensures reads { F.read_faults shelf.new ≡ F.read_faults shelf.old }
-{
-    let head = match heads_text(alloc, claim, point, cuts) {
-        Err(_) => return Err(StreamStop::NoMemory),
-        Ok(head) => head,
-    };
-    match shelf.replace(name, head.as_slice()) {
-        Err(fault) => Err(stream_stop(fault)),
-        Ok(()) => Ok(()),
-    }
-}
-
-// The text of the lines in front of a tree.
-fn heads_text(
-    alloc: Global,
-    claim: &Claim,
-    point: &[i64],
-    cuts: &[Cut],
-) -> Result<Vec<u8>, AllocError>
-    ensures { IfOk result (λ head. head.items ≡
-        head_text (version_with cuts.now) claim.now point.now cuts.now) }
-{
-    let mut head = Vec::new(alloc);
-    put_head(&mut head, claim, point, cuts)?;
-    Ok(head)
-}
-
-// The lines of a search's tree, behind a leaf that has these multipliers; gives those of its last leaf.
-fn put_nodes<'a, F: Shelf>(
-    alloc: Global,
-    shelf: &mut F,
-    name: &str,
-    tree: &'a Tree,
-    had: &'a [(u32, i64)],
-) -> Result<&'a [(u32, i64)], StreamStop>
-    ensures files { IsTrue (F.tells shelf.old) → Appends name.now (tree_text Two (changing_nodes had.now (certificate_tree (tree_of tree.now)))) (F.file shelf.old) (F.file shelf.new) result }
-    ensures told { F.tells shelf.new ≡ F.tells shelf.old }
-    ensures cause { CountsStop (F.write_faults shelf.old) (F.write_faults shelf.new) result }
-    ensures reads { F.read_faults shelf.new ≡ F.read_faults shelf.old }
-    ensures last { IfOk result (λ last. last.now ≡
-        last_mults (certificate_tree (tree_of tree.now))) }
-{
-    match tree {
-        Tree::Live(proof, _) => put_leaf(alloc, shelf, name, b"open ", had, proof),
-        Tree::Shut(proof) => put_leaf(alloc, shelf, name, b"leaf ", had, proof),
-        Tree::Fork { var, at, low, high } => {
-            match put_fork(alloc, shelf, name, *var, at) {
-                Err(stop) => return Err(stop),
-                Ok(()) => {}
-            }
-            match put_nodes(alloc, shelf, name, low, had) {
-                Err(stop) => Err(stop),
-                Ok(last) => put_nodes(alloc, shelf, name, high, last),
-            }
-        }
-    }
-}
-
-// The lines of a tree that was read, behind a leaf that has these multipliers; gives those of its last leaf.
-fn put_sketch<'a, F: Shelf>(
-    alloc: Global,
-    shelf: &mut F,
-    name: &str,
-    tree: &'a Sketch,
-    had: &'a [(u32, i64)],
-) -> Result<&'a [(u32, i64)], StreamStop>
-    ensures files { IsTrue (F.tells shelf.old) → Appends name.now (tree_text Two (changing_nodes had.now (sketched tree.now))) (F.file shelf.old) (F.file shelf.new) result }
-    ensures told { F.tells shelf.new ≡ F.tells shelf.old }
-    ensures cause { CountsStop (F.write_faults shelf.old) (F.write_faults shelf.new) result }
-    ensures reads { F.read_faults shelf.new ≡ F.read_faults shelf.old }
-    ensures last { IfOk result (λ last. last.now ≡ last_mults (sketched tree.now)) }
-{
-    match tree {
-        Sketch::Leaf(proof) => put_leaf(alloc, shelf, name, b"leaf ", had, proof),
-        Sketch::Open(proof) => put_leaf(alloc, shelf, name, b"open ", had, proof),
-        Sketch::Fork { var, at, low, high } => {
-            match put_fork(alloc, shelf, name, *var, at) {
-                Err(stop) => return Err(stop),
-                Ok(()) => {}
-            }
-            match put_sketch(alloc, shelf, name, low, had) {
-                Err(stop) => Err(stop),
-                Ok(last) => put_sketch(alloc, shelf, name, high, last),
-            }
-        }
-    }
-}
-
-// A leaf's line with its first word, behind a leaf that has these multipliers; gives its own.
-fn put_leaf<'a, F: Shelf>(
-    alloc: Global,
-    shelf: &mut F,
-    name: &str,
-    word: &[u8],
-    had: &[(u32, i64)],
-    proof: &'a Proof,
-) -> Result<&'a [(u32, i64)], StreamStop>
-    ensures files { IsTrue (F.tells shelf.old) → Appends name.now (word.now ++ proof_text Two (changing_proof had.now proof.now)) (F.file shelf.old) (F.file shelf.new) result }
-    ensures told { F.tells shelf.new ≡ F.tells shelf.old }
-    ensures cause { CountsStop (F.write_faults shelf.old) (F.write_faults shelf.new) result }
-    ensures reads { F.read_faults shelf.new ≡ F.read_faults shelf.old }
-    ensures last { IfOk result (λ last. last.now ≡ proof.now.mults) }
-{
-    let mut line = Vec::new(alloc);
-    match put_changed_leaf(&mut line, alloc, word, had, proof) {
-        Err(_) => Err(StreamStop::NoMemory),
-        Ok(last) => match put_line(shelf, name, line.as_slice()) {
-            Err(stop) => Err(stop),
-            Ok(()) => Ok(last),
-        },
-    }
-}
-
-// A split's line.
-fn put_fork<F: Shelf>(
-    alloc: Global,
-    shelf: &mut F,
-    name: &str,
-    var: u32,
-    at: &i64,
-) -> Result<(), StreamStop>
-    ensures files { IsTrue (F.tells shelf.old) → Appends name.now (codes "split " ++ numeral (var + 1) ++ codes " " ++ signed_numeral at.now ++ codes "\n") (F.file shelf.old) (F.file shelf.new) result }
-    ensures told { F.tells shelf.new ≡ F.tells shelf.old }
-    ensures cause { CountsStop (F.write_faults shelf.old) (F.write_faults shelf.new) result }
-    ensures reads { F.read_faults shelf.new ≡ F.read_faults shelf.old }
-{
-    let mut line = Vec::new(alloc);
-    match put_split(&mut line, var, at) {
-        Err(_) => Err(StreamStop::NoMemory),
-        Ok(()) => put_line(shelf, name, line.as_slice()),
-    }
-}
-
 // The last line.
 fn put_end<F: Shelf>(shelf: &mut F, name: &str) -> Result<(), StreamStop>
     ensures files { IsTrue (F.tells shelf.old) → Appends name.now (codes "end\n") (F.file shelf.old) (F.file shelf.new) result }
@@ -250,27 +86,4 @@ fn put_end<F: Shelf>(shelf: &mut F, name: &str) -> Result<(), StreamStop>
     ensures reads { F.read_faults shelf.new ≡ F.read_faults shelf.old }
 {
     put_line(shelf, name, b"end\n")
-}
-
-// A line at the end of the named file.
-fn put_line<F: Shelf>(shelf: &mut F, name: &str, line: &[u8]) -> Result<(), StreamStop>
-    ensures files { IsTrue (F.tells shelf.old) → Appends name.now line.now (F.file shelf.old) (F.file shelf.new) result }
-    ensures told { F.tells shelf.new ≡ F.tells shelf.old }
-    ensures cause { CountsStop (F.write_faults shelf.old) (F.write_faults shelf.new) result }
-    ensures reads { F.read_faults shelf.new ≡ F.read_faults shelf.old }
-{
-    match shelf.extend(name, line) {
-        Err(fault) => Err(stream_stop(fault)),
-        Ok(()) => Ok(()),
-    }
-}
-
-// Why a write was not done; none answers that a file is missing.
-fn stream_stop(fault: ShelfFault) -> StreamStop
-    ensures { result ≡ stop_of fault }
-{
-    match fault {
-        ShelfFault::Failed => StreamStop::Failed,
-        ShelfFault::Missing | ShelfFault::NoMemory => StreamStop::NoMemory,
-    }
 }

@@ -14,8 +14,8 @@ use Rattle.cert_form.specs.Nodes.{nodes}
 use Rattle.cert_text.specs.Programs.{frame_for}
 use Rattle.cert_write.proofs.ChangeText.{rewritten}
 use Rattle.cert_stream.specs.Streams.{Rewrites}
-use Rattle.cert_stream.specs.declared.stream.StreamStop.{StreamStop}
-use Rattle.cert_stream.specs.declared.stream.StreamStop.TheVariants.{NoMemory}
+use Rattle.cert_file.specs.declared.stop.StreamStop.{StreamStop}
+use Rattle.cert_file.specs.declared.stop.StreamStop.TheVariants.{NoMemory}
 use Rattle.bp_report.specs.Report.{migrated_report}
 use Rattle.bp_front.specs.Written.{Answer, TextStands}
 use Rattle.bp_front.proofs.Written.{right_leaves, right_writes}

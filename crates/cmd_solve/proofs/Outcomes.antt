@@ -11,8 +11,8 @@ use Rattle.branch_tree.specs.declared.outcome.Outcome.{Outcome}
 use Rattle.branch_tree.specs.declared.outcome.Outcome.TheVariants.{Optimal, Infeasible, Budget}
 use Rattle.bp_shelf.specs.Shelf.{Files}
 use Rattle.cert_stream.specs.Streams.{HoldsCertificate, Streams}
-use Rattle.cert_stream.specs.declared.stream.StreamStop.{StreamStop}
-use Rattle.cert_stream.specs.declared.stream.StreamStop.TheVariants.{Failed, NoMemory}
+use Rattle.cert_file.specs.declared.stop.StreamStop.{StreamStop}
+use Rattle.cert_file.specs.declared.stop.StreamStop.TheVariants.{Failed, NoMemory}
 use Rattle.bp_front.specs.Front.{FilesCome, blocked}
 use Rattle.bp_search.specs.Ends.{EndsWithin}
 use Rattle.search_laws.specs.Outcomes.{read_off}

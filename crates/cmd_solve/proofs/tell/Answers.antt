@@ -1,6 +1,6 @@
 use Rattle.std.proofs.Common.{sym, ap, Some, Err, append-nil}
 use Rattle.std.specs.Option.{option_map}
-use Rattle.cert_stream.specs.declared.stream.StreamStop.{StreamStop}
+use Rattle.cert_file.specs.declared.stop.StreamStop.{StreamStop}
 use Rattle.cmd_solve.proofs.Outcomes.{tells}
 use Rattle.cmd_solve.proofs.Parts.{part_told}
 use Rattle.cmd_solve.proofs.tell.Goals as goal

@@ -7,7 +7,8 @@ use Rattle.cert_form.specs.Sketch.{tree_of as sketched}
 use Rattle.cert_form.specs.Text.{Two}
 use Rattle.cert_form.specs.Plain.{version_with, tree_text}
 use Rattle.cert_write.specs.Changes.{changing_nodes}
-use Rattle.cert_stream.proofs.Streaming.{head_failed, stopped_before, added_on, put_anew}
+use Rattle.cert_stream.proofs.Streaming.{head_failed, put_anew}
+use Rattle.cert_file.proofs.Appending.{stopped_before, added_on}
 use Rattle.cert_stream.proofs.stream.rewrite_stream.Goals as goal
 
 pub returns-in-Err-clause-files : goal.returns-in-Err-clause-files

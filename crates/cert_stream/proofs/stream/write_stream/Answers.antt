@@ -8,7 +8,8 @@ use Rattle.cert_form.specs.Text.{Two}
 use Rattle.cert_form.specs.Plain.{tree_text}
 use Rattle.cert_write.specs.Changes.{changing_nodes}
 use Rattle.cert_text.specs.Outcomes.{claim_of}
-use Rattle.cert_stream.proofs.Streaming.{stopped_before, added_on, put_whole}
+use Rattle.cert_file.proofs.Appending.{stopped_before, added_on}
+use Rattle.cert_stream.proofs.Streaming.{put_whole}
 use Rattle.cert_stream.proofs.stream.write_stream.Goals as goal
 
 pub returns-in-Err-put_nodes-clause-files : goal.returns-in-Err-put_nodes-clause-files

@@ -1,6 +1,6 @@
 use Rattle.std.proofs.Common.{None, refl}
 use Rattle.cert_stream.specs.declared.checker.Checker.{Checker}
-use Rattle.cert_stream.specs.declared.walk.Walk.TheVariants.{At}
+use Rattle.cert_walk.specs.declared.walk.Walk.TheVariants.{At}
 use Rattle.cert_stream.proofs.Stepping.{begins}
 use Rattle.cert_stream.proofs.checker.Checker.make.Goals as goal
 

@@ -1,7 +1,7 @@
 use Rattle.cert_stream.proofs.Stepping.{takes_claim}
 use Rattle.cert_stream.proofs.checker.Checker.take_claim.Goals as goal
 use Rattle.std.proofs.Common.{refl, sym, subst}
-use Rattle.cert_stream.specs.Walks.{IsWithin}
+use Rattle.cert_walk.specs.Walks.{IsWithin}
 
 pub returns-clause-judged : goal.returns-clause-judged
 returns-clause-judged c =

@@ -1,7 +1,8 @@
 use Rattle.std.proofs.Common.{sym, subst}
-use Rattle.cert_stream.specs.Cuttings.{IsCutting}
-use Rattle.cert_stream.specs.Walks.{IsWalkIn, IsWithin}
-use Rattle.cert_stream.proofs.Stepping.{no_cutting, takes_cut}
+use Rattle.cert_walk.specs.Cuttings.{IsCutting}
+use Rattle.cert_walk.specs.Walks.{IsWalkIn, IsWithin}
+use Rattle.cert_walk.proofs.CutFacts.{no_cutting}
+use Rattle.cert_stream.proofs.Stepping.{takes_cut}
 use Rattle.cert_stream.proofs.checker.Checker.take_cut.Goals as goal
 
 pub returns-in_err-cuts-clause-keeps : goal.returns-in_err-cuts-clause-keeps

@@ -1,5 +1,5 @@
 use Rattle.std.proofs.Common.{refl, sym, subst}
-use Rattle.cert_stream.specs.Walks.{IsWalkIn, IsWithin}
+use Rattle.cert_walk.specs.Walks.{IsWalkIn, IsWithin}
 use Rattle.cert_stream.proofs.Stepping.{takes_split}
 use Rattle.cert_stream.proofs.checker.Checker.take_split.Goals as goal
 

@@ -1,0 +1,5 @@
+pub mod Coming
+pub mod Pathing
+pub mod Judging
+pub mod Walking
+pub mod CutFacts
