@@ -74,11 +74,3 @@ goes_over b c cuts (At path) formed uncut kept closed holds =
     (ap (λ (n : NamedProgram). n.program) (sym h.named), sym (same_blocking b cuts (program_by b c.program) h))
 goes_over b c cuts (Ended stop) formed uncut kept closed holds = tt
 goes_over b c cuts Misfit formed uncut kept closed holds = tt
-
--- its spans are those of the program that the checker was made for
-pub same_spans : (b : BlockedProgram) (c : Cutting) → IsCutting b c → (program_by b c.program).named.program.spans ≡ b.named.program.spans
-same_spans b c kept = by c.program kept.made
-  where
-    by : (o : Option BlockedProgram) → IfSome o (λ x. HasCuts b x.cuts x) → (program_by b o).named.program.spans ≡ b.named.program.spans
-    by None made = refl
-    by (Some other) made = ap (λ (n : NamedProgram). n.program.spans) made.named

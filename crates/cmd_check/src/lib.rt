@@ -15,9 +15,9 @@ ghost use Rattle.cmd_check.specs.Replies.{IsCheckStatus, IsReplyTo, RepliesFrom,
 use block_form::Blocked;
 use bp_front::{Ended, Halt, Reply, load, print, stopped_by};
 use bp_report::cert_text;
-use cert_report::check_text;
 use bp_shelf::{Shelf, ShelfFault, Sink};
 use cert_check::Judged;
+use cert_report::check_text;
 use cert_stream::{Checker, FeedFault};
 use std::alloc::{AllocError, Global};
 

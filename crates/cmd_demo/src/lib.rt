@@ -13,11 +13,11 @@ ghost use Rattle.cmd_demo.specs.Demos.{AnswersDemo, IsSummary, IsDemo, DemoHalts
 use block_form::Blocked;
 use bp_front::{Ended, Halt, Reply, blocks_of, print, stopped};
 use bp_gen::{make_dec, make_lp};
-use cert_report::{DEMO_STEPS, demo_text};
 use bp_search::search;
 use bp_shelf::Sink;
 use branch_tree::Outcome;
 use cert_check::Judged;
+use cert_report::{DEMO_STEPS, demo_text};
 use cert_stream::{Checker, FeedFault};
 use cert_text::write_cert;
 use cmd_solve::status_of;

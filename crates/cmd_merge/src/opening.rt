@@ -12,11 +12,11 @@ ghost use Rattle.cmd_merge.specs.declared.opening.Stop.TheVariants.{Stopped};
 use block_form::Blocked;
 use bp_front::{Reply, read_front};
 use bp_report::{cert_text, from_text};
-use cert_report::check_text;
 use bp_shelf::{Shelf, ShelfFault};
 use branch_tree::Loaded;
 use cert_check::{Judged, check as judge};
 use cert_load::{LoadFault, load, with_cuts_of};
+use cert_report::check_text;
 use cert_text::{Cert, CertFault, read_cert};
 use std::alloc::{AllocError, Global};
 

@@ -8,9 +8,9 @@ ghost use Rattle.cmd_merge.specs.Opens.{IsOpened, CanMerge};
 
 use block_form::Blocked;
 use bp_front::Reply;
-use cert_report::merged_text;
 use bp_search::{conclude, kept_from};
 use branch_tree::Loaded;
+use cert_report::merged_text;
 use cert_text::write_cert;
 use std::alloc::{AllocError, Global};
 

@@ -8,10 +8,10 @@ use bp_model::Model;
 use bp_report::{
     Refusal, blocks_text, budget_text, ended_text, proposed_text, refusal_text, show_blocks_text,
 };
-use cert_report::demo_text;
 use bp_theory::Claim;
 use branch_tree::{Grove, Outcome};
 use cert_check::Judged;
+use cert_report::demo_text;
 use dec_read::read_dec;
 use lp_read::read_lp;
 use std::alloc::{AllocError, Global};

@@ -1,9 +1,9 @@
 // Reports, and the text that each is to be.
 use crate::programs::{InBlocks, OfModel, of_blocks, of_model};
 use bp_report::{Refusal, cert_text, dec_text, lp_text, made_text, refusal_text, words_text};
-use cert_report::check_text;
 use bp_theory::{CheckKind, Claim};
 use cert_check::Judged;
+use cert_report::check_text;
 use cert_text::CertKind;
 use dec_read::{DecFault, DecKind};
 use lp_token::LpKind;
