@@ -13,7 +13,7 @@ use Rattle.bp_theory.specs.declared.Span.{Span}
 use Rattle.search_laws.specs.Spread.{block_at, class_at, AreClasses}
 use Rattle.block_class.specs.Classes.{Grouping, IsFirstOf, AreSameClasses}
 use Rattle.block_class.specs.Signatures.{signature, IsGrouped}
-use Rattle.block_form.specs.Blocked.{BlockedProgram, IsFormed}
+use Rattle.block_program.specs.Blocked.{BlockedProgram, IsFormed}
 use Rattle.block_class.proofs.SameLemmas.{HasCoefs, same_from_signature, signature_from_same, named_count, formed_have}
 use Rattle.std.proofs.lemmas.Cmp.{lists_equiv, int_eq_equiv}
 use Rattle.std.proofs.lemmas.Map.Keys.{apart_from_distinct}

@@ -8,7 +8,7 @@ use Rattle.std.proofs.lemmas.List.{take_all, get_or-set_same, get_or-set_other}
 use Rattle.std.proofs.lemmas.List.FromFn.{get_or-range_with_len, length-range_with_len, fill_by_all, length-map-range_with_len, get_or-map-range_with_len}
 use Rattle.std.proofs.lemmas.List.Kept.{IsStrictlyIncreasing-filter}
 use Rattle.std.proofs.lemmas.List.Sums.{count_by_more_yes, count_by_more_no}
-use Rattle.block_form.proofs.StandLemmas.{range_more}
+use Rattle.block_program.proofs.StandLemmas.{range_more}
 use Rattle.search_laws.specs.Spread.{class_at, class_blocks}
 use Rattle.block_class.specs.Classes.{members_of}
 

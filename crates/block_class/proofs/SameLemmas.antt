@@ -14,7 +14,7 @@ use Rattle.bp_theory.specs.declared.Span.{Span}
 use Rattle.bp_theory.specs.Trees.{IsSubzone}
 use Rattle.bp_theory.proofs.DecompositionProof.{all_blocks, decomposition_lem, numbered_at}
 use Rattle.bp_theory.proofs.CutProof.{cuts_are_met_lem}
-use Rattle.block_form.specs.Blocked.{BlockedProgram, IsFormed}
+use Rattle.block_program.specs.Blocked.{BlockedProgram, IsFormed}
 use Rattle.search_laws.specs.Spread.{block_at}
 use Rattle.block_class.specs.Signatures.{signature}
 use Rattle.block_class.proofs.SignatureLemmas.{AreAlike, signature_read, signature_written}

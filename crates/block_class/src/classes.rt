@@ -1,7 +1,7 @@
 // Classes of blocks in a zone.
 use crate::group::grouped;
 use crate::members::members_of;
-use block_form::{Blocked, Zone};
+use block_program::{Blocked, Zone};
 use bp_theory::Items;
 use std::alloc::{AllocError, Global};
 

@@ -5,7 +5,7 @@ ghost use Rattle.block_class.specs.Classes.{AreSameClasses};
 
 use crate::signature::signature;
 use crate::table::Signatures;
-use block_form::{Blocked, Zone};
+use block_program::{Blocked, Zone};
 use std::alloc::{AllocError, Global};
 
 /// The classes of the blocks in a zone, and the first block of each class.

@@ -3,7 +3,7 @@ ghost use Rattle.std.specs.Prelude.{◌≡◌, ◌<◌, ◌++◌, ◌∷◌, [],
 ghost use Rattle.bp_theory.specs.Blocking.{Copy};
 ghost use Rattle.block_class.specs.Signatures.{signature, copy_signature, row_signature, coefs_signature, terms_signature, sense_number};
 
-use block_form::{Block, Zone};
+use block_program::{Block, Zone};
 use bp_theory::{Row, Sense, Span, Term};
 use std::alloc::{AllocError, Global};
 

@@ -15,15 +15,15 @@ use Rattle.bp_theory.specs.declared.Row.{Row}
 use Rattle.bp_theory.specs.declared.MasterRow.{MasterRow}
 use Rattle.bp_model.specs.Named.{NamedProgram, IsKept}
 use Rattle.bp_model.specs.Dec.{HasListed}
-use Rattle.block_form.specs.Blocked.{RootBlock, BlockedProgram, HaveRootSpans, IsFormed, AreMade, AreParts}
-use Rattle.block_form.specs.Cuts.{KeepsCuts, IsSmallCut, AreCutRows}
+use Rattle.block_program.specs.Blocked.{RootBlock, BlockedProgram, HaveRootSpans, IsFormed, AreMade, AreParts}
+use Rattle.block_program.specs.Cuts.{KeepsCuts, IsSmallCut, AreCutRows}
 use Rattle.block_form.specs.Gather.{all_sides, link_sides, named_sides, IsElsewhere, IsFirstElsewhere}
 use Rattle.block_form.specs.Homes.{AreHomes, further}
 use Rattle.block_form.specs.Source.{IsSource, block_in, rows_in, copy_in}
 use Rattle.block_form.specs.declared.source.Source.{Source}
 use Rattle.block_form.proofs.CopyLemmas.{links_counted}
 use Rattle.block_form.proofs.FormLemmas.{first_misplaced, none_misplaced}
-use Rattle.block_form.proofs.GatherLemmas.{passing_few}
+use Rattle.block_program.proofs.StandLemmas.{passing_few}
 
 -- ---- lone blocks
 

@@ -16,7 +16,7 @@ use Rattle.bp_theory.proofs.KeyLaws.{if_same, if_other}
 use Rattle.block_form.specs.Stand.{StandsInRow}
 use Rattle.block_form.specs.Gather.{coefs_from}
 use Rattle.block_form.specs.Columns.{row_entries, column_from, master_entries, row_at, PlacedAt}
-use Rattle.block_form.proofs.StandLemmas.{before_none}
+use Rattle.block_program.proofs.StandLemmas.{before_none}
 
 pub row_entries-append : (row j : ℕ) (ts us : List Term) → row_entries row j (ts ++ us) ≡ row_entries row j ts ++ row_entries row j us
 row_entries-append row j [] us = refl

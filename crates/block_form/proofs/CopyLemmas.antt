@@ -16,11 +16,13 @@ use Rattle.block_form.specs.Homes.{homes_in, further, link_entries, AreHomes, Is
 use Rattle.block_form.specs.Source.{IsSource, copy_in, first_entries}
 use Rattle.block_form.specs.declared.source.Source.{Source}
 use Rattle.block_form.proofs.ColumnLemmas.{master_is}
-use Rattle.block_form.proofs.GatherLemmas.{any_default, passing_few}
+use Rattle.block_program.proofs.StandLemmas.{passing_few}
+use Rattle.block_form.proofs.GatherLemmas.{any_default}
 use Rattle.block_form.proofs.SumLemmas.{further_few}
 use Rattle.block_form.proofs.HomeLemmas.{homes_are}
 use Rattle.block_form.proofs.RangeLemmas.{range_split, first_passing, later_passing, later_place, others_behind}
-use Rattle.block_form.proofs.LinkLemmas.{numbered_from, numbered_append, numbered_zeros, own_rows, own_long, own_first, own_further, cuts_first, cuts_further, others_zeros, links_first, links_further}
+use Rattle.block_program.proofs.NamedRows.{own_rows, own_long}
+use Rattle.block_form.proofs.LinkLemmas.{numbered_from, numbered_append, numbered_zeros, own_first, own_further, cuts_first, cuts_further, others_zeros, links_first, links_further}
 
 -- ---- three parts of the rows of proofs
 

@@ -12,7 +12,7 @@ use Rattle.bp_theory.specs.declared.Cut.{Cut}
 use Rattle.bp_theory.specs.declared.Row.{Row}
 use Rattle.bp_theory.specs.declared.Term.{Term}
 use Rattle.bp_theory.proofs.CutProof.{cuts_are_met_lem}
-use Rattle.block_form.specs.Cuts.{KeepsCuts, AreCutRows}
+use Rattle.block_program.specs.Cuts.{KeepsCuts, AreCutRows}
 
 tidy_from : (n m : ℕ) (ts : List Term) → n ≤ m → IsTidyFrom m ts → IsTidyFrom n ts
 tidy_from n m [] l h = tt

@@ -1,5 +1,5 @@
 -- Gathered blocks.
-use Rattle.std.proofs.Common.{◌≡◌, ℕ, zero, suc, ◌+◌, ◌<◌, ◌≤◌, Bool, true, false, not, if◌then◌else◌, List, [], ◌∷◌, ◌++◌, map, filter, length, get_or, Option, Some, Result, Ok, Err, IfOk, All, refl, sym, ap, subst, ◌∙◌, ⊎_elim, arith, add-one, true≢false}
+use Rattle.std.proofs.Common.{◌≡◌, ℕ, zero, suc, ◌+◌, ◌<◌, ◌≤◌, Bool, true, false, not, if◌then◌else◌, List, [], ◌∷◌, ◌++◌, map, filter, length, get_or, Option, Some, Result, Ok, Err, IfOk, All, refl, sym, ap, subst, ◌∙◌, ⊎_elim, arith, add-one, append_assoc, drop, drop-cons, None, true≢false}
 use Rattle.std.specs.Prelude.{ℤ, IsTrue, ◌↔◌}
 use Rattle.std.specs.List.{range_with_len, AllByRecursion, zip}
 use Rattle.std.proofs.lemmas.Bool.{cases_lt}
@@ -12,11 +12,11 @@ use Rattle.bp_theory.specs.Decomposition.{is_block, row_with_places}
 use Rattle.bp_theory.specs.declared.Span.{Span}
 use Rattle.bp_theory.specs.declared.Row.{Row}
 use Rattle.bp_theory.proofs.DecompositionProof.{below_range}
-use Rattle.block_form.specs.Blocked.{copies_from}
+use Rattle.block_program.specs.Blocked.{copies_from}
 use Rattle.block_form.specs.Gather.{rows_from, is_empty, IsElsewhere}
 use Rattle.block_form.specs.Source.{block_in, copy_in}
 use Rattle.block_form.specs.declared.source.Source.{Source}
-use Rattle.block_form.proofs.StandLemmas.{range_more}
+use Rattle.block_program.proofs.StandLemmas.{range_more}
 
 -- the copies of variables, each with its cost and coefficients
 copies_made : (s : Source) (k : ℕ) (vars : List ℕ)
@@ -65,21 +65,6 @@ filter_below q m (x ∷ xs) h = by (q x) (filter_below q m xs h.1)
 
 pub passing_below : (q : ℕ → Bool) (n : ℕ) → All (λ v. v < n) (filter q (range_with_len 0 n))
 passing_below q n = All-from_recursion (λ v. v < n) (filter q (range_with_len 0 n)) (filter_below q n (range_with_len 0 n) (below_range n 0 n (omega arith)))
-
-filter_few : (q : ℕ → Bool) (xs : List ℕ) → length (filter q xs) ≤ length xs
-filter_few q [] = omega arith
-filter_few q (x ∷ xs) = by (q x) (filter_few q xs)
-  where
-    by : (b : Bool) → length (filter q xs) ≤ length xs → length (if b then x ∷ filter q xs else filter q xs) ≤ suc (length xs)
-    by true rest = omega (arith, rest)
-    by false rest = omega (arith, rest)
-
-length_range : (a n : ℕ) → length (range_with_len a n) ≡ n
-length_range a zero = refl
-length_range a (suc n) = ap suc (length_range (a + 1) n)
-
-pub passing_few : (q : ℕ → Bool) (n : ℕ) → length (filter q (range_with_len 0 n)) ≤ n
-passing_few q n = omega (arith, filter_few q (range_with_len 0 n), length_range 0 n)
 
 -- one number more of a function
 pub map_range_more : {X : Type 0} (f : ℕ → X) (n : ℕ) → map f (range_with_len 0 (n + 1)) ≡ map f (range_with_len 0 n) ++ f n ∷ []
@@ -132,3 +117,24 @@ empty_by false (x ∷ xs) h = refl
 pub if_ok : {X E : Type 0} (r : Result X E) (P Q : X → Type 0) → ((x : X) → P x → Q x) → IfOk r P → IfOk r Q
 if_ok (Ok x) P Q f h = f x h
 if_ok (Err e) P Q f h = tt
+
+-- a row more of a block's rows
+pub rows_more : (k : ℕ) (vars : List ℕ) (rows : List Row) (places : List (Option ℕ)) (i : ℕ) (d : Row) (b : Bool) (all : List Row) → i < length rows
+    → length places ≡ length rows → b ≡ is_block k (get_or places i None)
+    → all ++ rows_from k vars (drop i rows) (drop i places) ≡ rows_from k vars rows places
+    → (if b then all ++ row_with_places vars (get_or rows i d) ∷ [] else all) ++ rows_from k vars (drop (i + 1) rows) (drop (i + 1) places) ≡ rows_from k vars rows places
+rows_more k vars rows places i d b all l each is h =
+    ap (λ n. (if b then all ++ row_with_places vars (get_or rows i d) ∷ [] else all) ++ rows_from k vars (drop n rows) (drop n places)) (add-one i)
+    ∙ by b is ∙ h
+  where
+    cut : rows_from k vars (drop i rows) (drop i places)
+        ≡ (if is_block k (get_or places i None) then row_with_places vars (get_or rows i d) ∷ rows_from k vars (drop (suc i) rows) (drop (suc i) places) else rows_from k vars (drop (suc i) rows) (drop (suc i) places))
+    cut = ap (λ rs. rows_from k vars rs (drop i places)) (drop-cons rows i d l)
+        ∙ ap (λ ps. rows_from k vars (get_or rows i d ∷ drop (suc i) rows) ps) (drop-cons places i None (omega (arith, l, each)))
+
+    by : (t : Bool) → t ≡ is_block k (get_or places i None)
+        → (if t then all ++ row_with_places vars (get_or rows i d) ∷ [] else all) ++ rows_from k vars (drop (suc i) rows) (drop (suc i) places)
+        ≡ all ++ rows_from k vars (drop i rows) (drop i places)
+    by true e = append_assoc all (row_with_places vars (get_or rows i d) ∷ []) (rows_from k vars (drop (suc i) rows) (drop (suc i) places))
+        ∙ ap (λ rest. all ++ rest) (sym (cut ∙ ap (λ u. if u then row_with_places vars (get_or rows i d) ∷ rows_from k vars (drop (suc i) rows) (drop (suc i) places) else rows_from k vars (drop (suc i) rows) (drop (suc i) places)) (sym e)))
+    by false e = ap (λ rest. all ++ rest) (sym (cut ∙ ap (λ u. if u then row_with_places vars (get_or rows i d) ∷ rows_from k vars (drop (suc i) rows) (drop (suc i) places) else rows_from k vars (drop (suc i) rows) (drop (suc i) places)) (sym e)))

@@ -15,7 +15,7 @@ use Rattle.block_form.specs.Gather.{at_home, homeless, is_empty}
 use Rattle.block_form.specs.Homes.{has_block, shown_homes, IsNext, IsNearer, homes_in, AreHomes, IsHeld}
 use Rattle.block_form.proofs.FormLemmas.{block_is, own_block, in_from_stands, stands_from_in}
 use Rattle.block_form.proofs.ColumnLemmas.{placed_stands, stands_placed}
-use Rattle.block_form.proofs.GatherLemmas.{passing_few}
+use Rattle.block_program.proofs.StandLemmas.{passing_few}
 use Rattle.block_form.proofs.RangeLemmas.{among_passing}
 
 -- ---- the next home in a column

@@ -13,7 +13,7 @@ use Rattle.block_form.specs.Source.{IsSource}
 use Rattle.block_form.specs.declared.source.Source.{Source}
 use Rattle.block_form.proofs.CopyLemmas.{links_counted}
 use Rattle.block_form.proofs.RangeLemmas.{kept_passing, at_place, none_pass}
-use Rattle.block_form.proofs.StandLemmas.{passing_rise}
+use Rattle.block_program.proofs.StandLemmas.{passing_rise}
 
 -- who has two homes links
 linking_of : (p : Program) (d : Decomposition) (v : ℕ) → 1 < length (homes_in p d v) → IsLinking p d v

@@ -1,5 +1,3 @@
-pub mod BlockLemmas
-pub mod StandLemmas
 pub mod GatherLemmas
 pub mod FormLemmas
 pub mod BlockingLemmas
@@ -12,6 +10,4 @@ pub mod HomeLemmas
 pub mod CopyLemmas
 pub mod SumLemmas
 pub mod LargeLemmas
-mod NamedRows
-pub mod PlainLemmas
 pub mod CutLemmas

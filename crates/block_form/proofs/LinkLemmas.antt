@@ -1,7 +1,7 @@
 -- The coefficients of copies in the rows that proofs may name.
 use Rattle.std.proofs.Common.{◌≡◌, ◌≢◌, ℕ, zero, suc, ◌+◌, ◌-◌, ◌<◌, ◌≤◌, Bool, true, false, not, ◌||◌, if◌then◌else◌, List, [], ◌∷◌, ◌++◌, map, filter, drop, length, get_or, Option, Some, None, refl, sym, ap, subst, ◌∙◌, ⊎_elim, arith, true≢false, length-append, zero-add, add-one, append_assoc}
 use Rattle.std.specs.Prelude.{ℤ, pos, negsuc, ◌==◌, ◌-ℤ◌}
-use Rattle.std.specs.List.{range_with_len, AllByRecursion, list_any, zip, flat_map, enumerate_from}
+use Rattle.std.specs.List.{AllByRecursion, flat_map, enumerate_from}
 use Rattle.std.specs.List.Sorted.{IsStrictlyIncreasing}
 use Rattle.std.specs.Ordering.{int_eq}
 use Rattle.std.proofs.lemmas.Bool.{cases_lt}
@@ -9,10 +9,11 @@ use Rattle.std.proofs.lemmas.Bool.Decides.{eqb_tells}
 use Rattle.std.proofs.lemmas.List.{length-map, map-append}
 use Rattle.std.proofs.lemmas.List.Concat.{flat_map-append}
 use Rattle.bp_theory.specs.Program.{coefficient}
-use Rattle.bp_theory.specs.Decomposition.{ProofRow, whole_row, link_row, no_row, proof_row, copy_coefficient, at_first, IsTidyFrom}
+use Rattle.bp_theory.specs.Decomposition.{whole_row, link_row, proof_row, copy_coefficient, at_first, IsTidyFrom}
 use Rattle.bp_theory.specs.declared.Term.{Term}
 use Rattle.bp_theory.specs.declared.Row.{Row}
 use Rattle.bp_theory.proofs.DecompositionProof.{eqb_itself}
+use Rattle.block_program.proofs.NamedRows.{own_rows}
 use Rattle.block_form.specs.Columns.{row_entries, column_from}
 use Rattle.block_form.specs.Gather.{coefs_from, master_coefficient}
 use Rattle.block_form.specs.Homes.{link_entries}
@@ -49,14 +50,6 @@ zeros_append (x ∷ xs) ys h g = (h.0, zeros_append xs ys h.1 g)
 -- ---- the program's rows
 
 -- the rows of proofs that are the program's
-abbrev pub own_rows : List Row → List (Option ℕ) → List ProofRow
-own_rows rows places = map (λ (e : Row × Option ℕ). proof_row e.0 e.1) (zip rows places)
-
-pub own_long : (rows : List Row) (places : List (Option ℕ)) → length places ≡ length rows → length (own_rows rows places) ≡ length rows
-own_long [] places each = refl
-own_long (row ∷ rows) [] each = absurd (omega (arith, each))
-own_long (row ∷ rows) (place ∷ places) each = ap suc (own_long rows places (omega (arith, each)))
-
 head_coefficient : (v k : ℕ) (row : Row) (place : Option ℕ) → copy_coefficient true v k (proof_row row place) ≡ master_coefficient v row place
 head_coefficient v k row None = refl
 head_coefficient v k row (Some j) = refl

@@ -10,7 +10,7 @@ use Rattle.bp_theory.specs.declared.Row.{Row}
 use Rattle.bp_theory.proofs.CopyProof.{copies_of_each_lem}
 use Rattle.bp_theory.proofs.CutProof.{cuts_are_met_lem}
 use Rattle.bp_theory.proofs.DecompositionProof.{decomposition_lem, get_or-map_past}
-use Rattle.block_form.specs.Blocked.{RootBlock, BlockedProgram, IsFormed, HasCopyAt, IsFirstCopyAt, ArePlaces}
+use Rattle.block_program.specs.Blocked.{RootBlock, BlockedProgram, IsFormed, HasCopyAt, IsFirstCopyAt, ArePlaces}
 use Rattle.block_form.specs.Places.{IsNoted, IsNotedHere, IsNotedElsewhere, IsFirstFrom}
 
 -- a block of a list, whatever the default

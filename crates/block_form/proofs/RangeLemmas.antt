@@ -8,7 +8,7 @@ use Rattle.std.proofs.lemmas.Bool.Decides.{eqb_tells}
 use Rattle.std.proofs.lemmas.List.{get_or-append-add, append-nil}
 use Rattle.std.proofs.lemmas.List.Elements.{filter-append}
 use Rattle.bp_theory.specs.Decomposition.{place_of}
-use Rattle.block_form.proofs.StandLemmas.{rising, passing_rise}
+use Rattle.block_program.proofs.StandLemmas.{rising, passing_rise}
 
 pub false_by : (b : Bool) → (b ≡ true → ⊥) → b ≡ false
 false_by true h = absurd (h refl)

@@ -1,5 +1,4 @@
--- Other crates cite Blocked, Stand, Gather and Checks. The rest are words of contracts here alone.
-pub mod Blocked
+-- Other crates cite Stand and Checks. The rest are words of contracts here alone.
 pub mod Fitting
 pub mod Stand
 pub mod Gather
@@ -7,5 +6,4 @@ pub mod Checks
 pub mod Places
 pub mod Columns
 pub mod Homes
-pub mod Cuts
 pub mod Source

@@ -1,7 +1,7 @@
 -- Where variables have copies.
 use Rattle.std.specs.Prelude.{◌≡◌, ◌⊎◌, ℕ, ◌<◌, ◌≤◌, List, length, slice_index_or}
 use Rattle.bp_theory.specs.Blocking.{Block}
-use Rattle.block_form.specs.Blocked.{HasCopyAt}
+use Rattle.block_program.specs.Blocked.{HasCopyAt}
 
 -- a variable stands at a place of a block's variables, and that is noted
 pub record IsNotedHere (block : ℕ) (vars : List ℕ) (v : ℕ) (new : ℕ × ℕ) : Type 0 where

@@ -5,7 +5,7 @@ use Rattle.bp_theory.specs.Blocking.{Copy, Block}
 use Rattle.bp_theory.specs.Decomposition.{HasPlaces, ProofRow, proof_rows, is_first, copy_of, rows_of, row_with_places}
 use Rattle.bp_model.specs.Named.{IsKept}
 use Rattle.block_form.specs.Columns.{AreColumns, AreColumnsFrom, master_entries}
-use Rattle.block_form.specs.Cuts.{AreCutRows}
+use Rattle.block_program.specs.Cuts.{AreCutRows}
 use Rattle.block_form.specs.Homes.{further, link_entries, AreHomes, AreLinks}
 use Rattle.block_form.specs.declared.source.Source.{Source}
 

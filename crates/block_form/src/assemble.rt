@@ -7,14 +7,14 @@ ghost use Rattle.bp_theory.specs.declared.Row as rows;
 ghost use Rattle.bp_theory.specs.Program.{span_at};
 ghost use Rattle.bp_theory.specs.Bound.{spans_of};
 ghost use Rattle.bp_theory.specs.Decomposition.{members, lone_variables};
-ghost use Rattle.block_form.specs.Blocked.{HaveRootSpans, RootBlock};
+ghost use Rattle.block_program.specs.Blocked.{HaveRootSpans, RootBlock};
 ghost use Rattle.block_form.specs.Gather.{all_sides, link_sides, named_sides};
 ghost use Rattle.block_form.specs.Homes.{IsHeld};
 ghost use Rattle.block_form.specs.Source.{IsSource, block_in, copy_in};
 
-use crate::block::Block;
 use crate::gather::{at_home, block_rows, homeless};
 use crate::source::Source;
+use block_program::Block;
 use bp_theory::{Items, MasterRow, Row, Sense, Span};
 use std::alloc::{AllocError, Global};
 

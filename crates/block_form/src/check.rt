@@ -3,23 +3,22 @@ ghost use Rattle.std.specs.Prelude.{◌≡◌, [], length, All, IfOk, IfErr, OnO
 ghost use Rattle.bp_theory.specs.Cuts.{cut_rows};
 ghost use Rattle.bp_theory.specs.Decomposition.{HasPlaces, IsMisplaced};
 ghost use Rattle.bp_model.specs.Dec.{HasListed};
-ghost use Rattle.block_form.specs.Blocked.{AreMade, AreParts, IsFormed};
+ghost use Rattle.block_program.specs.Blocked.{AreMade, AreParts, IsFormed};
 ghost use Rattle.block_form.specs.declared.fault.BlockFault.TheVariants.{NoMemory};
 ghost use Rattle.block_form.specs.Checks.{HasBlockFault};
 ghost use Rattle.block_form.specs.Columns.{AreColumns};
-ghost use Rattle.block_form.specs.Cuts.{AreCutRows, KeepsCuts};
+ghost use Rattle.block_program.specs.Cuts.{AreCutRows, KeepsCuts};
 ghost use Rattle.block_form.specs.Homes.{AreHomes};
 ghost use Rattle.block_form.specs.Source.{IsSource};
 
 use crate::assemble::{home_blocks, named_rows, push_lone_blocks};
-use crate::block::Block;
-use crate::blocked::{Base, Blocked};
 use crate::columns::columns_of;
 use crate::fault::{BlockFault, Unblocked};
 use crate::homes::{first_elsewhere, homes_of};
 use crate::links::are_large;
 use crate::places::var_places;
 use crate::source::Source;
+use block_program::{Base, Block, Blocked};
 use bp_model::{Dec, Model};
 use bp_theory::{Cut, Items, MasterRow, Row};
 use std::alloc::{AllocError, Global};

@@ -5,7 +5,7 @@ ghost use Rattle.bp_theory.specs.Blocking.{row_at};
 ghost use Rattle.bp_theory.specs.Bound.{ArePicked, Fits, SignFits, SignsFit};
 ghost use Rattle.block_form.specs.Fitting.{FitRows};
 
-use crate::blocked::Blocked;
+use block_program::Blocked;
 use bp_theory::{MasterRow, Picked, Proof, Sense};
 
 /// The greatest scale of a proof.

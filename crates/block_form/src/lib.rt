@@ -1,10 +1,8 @@
-//! Programs in blocks: the blocks that a decomposition gives a model, zones of its points, and which proofs fit.
-//! All that prices, bounds, branches and checks stands on it.
+//! Making programs in blocks: the blocks that a decomposition gives a model or what it is refused for, the same with
+//! cuts, and which proofs fit.
 #![tactic(auto)]
 
 mod assemble;
-mod block;
-mod blocked;
 mod check;
 mod columns;
 mod fault;
@@ -15,11 +13,8 @@ mod links;
 mod places;
 mod source;
 mod stand;
-mod zone;
 
-pub use block::Block;
-pub use blocked::Blocked;
+pub use block_program::{Block, Blocked, Zone};
 pub use check::{check_blocks, recut};
 pub use fault::{BlockFault, Unblocked};
 pub use fitting::{MAX_MULTIPLIER, MAX_SCALE, fits, signs_fit};
-pub use zone::Zone;

@@ -1,10 +1,10 @@
 // Where each variable has its first copy.
 ghost use Rattle.std.specs.Prelude.{◌≡◌, ℕ, ◌<◌, ◌^◌, length, vec_len, map, All, IfOk, slice_index_or};
 ghost use Rattle.bp_theory.specs.Blocking.{Copy};
-ghost use Rattle.block_form.specs.Blocked.{RootBlock, HasCopyAt, IsFirstCopyAt};
+ghost use Rattle.block_program.specs.Blocked.{RootBlock, HasCopyAt, IsFirstCopyAt};
 ghost use Rattle.block_form.specs.Places.{IsNoted};
 
-use crate::block::Block;
+use block_program::Block;
 use std::alloc::{AllocError, Global};
 
 /// For each variable the number of the first block that has a copy of it, and the copy's place in the block.
@@ -37,12 +37,4 @@ fn note(places: &mut Vec<(u32, u32)>, block: u32, vars: &[u32], count: u32)
     for i in 0..count {
         places[vars[i as usize] as usize] = (block, i);
     }
-}
-
-/// The place of a variable among those of all variables.
-pub fn place_at(places: &[(u32, u32)], var: u32) -> (u32, u32)
-    requires { var < length places.now }
-    ensures { result ≡ slice_index_or places.now var (0, 0) }
-{
-    places[var as usize]
 }

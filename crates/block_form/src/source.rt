@@ -44,7 +44,7 @@ impl<'a> Source<'a> {
     ghost use Rattle.std.specs.Prelude.{◌≡◌, ◌<◌, length, slice_index_or, IfOk};
     ghost use Rattle.bp_theory.specs.Decomposition.{HasPlaces, place_of};
     ghost use Rattle.block_form.specs.Columns.{AreColumns};
-    ghost use Rattle.block_form.specs.Cuts.{AreCutRows};
+    ghost use Rattle.block_program.specs.Cuts.{AreCutRows};
     ghost use Rattle.block_form.specs.Homes.{homes_in, AreHomes, IsHeld};
     ghost use Rattle.block_form.specs.Source.{IsSource, copy_in, first_entries};
 

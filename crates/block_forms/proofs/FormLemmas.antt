@@ -11,7 +11,7 @@ use Rattle.block_forms.specs.Told.{told_point, room_of}
 use Rattle.block_forms.specs.declared.told.Told.{Told}
 use Rattle.bp_theory.specs.Bound.{spans_of}
 use Rattle.bp_theory.specs.declared.Span.{Span}
-use Rattle.block_form.specs.Blocked.{BlockedProgram, RootBlock, IsFormed}
+use Rattle.block_program.specs.Blocked.{BlockedProgram, RootBlock, IsFormed}
 use Rattle.pricing.specs.Form.{IsForm}
 use Rattle.pricing.specs.Priced.{IsCheapest}
 use Rattle.pricing.proofs.BlockLaws.{blocks_have_form_lem}

@@ -4,7 +4,7 @@ use Rattle.bp_theory.specs.Blocking.{Block}
 use Rattle.bp_theory.specs.Bound.{spans_of}
 use Rattle.bp_theory.specs.declared.Span.{Span}
 use Rattle.bp_theory.specs.declared.Row.{Row}
-use Rattle.block_form.specs.Blocked.{RootBlock, BlockedProgram}
+use Rattle.block_program.specs.Blocked.{RootBlock, BlockedProgram}
 
 -- the rows of a block and its spans at the root
 pub record BlockForm : Type 0 where

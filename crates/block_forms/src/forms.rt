@@ -3,7 +3,7 @@ ghost use Rattle.std.specs.Prelude.{◌≡◌};
 ghost use Rattle.std.specs.Bool.{OnTrue};
 ghost use Rattle.block_forms.specs.Forms.{form_in};
 
-use block_form::Block;
+use block_program::Block;
 use bp_theory::{Row, Sense, Span, Term};
 
 /// Whether two blocks have the same rows and the same spans at the root.

@@ -4,7 +4,7 @@ ghost use Rattle.block_forms.specs.Forms.{forms_in};
 ghost use Rattle.block_forms.specs.Seats.{AreSeated};
 
 use crate::forms::{hash_of, have_same_form};
-use block_form::Blocked;
+use block_program::Blocked;
 use std::alloc::{AllocError, Global};
 
 /// How many places of the table are looked at for a form.

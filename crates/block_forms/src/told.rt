@@ -3,7 +3,7 @@ ghost use Rattle.std.specs.Prelude.{◌≡◌, ℕ, None, IfOk, map, vec_len, sl
 ghost use Rattle.block_forms.specs.Forms.{forms_in, span_count};
 ghost use Rattle.block_forms.specs.Told.{told_point, room_of};
 
-use block_form::Blocked;
+use block_program::Blocked;
 use std::alloc::{AllocError, Global};
 
 /// Room for a point of a block, and whether it is told.

@@ -13,9 +13,9 @@ use Rattle.bp_theory.specs.Cuts.{cut_rows}
 use Rattle.bp_theory.proofs.CutProof.{cuts_are_met_lem}
 use Rattle.bp_theory.proofs.DecompositionProof.{decomposition_lem}
 use Rattle.bp_model.specs.Named.{NamedProgram}
-use Rattle.block_form.specs.Blocked.{BlockedProgram, IsFormed}
+use Rattle.block_program.specs.Blocked.{BlockedProgram, IsFormed}
 use Rattle.block_form.proofs.GatherLemmas.{passing_below}
-use Rattle.block_form.proofs.StandLemmas.{passing_more}
+use Rattle.block_program.proofs.StandLemmas.{passing_more}
 use Rattle.dec_words.specs.Text.{spaced}
 use Rattle.search_laws.specs.Spread.{block_at}
 use Rattle.block_lines.specs.Blocks.{rows_of_block, name_of, counted_names, shown_block}

@@ -9,8 +9,8 @@ use Rattle.bp_theory.specs.Cuts.{cut_row, cut_rows}
 use Rattle.bp_theory.specs.Decomposition.{Decomposition, ProofRow, whole_row, links_of, proof_rows, full_row, link_count}
 use Rattle.bp_theory.specs.declared.Cut.{Cut}
 use Rattle.bp_theory.specs.declared.Row.{Row}
-use Rattle.block_form.specs.Blocked.{BlockedProgram, IsFormed}
-use Rattle.block_form.proofs.LinkLemmas.{own_rows, own_long}
+use Rattle.block_program.specs.Blocked.{BlockedProgram, IsFormed}
+use Rattle.block_program.proofs.NamedRows.{own_rows, own_long}
 
 as_many_cuts : (p : Program) (d : Decomposition) (earlier : List Row) (cuts : List Cut) → length (cut_rows p d earlier cuts) ≡ length earlier + length cuts
 as_many_cuts p d earlier [] = omega arith

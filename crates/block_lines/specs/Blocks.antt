@@ -3,7 +3,7 @@ use Rattle.std.specs.Prelude.{ℕ, ◌+◌, ◌==◌, nat_lt, if◌then◌else�
 use Rattle.std.specs.List.{range_with_len, flat_map}
 use Rattle.bp_theory.specs.Blocking.{Copy}
 use Rattle.bp_theory.specs.Decomposition.{is_block, link_count}
-use Rattle.block_form.specs.Blocked.{BlockedProgram}
+use Rattle.block_program.specs.Blocked.{BlockedProgram}
 use Rattle.search_laws.specs.Spread.{block_at, class_at, class_blocks}
 use Rattle.block_class.specs.Classes.{Grouping}
 use Rattle.dec_words.specs.Text.{spaced}

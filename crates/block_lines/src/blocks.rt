@@ -6,7 +6,7 @@ ghost use Rattle.bp_theory.specs.Decomposition.{IsPlace, is_block};
 ghost use Rattle.search_laws.specs.Spread.{block_at};
 ghost use Rattle.block_lines.specs.Blocks.{rows_of_block, counted_names, shown_block, shown_blocks};
 
-use block_form::Blocked;
+use block_program::Blocked;
 use bp_model::Model;
 use bp_theory::Items;
 use report_lines::push_named;

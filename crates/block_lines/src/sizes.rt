@@ -5,7 +5,7 @@ ghost use Rattle.block_class.specs.Classes.{AreSameClasses};
 ghost use Rattle.block_lines.specs.Blocks.{size_lines, links_line, class_line, line_of_class, class_lines, first_classes, proposed_line};
 
 use block_class::Classes;
-use block_form::{Block, Blocked};
+use block_program::{Block, Blocked};
 use report_lines::{push_count_line, push_named};
 use std::alloc::AllocError;
 

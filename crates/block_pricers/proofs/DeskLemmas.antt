@@ -6,7 +6,7 @@ use Rattle.bp_theory.specs.Blocking.{Block}
 use Rattle.block_pricers.specs.Desks.{form_of}
 use Rattle.block_pricers.specs.declared.desk.Desk.{Desk}
 use Rattle.bp_theory.specs.Bound.{spans_of}
-use Rattle.block_form.specs.Blocked.{BlockedProgram}
+use Rattle.block_program.specs.Blocked.{BlockedProgram}
 use Rattle.block_forms.specs.Forms.{BlockForm, no_form, form_at, form_with, forms_in}
 use Rattle.load_table.specs.Taken.{IsTaken}
 use Rattle.search_laws.specs.Spread.{block_at}

@@ -6,7 +6,7 @@ use Rattle.block_pricers.specs.Desks.{form_of, priced_point}
 use Rattle.block_forms.specs.Told.{room_of, told_point}
 use Rattle.block_pricers.specs.declared.desk.Desk.{Desk}
 use Rattle.block_forms.specs.Seats.{AreSeated}
-use Rattle.block_form.specs.Blocked.{BlockedProgram}
+use Rattle.block_program.specs.Blocked.{BlockedProgram}
 use Rattle.block_pricers.specs.Works.{forms_of}
 use Rattle.block_pricers.specs.declared.work.Work.{Work}
 use Rattle.block_forms.proofs.SeatLemmas.{seated_forms, seats_there}

@@ -2,7 +2,7 @@
 use Rattle.std.specs.Prelude.{◌≡◌, ◌↔◌, ℕ, ◌<◌, List, [], length, map, ℤ, Option, None, IsTrue, slice_index_or}
 use Rattle.bp_theory.specs.Bound.{spans_of}
 use Rattle.search_laws.specs.Spread.{block_at}
-use Rattle.block_form.specs.Blocked.{BlockedProgram}
+use Rattle.block_program.specs.Blocked.{BlockedProgram}
 use Rattle.load_table.specs.Taken.{IsTaken}
 use Rattle.block_forms.specs.Forms.{BlockForm, form_at}
 use Rattle.block_pricers.specs.Pricers.{is_table}

@@ -2,7 +2,7 @@
 ghost use Rattle.block_pricers.specs.Rooms.{HasRoom};
 
 use crate::pricers::{BlockPricer, GraphRoom};
-use block_form::{Block, Zone};
+use block_program::{Block, Zone};
 use bp_theory::{Proof, Span};
 use knap_price::Cells;
 use pricing::{Cap, Priced};

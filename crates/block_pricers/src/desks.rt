@@ -1,6 +1,6 @@
 // The desks of a program's blocks, one for all blocks of a form.
 ghost use Rattle.std.specs.Prelude.{◌≡◌, ◌<◌, ◌≤◌, ℕ, None, IfOk, All, length, map, vec_len, slice_index_or};
-ghost use Rattle.block_form.specs.Blocked.{IsFormed};
+ghost use Rattle.block_program.specs.Blocked.{IsFormed};
 ghost use Rattle.block_pricers.specs.declared.desk.Desk.{Desk};
 ghost use Rattle.block_pricers.specs.Desks.{form_of, HaveGraphs};
 ghost use Rattle.block_forms.specs.Forms.{form_at, forms_in};
@@ -8,7 +8,7 @@ ghost use Rattle.block_pricers.specs.Pricers.{AreEnough, IsFitting};
 
 use crate::desk::Desk;
 use crate::pricers::GraphRoom;
-use block_form::Blocked;
+use block_program::Blocked;
 use std::alloc::{AllocError, Global};
 
 /// The larger of two counts.

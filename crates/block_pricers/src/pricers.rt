@@ -4,7 +4,7 @@ ghost use Rattle.pricing.specs.Form.{IsForm, AreOf};
 ghost use Rattle.state_price.specs.Kept.{rows_of as states_rows, spans_of as states_spans};
 ghost use Rattle.block_pricers.specs.Pricers.{IsUngraphed, HasSpent};
 
-use block_form::Block;
+use block_program::Block;
 use bp_theory::Span;
 use knap_price::{Cells, KnapPlan, KnapPricer};
 use pricing::{Cap, Priced, Pricer};

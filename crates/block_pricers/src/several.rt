@@ -9,7 +9,7 @@ ghost use Rattle.proof_costs.specs.Sizes.{IsSmallBlock, IsSmallProof};
 
 use crate::desk::Desk;
 use crate::work::Work;
-use block_form::{Block, Blocked, Zone};
+use block_program::{Block, Blocked, Zone};
 use bp_theory::Proof;
 use std::alloc::{AllocError, Global};
 
@@ -52,7 +52,7 @@ impl Work {
     ghost use Rattle.std.specs.Bool.{OnTrue};
     ghost use Rattle.bp_theory.specs.Bound.{Fits, IsPoint, spans_of};
     ghost use Rattle.bp_theory.specs.Trees.{IsZone};
-    ghost use Rattle.block_form.specs.Blocked.{IsFormed};
+    ghost use Rattle.block_program.specs.Blocked.{IsFormed};
     ghost use Rattle.search_laws.specs.Spread.{block_at};
     ghost use Rattle.block_forms.specs.Forms.{forms_in};
     ghost use Rattle.block_pricers.specs.Works.{forms_of, priced_at};

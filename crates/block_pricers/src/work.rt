@@ -12,8 +12,8 @@ ghost use Rattle.block_forms.specs.Told.{room_of};
 
 use crate::desk::Desk;
 use crate::desks::{clear, desks_of};
-use block_form::{Block, Blocked, Zone};
 use block_forms::{Told, rooms_of, seated, silence};
+use block_program::{Block, Blocked, Zone};
 use bp_theory::Proof;
 use knap_price::Cells;
 use pricing::{Cap, Priced};
@@ -53,7 +53,7 @@ impl Work {
     ghost use Rattle.bp_theory.specs.Bound.{Fits, spans_of};
     ghost use Rattle.bp_theory.specs.Trees.{IsZone};
     ghost use Rattle.search_laws.specs.Spread.{block_at};
-    ghost use Rattle.block_form.specs.Blocked.{IsFormed};
+    ghost use Rattle.block_program.specs.Blocked.{IsFormed};
     ghost use Rattle.pricing.specs.Priced.{IsPriced};
     ghost use Rattle.block_forms.specs.Forms.{forms_in, form_at, span_count};
     ghost use Rattle.proof_costs.specs.Sizes.{reduced_costs};

@@ -20,7 +20,7 @@ use Rattle.search_laws.specs.declared.Side.{Side}
 use Rattle.search_laws.specs.Grove.{GrowingTree}
 use Rattle.lp_meaning.specs.Reading as lp_text
 use Rattle.lp_read.proofs.Readings as lp_laws
-use Rattle.block_form.specs.Blocked.{BlockedProgram, IsFormed}
+use Rattle.block_program.specs.Blocked.{BlockedProgram, IsFormed}
 use Rattle.cert_form.specs.Cert.{Frame}
 use Rattle.cert_form.specs.Fault.{IsCertText}
 use Rattle.cert_form.specs.Written.{cert_of}

@@ -6,7 +6,7 @@ use Rattle.std.proofs.lemmas.List.{map-set, map_push, length-map, length-set}
 use Rattle.bp_theory.specs.Program.{Program}
 use Rattle.bp_theory.specs.Blocking.{Blocking}
 use Rattle.bp_theory.specs.Trees.{steps}
-use Rattle.block_form.specs.Blocked.{BlockedProgram}
+use Rattle.block_program.specs.Blocked.{BlockedProgram}
 use Rattle.search_laws.specs.declared.Side.{Side}
 use Rattle.search_laws.specs.declared.Event.{Event}
 use Rattle.search_laws.specs.declared.Kind.{Kind}

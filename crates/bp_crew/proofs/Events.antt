@@ -5,7 +5,7 @@ use Rattle.std.proofs.lemmas.List.{map-set, length-map, length-set}
 use Rattle.std.proofs.lemmas.List.Sums.{count_by-le-length}
 use Rattle.bp_theory.specs.Program.{Program}
 use Rattle.bp_theory.specs.declared.Span.{Span}
-use Rattle.block_form.specs.Blocked.{BlockedProgram, IsFormed}
+use Rattle.block_program.specs.Blocked.{BlockedProgram, IsFormed}
 use Rattle.search_laws.specs.declared.Side.{Side}
 use Rattle.search_laws.specs.declared.Side.TheVariants.{Low, High}
 use Rattle.search_laws.specs.declared.Event.{Event}

@@ -1,6 +1,6 @@
 -- Runs of a crew whose events are drawn.
 use Rattle.std.specs.Prelude.{◌≡◌, ◌+◌, ◌<◌, ℕ, Bool, true, false, List, ◌++◌, map, length, Option, Some, None, is_some, slice_index_or}
-use Rattle.block_form.specs.Blocked.{BlockedProgram}
+use Rattle.block_program.specs.Blocked.{BlockedProgram}
 use Rattle.search_laws.specs.declared.Event.{Event}
 use Rattle.search_laws.specs.Crew.{Crew, CrewEvent, drops as drops', IsRun, listed, idle_crew, free_count}
 use Rattle.branch_tree.specs.Adopted.{point_in}

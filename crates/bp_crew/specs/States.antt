@@ -2,7 +2,7 @@
 use Rattle.std.specs.Prelude.{◌≡◌, ◌+◌, ◌<◌, ◌≤◌, ◌^◌, ℕ, List, [], ◌∷◌, ◌++◌, map, Option, Some, None, option_map, is_some, IfSome, unsigned_abs, slice_index_or, slice_set, replicate, count_by, refl}
 use Rattle.bp_theory.specs.Limits.{number_limit}
 use Rattle.std.specs.Coded.{Coded, code_by, coded×, coded_list, coded_option}
-use Rattle.block_form.specs.Blocked.{BlockedProgram, IsFormed}
+use Rattle.block_program.specs.Blocked.{BlockedProgram, IsFormed}
 use Rattle.search_laws.specs.declared.Event.{Event}
 use Rattle.search_laws.specs.declared.Kind.TheVariants.{Take, Drop}
 use Rattle.search_laws.specs.declared.Verdict.{Verdict}

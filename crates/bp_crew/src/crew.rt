@@ -5,7 +5,7 @@ use crate::choice::{Choice, picked};
 use crate::first::first_free;
 use crate::hand::{Hand, holds_of, no_hands};
 use crate::steps::{add, grow_held, kind_of};
-use block_form::Blocked;
+use block_program::Blocked;
 use bp_search::{Kept, conclude, cost_of, keep, kept_from};
 use branch_tree::{Grove, Loaded, Outcome, Turn, Verdict};
 use search_laws::{Event, Kind};
@@ -40,7 +40,7 @@ impl std::marker::Model for Crew {
 impl Crew {
     ghost use Rattle.std.specs.Prelude.{◌≡◌, ◌≤◌, ◌<◌, ◌-◌, ◌^◌, ◌%◌, ℕ, List, length, slice_get, Some, None, IfOk, OnOk, OnErr, MatchOption};
     ghost use Rattle.bp_theory.specs.Trees.{steps};
-    ghost use Rattle.block_form.specs.Blocked.{BlockedProgram};
+    ghost use Rattle.block_program.specs.Blocked.{BlockedProgram};
     ghost use Rattle.search_laws.specs.declared.Side.{Side};
     ghost use Rattle.search_laws.specs.Crew.{takes, reports, drops, free_count};
     ghost use Rattle.search_laws.specs.Grove.{live_count, certificate_tree};

@@ -12,7 +12,7 @@ ghost use Rattle.bp_crew.specs.Runs.{IsAllowed, IsDone, IsDrawnTo, IsLetGo, IsLe
 
 use crate::choice::{Choice, Task, drops_after, next_state, picked};
 use crate::crew::Crew;
-use block_form::Blocked;
+use block_program::Blocked;
 use bp_search::MAX_STEPS;
 use branch_tree::{Loaded, Outcome, Verdict};
 use node_eval::evaluate;

@@ -9,7 +9,7 @@ ghost use Rattle.branch_tree.specs.Groves.{IsStanding, IsGroveOf};
 ghost use Rattle.bp_crew.specs.Hands.{IsGrown, CanGrowHeld};
 
 use crate::hand::Hand;
-use block_form::Blocked;
+use block_program::Blocked;
 use bp_search::grow;
 use branch_tree::{Grove, Next};
 use search_laws::{Event, Kind};

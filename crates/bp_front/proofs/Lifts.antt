@@ -1,7 +1,7 @@
 -- What is right for a program in blocks is right for the files that come to it, and no other status is.
 use Rattle.std.proofs.Common.{◌≡◌, subst, ℕ, Bool, List, Option, ◌∙◌, [], ◌≢◌, ◌⊎◌, inl, inr}
 use Rattle.bp_shelf.specs.Shelf.{Files}
-use Rattle.block_form.specs.Blocked.{BlockedProgram}
+use Rattle.block_program.specs.Blocked.{BlockedProgram}
 use Rattle.branch_tree.specs.declared.outcome.Outcome.{Outcome}
 use Rattle.bp_front.specs.Front.{FilesCome, blocked, ends}
 use Rattle.bp_front.specs.Answers.{AnswersFront, stopped, went_on, AnswersBy, IsOnly, CutsOff}

@@ -11,9 +11,9 @@ use Rattle.lp_meaning.specs.Model.{Means}
 use Rattle.lp_read.proofs.Readings as lp_laws
 use Rattle.dec_read.specs.Reading as dec_text
 use Rattle.dec_read.specs.declared.fault.DecKind.{DecKind}
-use Rattle.block_form.specs.Blocked.{BlockedProgram, IsFormed}
+use Rattle.block_program.specs.Blocked.{BlockedProgram, IsFormed}
 use Rattle.block_form.specs.Checks.{HasBlockFault}
-use Rattle.block_form.proofs.PlainLemmas.{plain_blocking}
+use Rattle.block_program.proofs.PlainLemmas.{plain_blocking}
 use Rattle.bp_theory.specs.declared.Cut.{Cut}
 use Rattle.block_form.specs.declared.fault.BlockFault.{BlockFault}
 use Rattle.block_form.specs.declared.fault.BlockFault.TheVariants.{VarPlace, Links, NoMemory}

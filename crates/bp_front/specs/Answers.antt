@@ -1,7 +1,7 @@
 -- What a run answers from the told files, whatever its command: the forms of the commands' theorems.
 use Rattle.std.specs.Prelude.{◌≡◌, ◌≢◌, ℕ, ◌<◌, ◌⊎◌, Bool, IsTrue, List, ◌++◌, take, Option, Some, None}
 use Rattle.bp_shelf.specs.Shelf.{Files, Rose, OthersAsBefore, next_count}
-use Rattle.block_form.specs.Blocked.{BlockedProgram}
+use Rattle.block_program.specs.Blocked.{BlockedProgram}
 use Rattle.branch_tree.specs.declared.outcome.Outcome.{Outcome}
 use Rattle.bp_front.specs.Front.{FilesCome, blocked, ends}
 

@@ -9,7 +9,7 @@ use Rattle.lp_meaning.specs.Reading as lp_text
 use Rattle.lp_meaning.specs.Model.{Means}
 use Rattle.dec_read.specs.declared.fault.DecKind.{DecKind}
 use Rattle.dec_read.specs.Reading as dec_text
-use Rattle.block_form.specs.Blocked.{BlockedProgram, IsFormed}
+use Rattle.block_program.specs.Blocked.{BlockedProgram, IsFormed}
 use Rattle.block_form.specs.Checks.{HasBlockFault}
 use Rattle.block_form.specs.declared.fault.BlockFault.{BlockFault}
 use Rattle.block_form.specs.declared.fault.BlockFault.TheVariants.{NoMemory}

@@ -13,7 +13,8 @@ ghost use Rattle.bp_front.specs.declared.front.Halt.TheVariants.{Refused, Stoppe
 ghost use Rattle.bp_shelf.specs.declared.shelf.ShelfFault.TheVariants.{NoMemory};
 
 use crate::read::read_front;
-use block_form::{BlockFault, Blocked, check_blocks};
+use block_form::{BlockFault, check_blocks};
+use block_program::Blocked;
 use bp_model::{Dec, Model};
 use bp_report::{blocks_text, dec_text, lp_text};
 use bp_shelf::{Shelf, ShelfFault};

@@ -1,7 +1,7 @@
 -- The report on a decomposition that was proposed.
 use Rattle.std.proofs.Common.{◌≡◌, ℕ, List, [], ◌++◌, ap, ◌∙◌}
 use Rattle.std.specs.Prelude.{count_by, is_none}
-use Rattle.block_form.specs.Blocked.{BlockedProgram}
+use Rattle.block_program.specs.Blocked.{BlockedProgram}
 use Rattle.block_class.specs.Classes.{Grouping}
 use Rattle.block_lines.specs.Blocks.{first_classes, proposed_line}
 use Rattle.bp_report.specs.Report.{proposed_report}

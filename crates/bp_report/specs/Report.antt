@@ -1,7 +1,7 @@
 -- The bytes of reports: lines of words with single spaces between, each line ended by one line feed.
 use Rattle.std.specs.Prelude.{ℕ, ℤ, Bool, if◌then◌else◌, length, count_by, is_none, List, [], ◌++◌, Option, codes, decimal}
 use Rattle.bp_model.specs.Named.{NamedProgram}
-use Rattle.block_form.specs.Blocked.{BlockedProgram}
+use Rattle.block_program.specs.Blocked.{BlockedProgram}
 use Rattle.block_class.specs.Classes.{Grouping}
 use Rattle.branch_tree.specs.declared.outcome.Outcome.{Outcome}
 use Rattle.report_lines.specs.Lines.{count_line}

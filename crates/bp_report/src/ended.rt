@@ -5,7 +5,7 @@ ghost use Rattle.bp_theory.specs.Program.{IsInside};
 ghost use Rattle.search_lines.specs.Searches.{CanTell};
 ghost use Rattle.bp_report.specs.Report.{ended_report, budget_report, solve_report};
 
-use block_form::Blocked;
+use block_program::Blocked;
 use bp_model::Model;
 use branch_tree::Outcome;
 use search_lines::{point_of, push_budget, push_ended, push_known, push_outcome};

@@ -14,7 +14,7 @@ use Rattle.bp_theory.specs.declared.Row.{Row}
 use Rattle.bp_theory.proofs.CutProof.{cuts_are_met_lem}
 use Rattle.bp_theory.proofs.DecompositionProof.{decomposition_lem}
 use Rattle.bp_theory.proofs.FaithProof.{adding_up_lem}
-use Rattle.block_form.specs.Blocked.{BlockedProgram, IsFormed}
+use Rattle.block_program.specs.Blocked.{BlockedProgram, IsFormed}
 use Rattle.search_laws.specs.Grove.{GrowingTree, live_count, live_bounds, certificate_tree}
 use Rattle.search_laws.specs.GroveFacts.{IsSearch, IsLeastOf, IsRemainingBound, best_cost}
 use Rattle.search_laws.specs.Outcomes.{CutsFit, final_claim, stopped_claim}

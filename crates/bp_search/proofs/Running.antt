@@ -6,7 +6,7 @@ use Rattle.bp_theory.specs.Program.{Program, cost}
 use Rattle.bp_theory.specs.Trees.{steps}
 use Rattle.bp_theory.specs.declared.Span.{Span}
 use Rattle.bp_model.proofs.PointLemmas.{cost_small}
-use Rattle.block_form.specs.Blocked.{BlockedProgram, IsFormed}
+use Rattle.block_program.specs.Blocked.{BlockedProgram, IsFormed}
 use Rattle.search_laws.specs.Grove.{GrowingTree, zone_at, fork_at, certificate_tree}
 use Rattle.search_laws.specs.GroveFacts.{IsGrove, IsSized, IsSearch, IsNoDearer, best_cost}
 use Rattle.search_laws.specs.Verdicts.{IsVerdict, IsNext, better, grown, cheaper_cost}

@@ -12,7 +12,7 @@ use Rattle.bp_theory.specs.declared.Span.{Span}
 use Rattle.bp_theory.proofs.ZipLaws.{AllZip-length}
 use Rattle.bp_model.specs.Named.{HasSmallEnds}
 use Rattle.bp_model.proofs.PointLemmas.{cost_small}
-use Rattle.block_form.specs.Blocked.{BlockedProgram, IsFormed}
+use Rattle.block_program.specs.Blocked.{BlockedProgram, IsFormed}
 use Rattle.search_laws.specs.Grove.{GrowingTree, live, shut, fork, leaves_below, live_count, live_bounds, certificate_tree}
 use Rattle.search_laws.specs.GroveFacts.{IsSearch, IsGrove, IsKept, IsRemainingBound, best_cost}
 use Rattle.search_laws.specs.declared.Side.{Side}

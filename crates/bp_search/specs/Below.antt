@@ -1,7 +1,7 @@
 -- How a search may end that works only at and below a path.
 use Rattle.std.specs.Prelude.{◌≡◌, ◌⊎◌, ℕ, ◌+◌, ◌≤◌, List, Option}
 use Rattle.bp_theory.specs.Trees.{steps}
-use Rattle.block_form.specs.Blocked.{BlockedProgram}
+use Rattle.block_program.specs.Blocked.{BlockedProgram}
 use Rattle.search_laws.specs.declared.Side.{Side}
 use Rattle.search_laws.specs.Grove.{GrowingTree, put_at, certificate_tree}
 use Rattle.branch_tree.specs.Groves.{NoneLiveBelow}

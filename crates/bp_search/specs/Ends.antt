@@ -5,7 +5,7 @@ use Rattle.bp_theory.specs.Program.{IsFeasible, IsBest, cost}
 use Rattle.bp_theory.specs.Trees.{steps}
 use Rattle.bp_theory.specs.Claims.{IsCertified}
 use Rattle.bp_theory.specs.declared.Claim.{Claim}
-use Rattle.block_form.specs.Blocked.{BlockedProgram}
+use Rattle.block_program.specs.Blocked.{BlockedProgram}
 use Rattle.search_laws.specs.Grove.{GrowingTree, live_count, live_bounds, certificate_tree}
 use Rattle.search_laws.specs.GroveFacts.{IsSearch, IsLeastOf, IsRemainingBound}
 use Rattle.search_laws.specs.Outcomes.{final_claim, stopped_claim, read_off}

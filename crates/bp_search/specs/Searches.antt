@@ -4,7 +4,7 @@ use Rattle.bp_theory.specs.Limits.{greatest_depth}
 use Rattle.bp_theory.specs.Program.{Program, cost}
 use Rattle.bp_theory.specs.Blocking.{Blocking}
 use Rattle.bp_theory.specs.Trees.{IsSoundSplit}
-use Rattle.block_form.specs.Blocked.{BlockedProgram}
+use Rattle.block_program.specs.Blocked.{BlockedProgram}
 use Rattle.search_laws.specs.GroveFacts.{IsSearch, IsSoundProof, KeepsBound}
 use Rattle.search_laws.specs.declared.Next.{Next}
 use Rattle.search_laws.specs.declared.Next.TheVariants.{Shut, Fork}

@@ -12,7 +12,7 @@ use crate::MAX_STEPS;
 use crate::ends::conclude;
 use crate::kept::{Kept, kept_from};
 use crate::steps::step;
-use block_form::Blocked;
+use block_program::Blocked;
 use branch_tree::{Grove, Loaded, Outcome};
 use node_hint::Pools;
 use search_laws::Side;

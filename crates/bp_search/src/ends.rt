@@ -9,7 +9,7 @@ ghost use Rattle.bp_search.specs.Searches.{kept_point, kept_cost, as_pair, IsRun
 ghost use Rattle.branch_tree.specs.declared.outcome.Outcome.TheVariants.{Budget};
 
 use crate::kept::Kept;
-use block_form::Blocked;
+use block_program::Blocked;
 use branch_tree::{Grove, Outcome};
 
 /// How a search ends whose steps are taken, or that has no live leaf.

@@ -6,7 +6,7 @@ ghost use Rattle.search_laws.specs.Verdicts.{grown};
 ghost use Rattle.branch_tree.specs.Groves.{IsStanding, IsGroveOf, IsLiveTurn};
 ghost use Rattle.bp_search.specs.Searches.{CanGrow};
 
-use block_form::Blocked;
+use block_program::Blocked;
 use branch_tree::{Grove, Next, Turn};
 use std::alloc::{AllocError, Global};
 

@@ -4,7 +4,7 @@ ghost use Rattle.bp_theory.specs.Program.{IsFeasible};
 ghost use Rattle.search_laws.specs.Verdicts.{better};
 ghost use Rattle.bp_search.specs.Searches.{kept_point, kept_cost, as_pair, is_cheaper, HasItsCost};
 
-use block_form::Blocked;
+use block_program::Blocked;
 use bp_theory::Items;
 
 /// The cheapest point so far, and its cost.

@@ -17,7 +17,7 @@ ghost use Rattle.bp_search.specs.Ends.{EndsWithin, IsOutcome, last_step};
 
 use crate::steps::take_steps;
 pub use below::resume_below;
-use block_form::Blocked;
+use block_program::Blocked;
 use branch_tree::{Loaded, Outcome};
 pub use cert_load::{LoadFault, load, with_cuts_of};
 pub use ends::conclude;

@@ -9,7 +9,7 @@ ghost use Rattle.bp_search.specs.Below.{IsAsBeside};
 
 use crate::growth::grow;
 use crate::kept::{Kept, cost_of, keep};
-use block_form::Blocked;
+use block_program::Blocked;
 use branch_tree::{Grove, Turn, Verdict};
 use node_eval::evaluate;
 use node_hint::Pools;

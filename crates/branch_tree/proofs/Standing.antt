@@ -9,8 +9,8 @@ use Rattle.bp_theory.specs.Bound.{IsBound, plain_proof}
 use Rattle.bp_theory.specs.Trees.{HasSoundSplits, IsProper, IsZone, IsSoundSplit, steps, depth, low_part, high_part}
 use Rattle.bp_theory.specs.declared.Span.{Span}
 use Rattle.bp_theory.specs.declared.Proof.{Proof}
-use Rattle.block_form.specs.Blocked.{BlockedProgram}
-use Rattle.block_form.proofs.BlockLemmas.{root_zone, part_zones}
+use Rattle.block_program.specs.Blocked.{BlockedProgram}
+use Rattle.block_program.proofs.BlockLemmas.{root_zone, part_zones}
 use Rattle.search_laws.specs.Grove.{GrowingTree, GrowingLeaf, LiveLeaf, live, shut, fork, live_at, zone_at, put_at, shut_at, fork_at, live_count, live_bounds, certificate_tree, growing_leaves, planted}
 use Rattle.search_laws.specs.GroveFacts.{IsGrove, IsKept, IsSoundProof, KeepsBound, IsLeastOf}
 use Rattle.search_laws.specs.Queue.{Queue, IsQueue, IsWith, IsWithout, IsFirstEntry, IsEmptyQueue, SameKey}

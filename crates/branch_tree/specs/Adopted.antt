@@ -1,7 +1,7 @@
 -- A grove that a tree is made into, and a tree from which a search goes on.
 use Rattle.std.specs.Prelude.{◌≡◌, List, Option, Some, option_map, IfSome, ℤ}
 use Rattle.bp_theory.specs.Program.{cost}
-use Rattle.block_form.specs.Blocked.{BlockedProgram}
+use Rattle.block_program.specs.Blocked.{BlockedProgram}
 use Rattle.search_laws.specs.declared.Side.{Side}
 use Rattle.search_laws.specs.Grove.{GrowingTree, LiveLeaf, live_at}
 use Rattle.search_laws.specs.GroveFacts.{IsSearch}

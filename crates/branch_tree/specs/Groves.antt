@@ -7,7 +7,7 @@ use Rattle.bp_theory.specs.Bound.{IsBound, plain_proof}
 use Rattle.bp_theory.specs.Trees.{HasSoundSplits, IsProper, steps, depth}
 use Rattle.bp_theory.specs.declared.Span.{Span}
 use Rattle.bp_theory.specs.contracts.Span as span_type
-use Rattle.block_form.specs.Blocked.{BlockedProgram}
+use Rattle.block_program.specs.Blocked.{BlockedProgram}
 use Rattle.search_laws.specs.declared.Side.{Side}
 use Rattle.search_laws.specs.contracts.Side as side_type
 use Rattle.search_laws.specs.declared.Side.TheVariants.{Low, High}

@@ -1,6 +1,6 @@
 -- What a loaded tree keeps.
 use Rattle.std.specs.Prelude.{◌≡◌, None}
-use Rattle.block_form.specs.Blocked.{BlockedProgram}
+use Rattle.block_program.specs.Blocked.{BlockedProgram}
 use Rattle.branch_tree.specs.Groves.{IsPlanted}
 use Rattle.branch_tree.specs.Adopted.{IsSearchState}
 use Rattle.branch_tree.specs.declared.loaded.Loaded.{Loaded}

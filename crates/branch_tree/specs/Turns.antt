@@ -2,7 +2,7 @@
 use Rattle.std.specs.Prelude.{◌≡◌, ◌≤◌, length}
 use Rattle.bp_theory.specs.Limits.{greatest_depth}
 use Rattle.bp_theory.specs.Trees.{IsZone}
-use Rattle.block_form.specs.Blocked.{BlockedProgram}
+use Rattle.block_program.specs.Blocked.{BlockedProgram}
 use Rattle.search_laws.specs.GroveFacts.{IsSoundProof, KeepsBound}
 use Rattle.grove_parts.specs.declared.turn.Turn.{Turn}
 

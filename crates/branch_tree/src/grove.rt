@@ -1,5 +1,5 @@
 // The tree of a search with the queue of its live leaves.
-use block_form::{Blocked, Zone};
+use block_program::{Blocked, Zone};
 use bp_theory::{Items, Proof};
 use grove_parts::{
     LeafQueue, Tree, Turn, bound_of, depth_in, filled_queue, fork_leaf, key_at, plain_bound,
@@ -56,7 +56,7 @@ impl Grove {
     ghost use Rattle.bp_theory.specs.Trees.{IsSoundSplit, steps, depth};
     ghost use Rattle.search_laws.specs.Grove.{shut_at, fork_at, live_count, live_bounds, certificate_tree};
     ghost use Rattle.search_laws.specs.GroveFacts.{IsGrove, IsSoundProof, KeepsBound, IsLeastOf};
-    ghost use Rattle.block_form.specs.Blocked.{BlockedProgram};
+    ghost use Rattle.block_program.specs.Blocked.{BlockedProgram};
     ghost use Rattle.branch_tree.specs.Turns.{IsTurn};
     ghost use Rattle.grove_parts.specs.Trees.{tree_of};
     ghost use Rattle.grove_parts.specs.Queues.{queue_of};

@@ -4,7 +4,7 @@ ghost use Rattle.bp_theory.specs.Trees.{steps};
 ghost use Rattle.search_laws.specs.Grove.{certificate_tree};
 
 use crate::grove::Grove;
-use block_form::Blocked;
+use block_program::Blocked;
 use bp_theory::Items;
 use std::alloc::{AllocError, Global};
 

@@ -4,7 +4,7 @@ ghost use Rattle.bp_theory.specs.Trees.{IsZone};
 use crate::told::Told;
 use crate::zones::narrowed;
 use block_class::Classes;
-use block_form::{Blocked, Zone};
+use block_program::{Blocked, Zone};
 use std::alloc::{AllocError, Global};
 
 /// The classes at the root, where the first block's first variable ends at 1, and where that of the second does too.

@@ -5,7 +5,7 @@ ghost use Rattle.branch_tree.specs.Turns.{IsTurn};
 
 use crate::told::Told;
 use crate::zones::is_sound;
-use block_form::{Blocked, Zone};
+use block_program::{Blocked, Zone};
 use branch_tree::{Grove, MAX_DEPTH, Turn, proof_copy};
 use std::alloc::{AllocError, Global};
 

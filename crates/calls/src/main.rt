@@ -13,7 +13,7 @@ mod spread_calls;
 mod told;
 mod zones;
 
-use block_form::Blocked;
+use block_program::Blocked;
 use reading::blocks_of;
 use std::alloc::{AllocError, Global};
 use std::io::Write;

@@ -3,7 +3,7 @@ ghost use Rattle.std.specs.Prelude.{◌≡◌, length};
 ghost use Rattle.col_pool.specs.Pools.{IsPoolOf};
 
 use crate::told::Told;
-use block_form::{Block, Blocked};
+use block_program::{Block, Blocked};
 use col_pool::{Added, Pool, PoolFault};
 use std::alloc::{AllocError, Global};
 

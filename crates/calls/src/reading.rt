@@ -3,7 +3,8 @@ ghost use Rattle.std.specs.Prelude.{IfSome};
 ghost use Rattle.bp_theory.specs.Decomposition.{HasPlaces};
 ghost use Rattle.bp_model.specs.Dec.{HasListed};
 
-use block_form::{Blocked, check_blocks};
+use block_form::check_blocks;
+use block_program::Blocked;
 use bp_model::{Dec, Model};
 use dec_read::read_dec;
 use lp_read::read_lp;

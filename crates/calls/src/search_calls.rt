@@ -2,7 +2,7 @@
 ghost use Rattle.std.specs.Prelude.{◌≤◌, length};
 
 use crate::told::Told;
-use block_form::Blocked;
+use block_program::Blocked;
 use bp_crew::{Crew, Event, run_crew};
 use bp_search::resume;
 use branch_tree::{Loaded, Outcome};

@@ -7,7 +7,7 @@ ghost use Rattle.disagg.specs.Spreads.{HasWeight};
 
 use crate::told::Told;
 use block_class::Classes;
-use block_form::{Blocked, Zone};
+use block_program::{Blocked, Zone};
 use bp_theory::Items;
 use col_pool::{Pool, PoolFault};
 use disagg::{Used, spread};

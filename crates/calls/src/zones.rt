@@ -2,7 +2,7 @@
 ghost use Rattle.std.specs.Prelude.{IfOk, IsTrue};
 ghost use Rattle.bp_theory.specs.Trees.{IsSoundSplit, IsZone};
 
-use block_form::{Blocked, Zone};
+use block_program::{Blocked, Zone};
 use std::alloc::{AllocError, Global};
 
 /// The part of a zone with the numbers of a variable up to `at`, or the whole zone where no number would be left on a

@@ -12,7 +12,7 @@ use Rattle.bp_theory.specs.Trees.{IsZone, IsSubspan}
 use Rattle.bp_theory.proofs.ZipLaws.{AllZip-length}
 use Rattle.bp_theory.proofs.DecompositionProof.{decomposition_lem}
 use Rattle.bp_theory.proofs.CutProof.{cuts_are_met_lem}
-use Rattle.block_form.specs.Blocked.{BlockedProgram, IsFormed}
+use Rattle.block_program.specs.Blocked.{BlockedProgram, IsFormed}
 use Rattle.bp_theory.specs.Bound.{is_picked}
 use Rattle.bp_theory.specs.Classes.{IsSame}
 use Rattle.bp_theory.specs.declared.Span.{Span}

@@ -13,7 +13,7 @@ use Rattle.bp_theory.specs.declared.Claim.{Claim}
 use Rattle.bp_theory.specs.declared.Cut.{Cut}
 use Rattle.bp_theory.specs.declared.Row.{Row}
 use Rattle.bp_theory.specs.declared.Span.{Span}
-use Rattle.block_form.specs.Cuts.{KeepsCuts}
+use Rattle.block_program.specs.Cuts.{KeepsCuts}
 use Rattle.round_sums.specs.Cutting.{IsCutOver, IsEarlierCut, HasFittingSigns}
 use Rattle.round_cut.specs.Several.{AreCutsOver, AreRowsOfCuts}
 use Rattle.round_cut.proofs.SeveralLemmas.{as_many_rows}

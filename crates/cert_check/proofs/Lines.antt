@@ -16,7 +16,7 @@ use Rattle.bp_theory.specs.declared.Claim.TheVariants.{Optimal, Infeasible, Boun
 use Rattle.bp_theory.specs.declared.CheckKind.{CheckKind}
 use Rattle.bp_theory.specs.declared.CheckKind.TheVariants.{Split, Sign, Weak, Open}
 use Rattle.bp_theory.proofs.ShrinkProof.{one_bound_lem}
-use Rattle.block_form.proofs.BlockLemmas.{part_zones}
+use Rattle.block_program.proofs.BlockLemmas.{part_zones}
 use Rattle.cert_check.specs.Judging.{ProofsFit, IsLeft, IsAfforded, Exceeds, LeavesOf, EndsWalk, IsEnd, JudgesLines}
 use Rattle.cert_check.proofs.LineVisits.{nothing_spent, split_left, both_left, afforded_by}
 use Rattle.cert_check.specs.declared.place.NodePlace.{NodePlace}

@@ -22,8 +22,8 @@ use Rattle.bp_theory.specs.declared.Cut.{Cut}
 use Rattle.bp_theory.specs.declared.Row.{Row}
 use Rattle.bp_theory.proofs.JudgeProof.{judged_lem}
 use Rattle.bp_theory.proofs.CutProof.{certified_is_true_lem}
-use Rattle.block_form.specs.Blocked.{BlockedProgram, IsFormed}
-use Rattle.block_form.specs.Cuts.{KeepsCuts}
+use Rattle.block_program.specs.Blocked.{BlockedProgram, IsFormed}
+use Rattle.block_program.specs.Cuts.{KeepsCuts}
 use Rattle.bp_model.specs.Named.{NamedProgram}
 use Rattle.cert_form.specs.Written.{certificate}
 use Rattle.cert_text.specs.Programs as texts

@@ -9,7 +9,7 @@ use Rattle.bp_theory.specs.Judgement.{Line, cut_line, cut_lines, Passes, HasFaul
 use Rattle.bp_theory.specs.declared.Claim.{Claim}
 use Rattle.bp_theory.specs.declared.Cut.{Cut}
 use Rattle.bp_theory.specs.declared.Row.{Row}
-use Rattle.block_form.specs.Blocked.{BlockedProgram, IsFormed}
+use Rattle.block_program.specs.Blocked.{BlockedProgram, IsFormed}
 use Rattle.round_sums.specs.Cutting.{IsEarlierCut, HasFittingSigns}
 use Rattle.round_cut.specs.Several.{AreRowsOfCuts}
 use Rattle.cert_check.specs.Judging.{IsFirstBad}

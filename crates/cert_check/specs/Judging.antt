@@ -14,7 +14,7 @@ use Rattle.bp_theory.specs.declared.CheckKind.{CheckKind}
 use Rattle.bp_theory.specs.declared.CheckKind.TheVariants.{PointBound, PointRow}
 use Rattle.bp_model.specs.declared.points.Miss.{Miss}
 use Rattle.bp_model.specs.declared.points.Miss.TheVariants as misses
-use Rattle.block_form.specs.Blocked.{BlockedProgram}
+use Rattle.block_program.specs.Blocked.{BlockedProgram}
 use Rattle.lagr_bound.specs.declared.bounded.Bounded.{Bounded}
 use Rattle.lagr_bound.specs.declared.bounded.Bounded.TheVariants as bounds
 use Rattle.cert_check.specs.declared.place.NodePlace.{NodePlace}

@@ -7,7 +7,7 @@ ghost use Rattle.round_cut.specs.Several.{AreCutsOver};
 ghost use Rattle.cert_check.specs.Cutting.{JudgesCut, JudgesCuts};
 
 use crate::place::Rejection;
-use block_form::Blocked;
+use block_program::Blocked;
 use bp_theory::{CheckKind, Cut, Items, Row};
 use round_cut::{CutFault, cut_row};
 use std::alloc::{AllocError, Global};

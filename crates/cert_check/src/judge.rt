@@ -11,7 +11,7 @@ use crate::cuts::judge_cuts;
 use crate::place::{NodePlace, Rejection, Stop};
 use crate::point::judge_point;
 use crate::tree::judge_tree;
-use block_form::{Blocked, Zone};
+use block_program::{Blocked, Zone};
 use bp_theory::{CheckKind, Claim, Row};
 use cert_text::Cert;
 use round_cut::with_cuts;

@@ -1,5 +1,5 @@
 // Where a walk over a tree of a certificate stands, and lines that end it.
-use block_form::Zone;
+use block_program::Zone;
 use bp_theory::CheckKind;
 
 /// Where a walk over a tree stands: the zone of a node, the number of the line that comes next, and how many visits are left

@@ -9,7 +9,7 @@ ghost use Rattle.cert_form.specs.Kept.{certificate_of};
 ghost use Rattle.cert_check.specs.Judging.{kind_of, JudgesPoint};
 
 use crate::place::Rejection;
-use block_form::Blocked;
+use block_program::Blocked;
 use bp_model::{Miss, Model};
 use bp_theory::{CheckKind, Claim};
 use cert_text::Cert;

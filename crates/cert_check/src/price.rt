@@ -10,7 +10,7 @@ ghost use Rattle.block_pricers.specs.Works.{forms_of};
 ghost use Rattle.cert_check.specs.Judging.{whole_of};
 
 use block_class::Classes;
-use block_form::{Blocked, Zone};
+use block_program::{Blocked, Zone};
 use bp_theory::{Picked, Proof};
 use lagr_bound::{Bounded, Work, bound, box_bound};
 use pricing::Cap;

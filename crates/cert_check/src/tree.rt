@@ -11,7 +11,7 @@ ghost use Rattle.cert_check.specs.Judging.{ProofsFit, JudgesLines};
 
 use crate::leaf::judge_leaf;
 use crate::place::{NodePlace, Stop};
-use block_form::{Blocked, Zone};
+use block_program::{Blocked, Zone};
 use bp_theory::{CheckKind, Claim, Span};
 use cert_text::Sketch;
 use lagr_bound::Work;

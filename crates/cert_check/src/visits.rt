@@ -8,7 +8,7 @@ ghost use Rattle.cert_check.specs.Judging.{IsSpentOn};
 
 use crate::price::picks_nothing;
 use block_class::Classes;
-use block_form::{Blocked, Zone};
+use block_program::{Blocked, Zone};
 use bp_theory::{Proof, Span};
 use knap_price::KnapPricer;
 use lagr_bound::{fill_spans, is_picked};

@@ -1,7 +1,7 @@
 -- A search may go on with further cuts.
 use Rattle.std.proofs.Common.{◌≡◌, ◌∙◌, refl, sym, ap, subst, List, ◌++◌}
 use Rattle.bp_theory.specs.declared.Cut.{Cut}
-use Rattle.block_form.specs.Blocked.{BlockedProgram, IsFormed}
+use Rattle.block_program.specs.Blocked.{BlockedProgram, IsFormed}
 use Rattle.search_laws.proofs.MoreCutsProof.{further_cuts_keep_lem}
 use Rattle.branch_tree.specs.Adopted.{point_in}
 use Rattle.branch_tree.specs.Loads.{IsLoaded}

@@ -5,7 +5,7 @@ use Rattle.bp_theory.specs.Decomposition.{Decomposition, blocking_of}
 use Rattle.bp_theory.specs.Cuts.{cut_rows}
 use Rattle.bp_theory.specs.declared.Cut.{Cut}
 use Rattle.bp_model.specs.Named.{NamedProgram}
-use Rattle.block_form.specs.Blocked.{BlockedProgram, IsFormed}
+use Rattle.block_program.specs.Blocked.{BlockedProgram, IsFormed}
 use Rattle.bp_theory.specs.Claims.{Certificate}
 use Rattle.cert_text.specs.Programs.{GoesWith}
 use Rattle.cert_load.specs.Recut.{with_cuts}

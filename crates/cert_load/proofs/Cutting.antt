@@ -8,8 +8,8 @@ use Rattle.bp_theory.specs.Cuts.{cut_row}
 use Rattle.bp_theory.specs.Claims.{Certificate, IsCertified}
 use Rattle.bp_theory.specs.declared.Row.{Row}
 use Rattle.bp_theory.specs.declared.Cut.{Cut}
-use Rattle.block_form.specs.Blocked.{BlockedProgram}
-use Rattle.block_form.specs.Cuts.{IsSmallCut, KeepsCuts}
+use Rattle.block_program.specs.Blocked.{BlockedProgram}
+use Rattle.block_program.specs.Cuts.{IsSmallCut, KeepsCuts}
 use Rattle.cert_text.specs.Programs.{AreOver, GoesWith}
 
 all_small : (p : Program) (d : Decomposition) (earlier : List Row) (cuts : List Cut) → AreOver p d earlier cuts → AllByRecursion IsSmallCut cuts

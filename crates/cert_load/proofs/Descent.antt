@@ -22,7 +22,7 @@ use Rattle.bp_theory.specs.declared.Claim.TheVariants.{Optimal, Infeasible, Boun
 use Rattle.bp_theory.proofs.Whole.{le-mul_pos}
 use Rattle.bp_theory.proofs.ShrinkProof.{one_bound_lem}
 use Rattle.bp_theory.proofs.TruthProof.{older_lem}
-use Rattle.block_form.specs.Blocked.{BlockedProgram, IsFormed}
+use Rattle.block_program.specs.Blocked.{BlockedProgram, IsFormed}
 use Rattle.search_laws.specs.Grove.{GrowingTree, live, shut, fork, live_count, certificate_tree}
 use Rattle.search_laws.specs.GroveFacts.{Settles}
 use Rattle.search_laws.specs.Loading.{rounded_bound, LoadsLeaf, Loads}

@@ -4,7 +4,7 @@ use Rattle.bp_theory.specs.Limits.{greatest_depth}
 use Rattle.bp_theory.specs.Blocking.{Blocking}
 use Rattle.bp_theory.specs.Trees.{Tree, depth, IsZone}
 use Rattle.bp_theory.specs.Claims.{Certificate}
-use Rattle.block_form.specs.Blocked.{BlockedProgram}
+use Rattle.block_program.specs.Blocked.{BlockedProgram}
 use Rattle.search_laws.specs.Grove.{GrowingTree}
 use Rattle.search_laws.specs.GroveFacts.{best_cost}
 use Rattle.search_laws.specs.Loading.{Loads}

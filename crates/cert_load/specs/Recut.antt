@@ -3,7 +3,7 @@ use Rattle.std.specs.Prelude.{List, []}
 use Rattle.bp_theory.specs.Decomposition.{blocking_of}
 use Rattle.bp_theory.specs.Cuts.{cut_rows}
 use Rattle.bp_theory.specs.declared.Cut.{Cut}
-use Rattle.block_form.specs.Blocked.{BlockedProgram}
+use Rattle.block_program.specs.Blocked.{BlockedProgram}
 
 -- the program in blocks of the same model and the same decomposition that has these cuts
 abbrev pub with_cuts : BlockedProgram → List Cut → BlockedProgram

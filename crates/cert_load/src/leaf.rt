@@ -7,7 +7,7 @@ ghost use Rattle.search_laws.specs.Loading.{LoadsLeaf};
 ghost use Rattle.grove_parts.specs.Trees.{tree_of};
 ghost use Rattle.cert_load.specs.Rooms.{CanLoadLeaf, SettlesBy};
 
-use block_form::{Blocked, Zone};
+use block_program::{Blocked, Zone};
 use bp_theory::Proof;
 use branch_tree::{Tree, proof_copy};
 use cert_check::bound_in;

@@ -20,7 +20,7 @@ ghost use Rattle.cert_load.specs.Loadings.{IsLoadedTree, LoadsCert, MayLoad, IsL
 use crate::fault::LoadFault;
 use crate::leaf::load_leaf;
 use crate::walk::{Walk, back, pass, to_high, to_low};
-use block_form::{Blocked, Zone};
+use block_program::{Blocked, Zone};
 use bp_theory::{Items, Proof};
 use branch_tree::{Grove, Loaded, Tree};
 use cert_text::{Cert, Sketch};

@@ -5,7 +5,7 @@ ghost use Rattle.cert_form.specs.Kept.{certificate_of};
 ghost use Rattle.cert_text.specs.Programs.{GoesWith};
 ghost use Rattle.cert_load.specs.Recut.{with_cuts};
 
-use block_form::Blocked;
+use block_program::Blocked;
 use cert_text::Cert;
 use round_cut::{CutFault, with_cuts};
 use std::alloc::{AllocError, Global};

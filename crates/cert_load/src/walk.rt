@@ -6,7 +6,7 @@ ghost use Rattle.std.specs.Int.{int_gap};
 ghost use Rattle.grove_parts.specs.Trees.{tree_of};
 ghost use Rattle.cert_load.specs.Rooms.{rooms, FindsDeep, FindsBehind, IsLeaf};
 
-use block_form::Zone;
+use block_program::Zone;
 use bp_theory::Span;
 use branch_tree::{MAX_DEPTH, Tree};
 

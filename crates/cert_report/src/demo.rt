@@ -4,7 +4,7 @@ ghost use Rattle.search_lines.specs.Searches.{CanTell};
 ghost use Rattle.cert_report.specs.Certificates.{demo_line, demo_report};
 
 use crate::checked::push_judged;
-use block_form::Blocked;
+use block_program::Blocked;
 use branch_tree::Outcome;
 use cert_check::Judged;
 use report_lines::push_count;

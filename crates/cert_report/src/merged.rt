@@ -8,7 +8,7 @@ ghost use Rattle.search_laws.specs.Grove.{live_count};
 ghost use Rattle.cert_text.specs.Outcomes.{claim_of, grove_of};
 ghost use Rattle.cert_report.specs.Certificates.{claim_words, merged_report};
 
-use block_form::Blocked;
+use block_program::Blocked;
 use bp_theory::Items;
 use branch_tree::{Grove, Outcome};
 use itoa::Buffer;

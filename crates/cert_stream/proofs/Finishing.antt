@@ -8,7 +8,7 @@ use Rattle.bp_theory.specs.Judgement.{Line, tree_lines, Passes}
 use Rattle.bp_theory.specs.declared.Span.{Span}
 use Rattle.bp_theory.specs.declared.Claim.{Claim}
 use Rattle.bp_theory.specs.declared.Cut.{Cut}
-use Rattle.block_form.specs.Blocked.{BlockedProgram, IsFormed}
+use Rattle.block_program.specs.Blocked.{BlockedProgram, IsFormed}
 use Rattle.cert_form.specs.Cert as texts
 use Rattle.cert_form.specs.Fault.{IsCertText, IsFirstCertFault}
 use Rattle.cert_form.specs.Frames.{frame_of}

@@ -11,7 +11,7 @@ use Rattle.bp_theory.specs.declared.Claim.{Claim}
 use Rattle.bp_theory.specs.declared.Cut.{Cut}
 use Rattle.bp_theory.specs.declared.Proof.{Proof}
 use Rattle.bp_theory.specs.declared.Picked.TheVariants.{Every}
-use Rattle.block_form.specs.Blocked.{BlockedProgram, IsFormed}
+use Rattle.block_program.specs.Blocked.{BlockedProgram, IsFormed}
 use Rattle.cert_form.specs.Cert as texts
 use Rattle.cert_form.specs.Fault.{IsSeenFault}
 use Rattle.cert_form.specs.Frames.{frame_of}

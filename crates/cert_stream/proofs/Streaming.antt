@@ -23,7 +23,7 @@ use Rattle.cert_form.specs.Plain.{version_with, head_text, tree_text, plain_text
 use Rattle.cert_write.specs.Changes.{changing_nodes}
 use Rattle.bp_shelf.specs.Shelf.{Files}
 use Rattle.branch_tree.specs.declared.outcome.Outcome.{Outcome}
-use Rattle.block_form.specs.Blocked.{BlockedProgram, IsFormed}
+use Rattle.block_program.specs.Blocked.{BlockedProgram, IsFormed}
 use Rattle.cert_file.specs.Appends.{Adds, Appends, Heads}
 use Rattle.cert_stream.specs.Streams.{HoldsText, IsTextOf, Rewrites, Streams, StreamsText}
 use Rattle.cert_file.specs.declared.stop.StreamStop.{StreamStop}

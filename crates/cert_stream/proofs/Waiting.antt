@@ -2,7 +2,7 @@
 use Rattle.std.proofs.Common.{◌≡◌, ◌⊎◌, ℕ, Bool, true, false, List, [], ◌∷◌, ◌++◌, length, take, map, Option, Some, None, Result, ℤ, negsuc, refl, sym, ap, ◌∙◌, subst, inl, inr, ⊎_elim, ◌<◌, ◌≤◌, arith, append_assoc, append-nil}
 use Rattle.std.proofs.lemmas.Grind.{flat_map-append}
 use Rattle.std.proofs.lemmas.List.{append_cancel_left}
-use Rattle.block_form.specs.Blocked.{BlockedProgram}
+use Rattle.block_program.specs.Blocked.{BlockedProgram}
 use Rattle.cert_form.specs.Cert as texts
 use Rattle.cert_form.specs.Cert.{Cert}
 use Rattle.cert_form.specs.Text.{Kind, Token, Words, Figure, LineEnd, meant, signed_numeral, token_text, text_of, tokens_of}

@@ -5,7 +5,7 @@ use Rattle.bp_theory.specs.Blocking.{Blocking}
 use Rattle.bp_theory.specs.Trees.{Tree}
 use Rattle.bp_theory.specs.declared.Claim.{Claim}
 use Rattle.bp_theory.specs.declared.Cut.{Cut}
-use Rattle.block_form.specs.Blocked.{BlockedProgram, IsFormed}
+use Rattle.block_program.specs.Blocked.{BlockedProgram, IsFormed}
 use Rattle.cert_form.specs.Fault.{IsCertText, IsFirstCertFault, IsSeenFault}
 use Rattle.cert_form.specs.Frames.{frame_of}
 use Rattle.cert_text.specs.Programs.{frame_for, GoesWith}

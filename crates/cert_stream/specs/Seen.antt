@@ -1,6 +1,6 @@
 -- When feeding a checker answers a fault.
 use Rattle.std.specs.Prelude.{ℕ, List, Result, Ok, Err}
-use Rattle.block_form.specs.Blocked.{BlockedProgram}
+use Rattle.block_program.specs.Blocked.{BlockedProgram}
 use Rattle.cert_form.specs.Fault.{IsSeenFault}
 use Rattle.cert_text.specs.Programs.{frame_for}
 use Rattle.cert_form.specs.declared.fault.CertKind.{CertKind}

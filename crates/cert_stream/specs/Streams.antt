@@ -2,7 +2,7 @@
 use Rattle.std.specs.Prelude.{◌≡◌, ℕ, ◌⊎◌, List, ◌++◌, Some, Result, Ok, Err}
 use Rattle.bp_shelf.specs.Shelf.{Files, OthersAsBefore}
 use Rattle.search_laws.specs.Outcomes.{read_off}
-use Rattle.block_form.specs.Blocked.{BlockedProgram}
+use Rattle.block_program.specs.Blocked.{BlockedProgram}
 use Rattle.branch_tree.specs.declared.outcome.Outcome.{Outcome}
 use Rattle.cert_form.specs.Cert.{Frame}
 use Rattle.cert_form.specs.Fault.{IsText}

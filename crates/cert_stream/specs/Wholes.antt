@@ -1,6 +1,6 @@
 -- What is answered of a text in pieces is what reading the whole text and judging it answers.
 use Rattle.std.specs.Prelude.{◌≡◌, ℕ, List, Option, Ok, Err}
-use Rattle.block_form.specs.Blocked.{BlockedProgram}
+use Rattle.block_program.specs.Blocked.{BlockedProgram}
 use Rattle.cert_form.specs.Kept.{certificate_of}
 use Rattle.cert_text.specs.Programs.{ReadsFor}
 use Rattle.cert_form.specs.Text.{Kind}

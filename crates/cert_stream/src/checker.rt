@@ -2,7 +2,7 @@
 ghost use Rattle.std.specs.Prelude.{◌≡◌, ℕ, ◌+◌, ◌≤◌, ◌<◌, ◌^◌, List, [], ◌∷◌, ◌++◌, length, Option, None, Some, Result, Err, IfOk, IfSome, OnOk, IsErrOf};
 ghost use Rattle.bp_theory.specs.Limits.{greatest_depth};
 ghost use Rattle.bp_theory.specs.declared.Span.{Span};
-ghost use Rattle.block_form.specs.Blocked.{BlockedProgram, IsFormed};
+ghost use Rattle.block_program.specs.Blocked.{BlockedProgram, IsFormed};
 ghost use Rattle.cert_lines.specs.declared.lines.Event.TheVariants as e;
 ghost use Rattle.block_forms.specs.Forms.{forms_in};
 ghost use Rattle.block_pricers.specs.Works.{forms_of};
@@ -14,7 +14,7 @@ ghost use Rattle.cert_stream.specs.Seen.{TellsSeen};
 ghost use Rattle.cert_stream.specs.declared.fault.FeedFault as faults;
 
 use crate::fault::{FeedFault, feed_fault};
-use block_form::{Blocked, Zone};
+use block_program::{Blocked, Zone};
 use bp_theory::{Cut, Proof};
 use cert_check::{Judged, NodePlace, Stop};
 use cert_text::{Event, Frame, Lines, SplitPlace, program_frame};

@@ -7,7 +7,7 @@ ghost use Rattle.cert_text.specs.Programs.{frame_for};
 ghost use Rattle.cert_file.specs.Appends.{Appends, CountsStop};
 ghost use Rattle.cert_stream.specs.Streams.{Rewrites, Streams};
 
-use block_form::Blocked;
+use block_program::Blocked;
 use bp_shelf::Shelf;
 use branch_tree::Outcome;
 use cert_file::{StreamStop, put_heads, put_line, put_nodes, put_sketch};

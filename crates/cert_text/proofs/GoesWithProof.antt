@@ -23,7 +23,7 @@ use Rattle.bp_theory.specs.declared.Picked.{Picked}
 use Rattle.bp_theory.specs.declared.Picked.TheVariants.{Every, These}
 use Rattle.bp_theory.specs.declared.Claim.{Claim}
 use Rattle.bp_theory.specs.declared.Claim.TheVariants.{Optimal, Infeasible, Bound}
-use Rattle.block_form.specs.Blocked.{BlockedProgram, IsFormed}
+use Rattle.block_program.specs.Blocked.{BlockedProgram, IsFormed}
 use Rattle.cert_form.specs.Cert as texts
 use Rattle.cert_form.specs.Text.{Version, first_kind, is_past, may_name, blocks_behind, picked_words, value_fault, claim_lines, meant_tree}
 use Rattle.cert_form.specs.Fault.{AreClean, IsCertText, IsFirstCertFault}

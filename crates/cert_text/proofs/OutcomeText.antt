@@ -17,8 +17,8 @@ use Rattle.bp_theory.specs.declared.Span.{Span}
 use Rattle.bp_theory.specs.declared.Row.{Row}
 use Rattle.bp_theory.specs.declared.Cut.{Cut}
 use Rattle.bp_theory.specs.declared.Claim.{Claim}
-use Rattle.block_form.specs.Blocked.{BlockedProgram, IsFormed}
-use Rattle.block_form.specs.Cuts.{IsSmallCut}
+use Rattle.block_program.specs.Blocked.{BlockedProgram, IsFormed}
+use Rattle.block_program.specs.Cuts.{IsSmallCut}
 use Rattle.search_laws.specs.Grove.{GrowingTree, certificate_tree}
 use Rattle.search_laws.specs.GroveFacts.{IsGrove}
 use Rattle.search_laws.specs.Outcomes.{read_off}

@@ -28,7 +28,7 @@ use Rattle.bp_theory.specs.declared.Picked.TheVariants.{Every, These}
 use Rattle.bp_theory.specs.declared.Claim.{Claim}
 use Rattle.bp_theory.specs.declared.Claim.TheVariants.{Optimal, Infeasible, Bound}
 use Rattle.bp_model.specs.Named.{HasSmallEnds}
-use Rattle.block_form.specs.Blocked.{BlockedProgram, IsFormed}
+use Rattle.block_program.specs.Blocked.{BlockedProgram, IsFormed}
 use Rattle.cert_form.specs.Cert as texts
 use Rattle.cert_form.specs.Text.{Kind, Token, LineEnd, first_kind, is_past, divisor_fault, multiplier_fault, may_combine, point_values, claim_lines, cut_lines, pairs_behind, blocks_behind, picked_words, One, Three}
 use Rattle.cert_form.specs.Fault.{AreClean, IsText}

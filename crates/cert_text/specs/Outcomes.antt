@@ -5,7 +5,7 @@ use Rattle.std.specs.Option.{option_map}
 use Rattle.bp_theory.specs.Program.{in_sense}
 use Rattle.bp_theory.specs.declared.Claim.{Claim}
 use Rattle.bp_theory.specs.declared.Claim.TheVariants as claim
-use Rattle.block_form.specs.Blocked.{BlockedProgram}
+use Rattle.block_program.specs.Blocked.{BlockedProgram}
 use Rattle.branch_tree.specs.Groves.{GroveState, IsGroveOf}
 use Rattle.branch_tree.specs.declared.outcome.Outcome.{Outcome}
 use Rattle.branch_tree.specs.declared.outcome.Outcome.TheVariants.{Optimal, Infeasible, Budget}

@@ -13,8 +13,8 @@ use Rattle.bp_theory.specs.declared.Row.{Row}
 use Rattle.bp_theory.specs.declared.Cut.{Cut}
 use Rattle.bp_theory.specs.declared.Claim.{Claim}
 use Rattle.bp_theory.specs.declared.Claim.TheVariants.{Optimal, Infeasible, Bound}
-use Rattle.block_form.specs.Blocked.{BlockedProgram, IsFormed}
-use Rattle.block_form.specs.Cuts.{IsSmallCut}
+use Rattle.block_program.specs.Blocked.{BlockedProgram, IsFormed}
+use Rattle.block_program.specs.Cuts.{IsSmallCut}
 use Rattle.cert_form.specs.Cert as texts
 use Rattle.bp_theory.specs.Limits.{greatest_depth, most_cuts, number_limit}
 use Rattle.cert_form.specs.Text.{One, Three}

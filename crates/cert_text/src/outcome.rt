@@ -13,7 +13,7 @@ ghost use Rattle.cert_write.specs.Changes.{changing_nodes, last_mults};
 ghost use Rattle.cert_text.specs.Programs.{frame_for};
 ghost use Rattle.cert_text.specs.Outcomes.{grove_of, claim_of, point_of, HasSmallNumbers, IsWritable};
 
-use block_form::Blocked;
+use block_program::Blocked;
 use bp_theory::{Claim, Cut, Items};
 use branch_tree::{Grove, Outcome, Tree};
 use cert_write::{put_changed_leaf, put_head, put_split};

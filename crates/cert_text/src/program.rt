@@ -1,12 +1,12 @@
 // Certificates read and written for a program in blocks.
 ghost use Rattle.std.specs.Prelude.{◌≡◌, IfOk, OnOk};
-ghost use Rattle.block_form.specs.Blocked.{IsFormed};
+ghost use Rattle.block_program.specs.Blocked.{IsFormed};
 ghost use Rattle.cert_form.specs.Kept.{certificate_of};
 ghost use Rattle.cert_form.specs.Frames.{frame_of};
 ghost use Rattle.cert_text.specs.Programs.{masters_of, links_behind, frame_for, ReadsFor, GoesWith};
 
 use crate::reader::read;
-use block_form::Blocked;
+use block_program::Blocked;
 use bp_theory::Items;
 use cert_form::{Cert, CertFault, Frame};
 use std::alloc::{AllocError, Global};

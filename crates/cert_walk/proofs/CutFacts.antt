@@ -5,7 +5,7 @@ use Rattle.bp_theory.specs.Decomposition.{proof_rows}
 use Rattle.bp_theory.specs.declared.Cut.{Cut}
 use Rattle.bp_theory.specs.declared.Row.{Row}
 use Rattle.bp_model.specs.Named.{NamedProgram}
-use Rattle.block_form.specs.Blocked.{BlockedProgram, IsFormed}
+use Rattle.block_program.specs.Blocked.{BlockedProgram, IsFormed}
 use Rattle.round_cut.specs.Several.{AreRowsOfCuts}
 use Rattle.round_sums.specs.Cutting.{IsCutOver}
 use Rattle.round_cut.proofs.SeveralLemmas.{no_rows, one_row_more}

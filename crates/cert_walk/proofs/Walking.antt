@@ -22,7 +22,7 @@ use Rattle.bp_theory.specs.declared.Cut.{Cut}
 use Rattle.bp_theory.specs.declared.Row.{Row}
 use Rattle.bp_theory.specs.declared.CheckKind.{CheckKind}
 use Rattle.bp_theory.specs.declared.CheckKind.TheVariants.{Split}
-use Rattle.block_form.specs.Blocked.{BlockedProgram}
+use Rattle.block_program.specs.Blocked.{BlockedProgram}
 use Rattle.cert_text.specs.Programs.{IsSmallClaim}
 use Rattle.round_sums.specs.Cutting.{IsCutOver}
 use Rattle.round_cut.specs.Several.{AreRowsOfCuts}

@@ -1,7 +1,7 @@
 -- The cuts that came of a certificate, and the program with them.
 use Rattle.std.specs.Prelude.{◌≡◌, List, [], Option, Some, None, IfSome}
 use Rattle.bp_theory.specs.declared.Cut.{Cut}
-use Rattle.block_form.specs.Blocked.{BlockedProgram}
+use Rattle.block_program.specs.Blocked.{BlockedProgram}
 use Rattle.round_cut.specs.Several.{AreRowsOfCuts}
 use Rattle.cert_check.specs.Cutting.{HasCuts}
 use Rattle.cert_walk.specs.declared.cutting.Cutting.{Cutting}

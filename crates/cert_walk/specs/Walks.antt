@@ -12,7 +12,7 @@ use Rattle.bp_theory.specs.declared.Span.{Span}
 use Rattle.bp_theory.specs.declared.Claim.{Claim}
 use Rattle.bp_theory.specs.declared.Proof.{Proof}
 use Rattle.cert_text.specs.Programs.{IsSmallClaim}
-use Rattle.block_form.specs.Blocked.{BlockedProgram}
+use Rattle.block_program.specs.Blocked.{BlockedProgram}
 use Rattle.round_cut.specs.Several.{AreCutsOver}
 use Rattle.cert_check.specs.Judging.{ProofsFit, IsLeft, IsEnd}
 use Rattle.cert_walk.specs.Turns.{Turn, to_low, to_high, zone_of, lines_before, turns_behind, root_behind}

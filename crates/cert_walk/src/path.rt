@@ -4,7 +4,7 @@ ghost use Rattle.bp_theory.specs.Trees.{Tree};
 ghost use Rattle.cert_walk.specs.Turns.{Turn, zone_of, turns_behind};
 ghost use Rattle.cert_walk.specs.Paths.{AreForksOf, IsPathIn, GoesOn};
 
-use block_form::Blocked;
+use block_program::Blocked;
 use bp_theory::Span;
 use cert_check::{NodePlace, back, to_high};
 use cert_text::SplitPlace;

@@ -14,7 +14,8 @@ ghost use Rattle.cert_walk.specs.Walks.{Front, WalksBelow, WalksBehind, IsFresh,
 ghost use Rattle.cert_walk.specs.declared.walk.Walk.TheVariants.{At};
 
 use crate::path::{Fork, Path, go_on};
-use block_form::{Blocked, fits};
+use block_form::fits;
+use block_program::Blocked;
 use bp_model::MAX_NUMBER;
 use bp_theory::{CheckKind, Claim, Proof};
 use cert_check::{NodePlace, Stop, judge_claim, judge_leaf, sound_span, to_low};

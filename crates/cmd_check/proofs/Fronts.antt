@@ -3,7 +3,7 @@ use Rattle.std.proofs.Common.{◌≡◌, ◌≤◌, ◌<◌, ◌+◌, ◌^◌, r
 use Rattle.std.proofs.lemmas.List.{take_all, take-append-drop}
 use Rattle.std.proofs.Math.Seq.{take-add}
 use Rattle.bp_shelf.specs.Shelf.{AllShort, Files}
-use Rattle.block_form.specs.Blocked.{BlockedProgram}
+use Rattle.block_program.specs.Blocked.{BlockedProgram}
 use Rattle.cert_stream.specs.Checks.{ChecksFor}
 use Rattle.cert_stream.specs.declared.checker.Checker.{Checker}
 use Rattle.cert_stream.specs.declared.fault.FeedFault.{FeedFault}

@@ -10,7 +10,7 @@ use Rattle.bp_shelf.specs.declared.shelf.ShelfFault.{ShelfFault}
 use Rattle.bp_shelf.specs.declared.shelf.ShelfFault.TheVariants.{Missing, Failed, NoMemory}
 use Rattle.bp_front.specs.Answers.{AnswersBy, IsOnly}
 use Rattle.bp_front.specs.Endings.{status_of}
-use Rattle.block_form.specs.Blocked.{BlockedProgram}
+use Rattle.block_program.specs.Blocked.{BlockedProgram}
 use Rattle.cert_form.specs.Fault.{IsCertText}
 use Rattle.cert_form.specs.Fault as texts
 use Rattle.cert_form.specs.Written.{cert_of}

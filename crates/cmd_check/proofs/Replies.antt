@@ -4,7 +4,7 @@ use Rattle.bp_theory.specs.Claims.{Certificate, IsTrueClaim}
 use Rattle.bp_theory.specs.Judgement.{HasItsPoint, named_value}
 use Rattle.bp_theory.specs.declared.Claim.{Claim}
 use Rattle.bp_shelf.specs.Shelf.{Files}
-use Rattle.block_form.specs.Blocked.{BlockedProgram}
+use Rattle.block_program.specs.Blocked.{BlockedProgram}
 use Rattle.cert_form.specs.Fault.{IsCertText, IsFirstCertFault}
 use Rattle.cert_form.specs.Written.{cert_of}
 use Rattle.cert_text.specs.Programs.{frame_for}

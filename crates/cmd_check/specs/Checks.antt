@@ -4,7 +4,7 @@ use Rattle.bp_theory.specs.Claims.{Certificate, IsCertified, IsTrueClaim}
 use Rattle.bp_theory.specs.Judgement.{IsFirstFault, HasItsPoint, named_value}
 use Rattle.bp_theory.specs.declared.CheckKind.{CheckKind}
 use Rattle.bp_shelf.specs.Shelf.{Files}
-use Rattle.block_form.specs.Blocked.{BlockedProgram}
+use Rattle.block_program.specs.Blocked.{BlockedProgram}
 use Rattle.cert_form.specs.Fault.{IsCertText}
 use Rattle.cert_form.specs.Fault as texts
 use Rattle.cert_form.specs.Written.{cert_of}

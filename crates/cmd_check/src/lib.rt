@@ -8,11 +8,11 @@ ghost use Rattle.bp_shelf.specs.Shelf.{CountsFailed, file_limit};
 ghost use Rattle.bp_shelf.specs.declared.shelf.ShelfFault.TheVariants.{Missing};
 ghost use Rattle.bp_front.specs.Answers.{AnswersBy, IsOnly, CutsOff, HasCauses, PutsReport, IsUnput};
 ghost use Rattle.cmd_check.specs.Checks.{AnswersCheck, ChecksVisiting};
-ghost use Rattle.block_form.specs.Blocked.{BlockedProgram};
+ghost use Rattle.block_program.specs.Blocked.{BlockedProgram};
 ghost use Rattle.cert_stream.specs.Checks.{IsMadeFor, ChecksFor};
 ghost use Rattle.cmd_check.specs.Replies.{IsCheckStatus, IsReplyTo, RepliesFrom, StandsForFile, StandsForFront, TellsJudged};
 
-use block_form::Blocked;
+use block_program::Blocked;
 use bp_front::{Ended, Halt, Reply, load, print, stopped_by};
 use bp_report::cert_text;
 use bp_shelf::{Shelf, ShelfFault, Sink};

@@ -2,7 +2,7 @@
 use Rattle.std.proofs.Common.{◌≡◌, ◌≢◌, ◌⊎◌, ◌∙◌, ◌++◌, refl, sym, ap, subst, ℕ, Bool, IsTrue, List, [], ◌∷◌, Option, Some, None, Result, Ok, Err, IfErr, IsErrAnd, take}
 use Rattle.bp_theory.specs.Claims.{IsCertified}
 use Rattle.bp_shelf.specs.declared.shelf.ShelfFault.TheVariants.{NoMemory}
-use Rattle.block_form.specs.Blocked.{BlockedProgram}
+use Rattle.block_program.specs.Blocked.{BlockedProgram}
 use Rattle.branch_tree.specs.declared.outcome.Outcome.{Outcome}
 use Rattle.bp_search.specs.Ends.{IsOutcome}
 use Rattle.cert_check.specs.Judging.{IsJudged}

@@ -4,7 +4,7 @@ use Rattle.bp_theory.specs.Limits.{demo_steps}
 use Rattle.bp_theory.specs.Claims.{IsCertified}
 use Rattle.bp_shelf.specs.Shelf.{Files}
 use Rattle.bp_shelf.specs.declared.shelf.ShelfFault.TheVariants.{NoMemory}
-use Rattle.block_form.specs.Blocked.{BlockedProgram}
+use Rattle.block_program.specs.Blocked.{BlockedProgram}
 use Rattle.branch_tree.specs.declared.outcome.Outcome.{Outcome}
 use Rattle.bp_search.specs.Ends.{IsOutcome}
 use Rattle.bp_gen.specs.Generator.{lp_text, dec_text}

@@ -10,7 +10,7 @@ ghost use Rattle.bp_front.specs.Answers.{AnswersBy, IsOnly, CutsOff, HasCauses, 
 ghost use Rattle.cmd_solve.specs.Solves.{outcome_certificate};
 ghost use Rattle.cmd_demo.specs.Demos.{AnswersDemo, IsSummary, IsDemo, DemoHalts};
 
-use block_form::Blocked;
+use block_program::Blocked;
 use bp_front::{Ended, Halt, Reply, blocks_of, print, stopped};
 use bp_gen::{make_dec, make_lp};
 use bp_search::search;

@@ -22,7 +22,7 @@ use Rattle.bp_theory.proofs.Whole.{le-mul_pos}
 use Rattle.bp_theory.proofs.CutProof.{le-round_up, certified_is_true_lem}
 use Rattle.bp_theory.proofs.ShrinkProof.{one_bound_lem}
 use Rattle.bp_theory.proofs.TruthProof.{older_lem, in_sense_twice}
-use Rattle.block_form.specs.Blocked.{BlockedProgram, IsFormed}
+use Rattle.block_program.specs.Blocked.{BlockedProgram, IsFormed}
 use Rattle.cert_load.specs.Recut.{with_cuts}
 use Rattle.search_laws.specs.Grove.{GrowingTree, live, shut, fork, live_bounds}
 use Rattle.search_laws.specs.GroveFacts.{Settles, IsNoDearer, best_cost}

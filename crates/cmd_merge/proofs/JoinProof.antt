@@ -3,7 +3,7 @@ use Rattle.std.proofs.Common.{◌≡◌, ◌∙◌, inl, inr, refl, sym, ap, sub
 use Rattle.std.specs.Prelude.{ℤ}
 use Rattle.std.proofs.lemmas.List.{append-nil, take_all, take-append-drop}
 use Rattle.bp_theory.specs.declared.Cut.{Cut}
-use Rattle.block_form.specs.Blocked.{BlockedProgram, IsFormed}
+use Rattle.block_program.specs.Blocked.{BlockedProgram, IsFormed}
 use Rattle.branch_tree.specs.Adopted.{point_in}
 use Rattle.bp_front.specs.Written.{Answer}
 use Rattle.bp_front.specs.declared.ending.Reply.{Reply}

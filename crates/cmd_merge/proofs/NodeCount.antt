@@ -3,7 +3,7 @@ use Rattle.std.proofs.Common.{◌≡◌, refl, sym, ap, ◌∙◌, ℕ, ◌+◌,
 use Rattle.bp_theory.specs.Trees.{Tree, shut_leaf, open_leaf, split}
 use Rattle.search_laws.specs.Grove.{GrowingTree}
 use Rattle.search_laws.specs.GroveFacts.{best_cost}
-use Rattle.block_form.specs.Blocked.{BlockedProgram}
+use Rattle.block_program.specs.Blocked.{BlockedProgram}
 use Rattle.branch_tree.specs.Groves.{made}
 use Rattle.branch_tree.specs.declared.loaded.Loaded.{Loaded}
 use Rattle.cert_form.specs.Fault.{IsCertText}

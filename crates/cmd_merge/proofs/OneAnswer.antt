@@ -7,7 +7,7 @@ use Rattle.cert_form.specs.Fault.{IsCertText}
 use Rattle.cert_form.specs.Written.{cert_of}
 use Rattle.cert_text.specs.Programs.{frame_for}
 use Rattle.bp_shelf.specs.Shelf.{Files}
-use Rattle.block_form.specs.Blocked.{BlockedProgram, IsFormed}
+use Rattle.block_program.specs.Blocked.{BlockedProgram, IsFormed}
 use Rattle.branch_tree.specs.declared.loaded.Loaded.{Loaded}
 use Rattle.bp_front.specs.Front.{blocked, ends}
 use Rattle.bp_front.specs.Written.{Answer, stops}

@@ -4,7 +4,7 @@ use Rattle.bp_theory.specs.Claims.{Certificate, IsCertified}
 use Rattle.bp_theory.specs.Judgement.{HasItsPoint, named_value}
 use Rattle.bp_theory.proofs.CutProof.{certified_is_true_lem}
 use Rattle.bp_shelf.specs.Shelf.{Files}
-use Rattle.block_form.specs.Blocked.{BlockedProgram, IsFormed}
+use Rattle.block_program.specs.Blocked.{BlockedProgram, IsFormed}
 use Rattle.branch_tree.specs.declared.loaded.Loaded.{Loaded}
 use Rattle.cert_load.specs.Loadings.{IsTooDeep}
 use Rattle.cert_load.specs.Recut.{with_cuts}

@@ -4,7 +4,7 @@ use Rattle.bp_theory.specs.Claims.{Certificate}
 use Rattle.bp_theory.specs.Trees.{steps}
 use Rattle.bp_shelf.specs.Shelf.{Files}
 use Rattle.bp_theory.specs.declared.Cut.{Cut}
-use Rattle.block_form.specs.Blocked.{BlockedProgram, IsFormed}
+use Rattle.block_program.specs.Blocked.{BlockedProgram, IsFormed}
 use Rattle.bp_shelf.specs.declared.shelf.ShelfFault.TheVariants.{NoMemory}
 use Rattle.bp_report.specs.Refusals.{merge_refusal}
 use Rattle.cert_load.specs.Recut.{with_cuts}

@@ -2,7 +2,7 @@
 use Rattle.std.specs.Prelude.{◌≡◌, ◌⊎◌, ℕ, ◌≤◌, List, [], Result, Ok, Err}
 use Rattle.bp_shelf.specs.Shelf.{Rose}
 use Rattle.bp_shelf.specs.declared.shelf.ShelfFault.TheVariants.{Missing, Failed, NoMemory}
-use Rattle.block_form.specs.Blocked.{BlockedProgram}
+use Rattle.block_program.specs.Blocked.{BlockedProgram}
 use Rattle.bp_front.specs.Written.{Answer, stops}
 use Rattle.cmd_merge.specs.Opens.{RefusesText}
 use Rattle.cmd_merge.specs.declared.opening.Stop.{Stop}

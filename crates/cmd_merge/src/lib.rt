@@ -17,7 +17,7 @@ ghost use Rattle.cmd_merge.specs.Files.{MergeLeaves, MergeWrites};
 use crate::joined::join;
 use crate::opening::{Stop, open_cert};
 use crate::written::Merged;
-use block_form::Blocked;
+use block_program::Blocked;
 use bp_front::{Ended, Halt, Reply, load, print, stopped, stopped_by};
 use bp_shelf::{Shelf, ShelfFault, Sink};
 use std::alloc::Global;

@@ -9,7 +9,7 @@ ghost use Rattle.cmd_merge.specs.Opens.{IsOpenedText, IsOpenedFile, IsLoadedOver
 ghost use Rattle.cmd_merge.specs.Stops.{IsStop, IsTextStop, IsRefusal, CountsStopped};
 ghost use Rattle.cmd_merge.specs.declared.opening.Stop.TheVariants.{Stopped};
 
-use block_form::Blocked;
+use block_program::Blocked;
 use bp_front::{Reply, read_front};
 use bp_report::{cert_text, from_text};
 use bp_shelf::{Shelf, ShelfFault};

@@ -1,12 +1,12 @@
 // Two loaded trees merged, and the text and the report of the certificate.
 ghost use Rattle.std.specs.Prelude.{◌≡◌, ℕ, List, IfOk};
 ghost use Rattle.bp_theory.specs.declared.Cut.{Cut};
-ghost use Rattle.block_form.specs.Blocked.{BlockedProgram, IsFormed};
+ghost use Rattle.block_program.specs.Blocked.{BlockedProgram, IsFormed};
 ghost use Rattle.cert_load.specs.Recut.{with_cuts};
 ghost use Rattle.cmd_merge.specs.Merges.{AnswersBoth, answer_of};
 ghost use Rattle.cmd_merge.specs.Opens.{IsOpened, CanMerge};
 
-use block_form::Blocked;
+use block_program::Blocked;
 use bp_front::Reply;
 use bp_search::{conclude, kept_from};
 use branch_tree::Loaded;

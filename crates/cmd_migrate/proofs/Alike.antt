@@ -2,7 +2,7 @@
 use Rattle.std.proofs.Common.{◌≡◌, ◌∙◌, sym, subst, ℕ, List, Option, Some, None}
 use Rattle.bp_theory.specs.Claims.{Certificate}
 use Rattle.bp_shelf.specs.Shelf.{Files}
-use Rattle.block_form.specs.Blocked.{BlockedProgram}
+use Rattle.block_program.specs.Blocked.{BlockedProgram}
 use Rattle.cert_form.specs.Cert.{Cert}
 use Rattle.cert_form.specs.Fault.{IsText, IsCertText, IsFirstCertFault}
 use Rattle.cert_form.specs.Written.{cert_of}

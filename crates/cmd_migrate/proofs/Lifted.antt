@@ -5,7 +5,7 @@ use Rattle.std.proofs.lemmas.List.{append-nil, take_all}
 use Rattle.bp_shelf.specs.Shelf.{Files, AllShort}
 use Rattle.bp_shelf.specs.declared.shelf.ShelfFault.{ShelfFault}
 use Rattle.bp_shelf.specs.declared.shelf.ShelfFault.TheVariants.{Missing, Failed, NoMemory}
-use Rattle.block_form.specs.Blocked.{BlockedProgram}
+use Rattle.block_program.specs.Blocked.{BlockedProgram}
 use Rattle.cert_form.specs.Cert.{Cert}
 use Rattle.cert_form.specs.Fault.{IsCertText}
 use Rattle.cert_form.specs.Kept.{kept_cert}

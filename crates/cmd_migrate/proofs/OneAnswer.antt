@@ -1,7 +1,7 @@
 -- The files are answered by one status.
 use Rattle.std.proofs.Common.{◌≡◌, refl, sym, subst, ℕ, List, Option, Some, None}
 use Rattle.bp_shelf.specs.Shelf.{Files}
-use Rattle.block_form.specs.Blocked.{BlockedProgram}
+use Rattle.block_program.specs.Blocked.{BlockedProgram}
 use Rattle.cert_form.specs.Cert.{Cert}
 use Rattle.cert_form.specs.Fault.{IsCertText, IsFirstCertFault}
 use Rattle.cert_text.specs.Programs.{frame_for}

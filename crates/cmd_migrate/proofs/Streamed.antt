@@ -1,7 +1,7 @@
 -- What stands of a certificate that was read and is written line by line.
 use Rattle.std.proofs.Common.{◌≡◌, ◌⊎◌, inl, inr, refl, sym, subst, ℕ, List, [], ◌∷◌, ◌++◌, map, Option, Some, Result, Ok, Err}
 use Rattle.bp_shelf.specs.Shelf.{Files, OthersAsBefore}
-use Rattle.block_form.specs.Blocked.{BlockedProgram}
+use Rattle.block_program.specs.Blocked.{BlockedProgram}
 use Rattle.bp_theory.specs.declared.Cut.{Cut}
 use Rattle.cert_form.specs.Text.{Version}
 use Rattle.cert_form.specs.Written.{written_cut}

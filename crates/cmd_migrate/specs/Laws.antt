@@ -1,7 +1,7 @@
 -- What holds of a certificate's text in any version and of the text that it is written anew in.
 use Rattle.std.specs.Prelude.{◌≡◌, ℕ, List, Ok, Some}
 use Rattle.bp_shelf.specs.Shelf.{Files}
-use Rattle.block_form.specs.Blocked.{BlockedProgram}
+use Rattle.block_program.specs.Blocked.{BlockedProgram}
 use Rattle.cert_form.specs.Cert.{Cert}
 use Rattle.cert_form.specs.Fault.{IsText, IsCertText}
 use Rattle.cert_form.specs.Kept.{kept_cert}

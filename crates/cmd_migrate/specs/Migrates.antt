@@ -1,7 +1,7 @@
 -- What `migrate` answers by the files.
 use Rattle.std.specs.Prelude.{◌≡◌, ℕ, List, [], ◌∷◌, Option, Some, None}
 use Rattle.bp_shelf.specs.Shelf.{Files}
-use Rattle.block_form.specs.Blocked.{BlockedProgram}
+use Rattle.block_program.specs.Blocked.{BlockedProgram}
 use Rattle.cert_form.specs.Cert.{Cut, Cert}
 use Rattle.cert_form.specs.Text.{Version, Two, Three}
 use Rattle.cert_form.specs.Fault.{IsText, IsCertText, IsFirstCertFault}

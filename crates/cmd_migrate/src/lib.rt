@@ -14,7 +14,7 @@ ghost use Rattle.cmd_migrate.specs.Laws.{AreReadAlike, AreJudgedAlike};
 ghost use Rattle.cmd_migrate.specs.Migrates.{TextMigrates, Migrates, AnswersMigrate, ReadsCert, ReadsFiles};
 ghost use Rattle.cmd_migrate.specs.Files.{MigrateLeaves, MigrateWrites};
 
-use block_form::Blocked;
+use block_program::Blocked;
 use bp_front::{Ended, Halt, Reply, load, print, read_front, stopped, stopped_by};
 use bp_report::{cert_text, migrated_text};
 use bp_shelf::{Shelf, ShelfFault, Sink};

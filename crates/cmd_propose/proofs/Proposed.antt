@@ -9,7 +9,7 @@ use Rattle.dec_read.specs.Reading.{ReadsDecomposition}
 use Rattle.dec_words.specs.Text.{text_of}
 use Rattle.row_blocks.proofs.FoundLemmas.{found_accepted}
 use Rattle.dec_beside.specs.Guess.{IsGuess}
-use Rattle.block_form.specs.Blocked.{BlockedProgram}
+use Rattle.block_program.specs.Blocked.{BlockedProgram}
 use Rattle.block_form.specs.Checks.{HasBlockFault}
 use Rattle.block_form.specs.declared.fault.BlockFault.{BlockFault}
 use Rattle.block_form.specs.declared.fault.BlockFault.TheVariants.{VarPlace, Links, NoMemory}

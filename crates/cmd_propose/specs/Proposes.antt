@@ -6,7 +6,7 @@ use Rattle.bp_model.specs.Named.{NamedProgram}
 use Rattle.dec_read.specs.Reading.{ReadsDecomposition}
 use Rattle.dec_words.specs.Text.{text_of}
 use Rattle.dec_beside.specs.Guess.{IsGuess}
-use Rattle.block_form.specs.Blocked.{BlockedProgram}
+use Rattle.block_program.specs.Blocked.{BlockedProgram}
 use Rattle.block_class.specs.Classes.{Grouping, AreSameClasses}
 use Rattle.bp_report.specs.Report.{proposed_report}
 use Rattle.bp_front.specs.Front.{BlocksCome, blocked, HasModel, HasLpFault}

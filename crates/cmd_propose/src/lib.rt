@@ -15,7 +15,8 @@ ghost use Rattle.cmd_propose.specs.Proposes.{Proposes, ModelProposes, AnswersPro
 ghost use Rattle.cmd_propose.specs.Files.{ProposeLeaves, ProposeWrites};
 
 use block_class::Classes;
-use block_form::{BlockFault, Blocked, Zone, check_blocks};
+use block_form::{BlockFault, check_blocks};
+use block_program::{Blocked, Zone};
 use bp_front::{Ended, Halt, Reply, load_model, print, stopped, stopped_by};
 use bp_model::{Dec, Model};
 use bp_report::proposed_text;

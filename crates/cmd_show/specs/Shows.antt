@@ -1,7 +1,7 @@
 -- What `show` answers.
 use Rattle.std.specs.Prelude.{◌≡◌, ℕ, Bool, List, Option}
 use Rattle.bp_shelf.specs.Shelf.{Files}
-use Rattle.block_form.specs.Blocked.{BlockedProgram}
+use Rattle.block_program.specs.Blocked.{BlockedProgram}
 use Rattle.block_class.specs.Classes.{Grouping, AreSameClasses}
 use Rattle.bp_report.specs.Report.{show_report_with}
 use Rattle.bp_front.specs.Answers.{AnswersFront}

@@ -8,7 +8,7 @@ ghost use Rattle.bp_front.specs.Answers.{AnswersBy, IsOnly, CutsOff, HasCauses, 
 ghost use Rattle.cmd_show.specs.Shows.{AnswersShow, ShowsBlocked, RepliesShow};
 
 use block_class::Classes;
-use block_form::{Blocked, Zone};
+use block_program::{Blocked, Zone};
 use bp_front::{Ended, Halt, Reply, load, print, stopped, stopped_by};
 use bp_report::show_blocks_text;
 use bp_shelf::{Shelf, Sink};

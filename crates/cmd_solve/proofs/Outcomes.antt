@@ -6,7 +6,7 @@ use Rattle.std.proofs.Math.IntN.{ℤ}
 use Rattle.bp_theory.specs.Program.{Program, in_sense}
 use Rattle.bp_theory.specs.Claims.{IsCertified}
 use Rattle.bp_theory.specs.declared.Claim.TheVariants as claim
-use Rattle.block_form.specs.Blocked.{BlockedProgram}
+use Rattle.block_program.specs.Blocked.{BlockedProgram}
 use Rattle.branch_tree.specs.declared.outcome.Outcome.{Outcome}
 use Rattle.branch_tree.specs.declared.outcome.Outcome.TheVariants.{Optimal, Infeasible, Budget}
 use Rattle.bp_shelf.specs.Shelf.{Files}

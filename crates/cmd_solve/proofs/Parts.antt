@@ -1,7 +1,7 @@
 -- What stands of a certificate where memory was wanting.
 use Rattle.std.proofs.Common.{◌≡◌, ap, inl, inr, ℕ, List, Option, Some, None}
 use Rattle.bp_shelf.specs.Shelf.{Files}
-use Rattle.block_form.specs.Blocked.{BlockedProgram}
+use Rattle.block_program.specs.Blocked.{BlockedProgram}
 use Rattle.search_laws.specs.declared.Side.{Side}
 use Rattle.branch_tree.specs.declared.loaded.Loaded.{Loaded}
 use Rattle.branch_tree.specs.declared.outcome.Outcome.{Outcome}

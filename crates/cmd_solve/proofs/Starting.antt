@@ -7,7 +7,7 @@ use Rattle.bp_theory.specs.Judgement.{HasItsPoint, named_value}
 use Rattle.bp_theory.specs.declared.CheckKind.{CheckKind}
 use Rattle.bp_theory.proofs.CutProof.{certified_is_true_lem}
 use Rattle.bp_shelf.specs.Shelf.{Files, AllShort}
-use Rattle.block_form.specs.Blocked.{BlockedProgram, IsFormed}
+use Rattle.block_program.specs.Blocked.{BlockedProgram, IsFormed}
 use Rattle.search_laws.specs.declared.Side.{Side}
 use Rattle.branch_tree.specs.declared.outcome.Outcome.{Outcome}
 use Rattle.branch_tree.specs.declared.loaded.Loaded.{Loaded}

@@ -1,7 +1,7 @@
 -- The events of a crew that searches.
 use Rattle.std.specs.Prelude.{◌≡◌, ℕ, List, [], Option, Some, None}
 use Rattle.bp_shelf.specs.Shelf.{Files}
-use Rattle.block_form.specs.Blocked.{BlockedProgram}
+use Rattle.block_program.specs.Blocked.{BlockedProgram}
 use Rattle.search_laws.specs.declared.Event.{Event}
 use Rattle.branch_tree.specs.Loads.{IsFresh}
 use Rattle.branch_tree.specs.declared.loaded.Loaded.{Loaded}

@@ -2,8 +2,8 @@
 use Rattle.std.specs.Prelude.{◌≡◌, ℕ, ◌-◌, ◌≤◌, min, List, ◌++◌, length}
 use Rattle.bp_theory.specs.Limits.{most_cuts}
 use Rattle.bp_theory.specs.declared.Cut.{Cut}
-use Rattle.block_form.specs.Blocked.{BlockedProgram}
-use Rattle.block_form.specs.Cuts.{KeepsCuts}
+use Rattle.block_program.specs.Blocked.{BlockedProgram}
+use Rattle.block_program.specs.Cuts.{KeepsCuts}
 use Rattle.round_sums.specs.Plain.{AreFirstPlain}
 use Rattle.cut_list.specs.Taken.{GoesOn}
 use Rattle.cert_load.specs.Recut.{with_cuts}

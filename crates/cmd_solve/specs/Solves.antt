@@ -3,7 +3,7 @@ use Rattle.std.specs.Prelude.{◌≡◌, ℕ, ◌+◌, List, [], Option, Some, N
 use Rattle.bp_theory.specs.Trees.{steps}
 use Rattle.bp_theory.specs.Claims.{Certificate, IsCertified}
 use Rattle.bp_shelf.specs.Shelf.{Files}
-use Rattle.block_form.specs.Blocked.{BlockedProgram}
+use Rattle.block_program.specs.Blocked.{BlockedProgram}
 use Rattle.search_laws.specs.declared.Side.{Side}
 use Rattle.search_laws.specs.Grove.{GrowingTree, certificate_tree}
 use Rattle.search_laws.specs.Outcomes.{read_off}

@@ -5,7 +5,7 @@ use Rattle.bp_theory.specs.Claims.{Certificate, IsCertified}
 use Rattle.bp_theory.specs.Judgement.{IsFirstFault, HasItsPoint, named_value}
 use Rattle.bp_theory.specs.declared.CheckKind.{CheckKind}
 use Rattle.bp_shelf.specs.Shelf.{Files}
-use Rattle.block_form.specs.Blocked.{BlockedProgram}
+use Rattle.block_program.specs.Blocked.{BlockedProgram}
 use Rattle.search_laws.specs.declared.Side.{Side}
 use Rattle.search_laws.specs.Grove.{GrowingTree, certificate_tree}
 use Rattle.branch_tree.specs.Loads.{IsLoaded}

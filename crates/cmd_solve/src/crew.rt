@@ -6,7 +6,7 @@ ghost use Rattle.bp_search.specs.Below.{steps_in};
 ghost use Rattle.cmd_solve.specs.Starts.{EndsAt, EndsOn};
 ghost use Rattle.cmd_solve.specs.Crews.{ordered_crew, IsSearchOf, events_with};
 
-use block_form::Blocked;
+use block_program::Blocked;
 use bp_crew::run_crew;
 use bp_search::{resume, resume_below, search};
 use bp_theory::Items;

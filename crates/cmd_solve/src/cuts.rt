@@ -1,11 +1,11 @@
 // The program in blocks that a search is over: with cuts behind those that there are.
 ghost use Rattle.std.specs.Prelude.{◌≡◌, ◌+◌, ◌≤◌, length, IfOk};
 ghost use Rattle.bp_theory.specs.Limits.{most_cuts};
-ghost use Rattle.block_form.specs.Cuts.{KeepsCuts};
+ghost use Rattle.block_program.specs.Cuts.{KeepsCuts};
 ghost use Rattle.cert_load.specs.Recut.{with_cuts};
 ghost use Rattle.cmd_solve.specs.Cuttings.{room_behind, HasCuts, HasPlain, HasOthers};
 
-use block_form::Blocked;
+use block_program::Blocked;
 use bp_theory::Cut;
 use cut_hint::choose;
 use cut_list::copies_of;

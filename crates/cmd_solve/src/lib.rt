@@ -23,7 +23,7 @@ ghost use Rattle.cmd_solve.specs.Saves.{IsSolved, IsSaved, TellsOf, SavesBlocked
 
 use crate::crew::{CrewOrder, Searched, crew_ordered, kept_events, search_from};
 use crate::start::{Start, begin};
-use block_form::Blocked;
+use block_program::Blocked;
 use bp_front::{Ended, Halt, Reply, load, print, stopped, stopped_by};
 use bp_report::solve_text;
 use bp_search::MAX_STEPS;

@@ -13,7 +13,7 @@ ghost use Rattle.cmd_solve.specs.Starts.{IsReady, StartsBy, StartsOf, StartsAfre
 
 use crate::cuts::with_added;
 use crate::leaf::open_path;
-use block_form::Blocked;
+use block_program::Blocked;
 use bp_front::{Reply, read_front};
 use bp_report::{cert_text, from_text, leaf_text};
 use bp_search::{LoadFault, load, with_cuts_of};

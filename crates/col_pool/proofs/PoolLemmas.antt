@@ -34,8 +34,8 @@ use Rattle.bp_theory.proofs.KeyLaws.{if_same, if_other}
 use Rattle.bp_model.specs.Parts.{IsTidied}
 use Rattle.bp_model.specs.Tidy.{as_term, nonzero}
 use Rattle.bp_model.proofs.TidyLemmas.{map_tidies}
-use Rattle.block_form.specs.Blocked.{RootBlock}
-use Rattle.block_form.proofs.StandLemmas.{coefficient_at}
+use Rattle.block_program.specs.Blocked.{RootBlock}
+use Rattle.block_program.proofs.StandLemmas.{coefficient_at}
 use Rattle.pricing.specs.Form.{cost_size}
 use Rattle.pricing.proofs.EndLaws.{number-le_reach, product-within}
 use Rattle.col_pool.specs.declared.column.Column.{Column}

@@ -22,8 +22,8 @@ use Rattle.bp_theory.specs.declared.Row.{Row}
 use Rattle.bp_theory.proofs.DecompositionProof.{coef_in-copy_of, kept_at, all_blocks, decomposition_lem}
 use Rattle.bp_theory.proofs.CutProof.{cuts_are_met_lem}
 use Rattle.bp_model.specs.Named.{NamedProgram, IsKept, HasSmallEnds}
-use Rattle.block_form.specs.Blocked.{BlockedProgram, IsFormed}
-use Rattle.block_form.proofs.GatherLemmas.{passing_few}
+use Rattle.block_program.specs.Blocked.{BlockedProgram, IsFormed}
+use Rattle.block_program.proofs.StandLemmas.{passing_few}
 use Rattle.pricing.specs.Form.{HasShortEnds, row_size, term_size, cost_size}
 use Rattle.col_pool.specs.Pools.{HasSmallSums, root_block, costs_of, coefs_of}
 

@@ -10,7 +10,7 @@ ghost use Rattle.bp_model.specs.Tidy.{nonzero};
 ghost use Rattle.col_pool.specs.Pools.{HasSmallSums, HasActivities};
 
 use crate::numbers::{plus, product, small};
-use block_form::Block;
+use block_program::Block;
 use bp_theory::Items;
 use std::alloc::{AllocError, Global};
 use std::collections::BTreeMap;

@@ -1,14 +1,14 @@
 // The columns of a block.
 ghost use Rattle.std.specs.Prelude.{◌≡◌, ℕ, ◌<◌, ◌≤◌, [], length, drop, slice_get, Some, IsTrue, ◌↔◌, IfOk, IfErr, OnErr};
 ghost use Rattle.bp_theory.specs.Bound.{IsPoint};
-ghost use Rattle.block_form.specs.Blocked.{RootBlock};
+ghost use Rattle.block_program.specs.Blocked.{RootBlock};
 ghost use Rattle.col_pool.specs.Pools.{AreApart, HasSmallSums, IsPoolOf, IsPooled, HasAdded, HasKept, HasPoolFault, HasKeepFault, root_block};
 
 use crate::activities::{activities, cost_of};
 use crate::column::Column;
 use crate::fault::{Added, PoolFault};
 use crate::within::Within;
-use block_form::{Block, Blocked};
+use block_program::{Block, Blocked};
 use bp_model::{first_missed, first_outside};
 use bp_theory::{Items, Span};
 use indexmap::IndexSet;

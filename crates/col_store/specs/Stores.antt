@@ -1,6 +1,6 @@
 -- Columns with the block that owns them.
 use Rattle.std.specs.Prelude.{◌<◌, length}
-use Rattle.block_form.specs.Blocked.{BlockedProgram}
+use Rattle.block_program.specs.Blocked.{BlockedProgram}
 use Rattle.col_pool.specs.Pools.{IsPoolOf, root_block}
 use Rattle.col_store.specs.declared.store.Store.{Store}
 

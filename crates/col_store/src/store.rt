@@ -2,7 +2,7 @@
 ghost use Rattle.std.specs.Prelude.{◌<◌, IfOk, length};
 ghost use Rattle.col_store.specs.Stores.{IsStoreOf};
 
-use block_form::Blocked;
+use block_program::Blocked;
 use col_pool::{Added, Pool, PoolFault};
 use std::alloc::{AllocError, Global};
 

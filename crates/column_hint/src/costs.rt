@@ -1,7 +1,7 @@
 // The reduced costs of copies at multipliers by row, at the greatest scale.
 ghost use Rattle.std.specs.Prelude.{◌<◌, length};
 
-use block_form::Block;
+use block_program::Block;
 use point_hint::{UNIT, at, product};
 use std::alloc::{AllocError, Global};
 

@@ -8,7 +8,7 @@ ghost use Rattle.hint_pools.specs.Pools.{AreMadeFor};
 use crate::master::{MasterColumn, RestrictedMaster};
 use crate::rest::{is_inside, settle_rest, switch_off_outside};
 use block_class::Classes;
-use block_form::{Block, Blocked, Zone};
+use block_program::{Block, Blocked, Zone};
 use bp_theory::Span;
 use hint_pools::{Place, Pools};
 use point_hint::{Spans, forget, is_one_point, set, take_back, tighten};

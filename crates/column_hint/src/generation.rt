@@ -12,7 +12,7 @@ use crate::master::RestrictedMaster;
 use crate::partition::add_partition;
 use crate::several::add_several;
 use block_class::Classes;
-use block_form::{Blocked, Zone};
+use block_program::{Blocked, Zone};
 use hint_pools::Pools;
 use point_hint::{UNIT, at, is_reached, quotient};
 use std::alloc::{AllocError, Global};

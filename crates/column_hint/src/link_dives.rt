@@ -1,6 +1,6 @@
 // How a dive by variables goes on where variables link blocks: linking variables come first, and each is fixed at a
 // number near its mean, since blocks are apart then but for master rows.
-use block_form::Blocked;
+use block_program::Blocked;
 use bp_theory::Span;
 use point_hint::{Spans, forget, set, take_back, tighten};
 use std::alloc::{AllocError, Global};

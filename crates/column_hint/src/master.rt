@@ -2,7 +2,7 @@
 // blocks, and columns of these. What a row misses costs a penalty, which keeps its multiplier in a range.
 use crate::lines::{Lines, at_scale, place_of};
 use block_class::Classes;
-use block_form::{Block, Blocked, Zone};
+use block_program::{Block, Blocked, Zone};
 use bp_theory::Span;
 use col_pool::Column;
 use column_lp::{ColumnProgram, Mark};

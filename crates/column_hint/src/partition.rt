@@ -11,7 +11,7 @@ use crate::costs::reduced_costs;
 use crate::master::{RestrictedMaster, block_spans};
 use crate::several::gives_several;
 use block_class::Classes;
-use block_form::{Block, Blocked, Zone};
+use block_program::{Block, Blocked, Zone};
 use bp_theory::{Proof, Sense, Span};
 use hint_pools::{Pools, alone};
 use knap_price::KnapPricer;

@@ -8,7 +8,7 @@ use crate::dives::{Dive, lows};
 use crate::generation::add_class;
 use crate::master::{RestrictedMaster, block_spans};
 use block_class::Classes;
-use block_form::{Block, Blocked, Zone};
+use block_program::{Block, Blocked, Zone};
 use bp_theory::Span;
 use hint_pools::{Pools, is_settled};
 use point_hint::{is_reached, narrow};

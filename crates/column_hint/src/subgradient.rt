@@ -11,7 +11,8 @@ ghost use Rattle.hint_pools.specs.Pools.{AreMadeFor};
 
 use crate::costs::reduced_cost;
 use block_class::Classes;
-use block_form::{Blocked, MAX_SCALE};
+use block_form::MAX_SCALE;
+use block_program::Blocked;
 use bp_theory::{MasterRow, Sense, Span};
 use branch_tree::Turn;
 use hint_pools::Pools;

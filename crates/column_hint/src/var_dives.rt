@@ -10,7 +10,7 @@ use crate::link_dives::fix_links;
 use crate::master::RestrictedMaster;
 use crate::rest::{settle_rest, switch_off_outside};
 use block_class::Classes;
-use block_form::{Blocked, Zone};
+use block_program::{Blocked, Zone};
 use bp_theory::Span;
 use hint_pools::Pools;
 use point_hint::{Spans, at, forget, is_first_copy, linking_vars, put, set, take_back, tighten};

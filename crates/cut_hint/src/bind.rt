@@ -1,6 +1,6 @@
 // Which of the cuts that were made are given: those that bind, and those that these were made of.
 use crate::numbers::{is_set, set};
-use block_form::Blocked;
+use block_program::Blocked;
 use bp_theory::{Cut, Items};
 use lp_factor::{NONE, place};
 use std::alloc::{AllocError, Global};

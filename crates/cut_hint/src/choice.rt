@@ -4,7 +4,7 @@ ghost use Rattle.cut_list.specs.Taken.{GoesOn};
 
 use crate::by_columns::{may_serve, search_by_columns};
 use crate::search::search_cuts;
-use block_form::Blocked;
+use block_program::Blocked;
 use bp_theory::Cut;
 use cut_list::{MOST_CUTS, rows_of_cuts, with_others};
 use std::alloc::{AllocError, Global};

@@ -11,7 +11,7 @@ use crate::bind::Front;
 use crate::numbers::low_at;
 use crate::relaxation::Relaxation;
 use block_class::Classes;
-use block_form::Blocked;
+use block_program::Blocked;
 use branch_tree::{Grove, Turn};
 use col_pool::Column;
 use column_hint::{Centre, Effort, Pools, RestrictedMaster, generate_columns, take_steps};

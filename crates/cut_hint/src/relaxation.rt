@@ -1,6 +1,6 @@
 // The relaxation of a program's rows while cuts are added to it.
 use crate::numbers::set;
-use block_form::Blocked;
+use block_program::Blocked;
 use bp_theory::Row;
 use lp_core::{ENDLESS, Effort, End, Lp, Range};
 use lp_factor::{Basic, Entry, Factor, Vectors, place};

@@ -7,7 +7,7 @@ use crate::missed::{numbered, search_missed};
 use crate::relaxation::Relaxation;
 use crate::state::{State, above_of, sides_of};
 use crate::trial::{Found, Trial};
-use block_form::Blocked;
+use block_program::Blocked;
 use bp_theory::{Cut, Row};
 use cut_list::row_of_cut;
 use lp_core::End;

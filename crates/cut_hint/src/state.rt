@@ -1,6 +1,6 @@
 // The rows that cuts may combine, at the values of the relaxation.
 use crate::numbers::low_at;
-use block_form::Blocked;
+use block_program::Blocked;
 use bp_theory::{Row, Sense, Span};
 use lp_factor::{at, place};
 use std::alloc::{AllocError, Global};

@@ -5,7 +5,7 @@ use Rattle.bp_theory.specs.Program.{Program}
 use Rattle.bp_theory.specs.Decomposition.{Decomposition}
 use Rattle.bp_theory.specs.declared.Row.{Row}
 use Rattle.bp_theory.specs.declared.Cut.{Cut}
-use Rattle.block_form.specs.Cuts.{KeepsCuts}
+use Rattle.block_program.specs.Cuts.{KeepsCuts}
 use Rattle.round_cut.specs.Several.{AreRowsOfCuts}
 use Rattle.round_cut.proofs.SeveralLemmas.{as_many_rows, one_row_more}
 use Rattle.cut_list.specs.Taken.{BeginsWith, GoesOn, IsTaken}

@@ -6,7 +6,7 @@ use Rattle.bp_theory.specs.Cuts.{cut_row}
 use Rattle.bp_theory.specs.declared.Row.{Row}
 use Rattle.bp_theory.specs.declared.Cut.{Cut}
 use Rattle.bp_theory.specs.Limits.{most_cuts}
-use Rattle.block_form.specs.Cuts.{KeepsCuts}
+use Rattle.block_program.specs.Cuts.{KeepsCuts}
 use Rattle.round_sums.specs.Cutting.{HasFittingSigns, IsCutOver, IsEarlierCut}
 
 -- a cut behind earlier ones that keeps the rules, with its row

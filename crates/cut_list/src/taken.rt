@@ -4,7 +4,7 @@ ghost use Rattle.round_sums.specs.Cutting.{IsEarlierCut};
 ghost use Rattle.round_cut.specs.Several.{AreRowsOfCuts};
 ghost use Rattle.cut_list.specs.Taken.{BeginsWith, GoesOn, IsTaken};
 
-use block_form::Blocked;
+use block_program::Blocked;
 use bp_theory::{Cut, Items, Row};
 use round_cut::{CutFault, cut_row, keeps_rules};
 use std::alloc::{AllocError, Global};

@@ -2,7 +2,8 @@
 ghost use Rattle.std.specs.Prelude.{◌≤◌, length, All, IfOk, IfSome};
 ghost use Rattle.round_sums.specs.Cutting.{IsEarlierCut};
 
-use block_form::{Blocked, check_blocks};
+use block_form::check_blocks;
+use block_program::Blocked;
 use bp_model::{Dec, Model, Names, Parts};
 use bp_theory::{Cut, Items, Row, Sense, Span, Term};
 use round_cut::{CutFault, cut_row, keeps_rules};

@@ -1,6 +1,6 @@
 // Worked cuts.
 use crate::program::{Line, is_row, master, own, program, tried};
-use block_form::Blocked;
+use block_program::Blocked;
 use bp_theory::{Row, Sense, Span};
 use round_cut::{CutFault, first_cuts, with_cuts};
 use std::alloc::{AllocError, Global};

@@ -5,7 +5,7 @@ ghost use Rattle.pricing.specs.Priced.{IsExceeded};
 ghost use Rattle.depth_search.specs.Caps.{cut_prefixes};
 
 use crate::dive::Visits;
-use block_form::Block;
+use block_program::Block;
 use bp_theory::Span;
 use pricing::Cap;
 

@@ -16,7 +16,7 @@ use Rattle.bp_theory.proofs.DecompositionProof.{decomposition_lem}
 use Rattle.bp_theory.proofs.CutProof.{cuts_are_met_lem}
 use Rattle.search_laws.specs.declared.UsedColumn.{UsedColumn}
 use Rattle.search_laws.specs.Spread.{block_at, class_at, class_blocks, AreClasses, IsUsed, times, IsWhole, class_points, rank, block_point, IsSpread}
-use Rattle.block_form.specs.Blocked.{BlockedProgram, IsFormed, HasCopyAt}
+use Rattle.block_program.specs.Blocked.{BlockedProgram, IsFormed, HasCopyAt}
 use Rattle.block_class.specs.Classes.{Grouping}
 use Rattle.disagg.specs.Spreads.{IsSpreadable, HaveNumbers, point_at, points_at}
 use Rattle.disagg.proofs.DealLemmas.{rank_below, sizes_agree}

@@ -9,7 +9,7 @@ use Rattle.bp_theory.specs.declared.Span.{Span}
 use Rattle.search_laws.specs.declared.UsedColumn.{UsedColumn}
 use Rattle.search_laws.specs.Master.{one_weight}
 use Rattle.search_laws.specs.Spread.{block_at, class_blocks, IsWhole, IsSpread}
-use Rattle.block_form.specs.Blocked.{BlockedProgram}
+use Rattle.block_program.specs.Blocked.{BlockedProgram}
 use Rattle.block_class.specs.Classes.{Grouping}
 use Rattle.disagg.specs.declared.answer.Spread.{Spread}
 

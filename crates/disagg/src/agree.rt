@@ -3,7 +3,7 @@ ghost use Rattle.std.specs.Prelude.{◌↔◌, IsTrue};
 ghost use Rattle.disagg.specs.Spreads.{HasNumbers, HaveNumbers, point_at};
 
 use crate::point::{column_of, number_at, number_of};
-use block_form::{Block, Blocked};
+use block_program::{Block, Blocked};
 use search_laws::UsedColumn;
 
 // Whether each block's copies have the numbers of a point in the block's column.

@@ -3,7 +3,7 @@ ghost use Rattle.std.specs.Prelude.{◌≡◌, ◌<◌, length, All};
 ghost use Rattle.search_laws.specs.declared.UsedColumn.{UsedColumn as AUsed};
 
 use block_class::Classes;
-use block_form::{Block, Blocked};
+use block_program::{Block, Blocked};
 use search_laws::UsedColumn;
 use std::alloc::{AllocError, Global};
 

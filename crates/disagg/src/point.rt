@@ -1,10 +1,10 @@
 // The point in which blocks have the numbers of their columns.
 ghost use Rattle.std.specs.Prelude.{◌≡◌, ℕ, ◌<◌, length, slice_index, vec_len, IfOk};
 ghost use Rattle.bp_theory.specs.Program.{value_at};
-ghost use Rattle.block_form.specs.Blocked.{HasCopyAt};
+ghost use Rattle.block_program.specs.Blocked.{HasCopyAt};
 ghost use Rattle.disagg.specs.Spreads.{point_at};
 
-use block_form::Blocked;
+use block_program::Blocked;
 use search_laws::UsedColumn;
 use std::alloc::{AllocError, Global};
 

@@ -3,7 +3,7 @@ ghost use Rattle.std.specs.Prelude.{◌≡◌, ◌↔◌, ℕ, ◌<◌, ◌^◌,
 ghost use Rattle.bp_theory.specs.Trees.{IsSoundSplit};
 ghost use Rattle.disagg.specs.Spreads.{IsPointZone};
 
-use block_form::Zone;
+use block_program::Zone;
 use bp_theory::Span;
 
 // The hint, where it splits the zone soundly, else the middle of the widest span, if one has two numbers.

@@ -12,7 +12,7 @@ use crate::point::dealt_point;
 use crate::split::chosen_split;
 use crate::whole::is_spreadable;
 use block_class::Classes;
-use block_form::{Blocked, Zone};
+use block_program::{Blocked, Zone};
 use bp_theory::Items;
 use search_laws::UsedColumn;
 use std::alloc::{AllocError, Global};

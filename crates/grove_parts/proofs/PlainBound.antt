@@ -26,7 +26,7 @@ use Rattle.bp_theory.proofs.KeyLaws.{if_same, if_other, sum_of-same_keys}
 use Rattle.bp_theory.proofs.RoundProof.{parts_add_up_lem}
 use Rattle.bp_theory.proofs.SumLaws.{sum_of-flat_map, sum_of-map, sum_of-same, sum_of_more, sum_of_so_far_within}
 use Rattle.bp_model.specs.Named.{NamedProgram, IsKept}
-use Rattle.block_form.specs.Blocked.{BlockedProgram, IsFormed}
+use Rattle.block_program.specs.Blocked.{BlockedProgram, IsFormed}
 use Rattle.grove_parts.specs.Bounds.{better_cost, better_total, total_limit}
 
 -- ---- the sums are small

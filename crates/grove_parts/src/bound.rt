@@ -5,7 +5,7 @@ ghost use Rattle.bp_theory.specs.Bound.{IsBound, plain_proof, end_cost};
 ghost use Rattle.bp_theory.specs.Decomposition.{HasVariablesBelow};
 ghost use Rattle.grove_parts.specs.Bounds.{better_total, total_limit};
 
-use block_form::Blocked;
+use block_program::Blocked;
 use bp_theory::{Span, Term};
 
 /// The bound of the plain proof in the program's spans: each cost at the better end of its variable's span, and the

@@ -4,7 +4,7 @@ ghost use Rattle.bp_theory.specs.Trees.{HasSoundSplits};
 ghost use Rattle.search_laws.specs.Grove.{put_at, zone_at, live_at, certificate_tree, LiveLeaf, live, fork};
 ghost use Rattle.grove_parts.specs.Trees.{tree_of};
 
-use block_form::Zone;
+use block_program::Zone;
 use bp_theory::Proof;
 use search_laws::Side;
 use std::alloc::{AllocError, Global};

@@ -6,7 +6,7 @@ ghost use Rattle.grove_parts.specs.Trees.{tree_of};
 
 use crate::copies::{path_copy, proof_copy};
 use crate::tree::{Tree, walk};
-use block_form::Zone;
+use block_program::Zone;
 use bp_theory::{Items, Proof};
 use search_laws::Side;
 use std::alloc::{AllocError, Global};

@@ -24,7 +24,7 @@ use Rattle.bp_theory.proofs.SumLaws.{sum_of-same}
 use Rattle.bp_theory.proofs.ZipLaws.{AllZip_at, AllZip-length}
 use Rattle.bp_theory.proofs.DecompositionProof.{first_takes, copies_at, copies_past, coefficient_past, decomposition_lem}
 use Rattle.bp_theory.proofs.CutProof.{cuts_are_met_lem}
-use Rattle.block_form.specs.Blocked.{BlockedProgram, IsFormed}
+use Rattle.block_program.specs.Blocked.{BlockedProgram, IsFormed}
 use Rattle.search_laws.specs.Verdicts.{every_block}
 use Rattle.proof_costs.specs.Sizes.{block_size}
 use Rattle.lagr_bound.proofs.PartLemmas.{part_within}

@@ -1,6 +1,6 @@
 -- What a search keeps from leaf to leaf, and which program it is made for.
 use Rattle.std.specs.Prelude.{◌≡◌, All}
-use Rattle.block_form.specs.Blocked.{BlockedProgram}
+use Rattle.block_program.specs.Blocked.{BlockedProgram}
 use Rattle.block_forms.specs.Forms.{forms_in}
 use Rattle.block_pricers.specs.Works.{forms_of}
 use Rattle.col_store.specs.Stores.{IsStoreOf}

@@ -3,7 +3,8 @@ ghost use Rattle.std.specs.Prelude.{◌≡◌, ◌<◌, length};
 
 use crate::wide::has_many_beginnings;
 use block_class::Classes;
-use block_form::{Block, Blocked, MAX_SCALE, Zone, fits};
+use block_form::{MAX_SCALE, fits};
+use block_program::{Block, Blocked, Zone};
 use bp_theory::{Items, Picked, Proof, Span};
 use lagr_bound::{Bounded, Work, bound};
 use point_hint::{clipped, copy_place, product, put, quotient};

@@ -7,7 +7,7 @@ ghost use Rattle.hint_pools.specs.Pools.{AreMadeFor};
 
 use crate::budget::PricingBudget;
 use block_class::Classes;
-use block_form::{Blocked, Zone};
+use block_program::{Blocked, Zone};
 use bp_theory::Proof;
 use col_pool::{Column, Pool};
 use col_store::Store;

@@ -4,7 +4,7 @@ ghost use Rattle.bp_theory.specs.Trees.{IsZone};
 ghost use Rattle.hint_pools.specs.Wide.{IsWide};
 
 use crate::budget::MOST_VISITS;
-use block_form::{Blocked, Zone};
+use block_program::{Blocked, Zone};
 use bp_theory::Span;
 use lagr_bound::fill_spans;
 use search_price::prefixes;

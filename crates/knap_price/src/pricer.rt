@@ -2,7 +2,7 @@
 ghost use Rattle.load_table.specs.Rooms.{HasRoom, cells_of, count_of};
 ghost use Rattle.std.specs.Prelude.{◌≡◌, ◌≤◌, length, vec_len};
 
-use block_form::Block;
+use block_program::Block;
 use bp_theory::Span;
 use load_table::{Cells, Form, Table, is_taken, price_zone};
 use pricing::{Cap, Priced, Pricer, copied_spans};

@@ -13,8 +13,8 @@ ghost use Rattle.lagr_bound.specs.Bounded.{IsBounded, IfWhole, IsPartAnswer, Tel
 use crate::bounded::Bounded;
 use crate::parts::box_part;
 use block_class::Classes;
-use block_form::{Blocked, Zone};
 use block_pricers::Work;
+use block_program::{Blocked, Zone};
 use bp_theory::Proof;
 use pricing::{Cap, Priced, plus};
 use proof_costs::{base, is_picked};

@@ -9,8 +9,8 @@ ghost use Rattle.block_pricers.specs.Works.{forms_of, IsSilent};
 ghost use Rattle.lagr_bound.specs.Bounded.{IsBounded, IfWhole};
 
 use crate::parts::part;
-use block_form::{Blocked, Zone};
 use block_pricers::Work;
+use block_program::{Blocked, Zone};
 use bp_theory::Proof;
 use pricing::{Cap, Priced, plus};
 use proof_costs::base;

@@ -2,14 +2,14 @@
 ghost use Rattle.std.specs.Prelude.{◌≡◌, ◌<◌, false, length};
 ghost use Rattle.bp_theory.specs.Bound.{Fits, IsPart, is_picked};
 ghost use Rattle.bp_theory.specs.Trees.{IsZone};
-ghost use Rattle.block_form.specs.Blocked.{IsFormed};
+ghost use Rattle.block_program.specs.Blocked.{IsFormed};
 ghost use Rattle.search_laws.specs.Spread.{block_at};
 ghost use Rattle.block_forms.specs.Forms.{forms_in};
 ghost use Rattle.block_pricers.specs.Works.{forms_of};
 ghost use Rattle.lagr_bound.specs.Bounded.{IsPartAnswer};
 
-use block_form::{Blocked, Zone};
 use block_pricers::Work;
+use block_program::{Blocked, Zone};
 use bp_theory::Proof;
 use pricing::{Cap, Priced};
 use proof_costs::{box_least, is_picked};

@@ -5,7 +5,7 @@ ghost use Rattle.bp_theory.specs.Bound.{Fits, IsBound};
 ghost use Rattle.bp_theory.specs.Trees.{IsZone};
 ghost use Rattle.bp_theory.specs.declared.Picked.TheVariants.{These};
 
-use block_form::{Blocked, Zone};
+use block_program::{Blocked, Zone};
 use bp_theory::Proof;
 use pricing::plus;
 use proof_costs::{base, box_least};

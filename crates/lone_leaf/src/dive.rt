@@ -1,7 +1,7 @@
 // Points by rounding and by dives: one variable after another is rounded, with the relaxation solved anew in between.
 use crate::numbers::{floor_in, nearest_in, span_at};
 use crate::relaxation::{Fraction, LoneLeaves};
-use block_form::Blocked;
+use block_program::Blocked;
 use bp_theory::Span;
 use lp_core::{Effort, End};
 use std::alloc::{AllocError, Global};

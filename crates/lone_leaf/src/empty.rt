@@ -3,7 +3,8 @@
 use crate::numbers::product;
 use crate::relaxation::LoneLeaves;
 use crate::rows::row_of;
-use block_form::{Blocked, MAX_MULTIPLIER, MAX_SCALE};
+use block_form::{MAX_MULTIPLIER, MAX_SCALE};
+use block_program::Blocked;
 use bp_theory::{MasterRow, Row, Sense, Span};
 use lp_factor::{place, put};
 use std::alloc::{AllocError, Global};

@@ -1,7 +1,7 @@
 // Spans narrowed by rows, one by one: for dives alone.
 use crate::numbers::product;
 use crate::relaxation::LoneLeaves;
-use block_form::Blocked;
+use block_program::Blocked;
 use bp_theory::{Row, Sense, Span};
 use std::alloc::AllocError;
 

@@ -6,7 +6,7 @@ use crate::bases::Bases;
 use crate::numbers::{part_of, range_of_span, span_at};
 use crate::rows::cut_rows;
 use crate::scores::Scores;
-use block_form::Blocked;
+use block_program::Blocked;
 use bp_theory::{Row, Span};
 use lp_core::{ENDLESS, Effort, End, Lp, Snapshot};
 use row_lp::relaxation_of;

@@ -1,5 +1,5 @@
 // The rows that multipliers are of, by the numbers that proofs name them by.
-use block_form::{Block, Blocked};
+use block_program::{Block, Blocked};
 use bp_theory::{Items, Row, Sense, Term};
 use lp_factor::place;
 use std::alloc::{AllocError, Global};

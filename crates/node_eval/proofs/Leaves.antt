@@ -24,7 +24,7 @@ use Rattle.bp_model.specs.Named.{NamedProgram, IsKept}
 use Rattle.bp_model.specs.Miss.{IsFirstMiss, CanSum}
 use Rattle.bp_model.proofs.PointLemmas.{rows_can_sum}
 use Rattle.bp_model.specs.declared.points.Miss.TheVariants.{Length, Bound}
-use Rattle.block_form.specs.Blocked.{BlockedProgram, IsFormed}
+use Rattle.block_program.specs.Blocked.{BlockedProgram, IsFormed}
 use Rattle.search_laws.specs.GroveFacts.{IsSoundProof, best_cost, IsNoDearer}
 use Rattle.search_laws.specs.Verdicts.{IsFork, IsNext, IsVerdict, cheaper_cost, every_block}
 use Rattle.search_laws.specs.declared.Next.{Next}

@@ -28,7 +28,7 @@ use Rattle.bp_theory.proofs.ShrinkProof.{one_bound_lem}
 use Rattle.bp_theory.proofs.FaithProof.{activity_of_places}
 use Rattle.bp_theory.proofs.DecompositionProof.{decomposition_lem, get_or-map_past, mirrored_row, eqb_itself}
 use Rattle.bp_theory.proofs.CutProof.{cuts_are_met_lem}
-use Rattle.block_form.specs.Blocked.{BlockedProgram, IsFormed}
+use Rattle.block_program.specs.Blocked.{BlockedProgram, IsFormed}
 use Rattle.node_eval.specs.Shown.{ShutsOff, IsMissed, row_proof, block_proof, closing_sign}
 
 -- ---- the zone of one point

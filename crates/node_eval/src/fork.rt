@@ -4,7 +4,7 @@ ghost use Rattle.bp_theory.specs.Digits.{middle};
 ghost use Rattle.bp_theory.specs.Trees.{IsProper};
 ghost use Rattle.node_eval.specs.Shown.{IsOnePoint, IsOpen};
 
-use block_form::Zone;
+use block_program::Zone;
 use bp_theory::Span;
 
 /// The first variable whose span has more than one number.

@@ -13,7 +13,7 @@ use crate::lone::lone_points;
 use crate::point::{if_better, one_point};
 use crate::shown::{Opening, Shown, at_both_scales, emptied, emptied_by, opened, strongest};
 use block_class::Classes;
-use block_form::Blocked;
+use block_program::Blocked;
 use bp_theory::{Items, Proof};
 use branch_tree::{Next, Turn, Verdict};
 use lone_leaf::serves;

@@ -13,7 +13,7 @@ use crate::fork::open_or;
 use crate::leaf::{better_point, cheaper, settled};
 use crate::proofs::{by_scaled, plain};
 use crate::shown::{Shown, inherited, is_sound, raised_to, shuts_off};
-use block_form::{Blocked, Zone};
+use block_program::{Blocked, Zone};
 use bp_theory::Proof;
 use branch_tree::{Next, Turn, Verdict};
 use lagr_bound::box_bound;

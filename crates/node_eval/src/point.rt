@@ -4,14 +4,14 @@ ghost use Rattle.bp_theory.specs.Program.{IsFeasible, IsInside, activity, cost};
 ghost use Rattle.bp_theory.specs.declared.Row as rows;
 ghost use Rattle.bp_theory.specs.declared.Span as span_type;
 ghost use Rattle.bp_theory.specs.Trees.{zone_of};
-ghost use Rattle.block_form.specs.Blocked.{IsFormed};
+ghost use Rattle.block_program.specs.Blocked.{IsFormed};
 ghost use Rattle.branch_tree.specs.Turns.{IsTurn};
 ghost use Rattle.search_laws.specs.GroveFacts.{best_cost, IsNoDearer};
 ghost use Rattle.search_laws.specs.Verdicts.{IsVerdict, IsThorough, cheaper_cost};
 ghost use Rattle.node_eval.specs.Shown.{IsOnePoint, ShutsOff, IsBetter, IsMissed, closing_sign};
 
 use crate::proofs::{by_block, by_row, plain};
-use block_form::Blocked;
+use block_program::Blocked;
 use bp_model::{Miss, activity};
 use bp_theory::{Items, Proof, Row, Sense, Span};
 use branch_tree::{Next, Turn, Verdict};

@@ -13,7 +13,8 @@ ghost use Rattle.node_eval.specs.Openings.{IsOpening, IsReached, IsOfNoUse, at_z
 
 use crate::proofs::{by_row, every};
 use block_class::Classes;
-use block_form::{Blocked, MAX_SCALE, Zone, fits, signs_fit};
+use block_form::{MAX_SCALE, fits, signs_fit};
+use block_program::{Blocked, Zone};
 use bp_theory::Proof;
 use branch_tree::{Turn, proof_copy};
 use lagr_bound::{Bounded, Work, bound, box_bound, round};

@@ -8,7 +8,7 @@ ghost use Rattle.search_laws.specs.declared.UsedColumn.{UsedColumn as AUsed};
 use crate::links::split_of_links;
 use crate::points::{find_points, point_by_mean};
 use block_class::Classes;
-use block_form::Blocked;
+use block_program::Blocked;
 use bp_theory::{Items, Span};
 use branch_tree::Turn;
 use column_hint::{

@@ -2,7 +2,7 @@
 // least, at their mean. (Carøe and Schultz, Dual decomposition in stochastic integer programming, 1999.)
 use crate::hint::Split;
 use block_class::Classes;
-use block_form::{Block, Blocked};
+use block_program::{Block, Blocked};
 use column_hint::{Pools, Weighted};
 use point_hint::{UNIT, has_further_rows, linking_vars, product, quotient, whole};
 use std::alloc::{AllocError, Global};

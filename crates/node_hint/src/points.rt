@@ -6,7 +6,7 @@ ghost use Rattle.bp_theory.specs.Trees.{IsZone};
 ghost use Rattle.hint_pools.specs.Pools.{AreMadeFor};
 
 use block_class::Classes;
-use block_form::{Block, Blocked};
+use block_program::{Block, Blocked};
 use branch_tree::Turn;
 use column_hint::{
     Centre, Place, Pools, RestrictedMaster, Style, Weighted, are_alike, dive_by_columns,

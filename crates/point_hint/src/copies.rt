@@ -2,7 +2,7 @@
 // several blocks has a copy in each, and a link row for each copy but the first.
 ghost use Rattle.std.specs.Prelude.{◌<◌, length};
 
-use block_form::{Block, Blocked};
+use block_program::{Block, Blocked};
 use std::alloc::{AllocError, Global};
 
 /// Whether there are rows behind a model's that proofs may name.

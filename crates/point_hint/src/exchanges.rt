@@ -4,7 +4,7 @@
 use crate::entries::Entries;
 use crate::guide::dense_costs;
 use crate::reach::{at, has_lower, has_upper, product, sum_at};
-use block_form::Blocked;
+use block_program::Blocked;
 use std::alloc::{AllocError, Global};
 
 /// How many changes a chain has at most.

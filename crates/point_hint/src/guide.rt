@@ -2,7 +2,8 @@
 ghost use Rattle.std.specs.Prelude.{◌<◌, length};
 
 use crate::reach::{at, product, put, quotient};
-use block_form::{Blocked, MAX_SCALE};
+use block_form::MAX_SCALE;
+use block_program::Blocked;
 use std::alloc::{AllocError, Global};
 
 /// How much a unit of the mean counts against a unit of reduced cost.

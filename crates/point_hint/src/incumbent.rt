@@ -1,7 +1,7 @@
 // Costs of points that may be feasible.
 use crate::exchanges::improve_point;
 use crate::residuals::UNIT;
-use block_form::Blocked;
+use block_program::Blocked;
 use std::alloc::{AllocError, Global};
 
 /// The cost of a point, if it is feasible.

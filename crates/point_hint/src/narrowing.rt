@@ -2,7 +2,7 @@
 ghost use Rattle.std.specs.Prelude.{◌≤ℤ◌, ◌↔◌, IsTrue};
 ghost use Rattle.bp_theory.specs.Trees.{IsZone};
 
-use block_form::{Blocked, Zone};
+use block_program::{Blocked, Zone};
 use bp_theory::Span;
 
 /// A zone narrowed to spans, where these lie inside it.

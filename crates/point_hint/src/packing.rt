@@ -4,7 +4,7 @@
 // the one-dimensional bin packing problem, 2004.)
 use crate::bins::{Bins, Item};
 use crate::reach::{at, count, product, put, whole};
-use block_form::{Block, Blocked};
+use block_program::{Block, Blocked};
 use bp_theory::{Row, Sense, Span};
 use std::alloc::{AllocError, Global};
 

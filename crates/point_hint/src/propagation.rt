@@ -4,7 +4,7 @@ use crate::guide::{Guide, Order};
 use crate::incumbent::{feasible_cost, is_below};
 use crate::reach::{has_lower, has_upper, sum_at};
 use crate::spans::{Spans, cheap_end, set, take_back, tighten};
-use block_form::Blocked;
+use block_program::Blocked;
 use bp_theory::{Row, Span};
 use branch_tree::Turn;
 use std::alloc::{AllocError, Global};

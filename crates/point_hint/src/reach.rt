@@ -1,5 +1,6 @@
 // What rows can reach over spans: hints, which exact bounds judge.
-use block_form::{Blocked, MAX_MULTIPLIER};
+use block_form::MAX_MULTIPLIER;
+use block_program::Blocked;
 use bp_theory::{Row, Sense, Span, Term};
 
 /// The least and the greatest sum of a row's terms over spans.

@@ -5,7 +5,7 @@ ghost use Rattle.std.specs.Prelude.{◌<◌, length};
 use crate::entries::Entries;
 use crate::guide::dense_costs;
 use crate::reach::{Reach, at, ends, has_lower, has_upper, product, whole};
-use block_form::Blocked;
+use block_program::Blocked;
 use bp_theory::{Row, Span, Term};
 use std::alloc::{AllocError, Global};
 

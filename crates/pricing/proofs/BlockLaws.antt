@@ -20,7 +20,7 @@ use Rattle.bp_theory.proofs.ZipLaws.{AllZip_at, AllZip-length}
 use Rattle.bp_theory.proofs.DecompositionProof.{decomposition_lem, all_blocks}
 use Rattle.bp_theory.proofs.CutProof.{cuts_are_met_lem}
 use Rattle.bp_model.specs.Named.{HasSmallEnds}
-use Rattle.block_form.specs.Blocked.{BlockedProgram, IsFormed}
+use Rattle.block_program.specs.Blocked.{BlockedProgram, IsFormed}
 use Rattle.pricing.specs.Form.{term_size, HasShortEnds, IsForm}
 use Rattle.pricing.specs.Laws.{BlocksHaveForm}
 

@@ -7,7 +7,7 @@ use Rattle.bp_theory.specs.Trees.{IsZone}
 use Rattle.bp_theory.specs.declared.Span.{Span}
 use Rattle.bp_theory.specs.declared.Term.{Term}
 use Rattle.bp_theory.specs.declared.Row.{Row}
-use Rattle.block_form.specs.Blocked.{RootBlock}
+use Rattle.block_program.specs.Blocked.{RootBlock}
 
 -- the greatest magnitude of a term at numbers of a span
 abbrev pub term_size : List Span → Term → ℕ

@@ -1,7 +1,7 @@
 -- What blocks keep for pricing.
 use Rattle.std.specs.Prelude.{All}
 use Rattle.bp_theory.specs.Bound.{spans_of}
-use Rattle.block_form.specs.Blocked.{BlockedProgram, IsFormed}
+use Rattle.block_program.specs.Blocked.{BlockedProgram, IsFormed}
 use Rattle.pricing.specs.Form.{IsForm}
 
 -- each block of a program in blocks keeps the limits of what a pricer is made of

@@ -13,7 +13,7 @@ ghost use Rattle.pricing.specs.Form.{IsPriceable, AreOf};
 ghost use Rattle.pricing.specs.Laws.{BlocksHaveForm};
 ghost use Rattle.pricing.specs.Priced.{IsPriced};
 
-use block_form::Block;
+use block_program::Block;
 use bp_theory::Span;
 pub use checks::{is_form, is_priceable};
 pub use copies::{copied_row, copied_rows, copied_spans};

@@ -2,7 +2,7 @@
 ghost use Rattle.pricing.specs.Form.{AreOf, IsForm, IsPriceable};
 
 use crate::problem::{Problem, firsts, problem_block};
-use block_form::Block;
+use block_program::Block;
 use bp_theory::Span;
 use knap_price::KnapPricer;
 use pricing::{Cap, Priced, Pricer, is_form, is_priceable};

@@ -3,7 +3,7 @@
 use crate::ask::{Found, Kind, ask};
 use crate::checks::check_none;
 use crate::problem::{Given, block_of, firsts};
-use block_form::Block;
+use block_program::Block;
 use bp_theory::{Sense, Span};
 use pricing::{Cap, Priced, is_form};
 use state_price::StatePricer;

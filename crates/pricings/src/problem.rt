@@ -1,5 +1,5 @@
 // Blocks, and those of at most four variables and three rows with a zone in each and costs.
-use block_form::Block;
+use block_program::Block;
 use bp_theory::{Items, Row, Sense, Span, Term};
 use std::alloc::{AllocError, Global};
 

@@ -35,7 +35,7 @@ use Rattle.bp_theory.proofs.DecompositionProof.{get_or-map_past, first_takes, co
 use Rattle.bp_theory.proofs.CutProof.{cuts_are_met_lem}
 use Rattle.bp_theory.proofs.CopyProof.{copies_of_each_lem}
 use Rattle.bp_model.specs.Named.{cost_limit}
-use Rattle.block_form.specs.Blocked.{BlockedProgram, IsFormed}
+use Rattle.block_program.specs.Blocked.{BlockedProgram, IsFormed}
 use Rattle.proof_costs.specs.Sizes.{IsSmallCopy, IsSmallProof, IsSmallBlock, block_size, base_size, bound_size}
 use Rattle.proof_costs.proofs.MultLemmas.{key, rows_of}
 use Rattle.proof_costs.proofs.Sums.{sum_by-same, sum_by-smaller, sum_by-joined, sum_by-mul, sum_by-flat_map, copies_within, copies_below, cost_size-maps}

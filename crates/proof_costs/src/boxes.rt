@@ -4,7 +4,7 @@ ghost use Rattle.bp_theory.specs.Blocking.{Copy};
 ghost use Rattle.proof_costs.specs.Sizes.{IsSmallBlock, IsSmallProof, block_least, block_size, copy_least};
 
 use crate::costs::reduced_cost;
-use block_form::{Block, Zone};
+use block_program::{Block, Zone};
 use bp_theory::Proof;
 use pricing::{least_end, plus};
 

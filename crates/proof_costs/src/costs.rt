@@ -7,7 +7,7 @@ ghost use Rattle.bp_theory.specs.Blocking.{Copy, row_at};
 ghost use Rattle.bp_theory.specs.Bound.{base, reduced_cost, side_at, side};
 ghost use Rattle.proof_costs.specs.Sizes.{IsSmallCopy, IsSmallProof, base_size, most_named_rows};
 
-use block_form::{Block, Blocked};
+use block_program::{Block, Blocked};
 use bp_theory::{MasterRow, Proof};
 use pricing::{minus, plus};
 

@@ -4,7 +4,7 @@ ghost use Rattle.bp_theory.specs.Bound.{spans_of};
 ghost use Rattle.proof_costs.specs.Sizes.{IsSmallCopy, IsSmallProof, reduced_costs};
 
 use crate::costs::reduced_cost;
-use block_form::{Block, Zone};
+use block_program::{Block, Zone};
 use bp_theory::{Proof, Span};
 
 /// Writes a block's reduced costs.

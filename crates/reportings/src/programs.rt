@@ -3,7 +3,8 @@ ghost use Rattle.std.specs.Prelude.{◌≡◌, IfOk};
 ghost use Rattle.block_class.specs.Classes.{AreSameClasses};
 
 use block_class::Classes;
-use block_form::{BlockFault, Blocked, Zone, check_blocks};
+use block_form::{BlockFault, check_blocks};
+use block_program::{Blocked, Zone};
 use bp_model::Model;
 use bp_report::{
     Refusal, blocks_text, budget_text, ended_text, proposed_text, refusal_text, show_blocks_text,

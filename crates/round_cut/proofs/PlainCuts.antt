@@ -16,8 +16,8 @@ use Rattle.bp_theory.specs.Cuts.{row_coefficient, row_side, CombinesWell, at_low
 use Rattle.bp_theory.specs.declared.Sense.TheVariants.{Ge}
 use Rattle.bp_theory.specs.declared.Row.{Row}
 use Rattle.bp_theory.specs.declared.Cut.{Cut}
-use Rattle.block_form.specs.Cuts.{KeepsCuts, IsSmallCut}
-use Rattle.block_form.proofs.LinkLemmas.{own_rows}
+use Rattle.block_program.specs.Cuts.{KeepsCuts, IsSmallCut}
+use Rattle.block_program.proofs.NamedRows.{own_rows}
 use Rattle.round_sums.specs.declared.fault.CutFault.{CutFault}
 use Rattle.round_sums.specs.declared.fault.CutFault.TheVariants.{Sign, Large, NoMemory}
 use Rattle.round_sums.specs.Cutting.{IsWhole, HasCutFault, HasFittingSigns, IsCutOver}

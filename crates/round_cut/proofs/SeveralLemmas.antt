@@ -10,7 +10,7 @@ use Rattle.bp_theory.specs.Cuts.{cut_row, cut_rows, rounded, AreFitting, IsFitti
 use Rattle.bp_theory.specs.declared.Sense.TheVariants.{Ge}
 use Rattle.bp_theory.specs.declared.Row.{Row}
 use Rattle.bp_theory.specs.declared.Cut.{Cut}
-use Rattle.block_form.specs.Cuts.{KeepsCuts, IsSmallCut}
+use Rattle.block_program.specs.Cuts.{KeepsCuts, IsSmallCut}
 use Rattle.round_sums.specs.Cutting.{HasCutFault, HasFittingSigns, IsCutOver, IsEarlierCut}
 use Rattle.round_cut.specs.Several.{AreCutsOver, AreRowsOfCuts, HasCutsFault}
 use Rattle.round_sums.specs.declared.fault.CutFault.{CutFault}

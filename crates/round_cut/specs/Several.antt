@@ -5,7 +5,7 @@ use Rattle.bp_theory.specs.Decomposition.{Decomposition, proof_rows}
 use Rattle.bp_theory.specs.Cuts.{cut_row, cut_rows}
 use Rattle.bp_theory.specs.declared.Row.{Row}
 use Rattle.bp_theory.specs.declared.Cut.{Cut}
-use Rattle.block_form.specs.Cuts.{KeepsCuts}
+use Rattle.block_program.specs.Cuts.{KeepsCuts}
 use Rattle.round_sums.specs.Cutting.{HasCutFault, IsCutOver, IsEarlierCut}
 use Rattle.round_sums.specs.declared.fault.CutFault.{CutFault}
 use Rattle.round_sums.specs.declared.fault.CutFault.TheVariants.{Sign, Large, NoMemory}

@@ -6,7 +6,7 @@ ghost use Rattle.bp_theory.specs.Cuts.{cut_row};
 ghost use Rattle.round_sums.specs.Cutting.{HasCutFault, HasFittingSigns, IsCutOver, IsEarlierCut};
 ghost use Rattle.round_sums.specs.Rows.{program_of, rows_in, IsRows};
 
-use block_form::Blocked;
+use block_program::Blocked;
 use bp_theory::{Cut, Row};
 use round_sums::{CutFault, Rows, bounded_row, demand, round_up, rounded, signs_fit};
 use std::alloc::Global;

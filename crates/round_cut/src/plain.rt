@@ -6,7 +6,7 @@ ghost use Rattle.round_sums.specs.PlainSteps.{rank_of, AreFirstBelow, IsPlainOf,
 ghost use Rattle.round_sums.specs.Rows.{program_of, row_in, IsRows};
 
 use crate::cut::row_over;
-use block_form::Blocked;
+use block_program::Blocked;
 use bp_theory::Cut;
 use round_sums::{CutFault, Rows, lone_cut, sharpening};
 use std::alloc::{AllocError, Global};

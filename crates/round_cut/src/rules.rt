@@ -6,7 +6,7 @@ ghost use Rattle.bp_theory.specs.Decomposition.{proof_rows};
 ghost use Rattle.round_sums.specs.Cutting.{IsCutOver, IsEarlierCut, IsWhole};
 ghost use Rattle.round_sums.specs.Rows.{row_in, rows_in, IsRows};
 
-use block_form::Blocked;
+use block_program::Blocked;
 use bp_theory::{Cut, Row};
 use round_sums::{MAX_DIVISOR, Rows};
 

@@ -1,11 +1,12 @@
 // Programs in blocks with cuts.
 ghost use Rattle.std.specs.Prelude.{◌≡◌, ◌≤◌, [], length, IfErr, IfOk};
 ghost use Rattle.bp_theory.specs.Limits.{most_cuts};
-ghost use Rattle.block_form.specs.Blocked.{IsFormed};
+ghost use Rattle.block_program.specs.Blocked.{IsFormed};
 ghost use Rattle.round_cut.specs.Several.{AreCutsOver, AreRowsOfCuts, HasCutsFault};
 
 use crate::cut::cut_row;
-use block_form::{Blocked, recut};
+use block_form::recut;
+use block_program::Blocked;
 use bp_theory::{Cut, Items, Row};
 use round_sums::{CutFault, copies_of};
 use std::alloc::{AllocError, Global};

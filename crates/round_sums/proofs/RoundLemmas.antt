@@ -22,7 +22,7 @@ use Rattle.bp_theory.proofs.DecompositionProof.{coefficient_past, below_range}
 use Rattle.bp_theory.proofs.KeyLaws.{if_same, if_other}
 use Rattle.bp_model.specs.Tidy.{as_term, nonzero}
 use Rattle.bp_model.proofs.TidyLemmas.{map_tidies}
-use Rattle.block_form.proofs.StandLemmas.{before_none}
+use Rattle.block_program.proofs.StandLemmas.{before_none}
 use Rattle.round_sums.specs.Rounding.{round_entry}
 use Rattle.round_sums.specs.Rows.{IsBoundedRow, IsBoundedEntry}
 

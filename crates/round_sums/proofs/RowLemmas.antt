@@ -13,8 +13,8 @@ use Rattle.bp_theory.specs.Cuts.{cut_row, cut_rows}
 use Rattle.bp_theory.specs.declared.Cut.{Cut}
 use Rattle.bp_theory.specs.declared.Row.{Row}
 use Rattle.bp_theory.proofs.DecompositionProof.{kept_at}
-use Rattle.block_form.specs.Blocked.{BlockedProgram, IsFormed}
-use Rattle.block_form.proofs.LinkLemmas.{own_rows, own_long}
+use Rattle.block_program.specs.Blocked.{BlockedProgram, IsFormed}
+use Rattle.block_program.proofs.NamedRows.{own_rows, own_long}
 use Rattle.round_sums.specs.Cutting.{IsWhole, IsEarlierCut, IsCutOver}
 use Rattle.round_sums.specs.Rows.{program_of, rows_in, IsRows, IsBounded, IsBoundedRow, IsBoundedEntry}
 use Rattle.round_sums.specs.declared.rows.Rows.{Rows}

@@ -6,7 +6,7 @@ use Rattle.bp_theory.specs.Cuts.{CombinesWell, cut_row}
 use Rattle.bp_theory.specs.declared.Sense.TheVariants.{Ge}
 use Rattle.bp_theory.specs.declared.Row.{Row}
 use Rattle.bp_theory.specs.declared.Cut.{Cut}
-use Rattle.block_form.specs.Cuts.{IsSmallCut}
+use Rattle.block_program.specs.Cuts.{IsSmallCut}
 use Rattle.round_sums.specs.declared.fault.CutFault.{CutFault}
 use Rattle.round_sums.specs.declared.fault.CutFault.TheVariants.{Sign, Large, NoMemory}
 

@@ -8,7 +8,7 @@ use Rattle.bp_theory.specs.Cuts.{row_coefficient, row_side}
 use Rattle.bp_theory.specs.declared.Span.{Span}
 use Rattle.bp_theory.specs.declared.Term.{Term}
 use Rattle.bp_theory.specs.declared.Row.{Row}
-use Rattle.block_form.specs.Blocked.{IsFormed}
+use Rattle.block_program.specs.Blocked.{IsFormed}
 use Rattle.round_sums.specs.Cutting.{IsEarlierCut}
 use Rattle.round_sums.specs.declared.rows.Rows.{Rows}
 

@@ -1,9 +1,9 @@
 // The rows that cuts combine.
 ghost use Rattle.std.specs.Prelude.{◌≡◌, ◌+◌, length};
 ghost use Rattle.bp_theory.specs.Decomposition.{link_count};
-ghost use Rattle.block_form.specs.Blocked.{IsFormed};
+ghost use Rattle.block_program.specs.Blocked.{IsFormed};
 
-use block_form::Blocked;
+use block_program::Blocked;
 use bp_theory::{Row, Span};
 
 // The number of the first cut: behind the model's rows and the link rows.

@@ -3,7 +3,7 @@
 //! relaxation of the whole program, and else its ranges of rows serve the master over columns.
 #![tactic(auto)]
 
-use block_form::Blocked;
+use block_program::Blocked;
 use bp_theory::{MasterRow, Sense, Span};
 use lp_core::{ENDLESS, Lp, Range};
 use lp_factor::{Entry, Vectors, put};

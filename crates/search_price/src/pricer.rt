@@ -2,7 +2,7 @@
 ghost use Rattle.std.specs.Prelude.{◌≡◌, vec_len};
 ghost use Rattle.depth_search.specs.Sizes.{HasPlaces};
 
-use block_form::Block;
+use block_program::Block;
 use bp_theory::Span;
 use depth_search::{
     Dive, Form, Frame, Multipliers, Relaxed, begin, explore, least_cost, rows_can_meet, set_order,

@@ -14,7 +14,7 @@ ghost use Rattle.var_order.specs.Orders.{rows_by, spans_by};
 ghost use Rattle.state_price.specs.Arranged.{graph_rows, graph_spans, block_point};
 
 use crate::arranged::Arranged;
-use block_form::Block;
+use block_program::Block;
 use bp_theory::{Items, Row, Span};
 use graph_pass::{Margins, Pair, Work, are_short, pairs_in, price_zone, write_way};
 use layer_graph::Graph;

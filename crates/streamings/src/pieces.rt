@@ -2,10 +2,11 @@
 ghost use Rattle.std.specs.Prelude.{◌≡◌, ℕ, ◌+◌, ◌<◌, ◌^◌, List, [], Option, length, IfSome};
 ghost use Rattle.bp_theory.specs.Decomposition.{HasPlaces};
 ghost use Rattle.bp_model.specs.Dec.{HasListed};
-ghost use Rattle.block_form.specs.Blocked.{BlockedProgram};
+ghost use Rattle.block_program.specs.Blocked.{BlockedProgram};
 ghost use Rattle.cert_stream.specs.Checks.{IsMadeFor, ChecksFor};
 
-use block_form::{Blocked, check_blocks};
+use block_form::check_blocks;
+use block_program::Blocked;
 use bp_model::{Dec, Model};
 use bp_theory::CheckKind;
 use cert_check::{Judged, check};

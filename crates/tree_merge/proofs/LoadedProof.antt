@@ -4,7 +4,7 @@ use Rattle.std.proofs.Math.IntN.{ℤ}
 use Rattle.std.specs.Prelude.{int_lt, if◌then◌else◌, IfSome}
 use Rattle.bp_theory.specs.Program.{Program, cost}
 use Rattle.bp_theory.specs.Trees.{depth, steps}
-use Rattle.block_form.specs.Blocked.{BlockedProgram, IsFormed}
+use Rattle.block_program.specs.Blocked.{BlockedProgram, IsFormed}
 use Rattle.search_laws.specs.Grove.{GrowingTree, certificate_tree}
 use Rattle.search_laws.specs.GroveFacts.{IsSearch, best_cost}
 use Rattle.search_laws.specs.Verdicts.{better, cheaper_cost}

@@ -8,7 +8,7 @@ ghost use Rattle.tree_merge.specs.Merging.{merged, shut_by};
 ghost use Rattle.tree_merge.specs.Merges.{cost_in, cheaper_of, IsMergedOf};
 
 use crate::nodes::{join, less_of};
-use block_form::Blocked;
+use block_program::Blocked;
 use bp_theory::Items;
 use branch_tree::{Grove, Loaded, Tree};
 use std::alloc::{AllocError, Global};

@@ -1,6 +1,6 @@
 use Rattle.std.proofs.Common.{◌≡◌, ◌∙◌, List, ℕ, All, length, sym, ap, subst, arith}
 use Rattle.bp_theory.specs.Decomposition.{members}
-use Rattle.block_form.specs.Blocked.{RootBlock}
+use Rattle.block_program.specs.Blocked.{RootBlock}
 use Rattle.block_form.specs.Gather.{at_home}
 use Rattle.block_form.specs.Homes.{IsHeld}
 use Rattle.block_form.specs.Source.{block_in}

@@ -5,7 +5,7 @@ use Rattle.std.proofs.lemmas.List.Elements.{All-push}
 use Rattle.bp_theory.specs.Blocking.{Block}
 use Rattle.bp_theory.specs.Bound.{spans_of}
 use Rattle.bp_theory.specs.Decomposition.{members}
-use Rattle.block_form.specs.Blocked.{RootBlock, HaveRootSpans}
+use Rattle.block_program.specs.Blocked.{RootBlock, HaveRootSpans}
 use Rattle.block_form.specs.Source.{block_in}
 use Rattle.block_form.proofs.GatherLemmas.{map_range_more}
 use Rattle.block_form.proofs.assemble.home_blocks.Goals as goal

@@ -1,7 +1,7 @@
 use Rattle.std.proofs.Common.{◌≡◌, map}
 use Rattle.std.specs.List.{range_with_len}
 use Rattle.bp_theory.specs.Decomposition.{members}
-use Rattle.block_form.specs.Blocked.{RootBlock, HaveRootSpans}
+use Rattle.block_program.specs.Blocked.{RootBlock, HaveRootSpans}
 use Rattle.block_form.specs.Source.{block_in}
 use Rattle.block_form.proofs.assemble.home_blocks.Given as goal
 

@@ -1,10 +1,10 @@
 use Rattle.std.proofs.Common.{◌≡◌, ◌∙◌, ◌++◌, ◌∷◌, [], ◌<◌, List, ℕ, All, length, sym, ap, subst, arith}
 use Rattle.std.specs.List.Sorted.{IsStrictlyIncreasing}
-use Rattle.block_form.specs.Blocked.{RootBlock}
+use Rattle.block_program.specs.Blocked.{RootBlock}
 use Rattle.block_form.specs.Homes.{IsHeld}
 use Rattle.block_form.specs.Source.{block_in}
 use Rattle.block_form.proofs.GatherLemmas.{all_single, single_has, if_ok}
-use Rattle.block_form.proofs.StandLemmas.{one_rises}
+use Rattle.block_program.proofs.StandLemmas.{one_rises}
 use Rattle.block_form.proofs.assemble.lone_block.Goals as goal
 
 pub made_block-requires-clause-below : goal.made_block-requires-clause-below

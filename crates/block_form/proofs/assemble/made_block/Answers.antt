@@ -5,7 +5,7 @@ use Rattle.bp_theory.specs.Bound.{spans_of}
 use Rattle.bp_theory.specs.declared.Row.{Row}
 use Rattle.bp_theory.specs.declared.Span.{Span}
 use Rattle.std.specs.Prelude.{Option}
-use Rattle.block_form.specs.Blocked.{RootBlock, copies_from}
+use Rattle.block_program.specs.Blocked.{RootBlock, copies_from}
 use Rattle.block_form.specs.Gather.{rows_from}
 use Rattle.block_form.specs.Source.{block_in, copy_in}
 use Rattle.block_form.proofs.GatherLemmas.{block_made, spans_made}

@@ -4,7 +4,7 @@ use Rattle.std.proofs.lemmas.List.Elements.{All-push}
 use Rattle.bp_theory.specs.Blocking.{Block}
 use Rattle.bp_theory.specs.Bound.{spans_of}
 use Rattle.bp_theory.specs.Decomposition.{lone_variables}
-use Rattle.block_form.specs.Blocked.{RootBlock, HaveRootSpans}
+use Rattle.block_program.specs.Blocked.{RootBlock, HaveRootSpans}
 use Rattle.block_form.specs.Gather.{homeless}
 use Rattle.block_form.specs.Homes.{IsHeld}
 use Rattle.block_form.specs.Source.{block_in}

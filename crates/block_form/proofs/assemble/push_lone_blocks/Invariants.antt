@@ -1,5 +1,5 @@
 use Rattle.std.proofs.Common.{◌≡◌, ◌++◌, ◌∷◌, [], map, take}
-use Rattle.block_form.specs.Blocked.{RootBlock, HaveRootSpans}
+use Rattle.block_program.specs.Blocked.{RootBlock, HaveRootSpans}
 use Rattle.block_form.specs.Source.{block_in}
 use Rattle.block_form.proofs.assemble.push_lone_blocks.Given as goal
 

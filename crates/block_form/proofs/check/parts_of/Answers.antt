@@ -3,8 +3,8 @@ use Rattle.std.proofs.Common.{◌≡◌, ◌∙◌, List, [], Option, ℕ, All, 
 use Rattle.bp_theory.specs.Decomposition.{Decomposition, IsMisplaced, IsPlace, HasLargeLinks}
 use Rattle.bp_theory.specs.declared.Row.{Row}
 use Rattle.bp_model.specs.Named.{NamedProgram}
-use Rattle.block_form.specs.Blocked.{AreMade}
-use Rattle.block_form.specs.Cuts.{AreCutRows}
+use Rattle.block_program.specs.Blocked.{AreMade}
+use Rattle.block_program.specs.Cuts.{AreCutRows}
 use Rattle.block_form.proofs.BlockingLemmas.{first_misplaced_at, none_misplaced_at, parts_bare, no_cut_rows, large_at, made_here}
 use Rattle.block_form.proofs.HomeLemmas.{homes_by}
 use Rattle.block_form.proofs.SeenLemmas.{columns_shown}

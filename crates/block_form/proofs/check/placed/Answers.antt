@@ -1,7 +1,7 @@
 use Rattle.std.proofs.Common.{◌≡◌, ℕ, List, [], length, map, refl, sym, subst, arith}
 use Rattle.bp_theory.specs.declared.Cut.{Cut}
-use Rattle.block_form.specs.Blocked.{RootBlock, AreParts, ArePlaces}
-use Rattle.block_form.specs.declared.blocked.Base.{Base}
+use Rattle.block_program.specs.Blocked.{RootBlock, AreParts, ArePlaces}
+use Rattle.block_program.specs.declared.blocked.Base.{Base}
 use Rattle.block_form.proofs.PlaceLemmas.{vars_below, all_placed}
 use Rattle.block_form.proofs.check.placed.Goals as goal
 

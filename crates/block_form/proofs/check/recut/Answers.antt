@@ -3,8 +3,8 @@ use Rattle.bp_theory.specs.Cuts.{cut_rows}
 use Rattle.bp_theory.specs.declared.Row.{Row}
 use Rattle.bp_model.specs.Named.{NamedProgram}
 use Rattle.bp_theory.specs.Decomposition.{Decomposition}
-use Rattle.block_form.specs.Blocked.{RootBlock, AreMade, AreParts, ArePlaces}
-use Rattle.block_form.specs.Cuts.{AreCutRows}
+use Rattle.block_program.specs.Blocked.{RootBlock, AreMade, AreParts, ArePlaces}
+use Rattle.block_program.specs.Cuts.{AreCutRows}
 use Rattle.block_form.proofs.BlockingLemmas.{parts_cut}
 use Rattle.block_form.proofs.CutLemmas.{rows_of_cuts}
 use Rattle.block_form.proofs.PlaceLemmas.{vars_below, all_placed}

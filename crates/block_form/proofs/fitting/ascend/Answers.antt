@@ -1,5 +1,5 @@
 use Rattle.std.proofs.Common.{arith, rules}
-use Rattle.block_form.proofs.BlockLemmas.{rising_keys, not_rising}
+use Rattle.block_program.proofs.BlockLemmas.{rising_keys, not_rising}
 use Rattle.block_form.proofs.fitting.ascend.Goals as goal
 
 pub returns-then-mults-i : goal.returns-then-mults-i

@@ -3,8 +3,9 @@ use Rattle.std.specs.Prelude.{◌==◌}
 use Rattle.std.specs.List.{list_any}
 use Rattle.std.specs.List.Sorted.{IsStrictlyIncreasing}
 use Rattle.std.proofs.lemmas.List.{get_or_default}
-use Rattle.block_form.proofs.GatherLemmas.{passing_below, passing_few}
-use Rattle.block_form.proofs.StandLemmas.{passing_more, passing_rise}
+use Rattle.block_program.proofs.StandLemmas.{passing_few}
+use Rattle.block_form.proofs.GatherLemmas.{passing_below}
+use Rattle.block_program.proofs.StandLemmas.{passing_more, passing_rise}
 use Rattle.block_form.proofs.gather.at_home.Goals as goal
 
 pub loop-v-preserved : goal.loop-v-preserved

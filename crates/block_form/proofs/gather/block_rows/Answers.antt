@@ -2,7 +2,7 @@ use Rattle.std.proofs.Common.{◌∙◌, ◌+◌, ◌++◌, ◌∷◌, [], List,
 use Rattle.bp_theory.specs.Decomposition.{row_with_places}
 use Rattle.bp_theory.specs.declared.Row.{Row}
 use Rattle.block_form.specs.Gather.{rows_from}
-use Rattle.block_form.proofs.StandLemmas.{rows_more}
+use Rattle.block_form.proofs.GatherLemmas.{rows_more}
 use Rattle.block_form.proofs.gather.block_rows.Goals as goal
 
 pub loop-i-preserved : goal.loop-i-preserved

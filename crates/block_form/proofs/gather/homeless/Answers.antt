@@ -2,7 +2,7 @@ use Rattle.std.proofs.Common.{◌∙◌, ◌++◌, ◌∷◌, [], ◌<◌, ℕ, 
 use Rattle.std.proofs.lemmas.List.{get_or_default}
 use Rattle.block_form.specs.Gather.{is_empty}
 use Rattle.block_form.proofs.GatherLemmas.{passing_below, empty_by}
-use Rattle.block_form.proofs.StandLemmas.{passing_more}
+use Rattle.block_program.proofs.StandLemmas.{passing_more}
 use Rattle.block_form.proofs.gather.homeless.Goals as goal
 
 pub loop-v-preserved : goal.loop-v-preserved

@@ -1,6 +1,6 @@
 -- The blocks are walked from the last to the first, so that what is noted last is the first copy.
 use Rattle.std.proofs.Common.{◌≡◌, ℕ, ◌-◌, ◌+◌, ◌<◌, ◌≤◌, map, get_or, sym, subst, arith}
-use Rattle.block_form.specs.Blocked.{RootBlock}
+use Rattle.block_program.specs.Blocked.{RootBlock}
 use Rattle.block_form.specs.Places.{IsFirstFrom}
 use Rattle.block_form.proofs.PlaceLemmas.{places_more, vars_there}
 use Rattle.block_form.proofs.places.var_places.Goals as goal

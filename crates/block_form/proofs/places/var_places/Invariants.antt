@@ -1,5 +1,5 @@
 use Rattle.std.proofs.Common.{◌≡◌, ℕ, ◌<◌, ◌≤◌, vec_len, get_or, map}
-use Rattle.block_form.specs.Blocked.{RootBlock, HasCopyAt}
+use Rattle.block_program.specs.Blocked.{RootBlock, HasCopyAt}
 use Rattle.block_form.specs.Places.{IsFirstFrom}
 use Rattle.block_form.proofs.places.var_places.Given as goal
 

@@ -4,7 +4,7 @@ use Rattle.std.specs.Int.{w64}
 use Rattle.std.proofs.lemmas.Int.{ints}
 use Rattle.bp_theory.specs.Program.{coefficient}
 use Rattle.bp_theory.specs.declared.Term.{Term}
-use Rattle.block_form.proofs.StandLemmas.{coefficient_at, coefficient_none}
+use Rattle.block_program.proofs.StandLemmas.{coefficient_at, coefficient_none}
 use Rattle.block_form.proofs.stand.coefficient.Goals as goal
 
 pub returns-then-term-var : goal.returns-then-term-var

@@ -1,5 +1,5 @@
 use Rattle.std.proofs.Common.{sym, Ok, Err}
-use Rattle.block_form.proofs.StandLemmas.{place_found}
+use Rattle.block_program.proofs.StandLemmas.{place_found}
 use Rattle.block_form.proofs.stand.place_of.Goals as goal
 
 pub returns-in-Ok-clause-place : goal.returns-in-Ok-clause-place

@@ -1,7 +1,7 @@
 -- A leaf that is taken is an event of its worker.
 use Rattle.std.proofs.Common.{◌≡◌, refl, sym, subst, List, Result, Ok, Err}
 use Rattle.std.specs.Prelude.{OnOk}
-use Rattle.block_form.specs.Blocked.{BlockedProgram}
+use Rattle.block_program.specs.Blocked.{BlockedProgram}
 use Rattle.search_laws.specs.Crew.{CrewEvent, takes}
 use Rattle.search_laws.specs.declared.Side.{Side}
 use Rattle.search_laws.specs.declared.Kind.TheVariants.{Take}

@@ -1,6 +1,6 @@
 use Rattle.std.proofs.Common.{◌≡◌, ◌∙◌, sym, subst, List}
 use Rattle.bp_theory.specs.declared.Cut.{Cut}
-use Rattle.block_form.specs.Cuts.{KeepsCuts}
+use Rattle.block_program.specs.Cuts.{KeepsCuts}
 use Rattle.cert_form.specs.Kept.{certificate_of}
 use Rattle.round_cut.proofs.PlainCuts.{kept_over}
 use Rattle.round_cut.proofs.SeveralLemmas.{kept_is_not_at_fault}

@@ -1,6 +1,6 @@
 use Rattle.std.proofs.Common.{Err, sym, ap, subst}
 use Rattle.bp_theory.specs.Claims.{IsCertified}
-use Rattle.block_form.specs.Blocked.{BlockedProgram}
+use Rattle.block_program.specs.Blocked.{BlockedProgram}
 use Rattle.cert_load.proofs.CutPrograms.{goes_along}
 use Rattle.cert_text.specs.Programs.{GoesWith}
 use Rattle.cert_load.specs.Loadings.{LoadsCert}

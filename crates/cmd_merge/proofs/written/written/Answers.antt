@@ -1,5 +1,5 @@
 use Rattle.std.proofs.Common.{◌≡◌, refl, sym, subst}
-use Rattle.block_form.specs.Blocked.{BlockedProgram}
+use Rattle.block_program.specs.Blocked.{BlockedProgram}
 use Rattle.cert_report.specs.Certificates.{merged_report}
 use Rattle.bp_search.specs.Ends.{EndsWithin}
 use Rattle.cert_form.specs.Fault.{IsText}

@@ -1,7 +1,7 @@
 use Rattle.std.proofs.Common.{◌≡◌, ◌∙◌, sym, ap, subst, List, ◌++◌}
 use Rattle.std.proofs.lemmas.Result.{IfOk-weaker}
 use Rattle.bp_theory.specs.declared.Cut.{Cut}
-use Rattle.block_form.specs.Cuts.{KeepsCuts}
+use Rattle.block_program.specs.Cuts.{KeepsCuts}
 use Rattle.cert_load.specs.Recut.{with_cuts}
 use Rattle.cmd_solve.specs.Cuttings.{HasPlain}
 use Rattle.cmd_solve.proofs.CutLemmas.{plain_kept}

@@ -4,7 +4,7 @@ use Rattle.std.specs.Prelude.{ℤ}
 use Rattle.std.proofs.lemmas.Bool.{cases_lt}
 use Rattle.std.proofs.lemmas.List.{length-append}
 use Rattle.bp_theory.specs.Program.{value_at}
-use Rattle.block_form.specs.Blocked.{HasCopyAt}
+use Rattle.block_program.specs.Blocked.{HasCopyAt}
 use Rattle.disagg.specs.Spreads.{point_at}
 use Rattle.disagg.proofs.DealLemmas.{number_last, number_before}
 use Rattle.disagg.proofs.point.dealt_point.Goals as goal

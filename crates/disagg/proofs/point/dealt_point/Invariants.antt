@@ -1,6 +1,6 @@
 use Rattle.std.proofs.Common.{◌≡◌, ℕ, ◌<◌, get_or, length}
 use Rattle.bp_theory.specs.Program.{value_at}
-use Rattle.block_form.specs.Blocked.{HasCopyAt}
+use Rattle.block_program.specs.Blocked.{HasCopyAt}
 use Rattle.disagg.specs.Spreads.{point_at}
 use Rattle.disagg.proofs.point.dealt_point.Given as goal
 

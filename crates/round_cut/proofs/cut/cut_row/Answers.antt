@@ -4,7 +4,7 @@ use Rattle.bp_theory.specs.Program.{Program, IsFeasible, MeetsRow}
 use Rattle.bp_theory.specs.Decomposition.{ProofRow, proof_rows}
 use Rattle.bp_theory.specs.Cuts.{cut_row}
 use Rattle.bp_theory.specs.declared.Row.{Row}
-use Rattle.block_form.specs.Blocked.{BlockedProgram}
+use Rattle.block_program.specs.Blocked.{BlockedProgram}
 use Rattle.round_sums.specs.Cutting.{HasCutFault, HasFittingSigns, IsCutOver, IsEarlierCut}
 use Rattle.round_sums.specs.Rows.{program_of, rows_in}
 use Rattle.round_sums.specs.declared.rows.Rows.{Rows}

@@ -3,7 +3,7 @@ use Rattle.std.proofs.lemmas.Result.{IfOk-weaker}
 use Rattle.std.proofs.lemmas.List.Elements.{All-nil}
 use Rattle.bp_theory.specs.declared.Row.{Row}
 use Rattle.bp_model.specs.Named.{NamedProgram}
-use Rattle.block_form.specs.Blocked.{BlockedProgram}
+use Rattle.block_program.specs.Blocked.{BlockedProgram}
 use Rattle.round_sums.specs.Cutting.{IsEarlierCut}
 use Rattle.round_sums.specs.Plain.{AreFirstPlain}
 use Rattle.round_sums.specs.PlainSteps.{AreFirstBelow}

@@ -3,7 +3,7 @@ use Rattle.std.specs.List.Sorted.{IsStrictlyIncreasing}
 use Rattle.std.proofs.lemmas.List.{get_or_read}
 use Rattle.bp_theory.specs.Decomposition.{place_of, is_in}
 use Rattle.block_form.specs.Homes.{homes_in}
-use Rattle.block_form.proofs.StandLemmas.{passing_rise}
+use Rattle.block_program.proofs.StandLemmas.{passing_rise}
 use Rattle.block_form.proofs.source.Source.copy_place.Goals as goal
 
 pub index-requires : goal.index-requires

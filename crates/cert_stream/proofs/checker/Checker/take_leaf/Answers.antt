@@ -1,7 +1,7 @@
 use Rattle.std.proofs.Common.{ℕ, List, Option, sym, ap, subst, ◌∙◌}
 use Rattle.bp_theory.specs.Program.{Program}
 use Rattle.bp_theory.specs.Blocking.{Blocking}
-use Rattle.block_form.specs.Blocked.{BlockedProgram}
+use Rattle.block_program.specs.Blocked.{BlockedProgram}
 use Rattle.cert_walk.specs.Turns.{Turn}
 use Rattle.cert_walk.specs.Walks.{Front, WalksBelow, WalksBehind, GoesOver, IsWithin, leaf_with}
 use Rattle.cert_stream.specs.declared.checker.Checker.{Checker}

@@ -1,8 +1,0 @@
-use Rattle.std.proofs.Common.{length, ap, arith}
-use Rattle.block_form.specs.Blocked.{BlockedProgram}
-use Rattle.block_form.proofs.NamedRows.{few_named}
-use Rattle.block_form.proofs.blocked.Blocked.named_rows.Goals as goal
-
-pub overflow_cast-result : goal.overflow_cast-result
-overflow_cast-result c =
-    omega (arith, c.len.ensures, few_named _ c.self.invariant.0)

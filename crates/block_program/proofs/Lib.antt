@@ -1,0 +1,4 @@
+pub mod BlockLemmas
+pub mod StandLemmas
+pub mod NamedRows
+pub mod PlainLemmas

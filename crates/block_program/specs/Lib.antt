@@ -1,0 +1,3 @@
+-- Other crates cite both.
+pub mod Blocked
+pub mod Cuts
