@@ -1,12 +1,12 @@
-use Rattle.std.proofs.Common.{◌≡◌, ◌∙◌, refl, sym, ap, subst, length, drop, set, get_or, arith, ℕ, ◌+◌, ◌-◌, ◌<◌, ◌≤◌, zero, []}
-use Rattle.std.proofs.Math.IntN.{ℤ, pos}
+use Rattle.std.proofs.Common.{◌≡◌, ◌∙◌, refl, sym, subst, length, drop, get_or, arith, ℕ, ◌+◌, ◌-◌, ◌<◌, ◌≤◌, []}
+use Rattle.std.proofs.Math.IntN.{pos}
 use Rattle.std.specs.Int.{w64}
 use Rattle.std.proofs.lemmas.Bool.{OnTrue_from, eqb-true}
 use Rattle.std.proofs.lemmas.List.{get_or_read}
 use mir.Val.{of_z, to_z}
 use Rattle.bp_theory.specs.Program.{IsInside, IsWithin, span_at}
 use Rattle.pricing.proofs.Passed.{passed_short}
-use Rattle.layer_graph.specs.Graphs.{arc_at, IsWay, Leads}
+use Rattle.layer_graph.specs.Graphs.{arc_at, IsWay}
 use Rattle.graph_pass.specs.Best.{chosen_number}
 use Rattle.graph_pass.proofs.BestLaws.{chosen_within}
 use Rattle.graph_pass.proofs.BesideLaws.{way_ended, inside_ended, way_more, inside_more}
