@@ -1,23 +1,15 @@
 // The blocks that a decomposition gives a model, or what it is refused for; and the same with cuts.
-ghost use Rattle.std.specs.Prelude.{◌≡◌, [], length, All, IfOk, IfErr, OnOk};
+ghost use Rattle.std.specs.Prelude.{◌≡◌, [], All, IfOk, IfErr, OnOk};
 ghost use Rattle.bp_theory.specs.Cuts.{cut_rows};
 ghost use Rattle.bp_theory.specs.Decomposition.{HasPlaces, IsMisplaced};
 ghost use Rattle.bp_model.specs.Dec.{HasListed};
 ghost use Rattle.block_program.specs.Blocked.{AreMade, AreParts, IsFormed};
 ghost use Rattle.block_form.specs.declared.fault.BlockFault.TheVariants.{NoMemory};
 ghost use Rattle.block_form.specs.Checks.{HasBlockFault};
-ghost use Rattle.block_form.specs.Columns.{AreColumns};
 ghost use Rattle.block_program.specs.Cuts.{AreCutRows, KeepsCuts};
-ghost use Rattle.block_form.specs.Homes.{AreHomes};
-ghost use Rattle.block_form.specs.Source.{IsSource};
 
-use crate::assemble::{home_blocks, named_rows, push_lone_blocks};
-use crate::columns::columns_of;
 use crate::fault::{BlockFault, Unblocked};
-use crate::homes::{first_elsewhere, homes_of};
-use crate::links::are_large;
-use crate::places::var_places;
-use crate::source::Source;
+use block_parts::{are_large, first_elsewhere, made_parts, source_of, var_places};
 use block_program::{Base, Block, Blocked};
 use bp_model::{Dec, Model};
 use bp_theory::{Cut, Items, MasterRow, Row};
@@ -74,11 +66,7 @@ fn parts_with(
     requires { AreCutRows b.now.named.program rows.now }
     ensures { IfOk result (λ parts. AreMade b.now.named b.now.dec rows.now parts.0 parts.1) }
 {
-    let model = b.model();
-    let dec = b.dec();
-    let columns = columns_of(alloc, model.vars(), 0, model.all_rows())?;
-    let homes = homes_of(alloc, dec.blocks(), columns.as_slice(), dec.places())?;
-    let source = Source::make(alloc, model, dec, rows, columns, homes)?;
+    let source = source_of(alloc, b.model(), b.dec(), rows)?;
     made_parts(alloc, &source)
 }
 
@@ -129,19 +117,13 @@ fn parts_of(
         dec.now.listed) }
     ensures fault { IfErr result (HasBlockFault model.now.program dec.now) }
 {
-    let Ok(columns) = columns_of(alloc, model.vars(), 0, model.all_rows()) else {
+    let cuts = Vec::new(alloc);
+    let Ok(source) = source_of(alloc, model, dec, cuts.as_slice()) else {
         return Err(BlockFault::NoMemory);
     };
-    let Ok(homes) = homes_of(alloc, dec.blocks(), columns.as_slice(), dec.places()) else {
-        return Err(BlockFault::NoMemory);
-    };
-    if let Some(var) = first_elsewhere(homes.as_slice(), dec.listed()) {
+    if let Some(var) = first_elsewhere(source.homes.as_slice(), dec.listed()) {
         return Err(BlockFault::VarPlace(var));
     }
-    let cuts = Vec::new(alloc);
-    let Ok(source) = Source::make(alloc, model, dec, cuts.as_slice(), columns, homes) else {
-        return Err(BlockFault::NoMemory);
-    };
     if are_large(&source) {
         return Err(BlockFault::Links);
     }
@@ -149,21 +131,4 @@ fn parts_of(
         return Err(BlockFault::NoMemory);
     };
     Ok(parts)
-}
-
-// The blocks and the named rows of a model, a decomposition of it and rows of cuts.
-fn made_parts(
-    alloc: Global,
-    source: &Source,
-) -> Result<(Items<Block>, Items<Option<MasterRow>>), AllocError>
-    requires { IsSource source.now }
-    ensures { IfOk result (λ parts. AreMade source.now.model.now source.now.dec.now
-        source.now.cuts.now parts.0 parts.1) }
-{
-    let rows = source.model.all_rows();
-    let mut blocks = home_blocks(alloc, source)?;
-    push_lone_blocks(alloc, source, &mut blocks)?;
-    let links = source.end.saturating_sub(source.model.rows());
-    let named = named_rows(alloc, rows, source.dec.places(), links, source.cuts)?;
-    Ok((Items::from_vec(blocks), Items::from_vec(named)))
 }

@@ -14,7 +14,7 @@ use Rattle.bp_theory.proofs.CutProof.{cuts_are_met_lem}
 use Rattle.bp_theory.proofs.DecompositionProof.{decomposition_lem}
 use Rattle.bp_model.specs.Named.{NamedProgram}
 use Rattle.block_program.specs.Blocked.{BlockedProgram, IsFormed}
-use Rattle.block_form.proofs.GatherLemmas.{passing_below}
+use Rattle.block_parts.proofs.GatherLemmas.{passing_below}
 use Rattle.block_program.proofs.StandLemmas.{passing_more}
 use Rattle.dec_words.specs.Text.{spaced}
 use Rattle.search_laws.specs.Spread.{block_at}

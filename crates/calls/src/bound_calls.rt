@@ -8,7 +8,7 @@ ghost use Rattle.block_pricers.specs.Works.{forms_of};
 use crate::told::Told;
 use crate::zones::narrowed;
 use block_class::Classes;
-use block_form::fits;
+use proof_fit::fits;
 use block_program::{Blocked, Zone};
 use bp_theory::{Items, Picked, Proof};
 use lagr_bound::{Bounded, Work, bound, sum_bound};

@@ -15,7 +15,7 @@ ghost use Rattle.cert_check.specs.Judging.{JudgesLines, LeavesOf};
 use crate::place::{NodePlace, Stop};
 use crate::price::bound_in;
 use crate::visits::{Spent, spend};
-use block_form::signs_fit;
+use proof_fit::signs_fit;
 use block_program::{Blocked, Zone};
 use bp_theory::{CheckKind, Claim, Proof};
 use lagr_bound::Work;

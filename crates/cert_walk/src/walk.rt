@@ -14,7 +14,7 @@ ghost use Rattle.cert_walk.specs.Walks.{Front, WalksBelow, WalksBehind, IsFresh,
 ghost use Rattle.cert_walk.specs.declared.walk.Walk.TheVariants.{At};
 
 use crate::path::{Fork, Path, go_on};
-use block_form::fits;
+use proof_fit::fits;
 use block_program::Blocked;
 use bp_model::MAX_NUMBER;
 use bp_theory::{CheckKind, Claim, Proof};

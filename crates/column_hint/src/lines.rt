@@ -1,6 +1,6 @@
 // The lines of a restricted master that stand for the rows that proofs may name, which are master rows, link rows and
 // cuts: one for each side that a row's sum must keep.
-use block_form::MAX_SCALE;
+use proof_fit::MAX_SCALE;
 use block_program::Blocked;
 use bp_theory::Sense;
 use column_lp::ColumnProgram;

@@ -7,7 +7,7 @@ ghost use Rattle.hint_pools.specs.Pools.{AreMadeFor};
 
 use crate::master::RestrictedMaster;
 use block_class::Classes;
-use block_form::fits;
+use proof_fit::fits;
 use block_program::{Blocked, Zone};
 use hint_pools::{Pools, alone};
 use std::alloc::{AllocError, Global};

@@ -11,7 +11,7 @@ ghost use Rattle.hint_pools.specs.Pools.{AreMadeFor};
 
 use crate::costs::reduced_cost;
 use block_class::Classes;
-use block_form::MAX_SCALE;
+use proof_fit::MAX_SCALE;
 use block_program::Blocked;
 use bp_theory::{MasterRow, Sense, Span};
 use branch_tree::Turn;

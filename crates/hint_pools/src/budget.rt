@@ -3,7 +3,7 @@ ghost use Rattle.std.specs.Prelude.{◌≡◌, ◌<◌, length};
 
 use crate::wide::has_many_beginnings;
 use block_class::Classes;
-use block_form::{MAX_SCALE, fits};
+use proof_fit::{MAX_SCALE, fits};
 use block_program::{Block, Blocked, Zone};
 use bp_theory::{Items, Picked, Proof, Span};
 use lagr_bound::{Bounded, Work, bound};

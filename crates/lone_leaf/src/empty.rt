@@ -3,7 +3,7 @@
 use crate::numbers::product;
 use crate::relaxation::LoneLeaves;
 use crate::rows::row_of;
-use block_form::{MAX_MULTIPLIER, MAX_SCALE};
+use proof_fit::{MAX_MULTIPLIER, MAX_SCALE};
 use block_program::Blocked;
 use bp_theory::{MasterRow, Row, Sense, Span};
 use lp_factor::{place, put};

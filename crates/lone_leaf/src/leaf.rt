@@ -4,7 +4,7 @@ use crate::branch::widest;
 use crate::dive::{Found, manner_of};
 use crate::numbers::{floor_in, span_at};
 use crate::relaxation::{LoneLeaves, Relaxed};
-use block_form::MAX_SCALE;
+use proof_fit::MAX_SCALE;
 use block_program::Blocked;
 use bp_theory::Span;
 use branch_tree::Turn;

@@ -13,7 +13,7 @@ ghost use Rattle.node_eval.specs.Openings.{IsOpening, IsReached, IsOfNoUse, at_z
 
 use crate::proofs::{by_row, every};
 use block_class::Classes;
-use block_form::{MAX_SCALE, fits, signs_fit};
+use proof_fit::{MAX_SCALE, fits, signs_fit};
 use block_program::{Blocked, Zone};
 use bp_theory::Proof;
 use branch_tree::{Turn, proof_copy};

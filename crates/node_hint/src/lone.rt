@@ -2,7 +2,7 @@
 ghost use Rattle.hint_pools.specs.Pools.{AreMadeFor};
 
 use crate::hint::first_incumbent;
-use block_form::MAX_SCALE;
+use proof_fit::MAX_SCALE;
 use block_program::Blocked;
 use branch_tree::Turn;
 use column_hint::Pools;

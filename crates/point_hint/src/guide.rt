@@ -2,7 +2,7 @@
 ghost use Rattle.std.specs.Prelude.{◌<◌, length};
 
 use crate::reach::{at, product, put, quotient};
-use block_form::MAX_SCALE;
+use proof_fit::MAX_SCALE;
 use block_program::Blocked;
 use std::alloc::{AllocError, Global};
 

@@ -1,5 +1,5 @@
 // What rows can reach over spans: hints, which exact bounds judge.
-use block_form::MAX_MULTIPLIER;
+use proof_fit::MAX_MULTIPLIER;
 use block_program::Blocked;
 use bp_theory::{Row, Sense, Span, Term};
 

@@ -3,7 +3,7 @@ ghost use Rattle.std.specs.Prelude.{◌<◌, length};
 
 use crate::copies::{copy_place, has_further_rows};
 use crate::reach::{at, product};
-use block_form::MAX_SCALE;
+use proof_fit::MAX_SCALE;
 use block_program::Blocked;
 use bp_theory::{MasterRow, Sense};
 

@@ -10,9 +10,9 @@ use Rattle.bp_theory.specs.declared.Term.{Term}
 use Rattle.bp_theory.specs.declared.Row.{Row}
 use Rattle.bp_theory.proofs.KeyLaws.{if_other}
 use Rattle.bp_model.specs.Named.{NamedProgram, IsKept}
-use Rattle.block_form.specs.Stand.{StandsInRow}
+use Rattle.block_parts.specs.Stand.{StandsInRow}
 use Rattle.block_program.proofs.StandLemmas.{coefficient_none, before_none, coefficient_at}
-use Rattle.block_form.proofs.FormLemmas.{in_from_stands, stands_from_in}
+use Rattle.block_parts.proofs.FormLemmas.{in_from_stands, stands_from_in}
 use Rattle.row_blocks.specs.Joined.{HasVariable, SharesVariable, IsOutside, IsChain, Joined, place_at, IsFound, HasMaster}
 
 shares_back : (p : Program) (r s : ℕ) → SharesVariable p r s → SharesVariable p s r

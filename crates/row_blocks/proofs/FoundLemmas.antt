@@ -9,12 +9,12 @@ use Rattle.bp_theory.specs.Decomposition.{Decomposition, HasPlaces, IsPlace, IsL
 use Rattle.bp_theory.specs.declared.Term.{Term}
 use Rattle.bp_theory.specs.declared.Row.{Row}
 use Rattle.bp_model.specs.Named.{NamedProgram, IsKept}
-use Rattle.block_form.specs.Stand.{StandsInRow}
+use Rattle.block_parts.specs.Stand.{StandsInRow}
 use Rattle.block_form.specs.Checks.{HasBlockFault}
 use Rattle.block_form.specs.declared.fault.BlockFault.{BlockFault}
 use Rattle.block_form.specs.declared.fault.BlockFault.TheVariants.{VarPlace, Links, NoMemory}
-use Rattle.block_form.proofs.FormLemmas.{in_from_stands, stands_from_in}
-use Rattle.block_form.proofs.LargeLemmas.{not_large}
+use Rattle.block_parts.proofs.FormLemmas.{in_from_stands, stands_from_in}
+use Rattle.block_parts.proofs.LargeLemmas.{not_large}
 use Rattle.row_blocks.specs.Joined.{HasVariable, SharesVariable, IsOutside, Joined, place_at, IsFound, HasMaster}
 use Rattle.row_blocks.proofs.ChainLemmas.{joined_by, joined_keeps, has_stands, stands_has}
 use Rattle.row_blocks.proofs.NumberLemmas.{no_some, one_some, some_there, none_past, any_place}

@@ -10,7 +10,7 @@ use Rattle.bp_theory.specs.Decomposition.{IsTidyFrom}
 use Rattle.bp_theory.specs.declared.Term.{Term}
 use Rattle.bp_theory.specs.declared.Row.{Row}
 use Rattle.bp_model.specs.Named.{NamedProgram, IsKept}
-use Rattle.block_form.proofs.GatherLemmas.{any_default}
+use Rattle.block_parts.proofs.GatherLemmas.{any_default}
 use Rattle.row_blocks.specs.Joined.{HasVariable, SharesVariable, IsOutside, Joined}
 use Rattle.row_blocks.specs.Forest.{IsParent, AreParents, Respects, AreTied, KeepsTied, KeepsRoots, IsForest, AreMarks, HasHome, AreHomes, AreWithin, IsReady, IsSound, Extends, KeepsHomes, AreTiedHome, IsTied}
 use Rattle.row_blocks.proofs.ChainLemmas.{joined_more, joined_back, joined_self, joined_end, joined_by, term_has, has_place}

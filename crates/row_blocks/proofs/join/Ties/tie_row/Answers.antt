@@ -1,7 +1,7 @@
 use Rattle.std.proofs.Common.{◌≡◌, ◌<◌, ℕ, List, length, get_or, arith, sym, ◌∙◌, ap, subst, inl, inr}
 use Rattle.std.specs.Prelude.{pos}
 use Rattle.std.proofs.lemmas.Bool.{cases_eq}
-use Rattle.block_form.proofs.GatherLemmas.{any_default}
+use Rattle.block_parts.proofs.GatherLemmas.{any_default}
 use Rattle.bp_theory.specs.declared.Term.{Term}
 use Rattle.row_blocks.specs.Forest.{HasHome}
 use Rattle.row_blocks.proofs.TreeLemmas.{ready_same, extends_more, home_later, term_of_row, home_of_row}
