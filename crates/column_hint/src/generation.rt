@@ -184,31 +184,58 @@ fn begin(
     ensures made_for { AreMadeFor b.now pools.new }
 {
     let penalty = first_penalty(b, centre.mults.as_slice());
-    let Some(mut master) = RestrictedMaster::make(alloc, b, classes, zone, penalty)? else {
+    let Some(master) = RestrictedMaster::make(alloc, b, classes, zone, penalty)? else {
         return Ok(None);
     };
-    let mut point = Vec::from_elem(alloc, 0i64, b.model().vars() as usize)?;
+    let mut all = Generation {
+        master,
+        mults: Vec::new(alloc),
+        point: Vec::new(alloc),
+        width: None,
+        round: 0,
+    };
+    if begin_at(alloc, b, classes, zone, pools, centre, &mut all)? {
+        Ok(Some(all))
+    } else {
+        Ok(None)
+    }
+}
+
+// Prices the centre, and begins the master with the pools' columns and the centre's points; whether there is a bound.
+fn begin_at(
+    alloc: Global,
+    b: &Blocked,
+    classes: &Classes,
+    zone: &Zone,
+    pools: &mut Pools,
+    centre: &mut Centre,
+    all: &mut Generation,
+) -> Result<bool, AllocError>
+    requires made_for { AreMadeFor b.now pools.old }
+    requires classes { AreSameClasses zone.now b.now.blocking classes.now }
+    requires zone { IsZone b.now.named.program.spans zone.now }
+    ensures made_for { AreMadeFor b.now pools.new }
+{
     let mults = centre.mults.as_slice();
-    let Some(value) = pools.price(alloc, b, classes, zone, mults, point.as_mut_slice())? else {
-        return Ok(None);
+    all.mults = mults.to_vec(alloc)?;
+    all.point = Vec::from_elem(alloc, 0i64, b.model().vars() as usize)?;
+    let point = all.point.as_mut_slice();
+    let Some(value) = pools.price(alloc, b, classes, zone, mults, point)? else {
+        return Ok(false);
     };
     centre.value = value;
     pools.add_all_priced(alloc, b, classes)?;
-    master.begin(alloc, b, classes, zone, pools, mults)?;
+    let mults = all.mults.as_slice();
+    all.master.begin(alloc, b, classes, zone, pools, mults)?;
     let mean = mean_mult(b, mults) / BOX_PART;
     let width = if mean > LEAST_WIDTH {
         mean
     } else {
         LEAST_WIDTH
     };
-    master.stay_near(mults, width);
-    Ok(Some(Generation {
-        master,
-        mults: centre.mults.as_slice().to_vec(alloc)?,
-        point,
-        width: Some(width),
-        round: 0,
-    }))
+    all.master.stay_near(mults, width);
+    all.width = Some(width);
+    Ok(true)
 }
 
 // What the master comes to before a round's pricing: whether it meets its rows, and its cost in units.

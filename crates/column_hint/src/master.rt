@@ -115,6 +115,21 @@ struct Settled {
     sizes: Vec<u32>,
 }
 
+// The program without columns: a line for each row, behind them one for each class, which takes as many columns as it has
+// blocks.
+fn without_columns(
+    alloc: Global,
+    b: &Blocked,
+    lines: &Lines,
+    settled: &Settled,
+) -> Result<ColumnProgram, AllocError> {
+    let mut sides = lines.sides(alloc, b, settled.sums.as_slice())?;
+    for size in settled.sizes.as_slice() {
+        sides.push(nearest_i64_to_f64(i64::from(*size)))?;
+    }
+    ColumnProgram::make(alloc, sides.as_slice())
+}
+
 impl RestrictedMaster {
     /// The restricted master of a zone without columns, where missing a row by one costs a penalty. There is none
     /// without rows or classes.
@@ -130,12 +145,8 @@ impl RestrictedMaster {
         if lines.is_empty() || settled.sizes.is_empty() {
             return Ok(None);
         }
-        let mut sides = lines.sides(alloc, b, settled.sums.as_slice())?;
-        for size in settled.sizes.as_slice() {
-            sides.push(nearest_i64_to_f64(i64::from(*size)))?;
-        }
         let mut master = RestrictedMaster {
-            program: ColumnProgram::make(alloc, sides.as_slice())?,
+            program: without_columns(alloc, b, &lines, &settled)?,
             lines,
             numbers: settled.numbers,
             sizes: settled.sizes,

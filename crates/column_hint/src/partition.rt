@@ -257,10 +257,7 @@ fn next_point(
 {
     let block = b.block(first);
     narrow_to(block, sides.as_slice(), spans);
-    let inner = spans_with(alloc, zone, block, spans.as_slice())?;
-    let left = narrow(b, zone.copy(alloc)?, inner.as_slice());
-    let classes = Classes::of(alloc, b, &left)?;
-    if !pools.has_bound(b, &classes, &left, proof, Cap::At(VISITS)) {
+    if !is_priced_within(alloc, b, zone, pools, proof, first, spans.as_slice())? {
         return Ok(None);
     }
     let Some(point) = pools.budget.work.point(first) else {
@@ -270,6 +267,27 @@ fn next_point(
         return Ok(None);
     }
     Ok(Some(point.to_vec(alloc)?))
+}
+
+// Prices a block within spans of its own variables; whether there is a bound.
+fn is_priced_within(
+    alloc: Global,
+    b: &Blocked,
+    zone: &Zone,
+    pools: &mut Pools,
+    proof: &Proof,
+    first: u32,
+    spans: &[Span],
+) -> Result<bool, AllocError>
+    requires made_for { AreMadeFor b.now pools.old }
+    requires zone { IsZone b.now.named.program.spans zone.now }
+    requires there { first < length b.now.blocking.blocks }
+    ensures made_for { AreMadeFor b.now pools.new }
+{
+    let inner = spans_with(alloc, zone, b.block(first), spans)?;
+    let left = narrow(b, zone.copy(alloc)?, inner.as_slice());
+    let classes = Classes::of(alloc, b, &left)?;
+    Ok(pools.has_bound(b, &classes, &left, proof, Cap::At(VISITS)))
 }
 
 // The spans of a zone, but for a block's own.

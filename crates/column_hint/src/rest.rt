@@ -96,30 +96,71 @@ pub fn settle_rest(
     requires zone { IsZone b.now.named.program.spans zone.now }
     ensures made_for { AreMadeFor b.now pools.new }
 {
+    master.settle(alloc, PIVOTS)?;
     let left = narrow(b, zone.copy(alloc)?, dive.spans.now.as_slice());
     let inner = Classes::of(alloc, b, &left)?;
     let mut mults = Vec::from_elem(alloc, 0i64, b.named_rows() as usize)?;
     let mut point = Vec::from_elem(alloc, 0i64, b.model().vars() as usize)?;
-    master.settle(alloc, PIVOTS)?;
+    let mut is_open = true;
     for _ in 0..rounds {
-        if master.is_spent() {
-            return Ok(false);
-        }
-        master.write_mults(b, mults.as_mut_slice());
-        let mults = mults.as_slice();
+        let mults = mults.as_mut_slice();
         let point = point.as_mut_slice();
-        let Some(value) = pools.price(alloc, b, &inner, &left, mults, point)? else {
-            return Ok(false);
-        };
-        if is_reached(value, known) {
-            return Ok(false);
+        match settle_round(
+            alloc, b, classes, &inner, &left, pools, master, known, dive, mults, point,
+        )? {
+            Rest::On => {}
+            Rest::Settled => break,
+            Rest::Given => {
+                is_open = false;
+                break;
+            }
         }
-        if add_left(alloc, b, classes, &inner, pools, master, dive)? == 0 {
-            return Ok(true);
-        }
-        master.solve(alloc, PIVOTS)?;
     }
-    Ok(true)
+    Ok(is_open)
+}
+
+// What a round on what is left comes to: it is given up, no column is new, or there may be more.
+#[derive(Clone, Copy, Debug, PartialEq, Eq)]
+enum Rest {
+    Given,
+    Settled,
+    On,
+}
+
+// A round of pricing on what is left, and the master solved with the columns that it gives.
+fn settle_round(
+    alloc: Global,
+    b: &Blocked,
+    classes: &Classes,
+    inner: &Classes,
+    left: &Zone,
+    pools: &mut Pools,
+    master: &mut RestrictedMaster,
+    known: Option<i64>,
+    dive: &Dive,
+    mults: &mut [i64],
+    point: &mut [i64],
+) -> Result<Rest, AllocError>
+    requires made_for { AreMadeFor b.now pools.old }
+    requires classes { AreSameClasses left.now b.now.blocking inner.now }
+    requires zone { IsZone b.now.named.program.spans left.now }
+    ensures made_for { AreMadeFor b.now pools.new }
+{
+    if master.is_spent() {
+        return Ok(Rest::Given);
+    }
+    master.write_mults(b, mults);
+    let Some(value) = pools.price(alloc, b, inner, left, mults, point)? else {
+        return Ok(Rest::Given);
+    };
+    if is_reached(value, known) {
+        return Ok(Rest::Given);
+    }
+    if add_left(alloc, b, classes, inner, pools, master, dive)? == 0 {
+        return Ok(Rest::Settled);
+    }
+    master.solve(alloc, PIVOTS)?;
+    Ok(Rest::On)
 }
 
 // Adds the points that the last bound told of the blocks that are left; how many columns are new.

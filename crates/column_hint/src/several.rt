@@ -9,7 +9,7 @@ use crate::master::RestrictedMaster;
 use block_class::Classes;
 use proof_fit::fits;
 use block_program::{Blocked, Zone};
-use hint_pools::{Pools, alone};
+use hint_pools::{Place, Pools, alone};
 use std::alloc::{AllocError, Global};
 
 /// How many columns a class gets at most beside its cheapest, in a round.
@@ -102,6 +102,21 @@ fn ranked(
     pools.budget.work.rank(alloc, b, first, zone, &proof)
 }
 
+// Adds the point of a block that is chosen to its pool.
+fn add_chosen(
+    alloc: Global,
+    b: &Blocked,
+    pools: &mut Pools,
+    first: u32,
+) -> Result<Option<Place>, AllocError>
+    requires made_for { AreMadeFor b.now pools.old }
+    requires there { first < length b.now.blocking.blocks }
+    ensures made_for { AreMadeFor b.now pools.new }
+{
+    let point = pools.budget.work.chosen(first).to_vec(alloc)?;
+    pools.add_point(alloc, b, first, point.as_slice())
+}
+
 // Adds the point of a rank as a column of a class, if its reduced cost is below zero and fewer than may be were added
 // before; how many are added then.
 fn add_ranked(
@@ -125,8 +140,7 @@ fn add_ranked(
     if !pools.budget.work.choose(b, first, zone, rank) {
         return Ok(added);
     }
-    let point = pools.budget.work.chosen(first).to_vec(alloc)?;
-    let Some(place) = pools.add_point(alloc, b, first, point.as_slice())? else {
+    let Some(place) = add_chosen(alloc, b, pools, first)? else {
         return Ok(added);
     };
     let Some(column) = pools.column(place) else {

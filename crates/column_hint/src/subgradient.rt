@@ -120,18 +120,38 @@ pub fn take_steps(
     let course = course_of(with_columns);
     let pace = pace_at(turn.depth, with_columns);
     let mut steps = make(alloc, b, turn, known, course, pace)?;
-    if !begin(alloc, b, classes, pools, turn, &mut steps)? {
-        return Ok(steps);
+    take_all(alloc, b, classes, pools, turn, with_columns, &mut steps)?;
+    Ok(steps)
+}
+
+// Takes steps as long as there is one to take. The last ones give columns, where columns follow.
+fn take_all(
+    alloc: Global,
+    b: &Blocked,
+    classes: &Classes,
+    pools: &mut Pools,
+    turn: &Turn,
+    with_columns: bool,
+    steps: &mut Subgradient,
+) -> Result<(), AllocError>
+    requires made_for { AreMadeFor b.now pools.old }
+    requires classes { AreSameClasses turn.now.zone b.now.blocking classes.now }
+    requires zone { IsZone b.now.named.program.spans turn.now.zone }
+    ensures made_for { AreMadeFor b.now pools.new }
+{
+    if !begin(alloc, b, classes, pools, turn, steps)? {
+        return Ok(());
     }
-    for number in 0..pace.steps {
-        if !go_on(alloc, b, classes, pools, turn, &mut steps)? {
+    let many = steps.pace.steps;
+    for number in 0..many {
+        if !go_on(alloc, b, classes, pools, turn, steps)? {
             break;
         }
-        if with_columns && pace.steps - number <= COLUMN_STEPS {
+        if with_columns && many - number <= COLUMN_STEPS {
             pools.add_all_priced(alloc, b, classes)?;
         }
     }
-    Ok(steps)
+    Ok(())
 }
 
 // What directs steps: the mean where no columns follow.
@@ -201,29 +221,46 @@ fn make(
     course: Course,
     pace: Pace,
 ) -> Result<Subgradient, AllocError> {
-    let rows = b.named_rows() as usize;
-    let vars = b.model().vars() as usize;
-    let mults = leaf_mults(alloc, b, turn)?;
-    let mut point = Vec::from_elem(alloc, 0i64, copy_count(b))?;
-    write_lows(b, point.as_mut_slice(), turn.zone.spans());
-    Ok(Subgradient {
-        best: mults.as_slice().to_vec(alloc)?,
+    let mut steps = Subgradient {
+        best: Vec::new(alloc),
         value: i128::MIN,
-        mean: Vec::from_elem(alloc, 0i128, vars)?,
+        mean: Vec::new(alloc),
         found: None,
         known,
         course,
         pace,
-        from: mults.as_slice().to_vec(alloc)?,
-        mults,
-        point,
-        sums: Vec::from_elem(alloc, 0i128, rows)?,
-        best_sums: Vec::from_elem(alloc, 0i128, rows)?,
-        along: Vec::from_elem(alloc, 0i128, rows)?,
+        mults: Vec::new(alloc),
+        point: Vec::new(alloc),
+        sums: Vec::new(alloc),
+        best_sums: Vec::new(alloc),
+        from: Vec::new(alloc),
+        along: Vec::new(alloc),
         short: 0,
         gain: 0,
         failures: 0,
-    })
+    };
+    fill(alloc, b, turn, &mut steps)?;
+    Ok(steps)
+}
+
+// Gives the state its lists: the leaf's multipliers, the lower ends of the spans, and sums of 0.
+fn fill(
+    alloc: Global,
+    b: &Blocked,
+    turn: &Turn,
+    steps: &mut Subgradient,
+) -> Result<(), AllocError> {
+    let rows = b.named_rows() as usize;
+    steps.mults = leaf_mults(alloc, b, turn)?;
+    steps.best = steps.mults.as_slice().to_vec(alloc)?;
+    steps.from = steps.mults.as_slice().to_vec(alloc)?;
+    steps.mean = Vec::from_elem(alloc, 0i128, b.model().vars() as usize)?;
+    steps.point = Vec::from_elem(alloc, 0i64, copy_count(b))?;
+    write_lows(b, steps.point.as_mut_slice(), turn.zone.spans());
+    steps.sums = Vec::from_elem(alloc, 0i128, rows)?;
+    steps.best_sums = Vec::from_elem(alloc, 0i128, rows)?;
+    steps.along = Vec::from_elem(alloc, 0i128, rows)?;
+    Ok(())
 }
 
 /// The leaf's multipliers by row at the greatest scale.

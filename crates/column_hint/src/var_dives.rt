@@ -89,30 +89,52 @@ fn raise_all(
     }
     let links = linking_vars(alloc, b)?;
     let mut seed = seed;
+    let mut raised = None;
     for _ in 0..b.model().vars() {
-        let found = means_of(alloc, b, classes, pools, master)?;
-        if let Some(point) = whole_point(alloc, b, classes, pools, master, &found, dive)? {
-            return Ok(Some(point));
-        }
-        if !move_on(
+        let links = links.as_slice();
+        let is_open = raise_next(
             alloc,
             b,
             classes,
-            &found,
-            links.as_slice(),
+            pools,
+            master,
+            links,
             known,
             seed,
             dive,
-        )? {
-            return Ok(None);
+            &mut raised,
+        )?;
+        if !is_open || !settle_rest(alloc, b, classes, zone, pools, master, known, dive, ROUNDS)? {
+            break;
         }
         seed = next_seed(seed);
-        switch_off_outside(alloc, b, classes, pools, master, dive)?;
-        if !settle_rest(alloc, b, classes, zone, pools, master, known, dive, ROUNDS)? {
-            return Ok(None);
-        }
     }
-    Ok(None)
+    Ok(raised)
+}
+
+// Raises variables once, or tells the point that all columns are of; whether a point may be left.
+fn raise_next(
+    alloc: Global,
+    b: &Blocked,
+    classes: &Classes,
+    pools: &Pools,
+    master: &mut RestrictedMaster,
+    links: &[u32],
+    known: Option<i64>,
+    seed: Option<u64>,
+    dive: &mut Dive,
+    raised: &mut Option<Vec<i64>>,
+) -> Result<bool, AllocError> {
+    let found = means_of(alloc, b, classes, pools, master)?;
+    *raised = whole_point(alloc, b, classes, pools, master, &found, dive)?;
+    if raised.is_some() {
+        return Ok(false);
+    }
+    if !move_on(alloc, b, classes, &found, links, known, seed, dive)? {
+        return Ok(false);
+    }
+    switch_off_outside(alloc, b, classes, pools, master, dive)?;
+    Ok(true)
 }
 
 // Fixes linking variables, or raises others where no linking one is open; whether a point may be left.
