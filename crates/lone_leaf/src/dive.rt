@@ -3,7 +3,7 @@ use crate::numbers::{floor_in, nearest_in, span_at};
 use crate::relaxation::{Fraction, LoneLeaves};
 use block_program::Blocked;
 use bp_theory::Span;
-use lp_core::{Effort, End};
+use lp_core::{Basis, Effort, End};
 use std::alloc::{AllocError, Global};
 
 // How many roundings a dive makes, how many iterations it may take in all and for each, and how many may fail.
@@ -94,28 +94,10 @@ impl LoneLeaves {
         let begun = self.lp.iterations();
         let mut spans = spans.to_vec(alloc)?;
         let mut failures = 0;
-        for step in 0..MOST_STEPS {
-            let fractions = self.fractions(alloc)?;
-            if fractions.is_empty() {
-                self.round(alloc, b, spans.as_slice(), found)?;
-                break;
-            }
-            if step % ROUND_EACH == 0 {
-                self.round(alloc, b, spans.as_slice(), found)?;
-            }
-            let Some(next) = self.pick(fractions.as_slice(), manner) else {
-                break;
-            };
-            if !self.step(
-                alloc,
-                b,
-                &mut spans,
-                fractions.as_slice(),
-                &next,
-                manner,
-                found,
-                &mut failures,
-            )? || failures > MOST_FAILURES
+        for number in 0..MOST_STEPS {
+            let rounds = number % ROUND_EACH == 0;
+            if !self.go_on(alloc, b, &mut spans, manner, rounds, found, &mut failures)?
+                || failures > MOST_FAILURES
                 || self.lp.iterations().saturating_sub(begun) > MOST_ITERATIONS
             {
                 break;
@@ -125,6 +107,29 @@ impl LoneLeaves {
             .dived
             .saturating_add(self.lp.iterations().saturating_sub(begun));
         Ok(())
+    }
+
+    // Takes a step of a dive, where a variable is fractional; whether there was one, and something may be left. The values
+    // are rounded to a point before it where that is asked for, or where no step is left.
+    fn go_on(
+        &mut self,
+        alloc: Global,
+        b: &Blocked,
+        spans: &mut Vec<Span>,
+        manner: Manner,
+        rounds: bool,
+        found: &mut Found,
+        failures: &mut u32,
+    ) -> Result<bool, AllocError> {
+        let fractions = self.fractions(alloc)?;
+        let fractions = fractions.as_slice();
+        if rounds || fractions.is_empty() {
+            self.round(alloc, b, spans.as_slice(), found)?;
+        }
+        match self.pick(fractions, manner) {
+            None => Ok(false),
+            Some(next) => self.step(alloc, b, spans, fractions, &next, manner, found, failures),
+        }
     }
 
     // The variable to round next.
@@ -165,6 +170,7 @@ impl LoneLeaves {
         let before = spans.as_slice().to_vec(alloc)?;
         let basis = self.lp.basis()?;
         let goes_up = next.part > 0.5 || manner == Manner::Up;
+        let mut is_open = false;
         for is_second in [false, true] {
             spans.clear();
             spans.extend_from_slice(before.as_slice())?;
@@ -173,18 +179,44 @@ impl LoneLeaves {
             if is_up && !is_second && manner == Manner::RatherUp {
                 narrow_all(spans.as_mut_slice(), fractions);
             }
-            if self.is_empty_behind(b, spans.as_mut_slice(), next.var)? {
-                continue;
+            let basis = if is_second { Some(&basis) } else { None };
+            is_open = self.is_open_behind(
+                b,
+                spans.as_mut_slice(),
+                next.var,
+                basis,
+                found,
+                failures,
+            )?;
+            if is_open {
+                break;
             }
-            self.set_spans(spans.as_slice());
-            if is_second {
-                self.lp.load(&basis)?;
-            }
-            if self.is_solved(found.known)? {
-                return Ok(true);
-            }
-            *failures = failures.saturating_add(1);
         }
+        Ok(is_open)
+    }
+
+    // Whether something cheaper than what is known may be left in spans that a variable was rounded in, solved from a basis
+    // where one is given. Solutions that leave nothing are counted as failures.
+    fn is_open_behind(
+        &mut self,
+        b: &Blocked,
+        spans: &mut [Span],
+        var: u32,
+        basis: Option<&Basis>,
+        found: &Found,
+        failures: &mut u32,
+    ) -> Result<bool, AllocError> {
+        if self.is_empty_behind(b, spans, var)? {
+            return Ok(false);
+        }
+        self.set_spans(spans);
+        if let Some(basis) = basis {
+            self.lp.load(basis)?;
+        }
+        if self.is_solved(found.known)? {
+            return Ok(true);
+        }
+        *failures = failures.saturating_add(1);
         Ok(false)
     }
 

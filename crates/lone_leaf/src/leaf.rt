@@ -8,7 +8,7 @@ use proof_fit::MAX_SCALE;
 use block_program::Blocked;
 use bp_theory::Span;
 use branch_tree::Turn;
-use lp_core::{Effort, End};
+use lp_core::{Basis, Effort, End};
 use search_laws::Side;
 use std::alloc::{AllocError, Global};
 use std::num::saturating_f64_to_i64;
@@ -69,26 +69,44 @@ impl LoneLeaves {
             var,
             at,
         };
+        self.complete(alloc, b, turn, &relaxed, parent, best, &mut hint)?;
+        Ok(hint)
+    }
+
+    // Writes into a leaf's hint what its relaxation tells: what shows that there is no point, or the scale, a point and a
+    // split.
+    fn complete(
+        &mut self,
+        alloc: Global,
+        b: &Blocked,
+        turn: &Turn,
+        relaxed: &Relaxed,
+        parent: Option<Parent>,
+        best: Option<i64>,
+        hint: &mut LoneHint,
+    ) -> Result<(), AllocError> {
+        let spans = turn.zone.spans();
         if relaxed.end == End::Empty {
             hint.emptying = self.emptying(alloc, b, spans)?;
             if hint.emptying.is_some() {
                 self.note_emptying(spans);
             }
-            return Ok(hint);
+            return Ok(());
         }
         self.note_gain(parent, relaxed.value);
-        let wanted = self.wanted(&relaxed, best);
+        let wanted = self.wanted(relaxed, best);
         hint.scale = self.scale_of(b, hint.mults.as_slice(), spans, wanted);
         if relaxed.is_reached {
             self.note_shutting(spans);
-            return Ok(hint);
+            return Ok(());
         }
-        let found = self.found(alloc, b, turn, &relaxed, best)?;
-        if !self.is_shut(&relaxed, found.known) {
-            self.split(alloc, turn, &relaxed, found.known, &mut hint)?;
-        }
+        let found = self.found(alloc, b, turn, relaxed, best)?;
+        let known = found.known;
         hint.point = found.point;
-        Ok(hint)
+        if !self.is_shut(relaxed, known) {
+            self.split(alloc, turn, relaxed, known, hint)?;
+        }
+        Ok(())
     }
 
     // What rounding and dives find, where the relaxation has its optimum.
@@ -189,13 +207,26 @@ impl LoneLeaves {
         if many == 0 || self.is_shut(relaxed, found.known) {
             return Ok(());
         }
-        let spans = turn.zone.spans();
         let basis = self.lp.basis()?;
+        self.dive_from(alloc, b, turn, relaxed, &basis, many, found)?;
+        self.go_back(turn.zone.spans(), &basis)
+    }
+
+    // Dives so many times from a basis, until what is found shuts the leaf.
+    fn dive_from(
+        &mut self,
+        alloc: Global,
+        b: &Blocked,
+        turn: &Turn,
+        relaxed: &Relaxed,
+        basis: &Basis,
+        many: u32,
+        found: &mut Found,
+    ) -> Result<(), AllocError> {
+        let spans = turn.zone.spans();
         for dive in 0..many {
             if dive > 0 {
-                self.set_spans(spans);
-                self.lp.load(&basis)?;
-                self.settle()?;
+                self.go_back(spans, basis)?;
             }
             let number = if turn.depth == 0 { dive } else { self.leaves };
             self.dive(alloc, b, spans, manner_of(number), found)?;
@@ -203,8 +234,13 @@ impl LoneLeaves {
                 break;
             }
         }
+        Ok(())
+    }
+
+    // Takes spans and a basis again.
+    fn go_back(&mut self, spans: &[Span], basis: &Basis) -> Result<(), AllocError> {
         self.set_spans(spans);
-        self.lp.load(&basis)?;
+        self.lp.load(basis)?;
         self.settle()
     }
 

@@ -65,26 +65,47 @@ pub fn hinted(
         value: steps.value,
     };
     let mean = steps.mean.as_slice();
-    if !with_columns || turn.depth == 0 || incumbent.known.is_none() {
-        let probed = probed_point(alloc, b, turn, &centre, mean, incumbent.known)?;
-        incumbent.take(alloc, b, probed)?;
-    }
-    let split = split_of_mean(mean, turn.zone.spans());
-    let found = search_columns(
+    let split = searched(
         alloc,
         b,
         classes,
         pools,
         turn,
         &mut centre,
+        mean,
         &mut incumbent,
         is_even,
     )?;
     Ok(Hint {
         mults: centre.mults,
         point: incumbent.point,
-        split: found.unwrap_or(split),
+        split,
     })
+}
+
+// Points that a search and columns give from where steps ended, and the split that the columns want, else that of the mean.
+fn searched(
+    alloc: Global,
+    b: &Blocked,
+    classes: &Classes,
+    pools: &mut Pools,
+    turn: &Turn,
+    centre: &mut Centre,
+    mean: &[i128],
+    incumbent: &mut Incumbent,
+    is_even: bool,
+) -> Result<Split, AllocError>
+    requires made_for { AreMadeFor b.now pools.old }
+    requires classes { AreSameClasses turn.now.zone b.now.blocking classes.now }
+    requires zone { IsZone b.now.named.program.spans turn.now.zone }
+    ensures made_for { AreMadeFor b.now pools.new }
+{
+    if !serves(b) || turn.depth == 0 || incumbent.known.is_none() {
+        let probed = probed_point(alloc, b, turn, centre, mean, incumbent.known)?;
+        incumbent.take(alloc, b, probed)?;
+    }
+    let found = search_columns(alloc, b, classes, pools, turn, centre, incumbent, is_even)?;
+    Ok(found.unwrap_or(split_of_mean(mean, turn.zone.spans())))
 }
 
 /// What is known before multipliers are searched for. At the root, and where no point is known, a search by plain costs
@@ -192,31 +213,39 @@ fn search_columns(
         return Ok(None);
     };
     let used = master.used(alloc)?;
+    let used = used.as_slice();
+    let master = &mut master;
+    points_and_split(
+        alloc, b, classes, pools, turn, centre, master, used, incumbent, is_even,
+    )
+}
+
+// Points from a master whose columns these are that are used, and the split that they want.
+fn points_and_split(
+    alloc: Global,
+    b: &Blocked,
+    classes: &Classes,
+    pools: &mut Pools,
+    turn: &Turn,
+    centre: &mut Centre,
+    master: &mut RestrictedMaster,
+    used: &[Weighted],
+    incumbent: &mut Incumbent,
+    is_even: bool,
+) -> Result<Option<Split>, AllocError>
+    requires made_for { AreMadeFor b.now pools.old }
+    requires classes { AreSameClasses turn.now.zone b.now.blocking classes.now }
+    requires zone { IsZone b.now.named.program.spans turn.now.zone }
+    ensures made_for { AreMadeFor b.now pools.new }
+{
     if turn.depth == 0 || incumbent.known.is_none() {
-        let point = point_by_mean(
-            alloc,
-            b,
-            classes,
-            pools,
-            turn,
-            centre,
-            &used,
-            incumbent.known,
-        )?;
+        let known = incumbent.known;
+        let point = point_by_mean(alloc, b, classes, pools, turn, centre, used, known)?;
         incumbent.take(alloc, b, point)?;
     }
     find_points(
-        alloc,
-        b,
-        classes,
-        pools,
-        turn,
-        centre,
-        &mut master,
-        incumbent,
-        is_even,
+        alloc, b, classes, pools, turn, centre, master, incumbent, is_even,
     )?;
-    let used = used.as_slice();
     if let Some(split) = split_of_links(alloc, b, classes, pools, used)? {
         return Ok(Some(split));
     }

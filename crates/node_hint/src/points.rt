@@ -41,13 +41,13 @@ pub fn point_by_mean(
     pools: &Pools,
     turn: &Turn,
     centre: &Centre,
-    used: &Vec<Weighted>,
+    used: &[Weighted],
     known: Option<i64>,
 ) -> Result<Option<Vec<i64>>, AllocError> {
     if are_alike(b, classes) {
         return Ok(None);
     }
-    let mean = mean_of(alloc, b, classes, pools, used.as_slice())?;
+    let mean = mean_of(alloc, b, classes, pools, used)?;
     let guide = guide_of(alloc, b, centre.mults.as_slice(), mean.as_slice())?;
     search_point(alloc, b, turn, &guide, known)
 }
