@@ -48,28 +48,36 @@ impl Drop for Spans {
 impl Spans {
     /// Spans where each row waits.
     pub fn make(alloc: Global, b: &Blocked, spans: &[Span]) -> Result<Spans, AllocError> {
-        let rows = b.model().rows();
-        let costs = dense_costs(alloc, b)?;
-        let mut waiting = Vec::new(alloc);
-        let mut lines = Vec::new(alloc);
-        for number in 0..rows {
-            let row = b.model().row(number);
-            waiting.push(number)?;
-            lines.push(line_of(row, costs.as_slice(), spans))?;
-        }
-        let mut cost = Line::new(true, false);
-        cost.add_all(b.model().costs(), costs.as_slice(), spans);
-        Ok(Spans {
-            now: spans.to_vec(alloc)?,
+        let entries = Entries::of(alloc, b)?;
+        let mut made = Spans {
+            now: Vec::new(alloc),
             before: Vec::new(alloc),
             looked: 0,
-            entries: Entries::of(alloc, b)?,
-            costs,
-            cost,
-            lines,
-            waiting,
-            is_waiting: Vec::from_elem(alloc, true, rows as usize)?,
-        })
+            entries,
+            costs: Vec::new(alloc),
+            cost: Line::new(true, false),
+            lines: Vec::new(alloc),
+            waiting: Vec::new(alloc),
+            is_waiting: Vec::new(alloc),
+        };
+        made.fill(alloc, b, spans)?;
+        Ok(made)
+    }
+
+    // Gives all lists what they begin with.
+    fn fill(&mut self, alloc: Global, b: &Blocked, spans: &[Span]) -> Result<(), AllocError> {
+        let rows = b.model().rows();
+        self.now = spans.to_vec(alloc)?;
+        self.costs = dense_costs(alloc, b)?;
+        self.is_waiting = Vec::from_elem(alloc, true, rows as usize)?;
+        let costs = self.costs.as_slice();
+        for number in 0..rows {
+            let row = b.model().row(number);
+            self.waiting.push(number)?;
+            self.lines.push(line_of(row, costs, spans))?;
+        }
+        self.cost.add_all(b.model().costs(), costs, spans);
+        Ok(())
     }
 
     /// The sum of a row where each variable is at the end of its span that costs least.
