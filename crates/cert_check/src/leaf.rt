@@ -15,10 +15,10 @@ ghost use Rattle.cert_check.specs.Judging.{JudgesLines, LeavesOf};
 use crate::place::{NodePlace, Stop};
 use crate::price::bound_in;
 use crate::visits::{Spent, spend};
-use proof_fit::signs_fit;
 use block_program::{Blocked, Zone};
 use bp_theory::{CheckKind, Claim, Proof};
 use lagr_bound::Work;
+use proof_fit::signs_fit;
 use std::alloc::{AllocError, Global};
 
 /// Judges the line of a leaf: its signs, then its visits, then what its bound shows.

@@ -1,11 +1,11 @@
 // The lines of a restricted master that stand for the rows that proofs may name, which are master rows, link rows and
 // cuts: one for each side that a row's sum must keep.
-use proof_fit::MAX_SCALE;
 use block_program::Blocked;
 use bp_theory::Sense;
 use column_lp::ColumnProgram;
 use lp_factor::Entry;
 use point_hint::{at, clipped, put, signed, sum_at, whole};
+use proof_fit::MAX_SCALE;
 use std::alloc::{AllocError, Global};
 use std::num::{nearest_i64_to_f64, saturating_f64_to_i64};
 

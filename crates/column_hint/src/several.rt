@@ -7,9 +7,9 @@ ghost use Rattle.hint_pools.specs.Pools.{AreMadeFor};
 
 use crate::master::RestrictedMaster;
 use block_class::Classes;
-use proof_fit::fits;
 use block_program::{Blocked, Zone};
 use hint_pools::{Place, Pools, alone};
+use proof_fit::fits;
 use std::alloc::{AllocError, Global};
 
 /// How many columns a class gets at most beside its cheapest, in a round.

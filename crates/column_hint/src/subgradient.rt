@@ -11,7 +11,6 @@ ghost use Rattle.hint_pools.specs.Pools.{AreMadeFor};
 
 use crate::costs::reduced_cost;
 use block_class::Classes;
-use proof_fit::MAX_SCALE;
 use block_program::Blocked;
 use bp_theory::{MasterRow, Sense, Span};
 use branch_tree::Turn;
@@ -20,6 +19,7 @@ use point_hint::{
     UNIT, at, clipped, copy_count, copy_place, feasible_cost, is_below, is_reached, meets, product,
     put, quotient, signed, slope, sum_at, write_sums,
 };
+use proof_fit::MAX_SCALE;
 use std::alloc::{AllocError, Global};
 
 /// How steps go: how many are taken, how many without a gain until the aim is lowered, the least gain that is aimed at,

@@ -3,12 +3,12 @@ ghost use Rattle.std.specs.Prelude.{◌≡◌, ◌<◌, length};
 
 use crate::wide::has_many_beginnings;
 use block_class::Classes;
-use proof_fit::{MAX_SCALE, fits};
 use block_program::{Block, Blocked, Zone};
 use bp_theory::{Items, Picked, Proof, Span};
 use lagr_bound::{Bounded, Work, bound};
 use point_hint::{clipped, copy_place, product, put, quotient};
 use pricing::Cap;
+use proof_fit::{MAX_SCALE, fits};
 use std::alloc::{AllocError, Global};
 
 /// How many beginnings of points the pricing of a block may visit.

@@ -3,10 +3,10 @@
 use crate::numbers::product;
 use crate::relaxation::LoneLeaves;
 use crate::rows::row_of;
-use proof_fit::{MAX_MULTIPLIER, MAX_SCALE};
 use block_program::Blocked;
 use bp_theory::{MasterRow, Row, Sense, Span};
 use lp_factor::{place, put};
+use proof_fit::{MAX_MULTIPLIER, MAX_SCALE};
 use std::alloc::{AllocError, Global};
 use std::num::{nearest_i64_to_f64, nearest_u64_to_f64, saturating_f64_to_i64};
 

@@ -13,13 +13,13 @@ ghost use Rattle.node_eval.specs.Openings.{IsOpening, IsReached, IsOfNoUse, at_z
 
 use crate::proofs::{by_row, every};
 use block_class::Classes;
-use proof_fit::{MAX_SCALE, fits, signs_fit};
 use block_program::{Blocked, Zone};
 use bp_theory::Proof;
 use branch_tree::{Turn, proof_copy};
 use lagr_bound::{Bounded, Work, bound, box_bound, round};
 use node_hint::{MOST_VISITS, PricingBudget};
 use pricing::Cap;
+use proof_fit::{MAX_SCALE, fits, signs_fit};
 use std::alloc::{AllocError, Global};
 
 /// The scale of a short proof.

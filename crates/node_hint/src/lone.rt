@@ -2,11 +2,11 @@
 ghost use Rattle.hint_pools.specs.Pools.{AreMadeFor};
 
 use crate::hint::first_incumbent;
-use proof_fit::MAX_SCALE;
 use block_program::Blocked;
 use branch_tree::Turn;
 use column_hint::Pools;
 use lone_leaf::LoneHint;
+use proof_fit::MAX_SCALE;
 use std::alloc::{AllocError, Global};
 
 /// Multipliers, a point that is cheaper than the best cost, where one was found, and a split, by the relaxation of the

@@ -2,8 +2,8 @@
 ghost use Rattle.std.specs.Prelude.{◌<◌, length};
 
 use crate::reach::{at, product, put, quotient};
-use proof_fit::MAX_SCALE;
 use block_program::Blocked;
+use proof_fit::MAX_SCALE;
 use std::alloc::{AllocError, Global};
 
 /// How much a unit of the mean counts against a unit of reduced cost.

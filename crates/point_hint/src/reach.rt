@@ -1,7 +1,7 @@
 // What rows can reach over spans: hints, which exact bounds judge.
-use proof_fit::MAX_MULTIPLIER;
 use block_program::Blocked;
 use bp_theory::{Row, Sense, Span, Term};
+use proof_fit::MAX_MULTIPLIER;
 
 /// The least and the greatest sum of a row's terms over spans.
 #[derive(Clone, Copy)]

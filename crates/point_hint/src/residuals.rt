@@ -3,9 +3,9 @@ ghost use Rattle.std.specs.Prelude.{◌<◌, length};
 
 use crate::copies::{copy_place, has_further_rows};
 use crate::reach::{at, product};
-use proof_fit::MAX_SCALE;
 use block_program::Blocked;
 use bp_theory::{MasterRow, Sense};
+use proof_fit::MAX_SCALE;
 
 /// How many units make one in the mean of points.
 pub const UNIT: i128 = MAX_SCALE as i128;
