@@ -8,11 +8,11 @@ ghost use Rattle.block_pricers.specs.Works.{forms_of};
 use crate::told::Told;
 use crate::zones::narrowed;
 use block_class::Classes;
-use proof_fit::fits;
 use block_program::{Blocked, Zone};
 use bp_theory::{Items, Picked, Proof};
 use lagr_bound::{Bounded, Work, bound, sum_bound};
 use pricing::Cap;
+use proof_fit::fits;
 use std::alloc::{AllocError, Global};
 
 // The row over both blocks, or the link row behind two rows.

@@ -14,13 +14,13 @@ ghost use Rattle.cert_walk.specs.Walks.{Front, WalksBelow, WalksBehind, IsFresh,
 ghost use Rattle.cert_walk.specs.declared.walk.Walk.TheVariants.{At};
 
 use crate::path::{Fork, Path, go_on};
-use proof_fit::fits;
 use block_program::Blocked;
 use bp_model::MAX_NUMBER;
 use bp_theory::{CheckKind, Claim, Proof};
 use cert_check::{NodePlace, Stop, judge_claim, judge_leaf, sound_span, to_low};
 use cert_text::SplitPlace;
 use lagr_bound::Work;
+use proof_fit::fits;
 use std::alloc::{AllocError, Global};
 
 // What has been judged of the lines that came: all of them pass, and the next one stands here; or one ended the judgement; or
