@@ -6,7 +6,7 @@ use Rattle.block_parts.proofs.source.source_of.Goals as goal
 
 pub homes_of-requires : goal.homes_of-requires
 homes_of-requires c =
-    subst (λ (n : ℕ). All (IsPlace n) c.places.result.now) (sym c.blocks.ensures.blocks)
+    subst (λ (n : ℕ). All (IsPlace n) c.places.result.now) (sym c.blocks-2.ensures.blocks)
     (subst (λ (ps : List (Option ℕ)). All (IsPlace c.args.dec.now.blocks) ps) (sym c.places.ensures) c.requires.places.known)
 
 pub make-requires-clause-columns : goal.make-requires-clause-columns
@@ -23,6 +23,6 @@ make-requires-clause-homes c =
     let d = c.args.dec.now in
     let columns = columns_shown c.all_rows.result.now c.all_rows.result.now c.in_ok-columns.columns.items c.as_slice.result.now c.vars.result refl
     (omega (arith, c.in_ok-columns.ensures.each, c.in_ok-columns.columns.ok)) c.in_ok-columns.ensures.columns c.as_slice.ensures.value in
-    homes_by p d c.all_rows.result.now c.places.result.now c.blocks.result c.as_slice.result.now c.in_ok-homes.homes.items
-    c.all_rows.ensures.rows c.places.ensures c.blocks.ensures.blocks columns
+    homes_by p d c.all_rows.result.now c.places.result.now c.blocks-2.result c.as_slice.result.now c.in_ok-homes.homes.items
+    c.all_rows.ensures.rows c.places.ensures c.blocks-2.ensures.blocks columns
     (omega (arith, c.in_ok-columns.ensures.each, c.in_ok-columns.columns.ok, ap length c.as_slice.ensures.value, c.vars.ensures.vars)) c.in_ok-homes.ensures.each c.in_ok-homes.ensures.homes
