@@ -1,10 +1,10 @@
 #!/usr/bin/env python3
 """Refuses each request for memory of small runs of the program in turn, one in each run.
 
-    bench/refused_memory.py [PROGRAM [CALLS]]
+    bench/refused_memory.py [PROGRAM [WORKED]]
 
-PROGRAM is the program to run, or else release/bprice; CALLS is the program of crates/calls, as the gate leaves it in
-crates/calls/out/calls. The script wants a C compiler, `cc`.
+PROGRAM is the program to run, or else release/bprice; WORKED is the program of crates/worked, as the gate leaves it in
+crates/worked/out/worked. The script wants a C compiler, `cc`.
 
 A run whose Nth request is refused must either end as it ends with ample memory, with the same status, output and files, or with status 9,
 nothing printed, and its files as they were before; of `gen` the LP file may hold its whole text, and of `solve` and
@@ -12,9 +12,10 @@ nothing printed, and its files as they were before; of `gen` the LP file may hol
 requests, and how many of them, refused, led to status 9 and how many to the answer. The last line tells the sums, and the
 script ends with status 1 where a run did anything else.
 
-CALLS tries a call of a pool, of a tree, of a crew or of a search a second time where memory was short. So where the refused request is one of these calls', it
-must print what it prints with ample memory, which is crates/calls/stdout; where it is another, it may end with an error and nothing
-printed, or say of one text that it is not tried, in place of what it tells of it, and print all else. It fills a pool by many thousand calls: its first and last requests are refused, and of those between one in so many.
+WORKED is run with the word `calls`: it calls the libraries, and tries a call of a pool, of a tree, of a crew or of a search a second time
+where memory was short. So where the refused request is one of these calls', it must print what it prints with ample memory, which
+is the end of crates/worked/stdout; where it is another, it may end with an error and nothing printed, or say of one text that it is
+not tried, in place of what it tells of it, and print all else. It fills a pool by many thousand calls: its first and last requests are refused, and of those between one in so many.
 """
 
 import os
@@ -157,6 +158,9 @@ NEVER = 10**15
 # the end, and about how many between.
 FRONT, END, BETWEEN = 1500, 300, 400
 
+# The beginning of what the calls print, which stands behind what the scripts' commands print.
+FIRST_CALL = b"classes of two.lp at the root"
+
 
 def files_of(folder):
     """The files of a folder, by their names."""
@@ -226,12 +230,12 @@ def try_all(program, refuser, text, whole, begun):
     return calls, wants, same, len(odd)
 
 
-def run_calls(calls, refuser, data, call):
+def run_calls(worked, refuser, data, call):
     """Runs the calls of the libraries with this request refused: the status, the output and the requests."""
     with tempfile.TemporaryDirectory() as place:
         count = os.path.join(place, "count")
         env = dict(os.environ, LD_PRELOAD=refuser, REFUSED_CALL=str(call), REFUSED_COUNT=count)
-        ended = subprocess.run([calls], cwd=data, env=env, stdout=subprocess.PIPE, stderr=subprocess.DEVNULL, timeout=120)
+        ended = subprocess.run([worked, "calls"], cwd=data, env=env, stdout=subprocess.PIPE, stderr=subprocess.DEVNULL, timeout=120)
         with open(count) as file:
             return ended.returncode, ended.stdout, int(file.read())
 
@@ -246,20 +250,21 @@ def has_left_out(out, wanted):
     return lines[:left[0]] == rest[:left[0]] and lines[left[0] + 1:] == rest[len(rest) - behind:]
 
 
-def try_calls(calls, refuser, crate):
+def try_calls(worked, refuser, crate):
     """Refuses requests of the calls of the libraries: whether each led to the answer, or to an error with nothing printed."""
     data = os.path.join(crate, "data")
     with open(os.path.join(crate, "stdout"), "rb") as file:
-        wanted = file.read()
-    status, out, requests = run_calls(calls, refuser, data, NEVER)
+        printed = file.read()
+    wanted = printed[printed.index(FIRST_CALL):]
+    status, out, requests = run_calls(worked, refuser, data, NEVER)
     if (status, out) != (0, wanted):
-        print(f"calls: status {status}, and not what stands in {crate}/stdout")
+        print(f"calls: status {status}, and not what stands at the end of {crate}/stdout")
         return False
     ends = set(range(1, FRONT + 1)) | set(range(requests - END + 1, requests + 1))
     chosen = sorted(n for n in ends | set(range(1, requests + 1, max(1, requests // BETWEEN))) if 1 <= n <= requests)
     same, errors, left_out, odd = 0, 0, 0, []
     for call in chosen:
-        status, out, _ = run_calls(calls, refuser, data, call)
+        status, out, _ = run_calls(worked, refuser, data, call)
         if (status, out) == (0, wanted):
             same += 1
         elif status != 0 and out == b"":
@@ -277,7 +282,7 @@ def try_calls(calls, refuser, crate):
 def main():
     here = os.path.dirname(os.path.abspath(__file__))
     program = os.path.abspath(sys.argv[1]) if len(sys.argv) > 1 else os.path.join(here, "../release/bprice")
-    calls = os.path.abspath(sys.argv[2]) if len(sys.argv) > 2 else None
+    worked = os.path.abspath(sys.argv[2]) if len(sys.argv) > 2 else None
     sums = [0, 0, 0, 0]
     well = True
     with tempfile.TemporaryDirectory() as place:
@@ -288,8 +293,8 @@ def main():
         subprocess.run(["cc", "-shared", "-fPIC", "-O1", "-o", refuser, source, "-ldl"], check=True)
         for text, whole, begun in RUNS:
             sums = [a + b for a, b in zip(sums, try_all(program, refuser, text, whole, begun))]
-        if calls:
-            well = try_calls(calls, refuser, os.path.join(here, "../crates/calls"))
+        if worked:
+            well = try_calls(worked, refuser, os.path.join(here, "../crates/worked"))
     print(f"{len(RUNS)} runs, {sums[0]} requests, refused: {sums[1]} want of memory, {sums[2]} the answer, {sums[3]} anything else")
     sys.exit(1 if sums[3] or not well else 0)
 

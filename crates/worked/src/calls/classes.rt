@@ -1,8 +1,8 @@
 // How many classes the blocks of a program have in zones.
 ghost use Rattle.bp_theory.specs.Trees.{IsZone};
 
-use crate::told::Told;
-use crate::zones::narrowed;
+use crate::calls::told::Told;
+use crate::calls::zones::narrowed;
 use block_class::Classes;
 use block_program::{Blocked, Zone};
 use std::alloc::{AllocError, Global};

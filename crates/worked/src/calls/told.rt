@@ -54,10 +54,10 @@ impl Told {
     ///
     /// # Errors
     /// Where memory was short for one of them.
-    pub fn bytes(&self) -> Result<&[u8], AllocError> {
+    pub fn into_bytes(self) -> Result<Vec<u8>, AllocError> {
         if self.is_short {
             return Err(AllocError);
         }
-        Ok(&self.bytes)
+        Ok(self.bytes)
     }
 }

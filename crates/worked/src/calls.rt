@@ -1,34 +1,34 @@
-//! Calls of the libraries over worked texts, and what they answer: classes of blocks, bounds of proofs, a pool that fills
-//! up, a spread of weights, the leaves of a tree that come next, a search and a crew. The texts lie in `data/`, and the
-//! crate's `stdout` has what each call must answer, found by hand.
-#![tactic(auto)]
-
-mod bound_calls;
-mod class_calls;
-mod leaf_calls;
-mod pool_calls;
+// Calls of the libraries over worked texts, and what they answer: classes of blocks, bounds of proofs, a pool that fills
+// up, a spread of weights, the leaves of a tree that come next, a search and a crew. What each must answer is found by hand.
+mod bounds;
+mod classes;
+mod leaves;
+mod pools;
 mod reading;
-mod search_calls;
-mod spread_calls;
+mod searches;
+mod spreads;
 mod told;
 mod zones;
 
 use block_program::Blocked;
 use reading::blocks_of;
 use std::alloc::{AllocError, Global};
-use std::io::Write;
 use std::rt::Files;
 use std::{fs, io};
 use told::Told;
 
-fn main(rt: HostRuntime) -> io::Result<()> {
+/// What the calls answer, over the texts in files of these names: `two.lp`, `linked.lp` and `line.lp` with their
+/// decompositions, and `tall.lp`.
+///
+/// # Errors
+/// Where a file can't be read, or memory is short for a text, for a call that is not tried again, or for what is told.
+pub fn make(rt: &(impl Files + AllocGlobal)) -> io::Result<Vec<u8>> {
     let mut told = Told::new(rt.alloc());
-    tell_two(&rt, &mut told)?;
-    tell_linked(&rt, &mut told)?;
-    tell_line(&rt, &mut told)?;
-    tell_tall(&rt, &mut told)?;
-    io::writer(&rt).write_all(told.bytes()?)?;
-    Ok(())
+    tell_two(rt, &mut told)?;
+    tell_linked(rt, &mut told)?;
+    tell_line(rt, &mut told)?;
+    tell_tall(rt, &mut told)?;
+    Ok(told.into_bytes()?)
 }
 
 // Two blocks that are the same, with a row over both.
@@ -43,10 +43,10 @@ fn tell_two(rt: &(impl Files + AllocGlobal), told: &mut Told) -> io::Result<()> 
 
 // The classes, the bounds, a spread and searches of two blocks with a row over both.
 fn tell_blocks(alloc: Global, b: &Blocked, told: &mut Told) -> Result<(), AllocError> {
-    class_calls::tell_all(alloc, b, told)?;
-    bound_calls::tell_all(alloc, b, told)?;
-    spread_calls::tell_all(alloc, b, told)?;
-    search_calls::tell_all(alloc, b, told)
+    classes::tell_all(alloc, b, told)?;
+    bounds::tell_all(alloc, b, told)?;
+    spreads::tell_all(alloc, b, told)?;
+    searches::tell_all(alloc, b, told)
 }
 
 // Two blocks that a variable links.
@@ -54,7 +54,7 @@ fn tell_linked(rt: &(impl Files + AllocGlobal), told: &mut Told) -> io::Result<(
     let alloc = rt.alloc();
     match blocks_in(rt, "linked.lp", "linked.dec")? {
         None => told.line("linked.lp: not tried, a text is refused"),
-        Some(b) => bound_calls::tell_linked(alloc, &b, told)?,
+        Some(b) => bounds::tell_linked(alloc, &b, told)?,
     }
     Ok(())
 }
@@ -64,7 +64,7 @@ fn tell_line(rt: &(impl Files + AllocGlobal), told: &mut Told) -> io::Result<()>
     let alloc = rt.alloc();
     match blocks_in(rt, "line.lp", "line.dec")? {
         None => told.line("line.lp: not tried, a text is refused"),
-        Some(b) => pool_calls::tell_all(alloc, &b, told)?,
+        Some(b) => pools::tell_all(alloc, &b, told)?,
     }
     Ok(())
 }
@@ -74,7 +74,7 @@ fn tell_tall(rt: &(impl Files + AllocGlobal), told: &mut Told) -> io::Result<()>
     let alloc = rt.alloc();
     match plain_blocks_in(rt, "tall.lp")? {
         None => told.line("tall.lp: not tried, a text is refused"),
-        Some(b) => leaf_calls::tell_all(alloc, &b, told)?,
+        Some(b) => leaves::tell_all(alloc, &b, told)?,
     }
     Ok(())
 }

@@ -2,7 +2,7 @@
 ghost use Rattle.std.specs.Prelude.{◌≡◌, length};
 ghost use Rattle.col_pool.specs.Pools.{IsPoolOf};
 
-use crate::told::Told;
+use crate::calls::told::Told;
 use block_program::{Block, Blocked};
 use col_pool::{Added, Pool, PoolFault};
 use std::alloc::{AllocError, Global};

@@ -5,7 +5,7 @@ ghost use Rattle.search_laws.specs.Spread.{IsUsed};
 ghost use Rattle.col_pool.specs.Pools.{root_block};
 ghost use Rattle.disagg.specs.Spreads.{HasWeight};
 
-use crate::told::Told;
+use crate::calls::told::Told;
 use block_class::Classes;
 use block_program::{Blocked, Zone};
 use bp_theory::Items;

@@ -3,8 +3,8 @@ ghost use Rattle.std.specs.Prelude.{IfOk, IfSome};
 ghost use Rattle.branch_tree.specs.Groves.{IsGroveOf, IsLiveTurn};
 ghost use Rattle.branch_tree.specs.Turns.{IsTurn};
 
-use crate::told::Told;
-use crate::zones::is_sound;
+use crate::calls::told::Told;
+use crate::calls::zones::is_sound;
 use block_program::{Blocked, Zone};
 use branch_tree::{Grove, MAX_DEPTH, Turn, proof_copy};
 use std::alloc::{AllocError, Global};

@@ -5,8 +5,8 @@ ghost use Rattle.bp_theory.specs.Trees.{IsZone};
 ghost use Rattle.block_forms.specs.Forms.{forms_in};
 ghost use Rattle.block_pricers.specs.Works.{forms_of};
 
-use crate::told::Told;
-use crate::zones::narrowed;
+use crate::calls::told::Told;
+use crate::calls::zones::narrowed;
 use block_class::Classes;
 use block_program::{Blocked, Zone};
 use bp_theory::{Items, Picked, Proof};

@@ -1,7 +1,7 @@
 // A search and a crew: each call a second time where memory was short.
 ghost use Rattle.std.specs.Prelude.{◌≤◌, length};
 
-use crate::told::Told;
+use crate::calls::told::Told;
 use block_program::Blocked;
 use bp_crew::{Crew, Event, run_crew};
 use bp_search::resume;
