@@ -26,7 +26,7 @@ ROOMS = {  # a room's title: its colour, and its crates
     "files, words and reports": ("#fce5cd", "bp_shelf bp_real bp_watch bp_reason word_orders bp_words report_lines block_lines search_lines bp_report cert_report bp_front"),
     "commands": ("#d9d2e9", "cmd_show cmd_solve cmd_check cmd_gen cmd_detect cmd_propose cmd_merge cmd_migrate cmd_demo bp_cli bprice"),
 }
-TESTS = "readings streamings filings pricings guesses cuttings engines wordings reportings worked calls".split()  # not drawn
+TESTS = "readings streamings reckonings engines wordings worked".split()  # not drawn
 
 
 def crates():

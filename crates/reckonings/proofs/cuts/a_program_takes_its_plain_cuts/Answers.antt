@@ -4,7 +4,7 @@ use Rattle.bp_theory.specs.declared.Cut.{Cut}
 use Rattle.round_sums.specs.Plain.{IsPlain}
 use Rattle.round_cut.specs.Several.{AreCutsOver}
 use Rattle.round_cut.proofs.PlainCuts.{plain_cuts_over}
-use Rattle.cuttings.proofs.worked.a_program_takes_its_plain_cuts.Goals as goal
+use Rattle.reckonings.proofs.cuts.a_program_takes_its_plain_cuts.Goals as goal
 
 pub with_cuts-requires-clause-rules : goal.with_cuts-requires-clause-rules
 with_cuts-requires-clause-rules g c =

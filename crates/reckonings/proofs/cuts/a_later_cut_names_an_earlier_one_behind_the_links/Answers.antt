@@ -4,7 +4,7 @@ use Rattle.std.proofs.lemmas.List.Elements.{All-cons, All-nil}
 use Rattle.bp_theory.specs.declared.Row.{Row}
 use Rattle.round_sums.specs.Cutting.{IsEarlierCut}
 use Rattle.round_sums.specs.declared.fault.CutFault.{CutFault}
-use Rattle.cuttings.proofs.worked.a_later_cut_names_an_earlier_one_behind_the_links.Goals as goal
+use Rattle.reckonings.proofs.cuts.a_later_cut_names_an_earlier_one_behind_the_links.Goals as goal
 
 -- one row that was found
 one_row : (P : Row → Type 0) (found : Option (Result Row CutFault)) (result : Result Row CutFault) (row : Row) → IfSome found (λ r. IfOk r P) → found ≡ Some result

@@ -1,7 +1,9 @@
 // Worked cuts.
-use crate::program::{Line, is_row, master, own, program, tried};
+mod programs;
+
 use block_program::Blocked;
 use bp_theory::{Row, Sense, Span};
+use programs::{Line, is_row, master, own, program, tried};
 use round_cut::{CutFault, first_cuts, with_cuts};
 use std::alloc::{AllocError, Global};
 

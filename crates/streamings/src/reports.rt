@@ -1,5 +1,6 @@
 // Reports, and the text that each is to be.
-use crate::programs::{InBlocks, OfModel, of_blocks, of_model};
+mod programs;
+
 use bp_report::{Refusal, cert_text, dec_text, lp_text, made_text, refusal_text, words_text};
 use bp_theory::{CheckKind, Claim};
 use cert_check::Judged;
@@ -7,6 +8,7 @@ use cert_report::check_text;
 use cert_text::CertKind;
 use dec_read::{DecFault, DecKind};
 use lp_token::LpKind;
+use programs::{InBlocks, OfModel, of_blocks, of_model};
 use std::alloc::{AllocError, Global};
 use std::process::Abort;
 use std::test::Fail;
