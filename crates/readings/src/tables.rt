@@ -1,6 +1,6 @@
 // Tables of texts, and what is read otherwise than a table says.
 use crate::certificates::{Shape, said};
-use crate::{cuts, decompositions, lp_texts, row_lists, tokens};
+use crate::{cuts, decompositions, guesses, lp_texts, row_lists, tokens};
 use std::alloc::{AllocError, Global};
 use std::process::Abort;
 use std::test::Fail;
@@ -16,6 +16,8 @@ pub enum Reading {
     Decomposition,
     /// The blocks that a list of master rows leaves.
     RowList,
+    /// The decomposition that is chosen for a model, in short.
+    Guess,
     /// Tokens.
     Tokens,
     /// A certificate of a program of this shape.
@@ -31,6 +33,7 @@ pub fn answer(alloc: Global, reading: Reading, text: &[u8]) -> Result<String, Al
         Reading::Size => lp_texts::counted(alloc, text),
         Reading::Decomposition => decompositions::answer(alloc, text),
         Reading::RowList => row_lists::answer(alloc, text),
+        Reading::Guess => guesses::answer(alloc, text),
         Reading::Tokens => tokens::answer(alloc, text),
         Reading::Certificate(shape) => said(alloc, shape, text),
         Reading::Cuts => cuts::answer(alloc, text),

@@ -21,7 +21,8 @@ use told::Told;
 /// decompositions, and `tall.lp`.
 ///
 /// # Errors
-/// Where a file can't be read, or memory is short for a text, for a call that is not tried again, or for what is told.
+/// Where a file can't be read, or memory is short for a call that is not tried again or for what is told. Where it is short for
+/// a program in blocks, the text of that program counts as refused.
 pub fn make(rt: &(impl Files + AllocGlobal)) -> io::Result<Vec<u8>> {
     let mut told = Told::new(rt.alloc());
     tell_two(rt, &mut told)?;
