@@ -1,22 +1,23 @@
 // The verdict on a leaf.
-ghost use Rattle.std.specs.Prelude.{◌≡◌, ◌<◌, ◌^◌, ◌<ℤ◌, unsigned_abs, IfOk, IfSome};
+ghost use Rattle.std.specs.Prelude.{◌<◌, ◌^◌, unsigned_abs, IfOk, IfSome};
 ghost use Rattle.block_class.specs.Classes.{AreSameClasses};
 ghost use Rattle.branch_tree.specs.Turns.{IsTurn};
 ghost use Rattle.hint_pools.specs.Pools.{AreMadeFor};
-ghost use Rattle.search_laws.specs.GroveFacts.{best_cost};
-ghost use Rattle.search_laws.specs.Verdicts.{IsVerdict, IsNext, IsThorough, cheaper_cost};
-ghost use Rattle.node_eval.specs.Shown.{IsShown, IsBetter, IsOpen, ShutsOff};
-ghost use Rattle.node_eval.specs.Openings.{IsStrong};
+ghost use Rattle.search_laws.specs.Verdicts.{IsVerdict, IsThorough};
+ghost use Rattle.node_bound.specs.Shown.{IsShown, IsOpen, ShutsOff};
+ghost use Rattle.node_bound.specs.Openings.{IsStrong};
 
-use crate::fork::{first_open, open_or, place};
 use crate::lone::lone_points;
-use crate::point::{if_better, one_point};
-use crate::shown::{Opening, Shown, at_both_scales, emptied, emptied_by, opened, strongest};
+use crate::raise::strongest;
 use block_class::Classes;
 use block_program::Blocked;
-use bp_theory::{Items, Proof};
+use bp_theory::Proof;
 use branch_tree::{Next, Turn, Verdict};
 use lone_leaf::serves;
+use node_bound::{
+    Opening, Shown, at_both_scales, better_point, cheaper, emptied, emptied_by, first_open,
+    one_point, open_or, opened, settled,
+};
 use node_hint::{Hint, Pools, hinted, unreached};
 use std::alloc::{AllocError, Global};
 
@@ -171,81 +172,4 @@ fn left_empty(
     }
     let proofs = at_both_scales(alloc, &pools.budget, mults)?;
     Ok(emptied_by(b, classes, &mut pools.budget.work, &turn.zone, proofs))
-}
-
-/// A point, where one was found, if it is feasible and cheaper than a given cost.
-pub fn better_point(b: &Blocked, found: Option<Vec<i64>>, best: Option<i64>) -> Option<Items<i64>>
-    ensures { IfSome result (IsBetter b.now.named.program best) }
-{
-    match found {
-        None => None,
-        Some(point) => judged(b, Items::from_vec(point), best),
-    }
-}
-
-// A point, if it is feasible and cheaper than a given cost.
-fn judged(b: &Blocked, point: Items<i64>, best: Option<i64>) -> Option<Items<i64>>
-    ensures { IfSome result (IsBetter b.now.named.program best) }
-{
-    match b.model().misses(point.as_slice()) {
-        None => if_better(b, point, best),
-        Some(_) => None,
-    }
-}
-
-/// The cheaper of a point's cost and a given cost.
-pub fn cheaper(b: &Blocked, point: &Option<Items<i64>>, best: Option<i64>) -> Option<i64>
-    requires { IfSome point.now (IsBetter b.now.named.program best) }
-    ensures { result ≡ cheaper_cost (best_cost b.now.named.program point.now) best }
-{
-    match point {
-        None => best,
-        Some(point) => Some(b.model().cost(point.as_slice())),
-    }
-}
-
-/// What is done with a leaf of a zone with an open variable: it is shut where the bound reaches the known cost, and
-/// else forked.
-pub fn settled(
-    b: &Blocked,
-    turn: &Turn,
-    shown: Shown,
-    known: Option<i64>,
-    var: u32,
-    at: i64,
-) -> Next
-    requires turn { IsTurn b.now turn.now }
-    requires open { IsOpen turn.now.zone var }
-    requires shown { IsShown b.now.blocking turn.now.zone turn.now.bound shown.proof shown.bound }
-    requires strong { IsStrong b.now.blocking turn.now.zone shown.bound }
-    ensures thorough { IsThorough b.now.blocking turn.now.zone result }
-    ensures next { IsNext b.now.blocking turn.now.depth turn.now.zone turn.now.bound known result }
-{
-    match known {
-        Some(best) if shown.bound >= best => Next::Shut(shown.proof),
-        _ => forked(b, turn, shown, known, var, at),
-    }
-}
-
-// A leaf forked in a variable's span: at a number, or the nearest that leaves both parts one, and from depth 64 on at
-// the middle.
-fn forked(b: &Blocked, turn: &Turn, shown: Shown, known: Option<i64>, var: u32, at: i64) -> Next
-    requires turn { IsTurn b.now turn.now }
-    requires open { IsOpen turn.now.zone var }
-    requires shown { IsShown b.now.blocking turn.now.zone turn.now.bound shown.proof shown.bound }
-    requires strong { IsStrong b.now.blocking turn.now.zone shown.bound }
-    requires below { IfSome known (λ z. shown.bound <ℤ z) }
-    ensures thorough { IsThorough b.now.blocking turn.now.zone result }
-    ensures next { IsNext b.now.blocking turn.now.depth turn.now.zone turn.now.bound known result }
-{
-    // For the proof alone: `b` and `known` stand in the contract.
-    let _ = b;
-    let _ = known;
-    let span = turn.zone.span(var);
-    Next::Fork {
-        var,
-        at: place(turn.depth, &span, at),
-        proof: shown.proof,
-        bound: shown.bound,
-    }
 }

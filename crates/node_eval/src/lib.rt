@@ -3,11 +3,8 @@
 //! the points, and exact bounds judge the multipliers.
 #![tactic(auto)]
 
-mod fork;
 mod leaf;
 mod lone;
-mod point;
-mod proofs;
-mod shown;
+mod raise;
 
 pub use leaf::evaluate;

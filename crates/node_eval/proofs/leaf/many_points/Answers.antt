@@ -3,8 +3,8 @@ use Rattle.std.specs.Prelude.{ℤ}
 use Rattle.search_laws.specs.GroveFacts.{best_cost}
 use Rattle.search_laws.specs.Verdicts.{cheaper_cost}
 use Rattle.search_laws.specs.declared.Next.TheVariants.{Shut}
-use Rattle.node_eval.specs.Openings.{IsOpening}
-use Rattle.node_eval.proofs.Leaves.{off_settles, verdict_is}
+use Rattle.node_bound.specs.Openings.{IsOpening}
+use Rattle.node_bound.proofs.Leaves.{off_settles, verdict_is}
 use Rattle.node_eval.proofs.leaf.many_points.Goals as goal
 
 pub returns-in-Empty-clause-verdict : goal.returns-in-Empty-clause-verdict

@@ -4,9 +4,9 @@ use Rattle.bp_theory.specs.declared.Proof.{Proof}
 use Rattle.search_laws.specs.GroveFacts.{best_cost}
 use Rattle.search_laws.specs.Verdicts.{IsNext, cheaper_cost}
 use Rattle.search_laws.specs.declared.Next.TheVariants.{Shut}
-use Rattle.node_eval.specs.Shown.{ShutsOff}
-use Rattle.node_eval.proofs.Leaves.{off_settles, verdict_is}
-use Rattle.node_eval.proofs.Strong.{more_is_strong}
+use Rattle.node_bound.specs.Shown.{ShutsOff}
+use Rattle.node_bound.proofs.Leaves.{off_settles, verdict_is}
+use Rattle.node_bound.proofs.Strong.{more_is_strong}
 use Rattle.node_eval.proofs.leaf.searched.Goals as goal
 
 pub settled-next-requires-clause-strong : goal.settled-next-requires-clause-strong

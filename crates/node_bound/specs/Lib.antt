@@ -1,0 +1,3 @@
+-- The evaluation of a leaf cites these.
+pub mod Shown
+pub mod Openings

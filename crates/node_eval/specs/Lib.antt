@@ -1,3 +1,0 @@
--- No other crate cites these: they are words of contracts here.
-pub mod Shown
-pub mod Openings
