@@ -1,7 +1,7 @@
 -- What is drawn can be done, and a drawn run goes on by it.
 use Rattle.std.proofs.Common.{◌≡◌, refl, sym, ap, subst, ◌∙◌, ℕ, zero, suc, ◌+◌, ◌-◌, ◌*◌, ◌%◌, ◌<◌, ◌≤◌, nat_lt, Bool, true, false, List, [], ◌∷◌, ◌++◌, length, map, get_or, set, Option, Some, None, arith, append_assoc, append-nil}
 use Rattle.std.proofs.Math.Nat.{suc-mul}
-use Rattle.std.specs.Prelude.{is_some, count_by, option_map, slice_get, ℤ}
+use Rattle.std.specs.Prelude.{is_some, option_map, slice_get, ℤ}
 use Rattle.std.proofs.lemmas.List.{map-set, map_push, length-map, length-set}
 use Rattle.bp_theory.specs.Program.{Program}
 use Rattle.bp_theory.specs.Blocking.{Blocking}
@@ -19,16 +19,16 @@ use Rattle.search_laws.specs.Verdicts.{grown}
 use Rattle.search_laws.specs.Crew.{Crew, CrewEvent, takes, reports, drops as drops', Leads, IsRun, listed, kind_of_next, free_count}
 use Rattle.search_laws.proofs.GroveProof.{counts_change_by_one_lem}
 use Rattle.search_laws.proofs.CrewProof.{verdicts_keep_lem}
-use Rattle.bp_crew.specs.declared.hand.Hand.{Hand}
-use Rattle.bp_crew.specs.declared.choice.Task.{Task}
-use Rattle.bp_crew.specs.declared.choice.Task.TheVariants.{Take as TakeTask, Report as ReportTask, Drop as DropTask}
-use Rattle.bp_crew.specs.declared.choice.Choice.{Choice}
-use Rattle.bp_crew.specs.Hands.{holding_of}
-use Rattle.bp_crew.specs.States.{CrewState, crew_of, hand_of, IsEvent, IsSomeCrew}
-use Rattle.bp_crew.specs.Draws.{Moment, holder_count, choices_from, next_state, draw_of, IsOf, IsPicked, GoesOn, moment_of, moment_after, AreDrawn, drops_after}
-use Rattle.bp_crew.specs.Runs.{IsFor, IsPossible, IsAllowed, IsAllowedFor, choices_in, IsDone, IsDrawnTo}
-use Rattle.bp_crew.proofs.Events.{held_and_free}
-use Rattle.bp_crew.proofs.HandLemmas.{count-first}
+use Rattle.crew_turns.specs.declared.hand.Hand.{Hand}
+use Rattle.crew_turns.specs.declared.choice.Task.{Task}
+use Rattle.crew_turns.specs.declared.choice.Task.TheVariants.{Take as TakeTask, Report as ReportTask, Drop as DropTask}
+use Rattle.crew_turns.specs.declared.choice.Choice.{Choice}
+use Rattle.crew_turns.specs.Hands.{holding_of}
+use Rattle.crew_turns.specs.States.{CrewState, crew_of, hand_of, IsEvent, IsSomeCrew}
+use Rattle.crew_turns.specs.Draws.{choices_in, Moment, holder_count, choices_from, next_state, draw_of, IsOf, IsPicked, GoesOn, moment_of, moment_after, AreDrawn, drops_after}
+use Rattle.bp_crew.specs.Runs.{IsFor, IsPossible, IsAllowed, IsAllowedFor, IsDone, IsDrawnTo}
+use Rattle.crew_turns.proofs.Events.{held_and_free}
+use Rattle.crew_turns.proofs.Choosing.{count_holders, holds_same, less_by_test, all_there, drawn_some}
 
 -- ---- what is possible
 
@@ -53,27 +53,7 @@ possible first (true ∷ holds) t true zero c e = here first true holds t true c
 possible first (true ∷ holds) t true (suc zero) c e = here first true holds t true c (record { worker = first; task = DropTask }) refl tt e
 possible first (true ∷ holds) t true (suc (suc i)) c e = shifted first true holds t true c (possible (suc first) holds t true i c e)
 
--- something is possible where there is a worker and a leaf is live
-pub some_choice : (first : ℕ) (holds : List Bool) (t d : Bool) → 0 < length holds → (holder_count holds ≡ 0 → t ≡ true) → 0 < length (choices_from first holds t d)
-some_choice first [] t d some free = absurd (omega (arith, some))
-some_choice first (true ∷ holds) t false some free = omega arith
-some_choice first (true ∷ holds) t true some free = omega arith
-some_choice first (false ∷ holds) true d some free = omega arith
-some_choice first (false ∷ []) false d some free = absurd (let wrong : false ≡ true = free refl in cc)
-some_choice first (false ∷ h ∷ holds) false d some free = some_choice (suc first) (h ∷ holds) false d (omega arith) free
-
 -- ---- who holds a leaf
-
-pub count_holders : {X : Type 0} (xs : List (Option X)) → holder_count (map is_some xs) ≡ count_by is_some xs
-count_holders [] = refl
-count_holders (None ∷ xs) = omega (arith, count_holders xs, count-first None xs)
-count_holders (Some x ∷ xs) = omega (arith, count_holders xs, count-first (Some x) xs)
-
--- the same under the laws' view
-pub holds_same : (hands : List (Option Hand)) → map is_some (map (option_map holding_of) hands) ≡ map is_some hands
-holds_same [] = refl
-holds_same (None ∷ hands) = ap (λ (hs : List Bool). false ∷ hs) (holds_same hands)
-holds_same (Some hand ∷ hands) = ap (λ (hs : List Bool). true ∷ hs) (holds_same hands)
 
 -- whether a worker holds a leaf
 is_some_at : (hands : List (Option Hand)) (w : ℕ) → get_or (map is_some hands) w false ≡ is_some (get_or hands w None)
@@ -88,12 +68,6 @@ holds_hand (Some hand) e = (hand, refl)
 holds_none : (o : Option Hand) → is_some o ≡ false → o ≡ None
 holds_none None e = refl
 holds_none (Some hand) e = absurd (cc)
-
-less_by_test : (a b : ℕ) → nat_lt a b ≡ true → a < b
-less_by_test a b e = grind arith
-
-test_by_less : (a b : ℕ) → a < b → nat_lt a b ≡ true
-test_by_less a b h = grind arith
 
 allowed_for : (s : CrewState) (w : ℕ) (task : Task) (h t d : Bool) → IsFor h t d task → is_some (hand_of s w) ≡ h → w < length s.hands
     → (t ≡ true → 0 < free_count (crew_of s)) → IsAllowedFor s w task
@@ -112,9 +86,6 @@ low_after ReportTask h t d drops most ok few low = omega arith
 low_after DropTask false t d drops most ok few low = absurd ok
 low_after DropTask true t false drops most ok few low = absurd ok
 low_after DropTask true t true drops most ok few low = omega (arith, few refl)
-
-all_there : (s : CrewState) → length (map is_some (crew_of s).held) ≡ length s.hands
-all_there s = length-map (crew_of s).held is_some ∙ length-map s.hands (option_map holding_of)
 
 -- what is drawn can be done, and does not pass the number of drops
 pub drawn_allowed : (s : CrewState) (drops i : ℕ) (c : Choice) → IsSomeCrew s → slice_get (choices_in drops s) i ≡ Some c → IsAllowed s c
@@ -141,11 +112,6 @@ drawn_low s drops i c low e =
     (nat_lt drops (length (map is_some (crew_of s).held))) i c e in
     low_after c.task _ _ _ drops (length s.hands) p.task
     (λ few. omega (arith, less_by_test drops (length (map is_some (crew_of s).held)) few, all_there s)) low
-
-pub drawn_some : (s : CrewState) (drops : ℕ) → 1 ≤ length s.hands → 0 < live_count s.grove.tree → 0 < length (choices_in drops s)
-drawn_some s drops workers some =
-    some_choice 0 (map is_some (crew_of s).held) _ _ (omega (arith, workers, all_there s))
-    (λ none. test_by_less (holder_count (map is_some (crew_of s).held)) (live_count s.grove.tree) (omega (arith, none, some)))
 
 -- ---- the moment behind an event
 
@@ -233,32 +199,6 @@ drawn_on b most order drops state first now next c d workers some few e done = r
 
 pub drawn_first : (b : BlockedProgram) (most order : ℕ) (first : CrewState) → IsDrawnTo b most order first first 0 order
 drawn_first b most order first = record { events = []; run = refl; adds = sym (append-nil first.events); drawn = refl }
-
--- ---- what all that workers may do is made of
-
-not_less_by_test : (a b : ℕ) → nat_lt a b ≡ false → b ≤ a
-not_less_by_test a b e = grind arith
-
-same_test : (a l f : ℕ) → f + a ≡ l → nat_lt 0 f ≡ nat_lt a l
-same_test a l f is = by (nat_lt 0 f) refl
-  where
-    by : (t : Bool) → nat_lt 0 f ≡ t → t ≡ nat_lt a l
-    by true e = sym (test_by_less a l (omega (arith, is, less_by_test 0 f e)))
-    by false e = other (nat_lt a l) refl
-      where
-        other : (t : Bool) → nat_lt a l ≡ t → false ≡ t
-        other false k = refl
-        other true k = absurd (omega (arith, is, not_less_by_test 0 f e, less_by_test a l k))
-
-pub choices_are : (s : CrewState) (holds : List Bool) (drops free len : ℕ) → IsSomeCrew s → holds ≡ map is_some s.hands → free ≡ free_count (crew_of s)
-    → len ≡ length s.hands → choices_from 0 holds (nat_lt 0 free) (nat_lt drops len) ≡ choices_in drops s
-choices_are s holds drops free len some is free_is len_is =
-    ap (λ (hs : List Bool). choices_from 0 hs (nat_lt 0 free) (nat_lt drops len)) (is ∙ sym (holds_same s.hands))
-    ∙ ap (λ t. choices_from 0 (map is_some (crew_of s).held) t (nat_lt drops len))
-    (same_test (holder_count (map is_some (crew_of s).held)) (live_count s.grove.tree) free
-    (omega (arith, free_is, held_and_free s some, ap holder_count (holds_same s.hands), count_holders s.hands)))
-    ∙ ap (λ n. choices_from 0 (map is_some (crew_of s).held) (nat_lt (holder_count (map is_some (crew_of s).held)) (live_count s.grove.tree)) (nat_lt drops n))
-    (len_is ∙ sym (all_there s))
 
 -- ---- what an event leaves as it was
 

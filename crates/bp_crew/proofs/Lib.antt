@@ -1,4 +1,2 @@
-pub mod HandLemmas
-pub mod Events
 pub mod Drawing
 pub mod Finishing

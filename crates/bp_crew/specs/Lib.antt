@@ -1,5 +1,2 @@
--- Other crates cite Runs. The rest are words of contracts here alone.
-pub mod Hands
-pub mod States
-pub mod Draws
+-- Other crates cite Runs.
 pub mod Runs

@@ -7,12 +7,12 @@ use Rattle.branch_tree.specs.Adopted.{point_in}
 use Rattle.branch_tree.specs.declared.loaded.Loaded.{Loaded}
 use Rattle.branch_tree.specs.declared.outcome.Outcome.{Outcome}
 use Rattle.bp_search.specs.Ends.{grove_in, point_of}
-use Rattle.bp_crew.specs.declared.hand.Hand.{Hand}
-use Rattle.bp_crew.specs.declared.choice.Task.{Task}
-use Rattle.bp_crew.specs.declared.choice.Task.TheVariants.{Take as TakeTask, Report as ReportTask, Drop as DropTask}
-use Rattle.bp_crew.specs.declared.choice.Choice.{Choice}
-use Rattle.bp_crew.specs.States.{CrewState, crew_of, hand_of, IsEvent, dropped}
-use Rattle.bp_crew.specs.Draws.{choices, IsOf, moment_of, AreDrawn, IsDrawn, drops_from}
+use Rattle.crew_turns.specs.declared.hand.Hand.{Hand}
+use Rattle.crew_turns.specs.declared.choice.Task.{Task}
+use Rattle.crew_turns.specs.declared.choice.Task.TheVariants.{Take as TakeTask, Report as ReportTask, Drop as DropTask}
+use Rattle.crew_turns.specs.declared.choice.Choice.{Choice}
+use Rattle.crew_turns.specs.States.{CrewState, crew_of, hand_of, IsEvent, dropped}
+use Rattle.crew_turns.specs.Draws.{IsOf, moment_of, AreDrawn, IsDrawn, drops_from}
 
 -- a worker that holds a leaf or not may do a task, where leaves may be taken, or dropped, or not
 abbrev pub IsFor : (holds may_take may_drop : Bool) → Task → Type 0
@@ -40,10 +40,6 @@ IsAllowedFor s worker DropTask = (hand : Hand) × (hand_of s worker ≡ Some han
 
 abbrev pub IsAllowed : CrewState → Choice → Type 0
 IsAllowed s choice = IsAllowedFor s choice.worker choice.task
-
--- the possible events of a crew, where so many drops came since the last report
-abbrev pub choices_in : ℕ → CrewState → List Choice
-choices_in drops s = choices (moment_of 0 drops 0 (crew_of s))
 
 -- the draws so far: their state, and how many drops came since the last report
 pub record IsDrawnTo (b : BlockedProgram) (most order : ℕ) (first now : CrewState) (drops state : ℕ) : Type 0 where

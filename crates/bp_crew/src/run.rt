@@ -6,15 +6,14 @@ ghost use Rattle.hint_pools.specs.Pools.{AreMadeFor};
 ghost use Rattle.branch_tree.specs.Loads.{IsLoaded};
 ghost use Rattle.cert_text.specs.Outcomes.{IsWritable};
 ghost use Rattle.bp_search.specs.Ends.{EndsWithin, last_step};
-ghost use Rattle.bp_crew.specs.declared.hand.Hand.{Hand};
-ghost use Rattle.bp_crew.specs.States.{IsCrewOf, IsRight, hand_of};
+ghost use Rattle.crew_turns.specs.declared.hand.Hand.{Hand};
+ghost use Rattle.crew_turns.specs.States.{IsCrewOf, IsRight, hand_of};
 ghost use Rattle.bp_crew.specs.Runs.{IsAllowed, IsDone, IsDrawnTo, IsLetGo, IsLetGoAt, IsCrewRun};
 
-use crate::choice::{Choice, Task, drops_after, next_state, picked};
-use crate::crew::Crew;
 use block_program::Blocked;
 use bp_search::MAX_STEPS;
 use branch_tree::{Loaded, Outcome, Verdict};
+use crew_turns::{Choice, Crew, Task, drops_after, next_state};
 use node_eval::evaluate;
 use node_hint::Pools;
 use search_laws::Event;

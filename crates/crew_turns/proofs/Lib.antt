@@ -1,0 +1,3 @@
+pub mod HandLemmas
+pub mod Events
+pub mod Choosing
