@@ -38,13 +38,14 @@ use Rattle.bp_front.specs.Answers.{AnswersBy, stopped, went_on, IsStatus}
 use Rattle.bp_front.proofs.OneFront.{one_front, plain_front}
 use Rattle.cmd_check.specs.Checks as checks
 use Rattle.cmd_check.specs.Checks.{ChecksBlocked, ChecksWithin, ChecksVisiting, AnswersCheck}
-use Rattle.cmd_solve.specs.Cuttings.{HasCuts}
-use Rattle.cmd_solve.specs.Starts as starts
-use Rattle.cmd_solve.specs.Starts.{RefusesStart, IsStartAt, SearchesOver}
-use Rattle.cmd_solve.specs.Leaves.{IsWorkedOn}
+use Rattle.search_start.specs.Cuttings.{HasCuts}
+use Rattle.search_start.specs.Starts as starts
+use Rattle.search_start.specs.Starts.{RefusesStart, IsStartAt, SearchesOver}
+use Rattle.search_start.specs.Leaves.{IsWorkedOn}
 use Rattle.cmd_solve.specs.Solves as solves
-use Rattle.cmd_solve.specs.Solves.{SolvesBlocked, SolvesBelow, SolvesOn, SolvesBy, AnswersSolve, outcome_status, outcome_certificate, IsSpelledOut}
-use Rattle.cmd_solve.specs.Saves.{HasCertificate, IsSaved}
+use Rattle.cmd_solve.specs.Solves.{SolvesBlocked, SolvesBelow, SolvesOn, SolvesBy, AnswersSolve}
+use Rattle.search_outcome.specs.Outcomes.{outcome_status, outcome_certificate, IsSpelledOut, IsSaved}
+use Rattle.cmd_solve.specs.Saves.{HasCertificate}
 use Rattle.bp_cli.proofs.PlainForm.{plain_fault}
 use Rattle.bp_cli.specs.Headline.{IsTrueReport, optimal, infeasible, budget, HasProgram, IsCount, IsStoppedAfter, IsOutcomeStatus, WasStopped, TellsTruly, AcceptsTruly}
 

@@ -14,8 +14,8 @@ use Rattle.bp_front.specs.declared.ending.Reply.{Reply}
 use Rattle.bp_front.specs.declared.front.Halt.{Halt}
 use Rattle.bp_front.specs.declared.front.Halt.TheVariants.{Refused, Stopped}
 use Rattle.bp_front.proofs.Lifts.{stop_only, printed_status}
-use Rattle.cmd_solve.specs.Solves.{outcome_status, outcome_certificate}
-use Rattle.cmd_solve.proofs.Outcomes.{outcome_certified}
+use Rattle.search_outcome.specs.Outcomes.{outcome_status, outcome_certificate}
+use Rattle.search_outcome.proofs.Outcomes.{outcome_certified}
 use Rattle.cmd_demo.specs.Demos.{made_files, MadeCome, DemosBlocked, AnswersDemo, IsDemo, DemoHalts}
 use Rattle.cmd_demo.proofs.Certified.{judged_accepted}
 

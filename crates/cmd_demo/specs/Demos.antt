@@ -15,7 +15,7 @@ use Rattle.bp_front.specs.Answers.{AnswersFront}
 use Rattle.bp_front.specs.declared.ending.Reply.{Reply}
 use Rattle.bp_front.specs.declared.front.Halt.{Halt}
 use Rattle.bp_front.specs.declared.front.Halt.TheVariants.{Refused, Stopped}
-use Rattle.cmd_solve.specs.Solves.{outcome_status, outcome_certificate}
+use Rattle.search_outcome.specs.Outcomes.{outcome_status, outcome_certificate}
 
 -- the files of a seed and a size, which stand nowhere but in memory: the empty name is that of the LP text, and every other name is that of the DEC text
 abbrev pub made_files : (seed size : ℕ) → Files

@@ -7,7 +7,7 @@ ghost use Rattle.cert_text.specs.Outcomes.{IsWritable};
 ghost use Rattle.cert_check.specs.Judging.{IsJudged};
 ghost use Rattle.cert_stream.specs.Checks.{Finishes};
 ghost use Rattle.bp_front.specs.Answers.{AnswersBy, IsOnly, CutsOff, HasCauses, PutsReport, IsUnput};
-ghost use Rattle.cmd_solve.specs.Solves.{outcome_certificate};
+ghost use Rattle.search_outcome.specs.Outcomes.{outcome_certificate};
 ghost use Rattle.cmd_demo.specs.Demos.{AnswersDemo, IsSummary, IsDemo, DemoHalts};
 
 use block_program::Blocked;
@@ -20,7 +20,7 @@ use cert_check::Judged;
 use cert_report::{DEMO_STEPS, demo_text};
 use cert_stream::{Checker, FeedFault};
 use cert_text::write_cert;
-use cmd_solve::status_of;
+use search_outcome::status_of;
 use std::alloc::{AllocError, Global};
 
 // How many bytes of a certificate's text are fed at once.

@@ -21,8 +21,8 @@ use Rattle.cert_form.specs.Fault.{IsText}
 use Rattle.cert_form.specs.Written.{cert_of}
 use Rattle.cert_text.specs.Programs.{frame_for}
 use Rattle.cert_report.specs.Certificates.{merged_report}
-use Rattle.cmd_solve.specs.Solves.{outcome_certificate}
-use Rattle.cmd_solve.proofs.Outcomes.{outcome_certified}
+use Rattle.search_outcome.specs.Outcomes.{outcome_certificate}
+use Rattle.search_outcome.proofs.Outcomes.{outcome_certified}
 use Rattle.cmd_merge.specs.Opens.{IsOpened}
 use Rattle.cmd_merge.specs.Merges.{AnswersBoth, answer_of}
 use Rattle.cmd_merge.specs.declared.written.Merged.{Merged}

@@ -17,7 +17,7 @@ use Rattle.cert_text.specs.Outcomes.{claim_of}
 use Rattle.cert_report.specs.Certificates.{merged_report}
 use Rattle.bp_front.specs.Front.{FilesCome, blocked, ends}
 use Rattle.bp_front.specs.Written.{Answer, stops, Answered}
-use Rattle.cmd_solve.specs.Solves.{IsSpelledOut}
+use Rattle.search_outcome.specs.Outcomes.{IsSpelledOut}
 use Rattle.cmd_merge.specs.Claims.{IsMergedClaim}
 use Rattle.cmd_merge.specs.Opens.{IsOpened, IsOpenedText, RefusesFile}
 use Rattle.cmd_merge.specs.declared.opening.Opened.{Opened}

@@ -1,7 +1,5 @@
-pub mod CutLemmas
-pub mod Outcomes
+pub mod Saving
 pub mod Told
 pub mod Starting
 pub mod CrewEvents
-pub mod Paths
 pub mod Parts

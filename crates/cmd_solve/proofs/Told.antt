@@ -1,5 +1,5 @@
 -- What is told of the outcome of a search is what is answered by `solve`.
-use Rattle.std.proofs.Common.{◌≡◌, ◌⊎◌, ◌∙◌, inl, inr, refl, sym, ap, subst, ℕ, Bool, List, Option, Some, None, ◌+◌, ◌-◌, arith}
+use Rattle.std.proofs.Common.{◌≡◌, ◌⊎◌, ◌∙◌, inl, inr, refl, sym, ap, ℕ, Bool, List, Option, Some, None, ◌+◌}
 use Rattle.bp_theory.specs.Trees.{steps}
 use Rattle.bp_shelf.specs.Shelf.{Files}
 use Rattle.block_program.specs.Blocked.{BlockedProgram}
@@ -8,12 +8,13 @@ use Rattle.search_laws.specs.Grove.{GrowingTree, certificate_tree}
 use Rattle.branch_tree.specs.declared.loaded.Loaded.{Loaded}
 use Rattle.branch_tree.specs.declared.outcome.Outcome.{Outcome}
 use Rattle.bp_search.specs.Ends.{EndsWithin, given_steps}
-use Rattle.bp_search.specs.Below.{EndsBelow, steps_in}
+use Rattle.bp_search.specs.Below.{steps_in}
 use Rattle.bp_report.specs.Report.{solve_report}
 use Rattle.bp_front.specs.Answers.{AnswersBy, IsOnly, CutsOff}
-use Rattle.cmd_solve.specs.Starts.{EndsOn, EndsAt}
-use Rattle.cmd_solve.specs.Solves.{SolvesBlocked, SolvesOn, SolvesAt, outcome_status}
-use Rattle.cmd_solve.specs.Saves.{TellsOf, IsSaved, LeavesOn, LeavesAt}
+use Rattle.search_outcome.specs.Endings.{EndsOn, EndsAt}
+use Rattle.cmd_solve.specs.Solves.{SolvesBlocked, SolvesOn, SolvesAt}
+use Rattle.search_outcome.specs.Outcomes.{outcome_status, TellsOf, IsSaved}
+use Rattle.cmd_solve.specs.Saves.{LeavesOn, LeavesAt}
 
 one_outcome : (o p : Outcome) → (let x : Option Outcome = Some o in x) ≡ Some p → o ≡ p
 one_outcome o p e = cc
@@ -112,10 +113,3 @@ pub leaves_at : (b : BlockedProgram) (from : Option Loaded) (below : Option (Lis
     → EndsAt b from below given o told → IsSaved b o cert now → LeavesAt from below given cert now b
 leaves_at b None below given o told cert now ends saved = (o, ends.0, saved)
 leaves_at b (Some from) below given o told cert now ends saved = leaves_on b from.grove.tree below given o told cert now ends saved
-
--- the steps that a search below a path took are those that its tree has more
-pub ends_on_below : (b : BlockedProgram) (start : GrowingTree) (below : Option (List Side)) (path : List Side) (given : Option ℕ) (o : Outcome) (before after taken : ℕ) → below ≡ Some path
-    → EndsBelow b start path given o → before ≡ steps (certificate_tree start) → after ≡ steps_in o → taken ≡ after - before → EndsOn b start below given o (Some taken)
-ends_on_below b start below path given o before after taken is ends first last taken_is =
-    let same : taken ≡ ends.taken = omega (arith, ends.count, first, last, taken_is) in
-    subst (λ (p : Option (List Side)). EndsOn b start p given o (Some taken)) (sym is) (ends, ap Some same)

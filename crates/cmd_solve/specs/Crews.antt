@@ -9,7 +9,7 @@ use Rattle.branch_tree.specs.declared.outcome.Outcome.{Outcome}
 use Rattle.bp_search.specs.Ends.{last_step}
 use Rattle.bp_crew.specs.Runs.{IsCrewRun}
 use Rattle.bp_front.specs.Front.{FilesCome, blocked}
-use Rattle.cmd_solve.specs.Starts.{BeginsBy}
+use Rattle.search_start.specs.Starts.{BeginsBy}
 use Rattle.cmd_solve.specs.declared.crew.CrewOrder.{CrewOrder}
 
 -- the crew that is ordered: one worker and the seed 0 where only the other is given

@@ -1,5 +1,5 @@
 -- What `solve` prints and writes for an outcome.
-use Rattle.std.specs.Prelude.{◌≡◌, ℕ, ◌+◌, ◌⊎◌, List, [], ◌++◌, Option, Some, None}
+use Rattle.std.specs.Prelude.{◌≡◌, ℕ, ◌+◌, ◌⊎◌, List, [], Option, Some, None}
 use Rattle.bp_shelf.specs.Shelf.{Files}
 use Rattle.block_program.specs.Blocked.{BlockedProgram}
 use Rattle.branch_tree.specs.declared.outcome.Outcome.{Outcome}
@@ -9,33 +9,11 @@ use Rattle.search_laws.specs.declared.Side.{Side}
 use Rattle.search_laws.specs.Grove.{GrowingTree, certificate_tree}
 use Rattle.bp_search.specs.Ends.{EndsWithin, given_steps}
 use Rattle.bp_search.specs.Below.{EndsBelow}
-use Rattle.bp_report.specs.Report.{solve_report}
 use Rattle.bp_front.specs.Front.{FilesCome, blocked, ends}
-use Rattle.bp_front.specs.declared.ending.Reply.{Reply}
-use Rattle.cmd_solve.specs.Cuttings.{HasCuts}
-use Rattle.cmd_solve.specs.Starts.{IsStartAt, RefusesStart, SearchesOver}
-use Rattle.cmd_solve.specs.Solves.{IsSpelledOut, outcome_status, SolvesBy}
-
--- what is kept of an outcome, and printed for it: its status, and the report that tells so many steps
-pub record TellsOf (b : BlockedProgram) (told : Option ℕ) (outcome : Outcome) (kept : Option Outcome) (status : ℕ) (report : List ℕ) : Type 0 where
-  pub is_kept : kept ≡ Some outcome
-  pub has_status : status ≡ outcome_status outcome
-  pub has_report : report ≡ solve_report b.named (given_steps told) outcome
-
--- the report on an outcome of a search of so many steps, with its status
-pub record IsSolved (b : BlockedProgram) (steps : Option ℕ) (outcome : Outcome) (reply : Reply) : Type 0 where
-  pub ended : reply.status ≡ outcome_status outcome
-  pub told : reply.report.items ≡ solve_report b.named (given_steps steps) outcome
-
--- the file for a certificate, where one is named, spells the certificate of an outcome, and it is valid
-abbrev pub IsSaved : BlockedProgram → Outcome → Option (List ℕ) → Files → Type 0
-IsSaved b outcome None files = Unit {0}
-IsSaved b outcome (Some name) files = (text : List ℕ) × (files name ≡ Some text) × IsSpelledOut b outcome text
-
--- the same of an outcome that is kept
-abbrev pub SavesBlocked : BlockedProgram → Option (List ℕ) → Files → Option Outcome → Type 0
-SavesBlocked b cert files None = Unit {0}
-SavesBlocked b cert files (Some outcome) = IsSaved b outcome cert files
+use Rattle.search_outcome.specs.Outcomes.{IsSaved, HoldsPart, AsBeforeOr}
+use Rattle.search_start.specs.Cuttings.{HasCuts}
+use Rattle.search_start.specs.Starts.{IsStartAt, RefusesStart, SearchesOver}
+use Rattle.cmd_solve.specs.Solves.{SolvesBy}
 
 -- the same of a search from a named file or from the start, over the program with its cuts
 abbrev pub SavesBy : (before : Files) → (from : Option (List ℕ)) → (cuts : ℕ) → BlockedProgram → (cert : Option (List ℕ)) → (now : Files) → Option Outcome → Type 0
@@ -95,23 +73,6 @@ pub data LeavesCertificate (before : Files) (lp : List ℕ) (dec : Option (List 
 -- statuses after which no file is changed
 abbrev pub IsUntouched : ℕ → Type 0
 IsUntouched status = (status ≡ 2) ⊎ (status ≡ 3) ⊎ (status ≡ 6) ⊎ (status ≡ 7) ⊎ (status ≡ 11)
-
--- a file holds a beginning of the certificate of an outcome, which is valid as a whole
-abbrev pub IsPartOf : BlockedProgram → Outcome → Option (List ℕ) → Type 0
-IsPartOf b outcome file = (part : List ℕ) × (rest : List ℕ) × (file ≡ Some part) × IsSpelledOut b outcome (part ++ rest)
-
--- a file holds a beginning of the certificate of an outcome that is a right answer
-pub record HoldsPart (Right : Option Outcome → ℕ → List ℕ → Type 0) (b : BlockedProgram) (file : Option (List ℕ)) : Type 0 where
-  pub outcome : Outcome
-  pub status : ℕ
-  pub report : List ℕ
-  pub right : Right (Some outcome) status report
-  pub part : IsPartOf b outcome file
-
--- the file for a certificate, where one is named, is as before or holds this
-abbrev pub AsBeforeOr : (Part : Option (List ℕ) → Type 0) → Option (List ℕ) → (before now : Files) → Type 0
-AsBeforeOr Part None before now = Unit {0}
-AsBeforeOr Part (Some name) before now = (now name ≡ before name) ⊎ Part (now name)
 
 -- a file holds a beginning of the certificate of an outcome that is a right answer, over the program in blocks of the search
 abbrev pub HoldsPartBy : (before : Files) → (from : Option (List ℕ)) → (leaf given : Option ℕ) → (cuts : ℕ) → BlockedProgram → Option (List ℕ) → Type 0

@@ -1,41 +1,19 @@
 -- What `solve` answers.
 use Rattle.std.specs.Prelude.{◌≡◌, ℕ, ◌+◌, List, [], Option, Some, None}
 use Rattle.bp_theory.specs.Trees.{steps}
-use Rattle.bp_theory.specs.Claims.{Certificate, IsCertified}
 use Rattle.bp_shelf.specs.Shelf.{Files}
 use Rattle.block_program.specs.Blocked.{BlockedProgram}
 use Rattle.search_laws.specs.declared.Side.{Side}
 use Rattle.search_laws.specs.Grove.{GrowingTree, certificate_tree}
-use Rattle.search_laws.specs.Outcomes.{read_off}
 use Rattle.branch_tree.specs.declared.outcome.Outcome.{Outcome}
-use Rattle.branch_tree.specs.declared.outcome.Outcome.TheVariants.{Optimal, Infeasible, Budget}
 use Rattle.branch_tree.specs.declared.loaded.Loaded.{Loaded}
 use Rattle.bp_search.specs.Ends.{EndsWithin, given_steps}
 use Rattle.bp_search.specs.Below.{EndsBelow}
-use Rattle.cert_form.specs.Plain.{version_with}
-use Rattle.cert_form.specs.Fault.{IsText}
-use Rattle.cert_form.specs.Written.{cert_of}
-use Rattle.cert_text.specs.Programs.{frame_for}
-use Rattle.cert_text.specs.Outcomes.{grove_of, claim_of, point_of}
 use Rattle.bp_report.specs.Report.{solve_report}
 use Rattle.bp_front.specs.Answers.{AnswersFront}
-use Rattle.cmd_solve.specs.Cuttings.{HasCuts}
-use Rattle.cmd_solve.specs.Starts.{IsStartAt, RefusesStart}
-
--- the status of an outcome: optimal, infeasible, or out of steps
-abbrev pub outcome_status : Outcome → ℕ
-outcome_status (Optimal g point value) = 0
-outcome_status (Infeasible g) = 4
-outcome_status (Budget g best bound) = 5
-
--- the certificate of an outcome: its tree, its claim, the point of the claimed value, and the cuts of the program that it is of
-abbrev pub outcome_certificate : BlockedProgram → Outcome → Certificate
-outcome_certificate b o = read_off (claim_of b.named.program.maximises o) (point_of o) b.cuts (grove_of o).tree
-
--- a text spells the certificate of an outcome, and it is valid
-pub record IsSpelledOut (b : BlockedProgram) (outcome : Outcome) (text : List ℕ) : Type 0 where
-  pub spelled : IsText (frame_for b) (version_with b.cuts) (cert_of (outcome_certificate b outcome)) text
-  pub valid : IsCertified b.named.program b.dec (outcome_certificate b outcome)
+use Rattle.search_outcome.specs.Outcomes.{outcome_status}
+use Rattle.search_start.specs.Cuttings.{HasCuts}
+use Rattle.search_start.specs.Starts.{IsStartAt, RefusesStart}
 
 -- what a program in blocks is answered by `solve`: the outcome of a search whose tree has at most so many steps, which is
 -- kept; the report tells the given steps

@@ -2,16 +2,15 @@
 ghost use Rattle.std.specs.Prelude.{◌≡◌, ◌≤◌, ◌^◌, IfOk, IfSome, None, Some};
 ghost use Rattle.branch_tree.specs.Loads.{IsLoaded};
 ghost use Rattle.cert_text.specs.Outcomes.{IsWritable};
-ghost use Rattle.bp_search.specs.Below.{steps_in};
-ghost use Rattle.cmd_solve.specs.Starts.{EndsAt, EndsOn};
+ghost use Rattle.search_outcome.specs.Endings.{EndsAt};
 ghost use Rattle.cmd_solve.specs.Crews.{ordered_crew, IsSearchOf, events_with};
 
 use block_program::Blocked;
 use bp_crew::run_crew;
-use bp_search::{resume, resume_below, search};
 use bp_theory::Items;
 use branch_tree::{Loaded, Outcome};
 use search_laws::{Event, Side};
+use search_outcome::search_alone;
 use std::alloc::{AllocError, Global};
 
 /// A crew as it is ordered: how many workers there are, and the seed of their order.
@@ -70,66 +69,6 @@ pub fn search_from(
             })
         }
         Some(crew) => search_together(alloc, b, from, steps, crew),
-    }
-}
-
-// A search from a tree, or from the start, without a crew, and how many steps its report tells.
-fn search_alone(
-    alloc: Global,
-    b: &Blocked,
-    from: Option<Loaded>,
-    below: Option<Items<Side>>,
-    steps: Option<u64>,
-) -> Result<(Outcome, Option<u64>), AllocError>
-    requires loaded { IfSome from (IsLoaded b.now) }
-    requires few { IfSome steps (λ n. n ≤ 2 ^ 60) }
-    ensures ends { IfOk result (λ r. EndsAt b.now from below steps r.0 r.1) }
-    ensures writable { IfOk result (λ r. IsWritable b.now r.0) }
-{
-    match from {
-        None => {
-            let outcome = search(alloc, b, steps)?;
-            Ok((outcome, steps))
-        }
-        Some(from) => search_on(alloc, b, from, below, steps),
-    }
-}
-
-// A search from a tree without a crew, and how many steps its report tells: the given ones, or at a path those that it took.
-fn search_on(
-    alloc: Global,
-    b: &Blocked,
-    from: Loaded,
-    below: Option<Items<Side>>,
-    steps: Option<u64>,
-) -> Result<(Outcome, Option<u64>), AllocError>
-    requires loaded { IsLoaded b.now from }
-    requires few { IfSome steps (λ n. n ≤ 2 ^ 60) }
-    ensures ends { IfOk result (λ r. EndsOn b.now from.grove.tree below steps r.0 r.1) }
-    ensures writable { IfOk result (λ r. IsWritable b.now r.0) }
-{
-    match below {
-        None => {
-            let outcome = resume(alloc, b, from, steps)?;
-            Ok((outcome, steps))
-        }
-        Some(path) => {
-            let before = from.grove.count();
-            let outcome = resume_below(alloc, b, from, path.as_slice(), steps)?;
-            let taken = steps_in(&outcome) - before;
-            Ok((outcome, Some(taken)))
-        }
-    }
-}
-
-// The steps of an outcome's tree.
-fn steps_in(outcome: &Outcome) -> u64
-    ensures { result ≡ steps_in outcome.now }
-{
-    match outcome {
-        Outcome::Optimal { grove, .. } => grove.count(),
-        Outcome::Infeasible { grove } => grove.count(),
-        Outcome::Budget { grove, .. } => grove.count(),
     }
 }
 

@@ -4,35 +4,26 @@
 #![tactic(auto)]
 
 mod crew;
-mod cuts;
-mod leaf;
-mod start;
 
-ghost use Rattle.std.specs.Prelude.{[], ◌<◌, ◌≡◌, ◌≢◌, ◌⊎◌, ◌≤◌, ◌^◌, IfOk, IfSome, IsOk, IsTrue, None, Some, IsErrOf, IfErr, ℕ};
+ghost use Rattle.std.specs.Prelude.{[], ◌≡◌, ◌≢◌, ◌⊎◌, ◌≤◌, ◌^◌, IfSome, IsTrue, None};
 ghost use Rattle.std.specs.Option.{option_map};
 ghost use Rattle.branch_tree.specs.Loads.{IsLoaded};
-ghost use Rattle.cert_text.specs.Outcomes.{IsWritable};
-ghost use Rattle.bp_search.specs.Ends.{EndsWithin};
-ghost use Rattle.cert_file.specs.Appends.{CountsStop};
-ghost use Rattle.cert_stream.specs.Streams.{Streams};
-ghost use Rattle.cert_file.specs.declared.stop.StreamStop.TheVariants.{NoMemory};
 ghost use Rattle.bp_front.specs.Answers.{AnswersBy, IsOnly, CutsOff, HasCauses, PutsReport, FailsToWrite, FilesStand};
-ghost use Rattle.cmd_solve.specs.Solves.{AnswersSolve, SolvesBy, SolvesAt, outcome_status};
+ghost use Rattle.cmd_solve.specs.Solves.{AnswersSolve, SolvesBy, SolvesAt};
+ghost use Rattle.search_outcome.specs.Outcomes.{SavesBlocked, HoldsPart, AsBeforeOr};
 ghost use Rattle.cmd_solve.specs.Crews.{HasEventsFrom, EventsBy, HasEvents};
-ghost use Rattle.cmd_solve.specs.Saves.{IsSolved, IsSaved, TellsOf, SavesBlocked, SavesBy, HasCertificate, LeavesAt, LeavesBy, LeavesCertificate, IsUntouched, IsPartOf, HoldsPart, HoldsPartBy, AsBeforeOr, LeavesPart};
+ghost use Rattle.cmd_solve.specs.Saves.{SavesBy, HasCertificate, LeavesAt, LeavesBy, LeavesCertificate, IsUntouched, HoldsPartBy, LeavesPart};
 
 use crate::crew::{CrewOrder, Searched, crew_ordered, kept_events, search_from};
-use crate::start::{Start, begin};
 use block_program::Blocked;
 use bp_front::{Ended, Halt, Reply, load, print, stopped, stopped_by};
-use bp_report::solve_text;
-use bp_search::MAX_STEPS;
 use bp_shelf::{Shelf, Sink};
 use bp_theory::Items;
-use branch_tree::{Loaded, Outcome};
-use cert_stream::{StreamStop, write_stream};
+use branch_tree::Loaded;
 use search_laws::Side;
-use std::alloc::{AllocError, Global};
+use search_outcome::tell;
+use search_start::{Start, begin};
+use std::alloc::Global;
 
 /// Solves the model of a file, from the start or from where the certificate of a named file stopped, writes the
 /// certificate where a file is named for it, and prints the report. The certificate to go on from is read and judged
@@ -250,111 +241,5 @@ fn answer<F: Shelf, O: Sink>(
         status,
         kept,
         events,
-    }
-}
-
-// Writes the certificate of an outcome, where a file is named for it, and prints the report, which tells so many steps.
-fn tell<F: Shelf, O: Sink>(
-    alloc: Global,
-    shelf: &mut F,
-    out: &mut O,
-    b: &Blocked,
-    outcome: Outcome,
-    told: Option<u64>,
-    cert: Option<&str>,
-) -> Ended
-    requires ends { (most : ℕ) × EndsWithin b.now most outcome }
-    requires writable { IsWritable b.now outcome }
-    ensures answered { AnswersBy (TellsOf b.now told outcome result.kept) result.status
-        (O.tells out.old) (O.taken out.old) (O.taken out.new) }
-    ensures exact { IsOnly (TellsOf b.now told outcome result.kept) result.status }
-    ensures saved { IsTrue (F.tells shelf.old) →
-        SavesBlocked b.now (option_map (λ name. name.now) cert.entry) (F.file shelf.new)
-        result.kept }
-    ensures puts { PutsReport result.status (O.puts out.old) (O.puts out.new) }
-    ensures failed { result.status ≡ 8 →
-        FailsToWrite (IsTrue (F.tells shelf.old) →
-        IsSaved b.now outcome (option_map (λ name. name.now) cert.entry) (F.file shelf.new))
-        (F.write_faults shelf.old) (F.write_faults shelf.new) (O.faults out.old) (O.faults out.new)
-        (O.puts out.old) (O.puts out.new) (O.taken out.old) (O.taken out.new) }
-    ensures causes { HasCauses result.status (F.read_faults shelf.old) (F.read_faults shelf.new)
-        (F.write_faults shelf.old) (F.write_faults shelf.new) (O.faults out.old)
-        (O.faults out.new) }
-    ensures kept { (result.kept ≡ None) ⊎
-        ((result.status ≡ 0) ⊎ (result.status ≡ 4) ⊎ (result.status ≡ 5)) }
-    ensures outcome { (result.kept ≡ None) ⊎ (result.kept ≡ Some outcome) }
-    ensures statuses { (result.status ≡ 0) ⊎ (result.status ≡ 4) ⊎ (result.status ≡ 5) ⊎
-        (result.status ≡ 8) ⊎ (result.status ≡ 9) }
-    ensures files { IsTrue (F.tells shelf.old) →
-        FilesStand (option_map (λ name. name.now) cert.entry) (F.file shelf.old)
-        (F.file shelf.new) }
-    ensures part { IsTrue (F.tells shelf.old) → result.status ≡ 9 →
-        AsBeforeOr (HoldsPart (TellsOf b.now told outcome) b.now)
-        (option_map (λ name. name.now) cert.entry) (F.file shelf.old) (F.file shelf.new) }
-    ensures silent { result.status ≡ 9 → O.taken out.new ≡ O.taken out.old }
-    ensures cut_off { IsTrue (O.tells out.old) →
-        CutsOff (TellsOf b.now told outcome) result.status (O.taken out.old) (O.taken out.new) }
-{
-    let Ok(reply) = reply_to(alloc, b, &outcome, told) else {
-        return stopped(alloc, 9);
-    };
-    match save(alloc, shelf, b, &outcome, cert) {
-        Ok(()) => print(alloc, out, &reply, Some(outcome)),
-        Err(StreamStop::Failed) => stopped(alloc, 8),
-        Err(StreamStop::NoMemory) => stopped(alloc, 9),
-    }
-}
-
-// The report on an outcome that tells so many steps, with its status.
-fn reply_to(
-    alloc: Global,
-    b: &Blocked,
-    outcome: &Outcome,
-    told: Option<u64>,
-) -> Result<Reply, AllocError>
-    requires { (most : ℕ) × EndsWithin b.now most outcome.now }
-    ensures { IfOk result (IsSolved b.now told outcome.now) }
-{
-    let report = solve_text(alloc, b, outcome, told.unwrap_or(MAX_STEPS))?;
-    let status = status_of(outcome);
-    Ok(Reply { status, report })
-}
-
-/// The status of an outcome: optimal, infeasible, or out of steps.
-pub fn status_of(outcome: &Outcome) -> u8
-    ensures { result ≡ outcome_status outcome.now }
-{
-    match outcome {
-        Outcome::Optimal { .. } => 0,
-        Outcome::Infeasible { .. } => 4,
-        Outcome::Budget { .. } => 5,
-    }
-}
-
-// Writes the certificate of an outcome line by line, where a file is named for it.
-fn save<F: Shelf>(
-    alloc: Global,
-    shelf: &mut F,
-    b: &Blocked,
-    outcome: &Outcome,
-    cert: Option<&str>,
-) -> Result<(), StreamStop>
-    requires ends { (most : ℕ) × EndsWithin b.now most outcome.now }
-    requires writable { IsWritable b.now outcome.now }
-    ensures saved { IsTrue (F.tells shelf.old) → IsOk result →
-        IsSaved b.now outcome.now (option_map (λ name. name.now) cert.entry) (F.file shelf.new) }
-    ensures files { IsTrue (F.tells shelf.old) →
-        FilesStand (option_map (λ name. name.now) cert.entry) (F.file shelf.old)
-        (F.file shelf.new) }
-    ensures part { IsTrue (F.tells shelf.old) → IsErrOf result StreamStop.NoMemory →
-        AsBeforeOr (IsPartOf b.now outcome.now) (option_map (λ name. name.now) cert.entry)
-        (F.file shelf.old) (F.file shelf.new) }
-    ensures told { F.tells shelf.new ≡ F.tells shelf.old }
-    ensures cause { CountsStop (F.write_faults shelf.old) (F.write_faults shelf.new) result }
-    ensures reads { F.read_faults shelf.new ≡ F.read_faults shelf.old }
-{
-    match cert {
-        None => Ok(()),
-        Some(name) => write_stream(alloc, b, outcome, shelf, name),
     }
 }

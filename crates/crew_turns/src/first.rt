@@ -1,5 +1,5 @@
 // The free leaf that is next.
-ghost use Rattle.std.specs.Prelude.{◌<◌, ℕ, IfOk, is_some, count_by};
+ghost use Rattle.std.specs.Prelude.{◌<◌, IfOk, is_some, count_by};
 ghost use Rattle.search_laws.specs.Grove.{live_count};
 ghost use Rattle.crew_turns.specs.Hands.{IsFirstFree};
 

@@ -1,11 +1,10 @@
 // The parts of a crew's steps.
-ghost use Rattle.std.specs.Prelude.{◌≡◌, ◌+◌, ◌-◌, ◌<◌, ◌≤◌, ◌^◌, ◌∷◌, ◌++◌, [], ℕ, Some, None, OnOk, OnErr, slice_index_or};
+ghost use Rattle.std.specs.Prelude.{◌≡◌, ◌+◌, ◌-◌, ◌<◌, ◌≤◌, ◌^◌, ◌∷◌, ◌++◌, [], OnOk, OnErr};
 ghost use Rattle.std.specs.Vec.{vec_len, vec_capacity};
 ghost use Rattle.bp_theory.specs.Trees.{steps};
 ghost use Rattle.search_laws.specs.Crew.{kind_of_next};
 ghost use Rattle.search_laws.specs.Grove.{certificate_tree};
-ghost use Rattle.search_laws.specs.Verdicts.{grown};
-ghost use Rattle.branch_tree.specs.Groves.{IsStanding, IsGroveOf};
+ghost use Rattle.branch_tree.specs.Groves.{IsGroveOf};
 ghost use Rattle.crew_turns.specs.Hands.{IsGrown, CanGrowHeld};
 
 use crate::hand::Hand;

@@ -1,8 +1,8 @@
 use Rattle.std.proofs.Common.{None, subst, List, ℕ, Ok}
 use Rattle.cert_stream.specs.Checks.{Finishes}
 use Rattle.cert_form.specs.Plain.{version_with}
-use Rattle.cmd_solve.specs.Solves.{outcome_certificate}
-use Rattle.cmd_solve.proofs.Outcomes.{outcome_certified}
+use Rattle.search_outcome.specs.Outcomes.{outcome_certificate}
+use Rattle.search_outcome.proofs.Outcomes.{outcome_certified}
 use Rattle.cmd_demo.proofs.Certified.{judged_back}
 use Rattle.cmd_demo.proofs.judge_outcome.Goals as goal
 

@@ -5,12 +5,13 @@ use Rattle.branch_tree.specs.declared.outcome.Outcome.{Outcome}
 use Rattle.bp_front.specs.Answers.{stopped, AnswersBy, IsOnly, CutsOff}
 use Rattle.bp_front.proofs.Faults.{fails_as}
 use Rattle.bp_front.proofs.Lifts.{lift_answers, lift_only, lift_cut, stop_only, fault_only, printed_status}
-use Rattle.cmd_solve.specs.Saves.{LeavesBy, SavesBy, searched, HoldsPartBy, AsBeforeOr}
+use Rattle.cmd_solve.specs.Saves.{LeavesBy, SavesBy, searched, HoldsPartBy}
+use Rattle.search_outcome.specs.Outcomes.{AsBeforeOr}
 use Rattle.cmd_solve.specs.Saves as leaves
 use Rattle.cmd_solve.specs.Solves.{SolvesBy}
 use Rattle.cmd_solve.specs.declared.crew.CrewOrder.{CrewOrder}
 use Rattle.cmd_solve.specs.Crews.{ordered_crew, EventsBy}
-use Rattle.cmd_solve.proofs.Outcomes.{lift_saved}
+use Rattle.cmd_solve.proofs.Saving.{lift_saved}
 use Rattle.cmd_solve.proofs.CrewEvents.{lift_events, none_of, printed_none}
 use Rattle.cmd_solve.proofs.Parts.{lift_part, untouched_part}
 use Rattle.cmd_solve.proofs.solve.Goals as goal

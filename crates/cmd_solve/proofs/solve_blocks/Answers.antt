@@ -3,11 +3,13 @@ use Rattle.std.specs.Option.{option_map}
 use Rattle.bp_shelf.specs.Shelf.{Files}
 use Rattle.bp_shelf.specs.declared.shelf.ShelfFault.{ShelfFault}
 use Rattle.bp_front.proofs.Faults.{fails_as}
-use Rattle.cmd_solve.specs.Saves.{HoldsPartBy, AsBeforeOr}
+use Rattle.cmd_solve.specs.Saves.{HoldsPartBy}
+use Rattle.search_outcome.specs.Outcomes.{AsBeforeOr}
 use Rattle.cmd_solve.proofs.Starting.{can_begin, alone_at, comes_from, begins, refused_from, started_answers, started_only, started_cut, started_leaves, refused_answers, refusal_only, refused_cut, refused_leaves, fault_answers, fault_only}
 use Rattle.cmd_solve.proofs.CrewEvents.{started_events, none_by, printed_none, refused_apart}
-use Rattle.cmd_solve.proofs.Outcomes.{saved_by, none_saved}
-use Rattle.cmd_solve.proofs.Parts.{nothing_left, started_part}
+use Rattle.cmd_solve.proofs.Saving.{saved_by, none_saved}
+use Rattle.search_outcome.proofs.Parts.{nothing_left}
+use Rattle.cmd_solve.proofs.Parts.{started_part}
 use Rattle.cmd_solve.proofs.solve_blocks.Goals as goal
 
 -- ---- from a loaded tree

@@ -6,7 +6,7 @@ use Rattle.cert_form.specs.Fault.{IsText}
 use Rattle.cert_form.specs.Plain.{version_with}
 use Rattle.cert_text.specs.Programs.{frame_for}
 use Rattle.cert_form.specs.Written.{cert_of}
-use Rattle.cmd_solve.specs.Solves.{outcome_certificate}
+use Rattle.search_outcome.specs.Outcomes.{outcome_certificate}
 use Rattle.cmd_merge.specs.Merges.{AnswersBoth, answer_of}
 use Rattle.cmd_merge.specs.declared.written.Merged.{Merged}
 use Rattle.cmd_merge.proofs.WrittenProof.{running, few_together, both_answered}

@@ -1,6 +1,0 @@
-use Rattle.cmd_solve.proofs.Starting.{afresh_can}
-use Rattle.cmd_solve.proofs.start.begin.Goals as goal
-
-pub returns-in_ok-begin_afresh-in-None-clause-usable : goal.returns-in_ok-begin_afresh-in-None-clause-usable
-returns-in_ok-begin_afresh-in-None-clause-usable g c =
-    afresh_can c.args.b c.args.leaf c.args.cuts c.in_ok-begin_afresh-in-None.field-0 c.in_ok-begin_afresh-in-None.ensures

@@ -1,0 +1,32 @@
+use Rattle.std.proofs.Common.{sym, ap, Some, Err, append-nil}
+use Rattle.std.specs.Option.{option_map}
+use Rattle.cert_file.specs.declared.stop.StreamStop.{StreamStop}
+use Rattle.search_outcome.proofs.Outcomes.{tells}
+use Rattle.search_outcome.proofs.Parts.{part_told}
+use Rattle.search_outcome.proofs.told.tell.Goals as goal
+
+pub returns-in-Ok-save-clause-cut_off : goal.returns-in-Ok-save-clause-cut_off
+returns-in-Ok-save-clause-cut_off g c = λ heard is_fault.
+    let printed = c.print.ensures.partly heard is_fault in (
+      Some c.args.outcome,
+      c.in-Ok.reply.status,
+      c.in-Ok.reply.report.items,
+      printed.0,
+      tells c.args.b.now c.args.told c.args.outcome c.in-Ok.reply c.in-Ok.ensures,
+      printed.1,
+    )
+
+pub returns-in-Err-Failed-clause-cut_off : goal.returns-in-Err-Failed-clause-cut_off
+returns-in-Err-Failed-clause-cut_off g c = λ heard is_fault. (
+  Some c.args.outcome,
+  c.in-Ok.reply.status,
+  c.in-Ok.reply.report.items,
+  0,
+  tells c.args.b.now c.args.told c.args.outcome c.in-Ok.reply c.in-Ok.ensures,
+  sym (append-nil (g.O.Sink.taken c.args.out.now)),
+)
+
+pub returns-clause-part : goal.returns-clause-part
+returns-clause-part g c = λ told want.
+    part_told c.args.b.now c.args.told c.args.outcome c.in-Ok.reply (option_map (λ name. name.now) c.args.cert) (g.F.Shelf.file c.args.shelf.now) (g.F.Shelf.file c.save.new.shelf)
+    c.in-Ok.ensures (c.in-Err-NoMemory.ensures.part told (ap (λ (stop : StreamStop). Err stop) c.in-Err-NoMemory.field-0-is))

@@ -1,0 +1,3 @@
+-- Other crates cite these.
+pub mod Outcomes
+pub mod Endings

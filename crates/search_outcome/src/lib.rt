@@ -1,0 +1,9 @@
+//! What a search comes to: a search without a crew, from the start or from a tree, and what is written and printed of an
+//! outcome, its certificate and its report, with the status of each.
+#![tactic(auto)]
+
+mod alone;
+mod told;
+
+pub use alone::search_alone;
+pub use told::{status_of, tell};

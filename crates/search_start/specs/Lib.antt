@@ -1,0 +1,4 @@
+-- Other crates cite these.
+pub mod Cuttings
+pub mod Leaves
+pub mod Starts
