@@ -11,3 +11,4 @@ mod steps;
 
 pub use choice::{Choice, Task, drops_after, next_state};
 pub use crew::Crew;
+pub use hand::Hand;
