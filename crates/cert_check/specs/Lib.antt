@@ -1,5 +1,2 @@
--- Other crates cite Visits, Judging and Cutting. The rest is for contracts here alone.
-pub mod Visits
+-- Words of contracts of those who judge whole certificates.
 pub mod Judging
-pub mod Cutting
-pub mod Counting

@@ -4,16 +4,14 @@ ghost use Rattle.bp_theory.specs.Judgement.{named_value, point_lines, tree_lines
 ghost use Rattle.cert_form.specs.Kept.{certificate_of};
 ghost use Rattle.cert_text.specs.Programs.{GoesWith, IsSmallClaim};
 ghost use Rattle.round_cut.specs.Several.{AreRowsOfCuts};
-ghost use Rattle.cert_check.specs.Judging.{JudgesLines, JudgesPoint, ProofsFit, stopped_at, verdict_of, IsJudgedWithin, IsTrueIfAccepted};
+ghost use Rattle.line_check.specs.Judging.{JudgesLines, JudgesPoint, ProofsFit};
+ghost use Rattle.cert_check.specs.Judging.{stopped_at, verdict_of, IsJudgedWithin, IsTrueIfAccepted};
 ghost use Rattle.cert_check.specs.declared.judge.Judged.TheVariants.{Rejected};
 
-use crate::cuts::judge_cuts;
-use crate::place::{NodePlace, Rejection, Stop};
-use crate::point::judge_point;
-use crate::tree::judge_tree;
 use block_program::{Blocked, Zone};
 use bp_theory::{CheckKind, Claim, Row};
 use cert_text::Cert;
+use line_check::{NodePlace, Rejection, Stop, judge_cuts, judge_point, judge_tree};
 use round_cut::with_cuts;
 use std::alloc::{AllocError, Global};
 

@@ -10,8 +10,8 @@ ghost use Rattle.cert_load.specs.Rooms.{CanLoadLeaf, SettlesBy};
 use block_program::{Blocked, Zone};
 use bp_theory::Proof;
 use branch_tree::{Tree, proof_copy};
-use cert_check::bound_in;
 use lagr_bound::{Work, round};
+use line_check::bound_in;
 use std::alloc::{AllocError, Global};
 
 /// The leaf that a certificate's is loaded as: shut where its proof settles its zone against the best cost, or empties it

@@ -24,15 +24,17 @@ use Rattle.cert_lines.specs.declared.lines.Lines.{Lines}
 use Rattle.cert_lines.proofs.Finishing.{read_whole}
 use Rattle.cert_text.proofs.GoesWithProof.{text_goes_with}
 use Rattle.cert_form.proofs.LawProofs.{seen_faults_are_first}
-use Rattle.cert_check.specs.Cutting.{blocking_over}
-use Rattle.cert_check.specs.Judging.{IsLeft, stopped_at}
+use Rattle.line_check.specs.Cutting.{blocking_over}
+use Rattle.line_check.specs.Judging.{IsLeft}
+use Rattle.cert_check.specs.Judging.{stopped_at}
 use Rattle.cert_check.specs.declared.judge.Judged.{Judged}
 use Rattle.cert_check.specs.declared.judge.Judged.TheVariants.{Accepted}
-use Rattle.cert_check.specs.declared.place.NodePlace.{NodePlace}
-use Rattle.cert_check.specs.declared.place.Stop.{Stop}
-use Rattle.cert_check.proofs.Lines.{second_all}
-use Rattle.cert_check.proofs.LineVisits.{split_visits, lines_once}
-use Rattle.cert_check.proofs.Wholes.{heads_of, heads_left, cuts_over, goes_fit, judged_by, ended, never_accepted}
+use Rattle.line_check.specs.declared.place.NodePlace.{NodePlace}
+use Rattle.line_check.specs.declared.place.Stop.{Stop}
+use Rattle.line_check.proofs.Lines.{second_all}
+use Rattle.line_check.proofs.LineVisits.{split_visits, lines_once}
+use Rattle.line_check.proofs.Heads.{heads_of, heads_left, cuts_over, goes_fit}
+use Rattle.cert_check.proofs.Wholes.{judged_by, ended, never_accepted}
 use Rattle.cert_walk.specs.Turns.{Turn, wait_of}
 use Rattle.cert_walk.specs.Walks.{whole, Judges}
 use Rattle.cert_stream.specs.Checks.{IsMadeFor, front_of, IsJudgedTo, HasJudged, StandsBy, ChecksFor, Finishes}

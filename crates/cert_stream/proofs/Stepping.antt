@@ -34,7 +34,7 @@ use Rattle.cert_text.proofs.Feeding.{joined}
 use Rattle.cert_form.proofs.LawProofs.{seen_faults_stay}
 use Rattle.cert_walk.specs.Turns.{Turn, to_low, to_high, turns_behind, root_behind, wait_of}
 use Rattle.block_pricers.specs.declared.work.Work.{Work}
-use Rattle.cert_check.specs.Cutting.{blocking_over}
+use Rattle.line_check.specs.Cutting.{blocking_over}
 use Rattle.cert_walk.specs.Cuttings.{program_by, cuts_by, cuts_in, IsCutting, HoldsCuts, IsClosed}
 use Rattle.cert_walk.specs.Walks.{whole, Front, Judges, WalksBelow, WalksBehind, IsFresh, IsOn, GoesOver, IsWalkIn, IsWithin, leaf_with}
 use Rattle.cert_stream.specs.Checks.{Keeps, IsMadeFor, highs, front_of, IsUnbegun, IsInFront, IsInTree, IsBehind, IsJudgedTo, HasJudged, TakesEvent, held_after, StandsBy, ChecksFor, answer_by}

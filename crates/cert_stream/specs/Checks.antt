@@ -15,7 +15,7 @@ use Rattle.cert_form.specs.Written.{written_cut, written_tree, cert_of, certific
 use Rattle.block_forms.specs.Forms.{forms_in}
 use Rattle.block_pricers.specs.Works.{forms_of}
 use Rattle.block_pricers.specs.declared.work.Work.{Work}
-use Rattle.cert_check.specs.Cutting.{blocking_over}
+use Rattle.line_check.specs.Cutting.{blocking_over}
 use Rattle.cert_check.specs.Judging.{IsJudgedWithin, IsTrueIfAccepted}
 use Rattle.cert_check.specs.declared.judge.Judged.{Judged}
 use Rattle.cert_walk.specs.Turns.{Turn, to_low, to_high, wait_of}

@@ -16,10 +16,11 @@ ghost use Rattle.cert_stream.specs.declared.fault.FeedFault as faults;
 use crate::fault::{FeedFault, feed_fault};
 use block_program::{Blocked, Zone};
 use bp_theory::{Cut, Proof};
-use cert_check::{Judged, NodePlace, Stop};
+use cert_check::Judged;
 use cert_text::{Event, Frame, Lines, SplitPlace, program_frame};
 use cert_walk::{Cutting, Path, Walk, begin, enter, goes_on, leave};
 use lagr_bound::Work;
+use line_check::{NodePlace, Stop};
 use std::alloc::{AllocError, Global};
 use std::mem;
 

@@ -17,9 +17,9 @@ use crate::path::{Fork, Path, go_on};
 use block_program::Blocked;
 use bp_model::MAX_NUMBER;
 use bp_theory::{CheckKind, Claim, Proof};
-use cert_check::{NodePlace, Stop, judge_claim, judge_leaf, sound_span, to_low};
 use cert_text::SplitPlace;
 use lagr_bound::Work;
+use line_check::{NodePlace, Stop, judge_claim, judge_leaf, sound_span, to_low};
 use proof_fit::fits;
 use std::alloc::{AllocError, Global};
 

@@ -11,7 +11,7 @@ use Rattle.cert_text.specs.Programs.{frame_for}
 use Rattle.cert_form.specs.declared.fault.CertKind.{CertKind}
 use Rattle.cert_form.proofs.LawProofs.{certificates_are_one}
 use Rattle.cert_check.specs.Judging.{IsJudged, NoneUnpriced, IsJudgedWithin, IsTrueIfAccepted}
-use Rattle.cert_check.specs.Visits.{IsFirstUnpriced}
+use Rattle.line_check.specs.Visits.{IsFirstUnpriced}
 use Rattle.cert_check.specs.declared.judge.Judged.{Judged}
 use Rattle.cert_check.specs.declared.judge.Judged.TheVariants.{Accepted, Rejected, Unknown}
 use Rattle.cert_stream.specs.declared.checker.Checker.{Checker}

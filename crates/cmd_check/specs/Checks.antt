@@ -13,7 +13,7 @@ use Rattle.cert_form.specs.declared.fault.CertKind.{CertKind}
 use Rattle.cert_report.specs.Certificates.{accepted_report, rejected_report, unknown_report}
 use Rattle.bp_report.specs.Refusals.{cert_refusal}
 use Rattle.bp_front.specs.Answers.{AnswersFront}
-use Rattle.cert_check.specs.Visits.{IsFirstUnpriced}
+use Rattle.line_check.specs.Visits.{IsFirstUnpriced}
 
 -- what a program in blocks is answered by `check` without a number of visits: the judgement of the certificate that the file
 -- spells; what is accepted is true

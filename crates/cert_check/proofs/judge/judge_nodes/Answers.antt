@@ -4,8 +4,9 @@ use Rattle.cert_form.specs.Sketch.{tree_of}
 use Rattle.cert_form.specs.Written.{certificate}
 use Rattle.cert_check.specs.Judging.{IsJudgedWithin, IsTrueIfAccepted, verdict_of}
 use Rattle.cert_check.specs.declared.judge.Judged.{Judged}
-use Rattle.cert_check.proofs.CutLines.{rows_many}
-use Rattle.cert_check.proofs.Wholes.{few_lines, heads_end, judged_so}
+use Rattle.line_check.proofs.CutLines.{rows_many}
+use Rattle.line_check.proofs.Heads.{few_lines, heads_end}
+use Rattle.cert_check.proofs.Wholes.{judged_so}
 use Rattle.cert_check.proofs.judge.judge_nodes.Goals as goal
 
 pub judge_over-requires-clause-few : goal.judge_over-requires-clause-few

@@ -4,7 +4,7 @@ use Rattle.search_laws.specs.Grove.{GrowingTree}
 use Rattle.cert_form.specs.Sketch.{tree_of}
 use Rattle.cert_form.specs.declared.sketch.Sketch.{Sketch}
 use Rattle.grove_parts.specs.Trees as growing
-use Rattle.cert_check.proofs.Lines.{nodes, fewer_nodes}
+use Rattle.line_check.proofs.Lines.{nodes, fewer_nodes}
 use Rattle.cert_load.specs.Loadings.{MayLoad, IsLoadedNode}
 use Rattle.cert_load.proofs.Descent.{may_low, may_high, may_shut, may_open, loaded_fork, can_go_back}
 use Rattle.cert_load.proofs.loading.+load_node.Goals as goal

@@ -1,5 +1,5 @@
 use Rattle.cert_form.specs.Sketch.{tree_of}
-use Rattle.cert_check.proofs.Lines.{nodes}
+use Rattle.line_check.proofs.Lines.{nodes}
 use Rattle.cert_load.proofs.loading.+load_node.Given as goal
 
 -- the nodes of the tree

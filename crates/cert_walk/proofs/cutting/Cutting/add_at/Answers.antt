@@ -3,8 +3,8 @@ use Rattle.std.proofs.lemmas.Bool.{true≢false}
 use Rattle.bp_theory.specs.Decomposition.{proof_rows}
 use Rattle.bp_theory.specs.declared.Row.{Row}
 use Rattle.round_sums.specs.Cutting.{IsCutOver}
-use Rattle.cert_check.specs.Cutting.{JudgesCut}
-use Rattle.cert_check.specs.declared.place.Rejection.{Rejection}
+use Rattle.line_check.specs.Cutting.{JudgesCut}
+use Rattle.line_check.specs.declared.place.Rejection.{Rejection}
 use Rattle.cert_walk.specs.Cuttings.{cuts_by}
 use Rattle.cert_walk.proofs.CutFacts.{cutting_more}
 use Rattle.cert_walk.proofs.Walking.{cut_many, cut_unjudged, cut_ended, cut_at}

@@ -1,0 +1,6 @@
+pub mod LineVisits
+pub mod Counting
+pub mod Lines
+pub mod CutLines
+pub mod Heads
+pub mod Points
