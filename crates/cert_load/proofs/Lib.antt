@@ -1,5 +1,3 @@
-pub mod Finding
-pub mod Descent
 pub mod Reaching
 pub mod CutPrograms
 pub mod Frames

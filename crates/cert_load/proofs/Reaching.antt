@@ -34,11 +34,12 @@ use Rattle.branch_tree.specs.Groves.{GroveState, IsStanding, IsGroveOf, made}
 use Rattle.branch_tree.specs.Adopted.{IsAdopted, point_in, IsSearchState}
 use Rattle.branch_tree.specs.declared.loaded.Loaded.{Loaded}
 use Rattle.cert_text.specs.Programs.{GoesWith, IsSmallClaim}
-use Rattle.cert_load.specs.Rooms.{rooms, IsFirstDeep, FindsDeep, FindsBehind, root_line, node_count, CanLoadLeaf, CanLoad}
-use Rattle.cert_load.specs.Loadings.{IsLoadedTree, IsLoadedOf, IsTooDeep, MayLoad, IsLoadedNode}
-use Rattle.cert_load.specs.declared.walk.Walk.{Walk}
-use Rattle.cert_load.proofs.Finding.{past, both_low}
-use Rattle.cert_load.proofs.Descent.{made_of}
+use Rattle.tree_load.specs.Rooms.{rooms, IsFirstDeep, FindsDeep, FindsBehind, root_line, node_count, CanLoadLeaf, CanLoad}
+use Rattle.tree_load.specs.Nodes.{MayLoad, IsLoadedNode}
+use Rattle.cert_load.specs.Loadings.{IsLoadedTree, IsLoadedOf, IsTooDeep}
+use Rattle.tree_load.specs.declared.walk.Walk.{Walk}
+use Rattle.tree_load.proofs.Finding.{past, both_low}
+use Rattle.tree_load.proofs.Descent.{made_of}
 
 -- ---- rooms and depths
 

@@ -1,4 +1,3 @@
 -- Other crates cite all of these.
-pub mod Rooms
 pub mod Loadings
 pub mod Recut

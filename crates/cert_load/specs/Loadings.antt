@@ -1,8 +1,5 @@
--- What is loaded of a certificate, and on the way down its tree.
-use Rattle.std.specs.Prelude.{◌≡◌, ℕ, ◌+◌, ◌<◌, ◌≤◌, ◌^◌, Option, Some, None, Result, Ok, Err, ℤ}
-use Rattle.bp_theory.specs.Limits.{greatest_depth}
-use Rattle.bp_theory.specs.Blocking.{Blocking}
-use Rattle.bp_theory.specs.Trees.{Tree, depth, IsZone}
+-- What is loaded of a certificate.
+use Rattle.std.specs.Prelude.{◌≡◌, ℕ, Result, Ok, Err}
 use Rattle.bp_theory.specs.Claims.{Certificate}
 use Rattle.block_program.specs.Blocked.{BlockedProgram}
 use Rattle.search_laws.specs.Grove.{GrowingTree}
@@ -11,10 +8,9 @@ use Rattle.search_laws.specs.Loading.{Loads}
 use Rattle.branch_tree.specs.Adopted.{IsAdopted, point_in}
 use Rattle.branch_tree.specs.Loads.{IsLoaded}
 use Rattle.branch_tree.specs.declared.loaded.Loaded.{Loaded}
-use Rattle.cert_load.specs.Rooms.{rooms, IsFirstDeep, FindsBehind, root_line, node_count, CanLoad}
+use Rattle.tree_load.specs.Rooms.{rooms, IsFirstDeep, root_line}
 use Rattle.cert_load.specs.declared.fault.LoadFault.{LoadFault}
 use Rattle.cert_load.specs.declared.fault.LoadFault.TheVariants.{Deep, NoMemory}
-use Rattle.cert_load.specs.declared.walk.Walk.{Walk}
 
 -- a tree is the one that a certificate's is loaded as
 abbrev pub IsLoadedTree : BlockedProgram → Certificate → GrowingTree → Type 0
@@ -40,18 +36,3 @@ abbrev pub LoadsCert : BlockedProgram → Certificate → Result Loaded LoadFaul
 LoadsCert b cert (Ok from) = IsLoadedOf b cert from
 LoadsCert b cert (Err (Deep line)) = IsTooDeep b cert line
 LoadsCert b cert (Err NoMemory) = Unit {0}
-
--- a walk may load a node
-pub record MayLoad (b : BlockedProgram) (best : Option ℤ) (at : Walk) (tree : Tree) : Type 0 where
-  pub zone : IsZone b.named.program.spans at.zone
-  pub can : CanLoad b.blocking best at.zone tree
-  pub shallow : at.depth + depth tree ≤ greatest_depth
-  pub few : at.line + node_count tree < 2 ^ 64
-
--- a walk came back from a node that is loaded: it stands behind the node's lines
-pub record IsLoadedNode (b : Blocking) (best : Option ℤ) (before : Walk) (tree : Tree) (now : GrowingTree) (after : Walk) : Type 0 where
-  pub loads : Loads b best before.zone tree now
-  pub zone : after.zone ≡ before.zone
-  pub depth : after.depth ≡ before.depth
-  pub line : after.line ≡ before.line + node_count tree
-  pub deep : FindsBehind before.deep (rooms now before.depth before.zone) before.line after.deep

@@ -3,10 +3,8 @@
 #![tactic(auto)]
 
 mod fault;
-mod leaf;
 mod loading;
 mod recut;
-mod walk;
 
 pub use crate::fault::LoadFault;
 pub use crate::loading::load;

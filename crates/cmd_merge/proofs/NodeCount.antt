@@ -14,9 +14,9 @@ use Rattle.cert_text.specs.Programs.{frame_for}
 use Rattle.cert_form.specs.declared.cert.Cert.{Cert}
 use Rattle.cert_form.specs.Nodes.{nodes}
 use Rattle.cert_form.proofs.Fine.{text_nodes}
-use Rattle.cert_load.specs.Rooms.{node_count}
+use Rattle.tree_load.specs.Rooms.{node_count}
 use Rattle.cert_load.specs.Loadings.{IsLoadedOf}
-use Rattle.cert_load.proofs.Descent.{made_of}
+use Rattle.tree_load.proofs.Descent.{made_of}
 
 nodes_written : (t : Tree) → nodes (written_tree t) ≡ node_count t
 nodes_written (shut_leaf p) = refl

@@ -4,9 +4,10 @@ use Rattle.cert_form.specs.Kept.{certificate_of}
 use Rattle.cert_form.specs.Sketch.{tree_of}
 use Rattle.grove_parts.specs.Trees as growing
 use Rattle.grove_parts.specs.declared.tree.Tree.{Tree}
-use Rattle.cert_load.specs.Rooms.{rooms, FindsDeep, root_line}
-use Rattle.cert_load.specs.Loadings.{MayLoad, IsLoadedTree}
-use Rattle.cert_load.specs.declared.walk.Walk.{Walk}
+use Rattle.tree_load.specs.Rooms.{rooms, FindsDeep, root_line}
+use Rattle.tree_load.specs.Nodes.{MayLoad}
+use Rattle.cert_load.specs.Loadings.{IsLoadedTree}
+use Rattle.tree_load.specs.declared.walk.Walk.{Walk}
 use Rattle.cert_load.proofs.Reaching.{may_root, root_loaded}
 use Rattle.cert_load.proofs.loading.load_nodes.Goals as goal
 

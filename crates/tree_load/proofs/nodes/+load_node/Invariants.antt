@@ -1,6 +1,6 @@
 use Rattle.cert_form.specs.Sketch.{tree_of}
 use Rattle.line_check.proofs.Lines.{nodes}
-use Rattle.cert_load.proofs.loading.+load_node.Given as goal
+use Rattle.tree_load.proofs.nodes.+load_node.Given as goal
 
 -- the nodes of the tree
 abbrev pub decreases-load_node : goal.decreases-load_node

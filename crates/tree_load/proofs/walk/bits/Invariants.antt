@@ -1,6 +1,6 @@
 use Rattle.std.proofs.Common.{◌≡◌, ◌*◌, ◌<◌, ◌≤◌, ◌^◌, take, length}
 use Rattle.bp_theory.specs.Digits.{zone_bits}
-use Rattle.cert_load.proofs.walk.bits.Given as goal
+use Rattle.tree_load.proofs.walk.bits.Given as goal
 
 abbrev pub invariant-loop-span : goal.invariant-loop-span
 invariant-loop-span l = record {

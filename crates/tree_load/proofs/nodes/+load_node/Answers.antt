@@ -5,9 +5,9 @@ use Rattle.cert_form.specs.Sketch.{tree_of}
 use Rattle.cert_form.specs.declared.sketch.Sketch.{Sketch}
 use Rattle.grove_parts.specs.Trees as growing
 use Rattle.line_check.proofs.Lines.{nodes, fewer_nodes}
-use Rattle.cert_load.specs.Loadings.{MayLoad, IsLoadedNode}
-use Rattle.cert_load.proofs.Descent.{may_low, may_high, may_shut, may_open, loaded_fork, can_go_back}
-use Rattle.cert_load.proofs.loading.+load_node.Goals as goal
+use Rattle.tree_load.specs.Nodes.{MayLoad, IsLoadedNode}
+use Rattle.tree_load.proofs.Descent.{may_low, may_high, may_shut, may_open, loaded_fork, can_go_back}
+use Rattle.tree_load.proofs.nodes.+load_node.Goals as goal
 
 pub load_node-requires : goal.load_node-requires
 load_node-requires t c =

@@ -1,11 +1,11 @@
 // A leaf of a certificate as a leaf of a search's tree.
-ghost use Rattle.std.specs.Prelude.{◌≡◌, ◌↔◌, ◌≤◌, ◌<◌, ◌<ℤ◌, ◌*ℤ◌, ◌-ℤ◌, pos, IsTrue, IfOk, IfSome};
+ghost use Rattle.std.specs.Prelude.{◌≡◌, ◌↔◌, ◌<◌, ◌<ℤ◌, ◌*ℤ◌, ◌-ℤ◌, pos, IsTrue, IfOk, IfSome};
 ghost use Rattle.bp_theory.specs.Trees.{IsZone};
 ghost use Rattle.block_forms.specs.Forms.{forms_in};
 ghost use Rattle.block_pricers.specs.Works.{forms_of};
 ghost use Rattle.search_laws.specs.Loading.{LoadsLeaf};
 ghost use Rattle.grove_parts.specs.Trees.{tree_of};
-ghost use Rattle.cert_load.specs.Rooms.{CanLoadLeaf, SettlesBy};
+ghost use Rattle.tree_load.specs.Rooms.{CanLoadLeaf, SettlesBy};
 
 use block_program::{Blocked, Zone};
 use bp_theory::Proof;

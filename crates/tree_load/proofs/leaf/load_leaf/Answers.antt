@@ -3,9 +3,9 @@ use Rattle.std.specs.Prelude.{ℤ, pos, neg_ℤ, ◌<ℤ◌}
 use Rattle.std.specs.Int.{w128, int_min}
 use Rattle.bp_theory.specs.Sums.{round_up}
 use Rattle.bp_theory.specs.Bound.{IsBound}
-use Rattle.cert_load.specs.Rooms.{SettlesBy}
-use Rattle.cert_load.proofs.Descent.{settles_by, can_round, yes_by, not_by}
-use Rattle.cert_load.proofs.leaf.load_leaf.Goals as goal
+use Rattle.tree_load.specs.Rooms.{SettlesBy}
+use Rattle.tree_load.proofs.Descent.{settles_by, can_round, yes_by, not_by}
+use Rattle.tree_load.proofs.leaf.load_leaf.Goals as goal
 
 pub round-requires-clause-scale : goal.round-requires-clause-scale
 round-requires-clause-scale c =

@@ -2,7 +2,7 @@
 use Rattle.std.proofs.Common.{◌≡◌, ℕ, zero, suc, ◌+◌, ◌-◌, ◌<◌, ◌≤◌, List, [], ◌∷◌, ◌++◌, length, get_or, Option, Some, None, ◌⊎◌, inl, inr, ⊎_elim, sym, subst, ap, ◌∙◌, refl, arith, add-zero, zero-add, add_assoc}
 use Rattle.std.proofs.lemmas.Bool.{cases_lt}
 use Rattle.std.proofs.lemmas.List.{get_or_append_left, get_or-append-add, get_or-append_right, length-append}
-use Rattle.cert_load.specs.Rooms.{IsFirstDeep, FindsDeep, FindsBehind}
+use Rattle.tree_load.specs.Rooms.{IsFirstDeep, FindsDeep, FindsBehind}
 
 -- no number stands behind a list's end
 pub past : (xs : List ℕ) (k : ℕ) → length xs ≤ k → get_or xs k 0 ≡ 0

@@ -28,10 +28,10 @@ use Rattle.search_laws.specs.GroveFacts.{Settles}
 use Rattle.search_laws.specs.Loading.{rounded_bound, LoadsLeaf, Loads}
 use Rattle.branch_tree.specs.Groves.{made}
 use Rattle.line_check.proofs.Lines.{high_is, back_is, low_zone, high_zone, holds_by, empties_by}
-use Rattle.cert_load.specs.Rooms.{rooms, FindsDeep, FindsBehind, node_count, CanLoadLeaf, CanLoad, SettlesBy, IsLeaf}
-use Rattle.cert_load.specs.Loadings.{MayLoad, IsLoadedNode}
-use Rattle.cert_load.specs.declared.walk.Walk.{Walk}
-use Rattle.cert_load.proofs.Finding.{finds_both, finds_none}
+use Rattle.tree_load.specs.Rooms.{rooms, FindsDeep, FindsBehind, node_count, CanLoadLeaf, CanLoad, SettlesBy, IsLeaf}
+use Rattle.tree_load.specs.Nodes.{MayLoad, IsLoadedNode}
+use Rattle.tree_load.specs.declared.walk.Walk.{Walk}
+use Rattle.tree_load.proofs.Finding.{finds_both, finds_none}
 
 -- ---- one leaf
 

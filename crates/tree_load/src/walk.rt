@@ -1,10 +1,10 @@
 // A walk over the tree of a certificate.
 ghost use Rattle.std.specs.Prelude.{◌≡◌, ◌+◌, ◌-◌, ◌<◌, ◌≤◌, ◌^◌, ◌+ℤ◌, ◌<ℤ◌, ◌≤ℤ◌, pos, length, slice_set, [], ◌∷◌};
 ghost use Rattle.bp_theory.specs.Digits.{binary_digits, span_bits, zone_bits};
-ghost use Rattle.bp_theory.specs.Trees.{IsSoundSplit, IsZone, low_part};
+ghost use Rattle.bp_theory.specs.Trees.{IsSoundSplit, low_part};
 ghost use Rattle.std.specs.Int.{int_gap};
 ghost use Rattle.grove_parts.specs.Trees.{tree_of};
-ghost use Rattle.cert_load.specs.Rooms.{rooms, FindsDeep, FindsBehind, IsLeaf};
+ghost use Rattle.tree_load.specs.Rooms.{rooms, FindsDeep, FindsBehind, IsLeaf};
 
 use block_program::Zone;
 use bp_theory::Span;

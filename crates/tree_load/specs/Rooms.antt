@@ -1,9 +1,9 @@
 -- The room that the live leaves of a loaded tree need, line by line.
-use Rattle.std.specs.Prelude.{◌≡◌, ℕ, ◌+◌, ◌<◌, ◌≤◌, ◌^◌, List, [], ◌∷◌, ◌++◌, length, Option, Some, None, ℤ, pos, ◌*ℤ◌, ◌-ℤ◌, ◌<ℤ◌, ◌⊎◌, unsigned_abs, slice_index_or, nat_lt, if◌then◌else◌}
+use Rattle.std.specs.Prelude.{◌≡◌, ℕ, ◌+◌, ◌<◌, ◌≤◌, List, [], ◌∷◌, ◌++◌, length, Option, Some, None, ℤ, pos, ◌*ℤ◌, ◌-ℤ◌, ◌<ℤ◌, ◌⊎◌, unsigned_abs, slice_index_or}
 use Rattle.bp_theory.specs.Limits.{greatest_depth, number_limit}
 use Rattle.bp_theory.specs.Blocking.{Blocking}
 use Rattle.bp_theory.specs.Bound.{Fits}
-use Rattle.bp_theory.specs.Trees.{Tree, shut_leaf, open_leaf, split, low_part, high_part, depth, IsZone, IsSoundSplit}
+use Rattle.bp_theory.specs.Trees.{Tree, shut_leaf, open_leaf, split, low_part, high_part, depth, IsSoundSplit}
 use Rattle.bp_theory.specs.Claims.{Holds}
 use Rattle.bp_theory.specs.Digits.{zone_bits}
 use Rattle.bp_theory.specs.declared.Span.{Span}

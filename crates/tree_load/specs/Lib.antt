@@ -1,0 +1,3 @@
+-- Words of contracts of those who load certificates' trees.
+pub mod Rooms
+pub mod Nodes

@@ -1,0 +1,10 @@
+//! How the nodes of a certificate's tree become those of a tree from which a search goes on: a leaf is shut or live, and
+//! the first live leaf that is too deep is told by its line.
+#![tactic(auto)]
+
+mod leaf;
+mod nodes;
+mod walk;
+
+pub use nodes::load_node;
+pub use walk::Walk;
