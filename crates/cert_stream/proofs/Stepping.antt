@@ -30,7 +30,7 @@ use Rattle.cert_lines.specs.declared.lines.Event.{Event}
 use Rattle.cert_lines.specs.declared.lines.Event.TheVariants as e
 use Rattle.cert_lines.specs.declared.lines.Lines.{Lines}
 use Rattle.cert_lines.specs.declared.lines.SplitPlace.{SplitPlace}
-use Rattle.cert_text.proofs.Feeding.{joined}
+use Rattle.cert_read.proofs.Feeding.{joined}
 use Rattle.cert_form.proofs.LawProofs.{seen_faults_stay}
 use Rattle.cert_walk.specs.Turns.{Turn, to_low, to_high, turns_behind, root_behind, wait_of}
 use Rattle.block_pricers.specs.declared.work.Work.{Work}

@@ -6,7 +6,7 @@ ghost use Rattle.cert_form.specs.declared.frame.Frame.{Frame};
 ghost use Rattle.cert_form.specs.Written.{in_text, written_tree, written_proof};
 ghost use Rattle.cert_form.specs.Stages.{leaf_of};
 ghost use Rattle.cert_lines.specs.Readers.{waits_behind, root_behind, waits_after, root_after, cuts_after};
-ghost use Rattle.cert_text.specs.Builders.{waits_of, root_of, cuts_of, Builds, BuildsOn, Feeds};
+ghost use Rattle.cert_read.specs.Builders.{waits_of, root_of, cuts_of, Builds, BuildsOn, Feeds};
 ghost use Rattle.cert_form.specs.Kept.{ReadsCertificate};
 
 use bp_theory::{Cut, Items, Picked, Proof};

@@ -7,12 +7,12 @@ use Rattle.cert_form.specs.Cert.{Cut, Tree}
 use Rattle.cert_form.specs.Stages.{Wait}
 use Rattle.cert_form.specs.Kept.{ReadsCertificate}
 use Rattle.cert_lines.specs.Standing.{EndsWell}
-use Rattle.cert_text.specs.Builders.{BuildsOn, Feeds}
+use Rattle.cert_read.specs.Builders.{BuildsOn, Feeds}
 use Rattle.cert_form.specs.declared.fault.CertFault.{CertFault}
 use Rattle.cert_form.specs.declared.fault.CertFault.TheVariants.{At, NoMemory}
 use Rattle.cert_form.specs.declared.frame.Frame.{Frame}
 use Rattle.cert_lines.specs.declared.lines.Lines.{Lines}
-use Rattle.cert_text.specs.declared.reader.Reader.{Reader}
+use Rattle.cert_read.specs.declared.reader.Reader.{Reader}
 use Rattle.cert_form.proofs.LawProofs.{seen_faults_stay, seen_faults_are_first}
 use Rattle.cert_lines.proofs.Leaving.{split_at}
 use Rattle.cert_lines.proofs.WordSteps.{nth_at}

@@ -1,7 +1,7 @@
 use Rattle.std.proofs.Common.{List, ℕ, refl, take, ◌++◌, subst, arith}
-use Rattle.cert_text.specs.Builders.{Builds}
-use Rattle.cert_text.proofs.Feeding.{room, joined, fed_fault}
-use Rattle.cert_text.proofs.reader.Reader.feed.Goals as goal
+use Rattle.cert_read.specs.Builders.{Builds}
+use Rattle.cert_read.proofs.Feeding.{room, joined, fed_fault}
+use Rattle.cert_read.proofs.reader.Reader.feed.Goals as goal
 
 pub returns-in-Err : goal.returns-in-Err
 returns-in-Err c =

@@ -11,9 +11,9 @@ use Rattle.cert_form.specs.declared.fault.CertFault.{CertFault}
 use Rattle.cert_form.specs.declared.fault.CertFault.TheVariants.{At, NoMemory}
 use Rattle.cert_form.specs.declared.frame.Frame.{Frame}
 use Rattle.cert_form.specs.declared.sketch.Sketch.{Sketch}
-use Rattle.cert_text.specs.declared.reader.Pending.{Pending}
-use Rattle.cert_text.specs.declared.reader.Pending.TheVariants.{Low, High}
-use Rattle.cert_text.specs.declared.reader.Reader.{Reader}
+use Rattle.cert_read.specs.declared.reader.Pending.{Pending}
+use Rattle.cert_read.specs.declared.reader.Pending.TheVariants.{Low, High}
+use Rattle.cert_read.specs.declared.reader.Reader.{Reader}
 
 -- a split above the next tree
 abbrev pub wait_of : Pending → Wait

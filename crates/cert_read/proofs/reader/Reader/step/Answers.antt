@@ -1,6 +1,6 @@
-use Rattle.cert_text.specs.Builders.{waits_of, root_of, cuts_of}
-use Rattle.cert_text.proofs.ReaderFacts.{line_at_fault}
-use Rattle.cert_text.proofs.reader.Reader.step.Goals as goal
+use Rattle.cert_read.specs.Builders.{waits_of, root_of, cuts_of}
+use Rattle.cert_read.proofs.ReaderFacts.{line_at_fault}
+use Rattle.cert_read.proofs.reader.Reader.step.Goals as goal
 
 pub returns-in-Err : goal.returns-in-Err
 returns-in-Err c =

@@ -1,6 +1,6 @@
-use Rattle.cert_text.specs.Builders.{root_of}
-use Rattle.cert_text.proofs.ReaderFacts.{low_done, low_root, high_done, high_root}
-use Rattle.cert_text.proofs.reader.Reader.complete.Goals as goal
+use Rattle.cert_read.specs.Builders.{root_of}
+use Rattle.cert_read.proofs.ReaderFacts.{low_done, low_root, high_done, high_root}
+use Rattle.cert_read.proofs.reader.Reader.complete.Goals as goal
 
 pub returns-in-Low-clause-waits : goal.returns-in-Low-clause-waits
 returns-in-Low-clause-waits c =

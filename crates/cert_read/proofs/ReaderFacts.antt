@@ -6,16 +6,16 @@ use Rattle.cert_form.specs.Written.{in_text}
 use Rattle.cert_form.specs.Stages.{Wait}
 use Rattle.cert_lines.specs.Readers.{waits_behind, root_behind}
 use Rattle.cert_lines.specs.Standing.{StandsFor, Steps}
-use Rattle.cert_text.specs.Builders.{wait_of, waits_on, waits_of, root_of, BuildsOn}
+use Rattle.cert_read.specs.Builders.{wait_of, waits_on, waits_of, root_of, BuildsOn}
 use Rattle.cert_form.specs.declared.fault.CertFault.{CertFault}
 use Rattle.cert_form.specs.declared.fault.CertFault.TheVariants.{At, NoMemory}
 use Rattle.cert_form.specs.declared.frame.Frame.{Frame}
 use Rattle.cert_lines.specs.declared.lines.Lines.{Lines}
 use Rattle.cert_lines.specs.declared.lines.SplitPlace.{SplitPlace}
 use Rattle.cert_form.specs.declared.sketch.Sketch.{Sketch}
-use Rattle.cert_text.specs.declared.reader.Pending.{Pending}
-use Rattle.cert_text.specs.declared.reader.Pending.TheVariants.{Low, High}
-use Rattle.cert_text.specs.declared.reader.Reader.{Reader}
+use Rattle.cert_read.specs.declared.reader.Pending.{Pending}
+use Rattle.cert_read.specs.declared.reader.Pending.TheVariants.{Low, High}
+use Rattle.cert_read.specs.declared.reader.Reader.{Reader}
 
 -- the last one kept is the nearest one
 pub waits_on-push : (ps : List Pending) (p : Pending) (ws : List Wait) → waits_on (ps ++ p ∷ []) ws ≡ wait_of p ∷ waits_on ps ws

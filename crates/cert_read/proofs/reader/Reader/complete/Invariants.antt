@@ -1,7 +1,7 @@
 use Rattle.std.proofs.Common.{◌≡◌, vec_len}
 use Rattle.cert_lines.specs.Readers.{waits_behind, root_behind}
-use Rattle.cert_text.specs.Builders.{waits_of, root_of}
-use Rattle.cert_text.proofs.reader.Reader.complete.Given as goal
+use Rattle.cert_read.specs.Builders.{waits_of, root_of}
+use Rattle.cert_read.proofs.reader.Reader.complete.Given as goal
 
 abbrev pub invariant-loop-pending : goal.invariant-loop-pending
 invariant-loop-pending l =

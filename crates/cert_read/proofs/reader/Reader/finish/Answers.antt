@@ -1,8 +1,8 @@
 use Rattle.std.proofs.Common.{refl}
-use Rattle.cert_text.specs.Builders.{waits_of, root_of, cuts_of}
+use Rattle.cert_read.specs.Builders.{waits_of, root_of, cuts_of}
 use Rattle.cert_lines.proofs.Finishing.{taken_well}
-use Rattle.cert_text.proofs.Feeding.{finish_fault}
-use Rattle.cert_text.proofs.reader.Reader.finish.Goals as goal
+use Rattle.cert_read.proofs.Feeding.{finish_fault}
+use Rattle.cert_read.proofs.reader.Reader.finish.Goals as goal
 
 pub returns-in-Err : goal.returns-in-Err
 returns-in-Err c =

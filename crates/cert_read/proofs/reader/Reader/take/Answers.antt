@@ -3,11 +3,11 @@ use Rattle.std.proofs.lemmas.List.{map-append}
 use Rattle.bp_theory.specs.declared.Cut.{Cut}
 use Rattle.cert_lines.specs.Readers.{waits_after, cuts_after}
 use Rattle.cert_form.specs.Written.{written_cut}
-use Rattle.cert_text.specs.Builders.{waits_of, cuts_of}
+use Rattle.cert_read.specs.Builders.{waits_of, cuts_of}
 use Rattle.cert_lines.specs.declared.lines.Event.{Event}
-use Rattle.cert_text.specs.declared.reader.Pending.TheVariants.{Low}
-use Rattle.cert_text.proofs.ReaderFacts.{pushed}
-use Rattle.cert_text.proofs.reader.Reader.take.Goals as goal
+use Rattle.cert_read.specs.declared.reader.Pending.TheVariants.{Low}
+use Rattle.cert_read.proofs.ReaderFacts.{pushed}
+use Rattle.cert_read.proofs.reader.Reader.take.Goals as goal
 
 pub returns-in_ok-push-in-Split-clause-waits : goal.returns-in_ok-push-in-Split-clause-waits
 returns-in_ok-push-in-Split-clause-waits c =

@@ -1,0 +1,2 @@
+pub mod ReaderFacts
+pub mod Feeding

@@ -1,0 +1,2 @@
+-- Words of contracts of those who read the text of a certificate.
+pub mod Builders
