@@ -1,4 +1,4 @@
 pub mod OnePoint
 pub mod Leaves
 pub mod Strong
-pub mod Boxes
+pub mod BoxLemmas
