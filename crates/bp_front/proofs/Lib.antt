@@ -6,3 +6,5 @@ pub mod Lifts
 pub mod RowNames
 pub mod Written
 pub mod Faults
+pub mod Finishing
+pub mod Drafts

@@ -1,15 +1,18 @@
 -- What is right for a program in blocks is right for the files that come to it, and no other status is.
-use Rattle.std.proofs.Common.{◌≡◌, subst, ℕ, Bool, List, Option, ◌∙◌, [], ◌≢◌, ◌⊎◌, inl, inr}
-use Rattle.bp_shelf.specs.Shelf.{Files}
+use Rattle.std.proofs.Common.{◌≡◌, subst, ℕ, Bool, List, Option, ◌∙◌, [], ◌≢◌, ◌⊎◌, inl, inr, Result, Ok, Err}
+use Rattle.bp_shelf.specs.Shelf.{Files, CountsFailed}
 use Rattle.block_program.specs.Blocked.{BlockedProgram}
 use Rattle.branch_tree.specs.declared.outcome.Outcome.{Outcome}
 use Rattle.bp_front.specs.Front.{FilesCome, blocked, ends}
 use Rattle.bp_front.specs.Answers.{AnswersFront, stopped, went_on, AnswersBy, IsOnly, CutsOff}
 use Rattle.bp_shelf.specs.declared.shelf.ShelfFault.{ShelfFault}
 use Rattle.bp_shelf.specs.declared.shelf.ShelfFault.TheVariants.{Missing, Failed, NoMemory}
-use Rattle.bp_front.specs.Endings.{status_of}
-use Rattle.bp_front.specs.Halts.{ComesToHalt}
-use Rattle.bp_front.specs.declared.front.Halt.TheVariants.{Stopped}
+use Rattle.bp_front.specs.Endings.{status_of, IsRightReply}
+use Rattle.bp_front.specs.Halts.{ComesToHalt, CountsHalted}
+use Rattle.bp_front.specs.declared.ending.Reply.{Reply}
+use Rattle.bp_front.specs.declared.front.Halt.{Halt}
+use Rattle.bp_front.specs.declared.front.Halt.TheVariants.{Refused, Stopped}
+use Rattle.bp_front.proofs.Finishing.{HasOneReply}
 use Rattle.bp_front.proofs.OneFront.{one_front}
 
 -- an answer for the program in blocks
@@ -60,3 +63,36 @@ fault_only files lp dec Stops Right status NoMemory come is = λ no_read no_writ
 pub printed_status : (status wanted : ℕ) → (status ≡ wanted) ⊎ (status ≡ 8) → status ≢ 8 → status ≡ wanted
 printed_status status wanted (inl same) no_fault = same
 printed_status status wanted (inr fault) no_fault = absurd (no_fault fault)
+
+-- right answers have one status where those for each program in blocks have
+pub one_reply : (files : Files) (lp : List ℕ) (dec : Option (List ℕ)) (Stops : Type 0) (Right : BlockedProgram → ℕ → List ℕ → Type 0) → ((b : BlockedProgram) → HasOneReply (Right b))
+    → HasOneReply (AnswersFront files lp dec Stops Right)
+one_reply files lp dec Stops Right one s t r q (stopped a _) (stopped b _) = one_front files lp dec (ends s r) (ends t q) a b
+one_reply files lp dec Stops Right one s t r q (stopped a _) (went_on c come right) = absurd (one_front files lp dec (ends s r) (blocked c) a come)
+one_reply files lp dec Stops Right one s t r q (went_on b come right) (stopped a _) = absurd (one_front files lp dec (blocked b) (ends t q) come a)
+one_reply files lp dec Stops Right one s t r q (went_on b come right) (went_on c come' right') =
+    let same : c ≡ b = one_front files lp dec (blocked c) (blocked b) come' come in
+    one b s t r q right (subst (λ (d : BlockedProgram). Right d t q) same right')
+
+-- a halt that the files come to is right
+pub halt_right : (files : Files) (lp : List ℕ) (dec : Option (List ℕ)) (Stops : Type 0) (Right : BlockedProgram → ℕ → List ℕ → Type 0) (halt : Halt) → Stops
+    → ComesToHalt files lp dec halt → IsRightReply (AnswersFront files lp dec Stops Right) (Err halt)
+halt_right files lp dec Stops Right (Refused report) stops come = stopped come stops
+halt_right files lp dec Stops Right (Stopped Missing) stops come = stopped come stops
+halt_right files lp dec Stops Right (Stopped Failed) stops come = tt
+halt_right files lp dec Stops Right (Stopped NoMemory) stops come = tt
+
+-- a reply that is right for the program in blocks
+pub reply_right : (files : Files) (lp : List ℕ) (dec : Option (List ℕ)) (Stops : Type 0) (Right : BlockedProgram → ℕ → List ℕ → Type 0) (b : BlockedProgram) (r : Result Reply Halt)
+    → FilesCome files lp dec (blocked b) → IsRightReply (Right b) r → IsRightReply (AnswersFront files lp dec Stops Right) r
+reply_right files lp dec Stops Right b (Ok reply) come right = went_on b come right
+reply_right files lp dec Stops Right b (Err (Refused report)) come right = went_on b come right
+reply_right files lp dec Stops Right b (Err (Stopped Missing)) come right = went_on b come right
+reply_right files lp dec Stops Right b (Err (Stopped Failed)) come right = tt
+reply_right files lp dec Stops Right b (Err (Stopped NoMemory)) come right = tt
+
+-- a read that failed halts a run
+pub counts_halt : {T U : Type 0} (fault : ShelfFault) (before now : ℕ) → CountsFailed {T} before now (Err fault) → CountsHalted {U} before now (Err (Stopped fault))
+counts_halt Missing before now counts = counts
+counts_halt Failed before now counts = counts
+counts_halt NoMemory before now counts = counts

@@ -2,6 +2,7 @@
 use Rattle.std.specs.Prelude.{◌≡◌, ◌⊎◌, ℕ, List, [], Option, Some, None}
 use Rattle.bp_shelf.specs.Shelf.{Files, OthersAsBefore}
 use Rattle.bp_shelf.specs.declared.shelf.ShelfFault.TheVariants.{Missing, Failed, NoMemory}
+use Rattle.bp_front.specs.declared.draft.Draft.{Draft}
 use Rattle.bp_front.specs.declared.front.Halt.{Halt}
 use Rattle.bp_front.specs.declared.front.Halt.TheVariants.{Refused, Stopped}
 
@@ -14,6 +15,10 @@ pub record Answer : Type 0 where
 -- an answer that writes nothing
 abbrev pub stops : (status : ℕ) → (report : List ℕ) → Answer
 stops status report = record { status = status; report = report; text = None }
+
+-- the answer that writes a draft
+abbrev pub draft_answer : Draft → Answer
+draft_answer d = record { status = d.reply.status; report = d.reply.report.items; text = Some d.text.items }
 
 -- what is answered, by its status and report
 abbrev pub Answered : (Answer → Type 0) → (status : ℕ) → (report : List ℕ) → Type 0

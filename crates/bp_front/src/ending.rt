@@ -43,10 +43,17 @@ pub fn stopped_by(alloc: Global, fault: ShelfFault) -> Ended
     ensures kept { result.kept ≡ None }
     ensures events { result.events.items ≡ [] }
 {
+    stopped(alloc, fault_status(fault))
+}
+
+/// The status of a read that failed: 7, or 9 where memory was wanting and 11 where there is no file of that name.
+pub fn fault_status(fault: ShelfFault) -> u8
+    ensures { result ≡ status_of fault }
+{
     match fault {
-        ShelfFault::Failed => stopped(alloc, 7),
-        ShelfFault::NoMemory => stopped(alloc, 9),
-        ShelfFault::Missing => stopped(alloc, 11),
+        ShelfFault::Failed => 7,
+        ShelfFault::NoMemory => 9,
+        ShelfFault::Missing => 11,
     }
 }
 

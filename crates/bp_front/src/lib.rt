@@ -2,10 +2,14 @@
 //! which each command's theorem is stated.
 #![tactic(auto)]
 
+mod closing;
+mod draft;
 mod ending;
 mod front;
 mod read;
 
-pub use ending::{Ended, Reply, print, stopped, stopped_by};
+pub use closing::{finish, halted, reply_or_status};
+pub use draft::{Draft, put_draft, write_draft};
+pub use ending::{Ended, Reply, fault_status, print, stopped, stopped_by};
 pub use front::{Halt, blocks_of, load, load_model};
 pub use read::read_front;
