@@ -1,8 +1,9 @@
 // Cuts that keep the rules, with their rows.
-ghost use Rattle.std.specs.Prelude.{◌≡◌, ◌≤◌, ◌⊎◌, length, All, IfOk, IfSome};
+ghost use Rattle.std.specs.Prelude.{◌≡◌, ◌≤◌, ◌⊎◌, ◌++◌, [], length, All, IfNone, IfOk, IfSome};
+ghost use Rattle.block_program.specs.Cuts.{KeepsCuts};
 ghost use Rattle.round_sums.specs.Cutting.{IsEarlierCut};
 ghost use Rattle.round_cut.specs.Several.{AreRowsOfCuts};
-ghost use Rattle.cut_list.specs.Taken.{BeginsWith, GoesOn, IsTaken};
+ghost use Rattle.cut_list.specs.Taken.{HasFirstOf, IsRefused, IsTaken};
 
 use block_program::Blocked;
 use bp_theory::{Cut, Items, Row};
@@ -12,8 +13,8 @@ use std::alloc::{AllocError, Global};
 /// How many cuts there may be.
 pub const MOST_CUTS: usize = 256;
 
-/// The row of a cut over a program's rows and those of earlier cuts, where the cut keeps the rules, its signs fit and its sums
-/// keep the limit.
+/// The row of a cut over a program's rows and those of earlier cuts, where there is room for it, the cut keeps the rules, its
+/// signs fit and its sums keep the limit; none for any other cut. It fails for want of memory alone.
 pub fn row_of_cut(
     alloc: Global,
     b: &Blocked,
@@ -21,8 +22,10 @@ pub fn row_of_cut(
     cut: &Cut,
 ) -> Result<Option<Row>, AllocError>
     requires { All (IsEarlierCut b.now.named.program) earlier.now }
-    ensures { IfOk result (λ found. IfSome found
+    ensures taken { IfOk result (λ found. IfSome found
         (IsTaken b.now.named.program b.now.dec earlier.now cut.now)) }
+    ensures refused { IfOk result (λ found. IfNone found
+        (IsRefused b.now.named.program b.now.dec earlier.now cut.now)) }
 {
     if earlier.len() >= MOST_CUTS {
         return Ok(None);
@@ -38,14 +41,16 @@ pub fn row_of_cut(
     }
 }
 
-/// The rows of cuts, where each cut keeps the rules over the earlier ones.
+/// The rows of cuts that a program may have; none for others.
 pub fn rows_of_cuts(
     alloc: Global,
     b: &Blocked,
     cuts: &[Cut],
 ) -> Result<Option<Vec<Row>>, AllocError>
-    ensures { IfOk result (λ found. IfSome found
+    ensures rows { IfOk result (λ found. IfSome found
         (λ rows. AreRowsOfCuts b.now.named.program b.now.dec cuts.now rows.items)) }
+    ensures none { IfOk result (λ found. IfNone found
+        (KeepsCuts b.now.named.program b.now.dec cuts.now → ⊥)) }
 {
     let mut rows = Vec::new(alloc);
     for cut in cuts {
@@ -81,7 +86,8 @@ fn copy_of(alloc: Global, cut: &Cut) -> Result<Cut, AllocError>
     })
 }
 
-/// Cuts, of which these are the rows, with others behind them, until there are so many or one doesn't keep the rules.
+/// Cuts, of which these are the rows, and behind them the first of others, in their order and as many as can be: until there
+/// are so many in all, or the next is one that may not stand behind these. It fails for want of memory alone.
 pub fn extended(
     alloc: Global,
     b: &Blocked,
@@ -91,7 +97,8 @@ pub fn extended(
     most: u32,
 ) -> Result<Vec<Cut>, AllocError>
     requires { AreRowsOfCuts b.now.named.program b.now.dec cuts.items rows.items }
-    ensures { IfOk result (λ all. GoesOn b.now.named.program b.now.dec cuts.items most all.items) }
+    ensures { IfOk result (λ all. HasFirstOf b.now.named.program b.now.dec cuts.items more.items most
+        all.items) }
 {
     let mut all = cuts;
     let mut rows = rows;
@@ -111,15 +118,17 @@ pub fn extended(
     Ok(all)
 }
 
-/// A program's cuts, and behind them others, until there are so many in all or one doesn't keep the rules; the program's alone
-/// where it has as many.
+/// A program's cuts, and behind them the first of others, in their order and as many as can be: until there are so many in all,
+/// or the next is one that may not stand behind these. It is the program's alone where there are as many already. It fails for
+/// want of memory alone.
 pub fn with_others(
     alloc: Global,
     b: &Blocked,
     others: Vec<Cut>,
     most: u32,
 ) -> Result<Vec<Cut>, AllocError>
-    ensures { IfOk result (λ cuts. GoesOn b.now.named.program b.now.dec b.now.cuts most cuts.items) }
+    ensures { IfOk result (λ cuts. HasFirstOf b.now.named.program b.now.dec b.now.cuts others.items most
+        cuts.items) }
 {
     let own = copies_of(alloc, b.cuts())?;
     if own.len() >= most as usize {
