@@ -1,12 +1,13 @@
 // The search for cuts where blocks have rows: rounds of column generation at the root, and of finding cuts of master rows and
 // of earlier cuts that its columns miss.
+ghost use Rattle.std.specs.Prelude.{◌≡◌};
 ghost use Rattle.round_cut.specs.Several.{AreRowsOfCuts};
 
 use crate::bind::{Front, bound_cuts};
-use crate::columns::{Root, root_of};
-use crate::missed::{numbered, search_missed};
+use crate::columns::{Point, Root, root_of};
+use crate::missed::{missed_at, numbered};
 use crate::numbers::whole_at;
-use crate::state::{State, above_of, master_sides};
+use crate::state::master_sides;
 use crate::trial::{Found, Trial};
 use block_form::recut;
 use block_program::Blocked;
@@ -76,10 +77,7 @@ pub fn search_by_columns(alloc: Global, b: &Blocked, most: u32) -> Result<Vec<Cu
     };
     let mut trial = Trial::make(alloc, b.model().vars() as usize)?;
     for round in 1..ROUNDS + 1 {
-        let Some(rows) = rows_of_cuts(alloc, b, rounds.cuts.as_slice())? else {
-            break;
-        };
-        if !rounds.go_on(alloc, b, rows, &mut trial, most, round == ROUNDS)? {
+        if !rounds.go_on(alloc, b, &mut trial, most, round == ROUNDS)? {
             break;
         }
     }
@@ -88,46 +86,76 @@ pub fn search_by_columns(alloc: Global, b: &Blocked, most: u32) -> Result<Vec<Cu
 }
 
 impl Rounds {
-    // Makes a round over the cuts, whose rows are given, and searches for others behind them, but in the last: nothing would
-    // judge these. Whether another round may come.
+    // Makes a round over the cuts, and searches for others behind them, but in the last: nothing would judge these. Whether
+    // another round may come.
     fn go_on(
         &mut self,
         alloc: Global,
         b: &Blocked,
-        rows: Vec<Row>,
         trial: &mut Trial,
         most: u32,
         is_last: bool,
+    ) -> Result<bool, AllocError> {
+        let Some(rows) = rows_of_cuts(alloc, b, self.cuts.as_slice())? else {
+            return Ok(false);
+        };
+        let Some(point) = self.judge(alloc, b, rows.as_slice())? else {
+            return Ok(false);
+        };
+        if is_last || trial.is_spent() {
+            return Ok(false);
+        }
+        let more = found_at(alloc, b, rows.as_slice(), &point, trial, most)?;
+        self.add(alloc, b, rows, more, most)
+    }
+
+    // Takes the root of the program with the cuts, whose rows are given. What its columns come to, where they meet the rows and
+    // the bound hasn't stood for too long.
+    fn judge(
+        &mut self,
+        alloc: Global,
+        b: &Blocked,
+        rows: &[Row],
+    ) -> Result<Option<Point>, AllocError>
+        requires { AreRowsOfCuts b.now.named.program b.now.dec self.old.cuts.items rows.now }
+        ensures { self.new.cuts ≡ self.old.cuts }
+    {
+        let mults = std::mem::replace(&mut self.mults, Vec::new(alloc));
+        let Some(root) = root_with(alloc, b, self.cuts.as_slice(), rows, mults)? else {
+            return Ok(None);
+        };
+        if !self.take(alloc, b, &root)? {
+            return Ok(None);
+        }
+        let Root { mults, point, .. } = root;
+        self.mults = mults;
+        Ok(point)
+    }
+
+    // Adds cuts behind those that there are, whose rows are given; whether one is new.
+    fn add(
+        &mut self,
+        alloc: Global,
+        b: &Blocked,
+        rows: Vec<Row>,
+        more: Vec<Cut>,
+        most: u32,
     ) -> Result<bool, AllocError>
         requires { AreRowsOfCuts b.now.named.program b.now.dec self.old.cuts.items rows.items }
     {
         let cuts = std::mem::replace(&mut self.cuts, Vec::new(alloc));
-        let copies = copies_of(alloc, cuts.as_slice())?;
-        let program = recut(alloc, b, Items::from_vec(copies), rows.as_slice())?;
-        let mults = std::mem::replace(&mut self.mults, Vec::new(alloc));
-        let Some(root) = root_of(alloc, &program, mults)? else {
-            return Ok(false);
-        };
-        if !self.take(alloc, b, cuts.as_slice(), &root)? || is_last || trial.is_spent() {
-            return Ok(false);
-        }
-        let found = found_at(alloc, &program, rows.as_slice(), &root, trial, most)?;
-        let more = cuts_of(alloc, Front::of(b), found.as_slice())?;
         let before = cuts.len();
         self.cuts = extended(alloc, b, cuts, rows, more, most)?;
         let added = self.cuts.len().saturating_sub(before);
-        self.mults = lengthened(root, added)?;
+        let many = self.mults.len().saturating_add(added);
+        self.mults.resize(many, 0)?;
         Ok(added > 0)
     }
 
-    // Takes the root of a program with these cuts; whether the bound hasn't stood for too long.
-    fn take(
-        &mut self,
-        alloc: Global,
-        b: &Blocked,
-        cuts: &[Cut],
-        root: &Root,
-    ) -> Result<bool, AllocError> {
+    // Takes a root of a program with the cuts; whether the bound hasn't stood for too long.
+    fn take(&mut self, alloc: Global, b: &Blocked, root: &Root) -> Result<bool, AllocError>
+        ensures { self.new.cuts ≡ self.old.cuts }
+    {
         let Some(first) = self.first else {
             self.first = Some(root.bound);
             self.greatest = root.bound;
@@ -141,34 +169,50 @@ impl Rounds {
         }
         if root.bound > self.greatest {
             self.greatest = root.bound;
-            self.wanted = wanted_cuts(alloc, b, cuts, root.mults.as_slice())?;
+            self.wanted = wanted_cuts(alloc, b, self.cuts.as_slice(), root.mults.as_slice())?;
         }
         Ok(self.idle < PATIENCE)
     }
 }
 
-// What the columns of a root miss, of rows and of cuts with these rows.
+// The root of a program with these cuts, whose rows are given, from multipliers by row, or from none.
+fn root_with(
+    alloc: Global,
+    b: &Blocked,
+    cuts: &[Cut],
+    rows: &[Row],
+    mults: Vec<i64>,
+) -> Result<Option<Root>, AllocError>
+    requires { AreRowsOfCuts b.now.named.program b.now.dec cuts.now rows.now }
+{
+    let copies = copies_of(alloc, cuts)?;
+    let program = recut(alloc, b, Items::from_vec(copies), rows)?;
+    root_of(alloc, &program, mults)
+}
+
+// What the columns of a root miss, as cuts of rows and of cuts with these rows.
 fn found_at(
     alloc: Global,
-    program: &Blocked,
+    b: &Blocked,
     rows: &[Row],
-    root: &Root,
+    point: &Point,
     trial: &mut Trial,
     most: u32,
-) -> Result<Vec<Found>, AllocError> {
-    let model = program.model();
-    let values = root.values.as_slice();
-    let above = above_of(alloc, model.spans(), values)?;
-    let sides = master_sides(alloc, program, rows, values)?;
-    let state = State {
-        own: model.all_rows(),
-        cuts: rows,
-        spans: model.spans(),
-        above: above.as_slice(),
-        sides: sides.as_slice(),
-    };
+) -> Result<Vec<Cut>, AllocError> {
+    let values = point.values.as_slice();
+    let sides = master_sides(alloc, b, rows, values)?;
     let most = (most as usize).min(MOST_CUTS);
-    search_missed(alloc, &root.relaxation, &state, trial, most)
+    let found = missed_at(
+        alloc,
+        b,
+        rows,
+        &point.relaxation,
+        values,
+        sides.as_slice(),
+        trial,
+        most,
+    )?;
+    cuts_of(alloc, Front::of(b), found.as_slice())
 }
 
 // What was found as cuts.
@@ -178,15 +222,6 @@ fn cuts_of(alloc: Global, front: Front, found: &[Found]) -> Result<Vec<Cut>, All
         cuts.push(numbered(alloc, front, one)?)?;
     }
     Ok(cuts)
-}
-
-// The multipliers of a root, with none yet for so many cuts more.
-fn lengthened(root: Root, added: usize) -> Result<Vec<i64>, AllocError> {
-    let Root { mults, .. } = root;
-    let mut mults = mults;
-    let many = mults.len().saturating_add(added);
-    mults.resize(many, 0)?;
-    Ok(mults)
 }
 
 // Of cuts behind those of a program, those with multipliers, and those that these were made of.

@@ -11,23 +11,46 @@ use crate::bind::Front;
 use crate::numbers::low_at;
 use crate::relaxation::Relaxation;
 use block_class::Classes;
-use block_program::Blocked;
+use block_program::{Blocked, Zone};
 use branch_tree::{Grove, Turn};
 use col_pool::Column;
-use column_hint::{Centre, Effort, Pools, RestrictedMaster, generate_columns, take_steps};
-use lp_core::{ENDLESS, End, Lp, Range};
+use column_hint::{
+    Centre, Effort, Pools, RestrictedMaster, generate_columns, round_up, take_steps,
+};
+use lp_core::{End, Lp, Range};
 use lp_factor::{Entry, Vectors, at, put};
 use point_hint::{is_first_copy, whole};
 use row_lp::relaxation_of;
 use std::alloc::{AllocError, Global};
-use std::num::nearest_i64_to_f64;
+use std::num::{nearest_i64_to_f64, saturating_f64_to_i64};
 
-/// A root: multipliers by row with a great bound, this bound in units, the values of the variables, and the relaxation over the
-/// columns. The relaxation has a row for each row of the model, each cut, each link, and each class of blocks, in this order.
+// How many times generation is made at most, where its bound isn't that of its columns before.
+const GENERATIONS: u32 = 4;
+
+// By how many units a bound may be below the columns' cost and count as equal.
+const NEAR: i128 = 64;
+
+// How many units one has.
+const UNITS: f64 = 1048576.0;
+
+// No number but 0.
+const NOTHING: Range = Range {
+    lower: 0.0,
+    upper: 0.0,
+};
+
+/// A root: multipliers by row with a great bound, this bound in units, and what the columns come to, where they meet the rows.
 #[derive(Drop)]
 pub struct Root {
     pub mults: Vec<i64>,
     pub bound: i128,
+    pub point: Option<Point>,
+}
+
+/// What columns come to: the values of the variables, and the relaxation over the columns. It has a row for each row of the
+/// model, each cut, each link, and each class of blocks, in this order.
+#[derive(Drop)]
+pub struct Point {
     pub values: Vec<f64>,
     pub relaxation: Relaxation,
 }
@@ -48,7 +71,7 @@ struct Columns<'a> {
     members: &'a [Member<'a>],
 }
 
-/// The root of a program from multipliers by row, or from none. There is none where no point of the columns meets the rows.
+/// The root of a program from multipliers by row, or from none. There is none where a program has no leaf.
 pub fn root_of(alloc: Global, b: &Blocked, mults: Vec<i64>) -> Result<Option<Root>, AllocError> {
     let grove = Grove::plant(alloc, b)?;
     let Some(turn) = grove.take(alloc)? else {
@@ -68,25 +91,52 @@ fn root_at(
 {
     let classes = Classes::of(alloc, b, &turn.zone)?;
     let mut pools = Pools::make(alloc, b)?;
-    let _ = pools.begin(alloc, b)?;
     let mut centre = first_centre(alloc, b, &classes, &mut pools, turn, mults)?;
+    let point = generated(alloc, b, &classes, &turn.zone, &mut pools, &mut centre)?;
+    let Centre { mults, value } = centre;
+    Ok(Some(Root {
+        mults,
+        bound: value,
+        point,
+    }))
+}
+
+// Generates columns from a centre, which becomes that of the best bound. Where generation ends before this bound reaches the cost
+// of its columns, since what it may take is spent, the columns may miss rows, or the bound may be far from what the rows come
+// to: it is made again then, with the columns that there are, from the centre. What the columns come to in the end, where they
+// meet the rows.
+fn generated(
+    alloc: Global,
+    b: &Blocked,
+    classes: &Classes,
+    zone: &Zone,
+    pools: &mut Pools,
+    centre: &mut Centre,
+) -> Result<Option<Point>, AllocError>
+    requires made_for { AreMadeFor b.now pools.old }
+    requires classes { AreSameClasses zone.now b.now.blocking classes.now }
+    requires zone { IsZone b.now.named.program.spans zone.now }
+{
     let effort = Effort {
         known: None,
         with_partitions: true,
     };
-    let Some(master) = generate_columns(
-        alloc,
-        b,
-        &classes,
-        &turn.zone,
-        &mut pools,
-        &mut centre,
-        effort,
-    )?
-    else {
-        return Ok(None);
-    };
-    solved(alloc, b, &classes, &pools, &master, centre)
+    for generation in 1..GENERATIONS + 1 {
+        let _ = pools.begin(alloc, b)?;
+        let Some(master) = generate_columns(alloc, b, classes, zone, pools, centre, effort)? else {
+            return Ok(None);
+        };
+        if generation == GENERATIONS || is_reached(&master, centre) {
+            return solved(alloc, b, classes, pools, &master);
+        }
+    }
+    Ok(None)
+}
+
+// Whether a master meets its rows, and a centre's bound reaches its cost, both rounded up.
+fn is_reached(master: &RestrictedMaster, centre: &Centre) -> bool {
+    let cost = i128::from(saturating_f64_to_i64(master.cost() * UNITS));
+    !master.is_short() && round_up(centre.value) >= round_up(cost.saturating_sub(NEAR))
 }
 
 // The centre that column generation begins from: at multipliers, or where there are none at those of subgradient steps.
@@ -116,15 +166,14 @@ fn first_centre(
     })
 }
 
-// What the columns of a master come to.
+// What the columns of a master come to, where they meet the rows.
 fn solved(
     alloc: Global,
     b: &Blocked,
     classes: &Classes,
     pools: &Pools,
     master: &RestrictedMaster,
-    centre: Centre,
-) -> Result<Option<Root>, AllocError> {
+) -> Result<Option<Point>, AllocError> {
     let members = members_of(alloc, pools, master)?;
     let columns = Columns {
         b,
@@ -136,15 +185,8 @@ fn solved(
     if relaxation.solve()? != End::Optimum {
         return Ok(None);
     }
-    let weights = relaxation.values(alloc)?;
-    let values = columns.values(alloc, weights.as_slice())?;
-    let Centre { mults, value } = centre;
-    Ok(Some(Root {
-        mults,
-        bound: value,
-        values,
-        relaxation,
-    }))
+    let values = columns.values_at(alloc, &relaxation)?;
+    Ok(Some(Point { values, relaxation }))
 }
 
 // The columns of a master.
@@ -170,17 +212,10 @@ fn members_of<'a>(
 impl<'a> Columns<'a> {
     // The relaxation over the columns.
     fn relaxed(&self, alloc: Global) -> Result<Lp, AllocError> {
-        let by_columns = self.by_columns(alloc)?;
+        let spans = self.spans(alloc)?;
+        let costs = self.costs(alloc)?;
         let ranges = self.ranges(alloc)?;
-        let mut spans = Vec::with_capacity(alloc, self.members.len())?;
-        let mut costs = Vec::with_capacity(alloc, self.members.len())?;
-        for member in self.members {
-            spans.push(Range {
-                lower: 0.0,
-                upper: self.many(member.class),
-            })?;
-            costs.push(nearest_i64_to_f64(member.column.cost))?;
-        }
+        let by_columns = self.by_columns(alloc)?;
         Lp::make(
             alloc,
             by_columns,
@@ -188,6 +223,24 @@ impl<'a> Columns<'a> {
             spans.as_slice(),
             costs.as_slice(),
         )
+    }
+
+    // From none of a column to as many as its class has blocks.
+    fn spans(&self, alloc: Global) -> Result<Vec<Range>, AllocError> {
+        let mut spans = Vec::from_elem(alloc, NOTHING, self.members.len())?;
+        for (span, member) in spans.iter_mut().zip(self.members.iter()) {
+            span.upper = self.many(member.class);
+        }
+        Ok(spans)
+    }
+
+    // What the columns cost.
+    fn costs(&self, alloc: Global) -> Result<Vec<f64>, AllocError> {
+        let mut costs = Vec::from_elem(alloc, 0.0, self.members.len())?;
+        for (cost, member) in costs.iter_mut().zip(self.members.iter()) {
+            *cost = nearest_i64_to_f64(member.column.cost);
+        }
+        Ok(costs)
     }
 
     // What each column takes from the rows, and that it is one of its class.
@@ -213,13 +266,16 @@ impl<'a> Columns<'a> {
 
     // The ranges of rows less what blocks of one point take, and how many blocks each class has.
     fn ranges(&self, alloc: Global) -> Result<Vec<Range>, AllocError> {
-        let front = Front::of(self.b);
         let own = relaxation_of(alloc, self.b)?;
-        let nothing = Range {
-            lower: 0.0,
-            upper: 0.0,
-        };
-        let mut ranges = Vec::from_elem(alloc, nothing, own.rows())?;
+        let many = own.rows().saturating_add(self.classes.len() as usize);
+        let mut ranges = Vec::from_elem(alloc, NOTHING, many)?;
+        self.write_ranges(&own, ranges.as_mut_slice());
+        Ok(ranges)
+    }
+
+    // Writes the ranges of rows, which are those of a relaxation less what blocks of one point take, and those of classes.
+    fn write_ranges(&self, own: &Lp, ranges: &mut [Range]) {
+        let front = Front::of(self.b);
         for row in 0..self.b.named_rows() {
             let range = own.range(row as usize);
             let taken = self.taken(row);
@@ -231,12 +287,14 @@ impl<'a> Columns<'a> {
             }
         }
         for class in 0..self.classes.len() {
-            ranges.push(Range {
-                lower: self.many(class),
-                upper: self.many(class),
-            })?;
+            let many = self.many(class);
+            if let Some(kept) = ranges.get_mut(own.rows().saturating_add(class as usize)) {
+                *kept = Range {
+                    lower: many,
+                    upper: many,
+                };
+            }
         }
-        Ok(ranges)
     }
 
     // How many blocks a class has that have more points than one.
@@ -252,15 +310,21 @@ impl<'a> Columns<'a> {
         }
     }
 
-    // The values of the variables' first copies where columns have weights, those of a class dealt out evenly to its blocks.
-    fn values(&self, alloc: Global, weights: &[f64]) -> Result<Vec<f64>, AllocError> {
+    // The values of the variables' first copies where a relaxation gives columns weights, those of a class dealt out evenly to its
+    // blocks.
+    fn values_at(&self, alloc: Global, relaxation: &Relaxation) -> Result<Vec<f64>, AllocError> {
+        let weights = relaxation.values(alloc)?;
         let spans = self.b.model().spans();
-        let mut values = Vec::with_capacity(alloc, spans.len())?;
-        for span in spans {
-            values.push(nearest_i64_to_f64(span.lo))?;
+        let mut values = Vec::from_elem(alloc, 0.0, spans.len())?;
+        for (value, span) in values.iter_mut().zip(spans.iter()) {
+            *value = nearest_i64_to_f64(span.lo);
         }
         for (number, member) in self.members.iter().enumerate() {
-            self.deal_out(member, at(weights, number), values.as_mut_slice());
+            self.deal_out(
+                member,
+                at(weights.as_slice(), number),
+                values.as_mut_slice(),
+            );
         }
         Ok(values)
     }

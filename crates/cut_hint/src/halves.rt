@@ -39,28 +39,53 @@ struct Sum {
 /// Tries halves of rows and of sums of rows.
 pub fn try_halves(alloc: Global, state: &State, trial: &mut Trial) -> Result<(), AllocError> {
     let order = order_of(alloc, state)?;
-    let bits = bits_of(alloc, order.as_slice(), state.above.len())?;
     let near = near_rows(alloc, state)?;
+    let mut sums = sums_of(alloc, state, order.as_slice(), near.as_slice())?;
+    let bits = place(order.len());
+    try_sums(
+        alloc,
+        state,
+        near.as_slice(),
+        sums.as_mut_slice(),
+        bits,
+        trial,
+    )
+}
+
+// Rows as sums of one row each, over the variables in an order.
+fn sums_of(
+    alloc: Global,
+    state: &State,
+    order: &[u32],
+    near: &[u32],
+) -> Result<Vec<Sum>, AllocError> {
+    let bits = bits_of(alloc, order, state.above.len())?;
     let mut sums = Vec::new(alloc);
     for (k, row) in near.iter().enumerate() {
-        let mut sum = sum_of(alloc, state, bits.as_slice(), order.len(), *row)?;
-        sum.rows.resize(words_of(near.len()), 0)?;
+        let mut sum = sum_of(alloc, state, bits.as_slice(), order.len(), near.len(), *row)?;
         turn(sum.rows.as_mut_slice(), place(k));
-        try_sum(alloc, state, near.as_slice(), &sum, trial)?;
         sums.push(sum)?;
     }
-    for bit in 0..place(order.len()) {
+    Ok(sums)
+}
+
+// Tries sums, and takes bit by bit out of all but one.
+fn try_sums(
+    alloc: Global,
+    state: &State,
+    near: &[u32],
+    sums: &mut [Sum],
+    bits: u32,
+    trial: &mut Trial,
+) -> Result<(), AllocError> {
+    for sum in sums.iter() {
+        try_sum(alloc, state, near, sum, trial)?;
+    }
+    for bit in 0..bits {
         if trial.is_spent() {
             break;
         }
-        eliminate(
-            alloc,
-            state,
-            near.as_slice(),
-            sums.as_mut_slice(),
-            bit,
-            trial,
-        )?;
+        eliminate(alloc, state, near, sums, bit, trial)?;
     }
     Ok(())
 }
@@ -74,11 +99,7 @@ fn order_of(alloc: Global, state: &State) -> Result<Vec<u32>, AllocError> {
         }
     }
     order.sort_by_key(|entry| entry.0.saturating_neg())?;
-    let mut vars = Vec::with_capacity(alloc, order.len())?;
-    for entry in &order {
-        vars.push(entry.1)?;
-    }
-    Ok(vars)
+    seconds_of(alloc, order.as_slice())
 }
 
 // The bit of each variable, none where its value is at the lower end of its span.
@@ -104,24 +125,30 @@ fn near_rows(alloc: Global, state: &State) -> Result<Vec<u32>, AllocError> {
     }
     near.sort_by_key(|entry| entry.0)?;
     near.truncate(MOST_SUMS);
-    let mut rows = Vec::new(alloc);
-    for entry in &near {
-        rows.push(entry.1)?;
-    }
-    Ok(rows)
+    seconds_of(alloc, near.as_slice())
 }
 
-// A row as a sum that has no rows yet, over so many variables.
+// The second numbers of pairs.
+fn seconds_of(alloc: Global, pairs: &[(i64, u32)]) -> Result<Vec<u32>, AllocError> {
+    let mut seconds = Vec::from_elem(alloc, 0u32, pairs.len())?;
+    for (second, pair) in seconds.iter_mut().zip(pairs.iter()) {
+        *second = pair.1;
+    }
+    Ok(seconds)
+}
+
+// A row as a sum that has none of so many rows yet, over so many variables.
 fn sum_of(
     alloc: Global,
     state: &State,
     bits: &[u32],
-    many: usize,
+    vars: usize,
+    rows: usize,
     row: u32,
 ) -> Result<Sum, AllocError> {
     let mut sum = Sum {
-        odd: Vec::from_elem(alloc, 0u64, words_of(many))?,
-        rows: Vec::new(alloc),
+        odd: Vec::from_elem(alloc, 0u64, words_of(vars))?,
+        rows: Vec::from_elem(alloc, 0u64, words_of(rows))?,
         is_odd: false,
         slack: NEAR,
         is_spent: false,

@@ -103,15 +103,28 @@ fn try_row(
         for multiple in MULTIPLES {
             for mult in [multiple, multiple.saturating_neg()] {
                 if side.admits(mult) {
-                    trial.clear();
-                    trial.add(state, row, mult)?;
-                    lift(state, equations, *q, trial)?;
-                    trial.judge(alloc, state, *q)?;
+                    try_multiple(alloc, state, equations, row, mult, *q, trial)?;
                 }
             }
         }
     }
     Ok(())
+}
+
+// Tries a multiple of a row over a divisor.
+fn try_multiple(
+    alloc: Global,
+    state: &State,
+    equations: &[Equation],
+    row: u32,
+    mult: i64,
+    q: u32,
+    trial: &mut Trial,
+) -> Result<(), AllocError> {
+    trial.clear();
+    trial.add(state, row, mult)?;
+    lift(state, equations, q, trial)?;
+    trial.judge(alloc, state, q)
 }
 
 // The greatest magnitudes of coefficients of variables that are above the lower ends of their spans.

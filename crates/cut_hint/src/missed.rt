@@ -4,10 +4,11 @@ use crate::halves::try_halves;
 use crate::lifted::try_lifted;
 use crate::relaxation::Relaxation;
 use crate::select::chosen;
-use crate::state::State;
+use crate::state::{Side, State, above_of};
 use crate::tableau::try_tableau;
 use crate::trial::{Found, Trial};
-use bp_theory::{Cut, Items};
+use block_program::Blocked;
+use bp_theory::{Cut, Items, Row};
 use std::alloc::{AllocError, Global};
 
 // The least count of cuts of a round, and its part of all.
@@ -15,8 +16,32 @@ const LEAST_CUTS: usize = 8;
 
 const PART: usize = 6;
 
-/// What the values of a relaxation miss, the most missed first, as many as a round may add where so many may be there in all.
-pub fn search_missed(
+/// What the values of a relaxation miss, of the rows of a program and of cuts with these rows behind them, whose sides are given:
+/// the most missed first, as many as a round may add where so many may be there in all.
+pub fn missed_at(
+    alloc: Global,
+    b: &Blocked,
+    rows: &[Row],
+    relaxation: &Relaxation,
+    values: &[f64],
+    sides: &[Option<Side>],
+    trial: &mut Trial,
+    most: usize,
+) -> Result<Vec<Found>, AllocError> {
+    let model = b.model();
+    let above = above_of(alloc, model.spans(), values)?;
+    let state = State {
+        own: model.all_rows(),
+        cuts: rows,
+        spans: model.spans(),
+        above: above.as_slice(),
+        sides,
+    };
+    search_missed(alloc, relaxation, &state, trial, most)
+}
+
+// What the values of a relaxation miss.
+fn search_missed(
     alloc: Global,
     relaxation: &Relaxation,
     state: &State,

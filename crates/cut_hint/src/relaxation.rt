@@ -103,9 +103,9 @@ impl Relaxation {
 
     /// The values of the variables.
     pub fn values(&self, alloc: Global) -> Result<Vec<f64>, AllocError> {
-        let mut values = Vec::with_capacity(alloc, self.lp.columns())?;
-        for var in 0..self.lp.columns() {
-            values.push(self.lp.value(var))?;
+        let mut values = Vec::from_elem(alloc, 0.0, self.lp.columns())?;
+        for (var, value) in values.iter_mut().enumerate() {
+            *value = self.lp.value(var);
         }
         Ok(values)
     }
@@ -117,23 +117,35 @@ impl Relaxation {
 
     /// The factors of the basis.
     pub fn factored(&self, alloc: Global) -> Result<Factor, AllocError> {
-        let many = self.lp.columns();
-        let mut columns = Vectors::make(alloc);
-        for column in 0..many {
-            columns.push(self.lp.column(column))?;
-        }
-        let mut basis = Vec::with_capacity(alloc, self.lp.rows())?;
-        for basic in self.lp.head() {
-            let index = *basic as usize;
-            basis.push(if index < many {
-                Basic::Column(*basic)
-            } else {
-                Basic::Logical(place(index - many))
-            })?;
-        }
+        let basis = self.basis(alloc)?;
+        let columns = self.columns(alloc)?;
         let mut factor = Factor::make(alloc, place(self.lp.rows()))?;
         let _ = factor.factor(&columns, basis.as_slice())?;
         Ok(factor)
+    }
+
+    // The columns of the variables.
+    fn columns(&self, alloc: Global) -> Result<Vectors, AllocError> {
+        let mut columns = Vectors::make(alloc);
+        for column in 0..self.lp.columns() {
+            columns.push(self.lp.column(column))?;
+        }
+        Ok(columns)
+    }
+
+    // What the basis has.
+    fn basis(&self, alloc: Global) -> Result<Vec<Basic>, AllocError> {
+        let many = self.lp.columns();
+        let mut basis = Vec::from_elem(alloc, Basic::Logical(0), self.lp.rows())?;
+        for (kept, basic) in basis.iter_mut().zip(self.lp.head().iter()) {
+            let index = *basic as usize;
+            *kept = if index < many {
+                Basic::Column(*basic)
+            } else {
+                Basic::Logical(place(index - many))
+            };
+        }
+        Ok(basis)
     }
 
     /// The positions of the basis at which a variable has a value that is to be cut off.

@@ -3,9 +3,9 @@ ghost use Rattle.std.specs.Prelude.{All, OnOk};
 ghost use Rattle.round_sums.specs.Cutting.{IsEarlierCut};
 
 use crate::bind::{Front, Made, bound_cuts};
-use crate::missed::{numbered, search_missed};
+use crate::missed::{missed_at, numbered};
 use crate::relaxation::Relaxation;
-use crate::state::{State, above_of, sides_of};
+use crate::state::sides_of;
 use crate::trial::{Found, Trial};
 use block_program::Blocked;
 use bp_theory::{Cut, Row};
@@ -98,18 +98,19 @@ impl Rounds {
         b: &Blocked,
         rows: &[Row],
     ) -> Result<Vec<Found>, AllocError> {
-        let model = b.model();
         let values = self.relaxation.values(alloc)?;
-        let above = above_of(alloc, model.spans(), values.as_slice())?;
-        let sides = sides_of(alloc, model.all_rows(), rows, values.as_slice())?;
-        let state = State {
-            own: model.all_rows(),
-            cuts: rows,
-            spans: model.spans(),
-            above: above.as_slice(),
-            sides: sides.as_slice(),
-        };
-        search_missed(alloc, &self.relaxation, &state, &mut self.trial, self.most)
+        let values = values.as_slice();
+        let sides = sides_of(alloc, b.model().all_rows(), rows, values)?;
+        missed_at(
+            alloc,
+            b,
+            rows,
+            &self.relaxation,
+            values,
+            sides.as_slice(),
+            &mut self.trial,
+            self.most,
+        )
     }
 
     // Takes a cut with its row.
@@ -144,6 +145,19 @@ pub fn search_cuts(
 {
     let mut rows = rows;
     let mut rounds = Rounds::make(alloc, b, most)?;
+    let end = make_rounds(alloc, b, &mut rows, &mut rounds)?;
+    rounds.wanted(alloc, end)
+}
+
+// Makes rounds behind the rows of cuts while the bound rises; how the last solution ended.
+fn make_rounds(
+    alloc: Global,
+    b: &Blocked,
+    rows: &mut Vec<Row>,
+    rounds: &mut Rounds,
+) -> Result<End, AllocError>
+    requires { All (IsEarlierCut b.now.named.program) rows.old.items }
+{
     let mut end = rounds.relaxation.solve()?;
     let mut rise = Rise::make(rounds.relaxation.objective());
     for _ in 0..ROUNDS {
@@ -151,7 +165,7 @@ pub fn search_cuts(
             break;
         }
         let found = rounds.found(alloc, b, rows.as_slice())?;
-        if !take_cuts(alloc, b, &mut rows, &mut rounds, found)? {
+        if !take_cuts(alloc, b, rows, rounds, found)? {
             break;
         }
         end = rounds.relaxation.solve()?;
@@ -159,7 +173,7 @@ pub fn search_cuts(
             break;
         }
     }
-    rounds.wanted(alloc, end)
+    Ok(end)
 }
 
 // Takes the cuts of a round that keep the rules; whether there is one.
@@ -175,12 +189,29 @@ fn take_cuts(
 {
     let mut is_taken = false;
     for one in found {
-        let cut = numbered(alloc, rounds.front, &one)?;
-        if let Some(row) = row_of_cut(alloc, b, rows.as_slice(), &cut)? {
-            rounds.take(alloc, &row, one)?;
-            rows.push(row)?;
+        if take_cut(alloc, b, rows, rounds, one)? {
             is_taken = true;
         }
     }
     Ok(is_taken)
+}
+
+// Takes a cut where it keeps the rules; whether it does.
+fn take_cut(
+    alloc: Global,
+    b: &Blocked,
+    rows: &mut Vec<Row>,
+    rounds: &mut Rounds,
+    one: Found,
+) -> Result<bool, AllocError>
+    requires { All (IsEarlierCut b.now.named.program) rows.old.items }
+    ensures { OnOk result (All (IsEarlierCut b.now.named.program) rows.new.items) }
+{
+    let cut = numbered(alloc, rounds.front, &one)?;
+    let Some(row) = row_of_cut(alloc, b, rows.as_slice(), &cut)? else {
+        return Ok(false);
+    };
+    rounds.take(alloc, &row, one)?;
+    rows.push(row)?;
+    Ok(true)
 }

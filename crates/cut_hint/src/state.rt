@@ -2,7 +2,7 @@
 use crate::numbers::low_at;
 use block_program::Blocked;
 use bp_theory::{Row, Sense, Span};
-use lp_factor::{at, place};
+use lp_factor::{at, place, put};
 use std::alloc::{AllocError, Global};
 use std::num::nearest_i64_to_f64;
 
@@ -81,28 +81,35 @@ impl<'a> State<'a> {
 
 /// How far values are above the lower ends of spans.
 pub fn above_of(alloc: Global, spans: &[Span], values: &[f64]) -> Result<Vec<f64>, AllocError> {
-    let mut above = Vec::with_capacity(alloc, spans.len())?;
+    let mut above = Vec::from_elem(alloc, 0.0, spans.len())?;
     for (var, span) in spans.iter().enumerate() {
-        above.push(at(values, var) - nearest_i64_to_f64(span.lo))?;
+        let number = at(values, var) - nearest_i64_to_f64(span.lo);
+        put(above.as_mut_slice(), var, number);
     }
     Ok(above)
 }
 
-/// The sides of rows at values.
+/// The sides of rows, and of rows of cuts behind them, at values.
 pub fn sides_of(
     alloc: Global,
     own: &[Row],
     cuts: &[Row],
     values: &[f64],
 ) -> Result<Vec<Option<Side>>, AllocError> {
-    let mut sides = Vec::with_capacity(alloc, own.len())?;
-    for row in own {
-        sides.push(Some(side_of(row, values)))?;
-    }
-    for row in cuts {
-        sides.push(Some(side_of(row, values)))?;
-    }
+    let many = own.len().saturating_add(cuts.len());
+    let mut sides = Vec::from_elem(alloc, None, many)?;
+    write_sides(sides.as_mut_slice(), 0, own, values);
+    write_sides(sides.as_mut_slice(), own.len(), cuts, values);
     Ok(sides)
+}
+
+// Writes the sides of rows at values from a place on.
+fn write_sides(sides: &mut [Option<Side>], first: usize, rows: &[Row], values: &[f64]) {
+    for (number, row) in rows.iter().enumerate() {
+        if let Some(side) = sides.get_mut(first.saturating_add(number)) {
+            *side = Some(side_of(row, values));
+        }
+    }
 }
 
 /// The sides of the rows that cuts may combine at values, none for rows in blocks, and of rows of cuts behind them.
@@ -112,17 +119,13 @@ pub fn master_sides(
     cuts: &[Row],
     values: &[f64],
 ) -> Result<Vec<Option<Side>>, AllocError> {
-    let mut sides = Vec::new(alloc);
-    for (number, row) in b.model().all_rows().iter().enumerate() {
-        let is_named = b.master_row(place(number)).is_some();
-        sides.push(if is_named {
-            Some(side_of(row, values))
-        } else {
-            None
-        })?;
-    }
-    for row in cuts {
-        sides.push(Some(side_of(row, values)))?;
+    let mut sides = sides_of(alloc, b.model().all_rows(), cuts, values)?;
+    for number in 0..b.model().rows() {
+        if b.master_row(number).is_none() {
+            if let Some(side) = sides.get_mut(number as usize) {
+                *side = None;
+            }
+        }
     }
     Ok(sides)
 }

@@ -54,11 +54,22 @@ pub fn try_tableau(
         factor.btran(row.as_mut_slice());
         trial.spend(row.len());
         for sign in [1.0, -1.0] {
-            let parts = parts_of(alloc, row.as_slice(), sign)?;
-            try_parts(alloc, parts.as_slice(), state, trial)?;
+            try_signed(alloc, row.as_slice(), sign, state, trial)?;
         }
     }
     Ok(())
+}
+
+// Tries a row of the inverse times a sign.
+fn try_signed(
+    alloc: Global,
+    row: &[f64],
+    sign: f64,
+    state: &State,
+    trial: &mut Trial,
+) -> Result<(), AllocError> {
+    let parts = parts_of(alloc, row, sign)?;
+    try_parts(alloc, parts.as_slice(), state, trial)
 }
 
 // What the numbers of a row are above whole numbers, where that isn't nothing.

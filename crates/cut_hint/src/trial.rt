@@ -143,15 +143,8 @@ impl Trial {
 
     // Keeps the combination divided by a divisor.
     fn keep(&mut self, alloc: Global, q: u32, score: &Score) -> Result<(), AllocError> {
-        let mut coefs = Vec::new(alloc);
-        for var in &self.touched {
-            let coef = rounded_up(whole_at(self.sums.as_slice(), *var), q);
-            if coef != 0 {
-                coefs.push((*var, coef))?;
-            }
-        }
-        let mut mults = self.mults.as_slice().to_vec(alloc)?;
-        mults.sort_by_key(|mult| mult.0)?;
+        let mults = self.sorted_mults(alloc)?;
+        let coefs = self.coefs(alloc, q)?;
         self.found.push(Found {
             mults,
             q,
@@ -160,6 +153,25 @@ impl Trial {
             key: saturating_f64_to_i64(score.violation * UNIT),
         })?;
         Ok(())
+    }
+
+    // The multipliers in order of rows.
+    fn sorted_mults(&self, alloc: Global) -> Result<Vec<(u32, i64)>, AllocError> {
+        let mut mults = self.mults.as_slice().to_vec(alloc)?;
+        mults.sort_by_key(|mult| mult.0)?;
+        Ok(mults)
+    }
+
+    // The coefficients that aren't 0 of the combination divided by a divisor.
+    fn coefs(&self, alloc: Global, q: u32) -> Result<Vec<(u32, i64)>, AllocError> {
+        let mut coefs = Vec::new(alloc);
+        for var in &self.touched {
+            let coef = rounded_up(whole_at(self.sums.as_slice(), *var), q);
+            if coef != 0 {
+                coefs.push((*var, coef))?;
+            }
+        }
+        Ok(coefs)
     }
 
     /// What was found, the most missed first.
