@@ -101,7 +101,6 @@ pub fn settle_rest(
     let inner = Classes::of(alloc, b, &left)?;
     let mut mults = Vec::from_elem(alloc, 0i64, b.named_rows() as usize)?;
     let mut point = Vec::from_elem(alloc, 0i64, b.model().vars() as usize)?;
-    let mut is_open = true;
     for _ in 0..rounds {
         let mults = mults.as_mut_slice();
         let point = point.as_mut_slice();
@@ -109,14 +108,11 @@ pub fn settle_rest(
             alloc, b, classes, &inner, &left, pools, master, known, dive, mults, point,
         )? {
             Rest::On => {}
-            Rest::Settled => break,
-            Rest::Given => {
-                is_open = false;
-                break;
-            }
+            Rest::Settled => return Ok(true),
+            Rest::Given => return Ok(false),
         }
     }
-    Ok(is_open)
+    Ok(true)
 }
 
 // What a round on what is left comes to: it is given up, no column is new, or there may be more.

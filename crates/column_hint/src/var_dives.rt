@@ -104,8 +104,11 @@ fn raise_all(
             dive,
             &mut raised,
         )?;
-        if !is_open || !settle_rest(alloc, b, classes, zone, pools, master, known, dive, ROUNDS)? {
-            break;
+        if !is_open {
+            return Ok(raised);
+        }
+        if !settle_rest(alloc, b, classes, zone, pools, master, known, dive, ROUNDS)? {
+            return Ok(None);
         }
         seed = next_seed(seed);
     }
