@@ -135,8 +135,8 @@ writers_end Right Wanting told name before now reads reads_now writes writes_now
 -- ---- a text
 
 -- a write that failed
-pub text_unwritten : {T : Type 0} (told : Bool) (name text bytes : List ℕ) (before now : Files) (writes writes_now : ℕ) (reply : Reply) (fault : ShelfFault)
-    → (IsTrue told → Writes name bytes before now (Err fault)) → CountsFailed {T} writes writes_now (Err fault)
+pub text_unwritten : (told : Bool) (name text bytes : List ℕ) (before now : Files) (writes writes_now : ℕ) (reply : Reply) (fault : ShelfFault)
+    → (IsTrue told → Writes name bytes before now (Err fault)) → CountsFailed {T = Unit {0}} writes writes_now (Err fault)
     → WritesText told name text before now writes writes_now reply (Err (write_status_of fault))
 text_unwritten told name text bytes before now writes writes_now reply Missing files counted = endings.wanting files counted
 text_unwritten told name text bytes before now writes writes_now reply Failed files counted = endings.unwritten files counted.1
@@ -145,15 +145,15 @@ text_unwritten told name text bytes before now writes writes_now reply NoMemory 
 -- ---- a draft
 
 -- what a run came to that was halted before it wrote, and left all as before
-pub halt_comes : {T : Type 0} (Right : Answer → Type 0) (Wanting : Type 0) (told : Bool) (name : List ℕ) (before now : Files) (reads between reads_now writes writes_now : ℕ) (halt : Halt)
-    → (now ≡ before → Wanting) → (IsTrue told → IsHalt Right halt) → CountsHalted {T} reads between (Err halt) → reads_now ≡ between → now ≡ before → writes_now ≡ writes
+pub halt_comes : (T : Type 0) (Right : Answer → Type 0) (Wanting : Type 0) (told : Bool) (name : List ℕ) (before now : Files) (reads between reads_now writes writes_now : ℕ) (halt : Halt)
+    → (now ≡ before → Wanting) → (IsTrue told → IsHalt Right halt) → CountsHalted {T = T} reads between (Err halt) → reads_now ≡ between → now ≡ before → writes_now ≡ writes
     → WriterComes Right Wanting told name before now reads reads_now writes writes_now (come_of (Err halt))
-halt_comes Right Wanting told name before now reads between reads_now writes writes_now (Refused report) whole halts counted r same w =
+halt_comes T Right Wanting told name before now reads between reads_now writes writes_now (Refused report) whole halts counted r same w =
     replied (record { status = 3; report = report }) (inr (inl refl)) (λ is_told. record { text = None; right = halts is_told; stands = same }) (r ∙ counted) w
-halt_comes Right Wanting told name before now reads between reads_now writes writes_now (Stopped Missing) whole halts counted r same w = missing halts (λ is_told. same) (r ∙ counted) w
-halt_comes Right Wanting told name before now reads between reads_now writes writes_now (Stopped Failed) whole halts counted r same w =
+halt_comes T Right Wanting told name before now reads between reads_now writes writes_now (Stopped Missing) whole halts counted r same w = missing halts (λ is_told. same) (r ∙ counted) w
+halt_comes T Right Wanting told name before now reads between reads_now writes writes_now (Stopped Failed) whole halts counted r same w =
     unread (λ is_told. same) (subst (λ (n : ℕ). Rose reads n) (sym r) counted.1) w
-halt_comes Right Wanting told name before now reads between reads_now writes writes_now (Stopped NoMemory) whole halts counted r same w = wanting (λ is_told. whole same) (r ∙ counted) w
+halt_comes T Right Wanting told name before now reads between reads_now writes writes_now (Stopped NoMemory) whole halts counted r same w = wanting (λ is_told. whole same) (r ∙ counted) w
 
 -- what a run came to that wrote a draft
 pub text_comes : (Right : Answer → Type 0) (told : Bool) (name : List ℕ) (before now : Files) (reads reads_now writes writes_now : ℕ) (d : Draft) (come : Result Reply ℕ)
@@ -173,7 +173,7 @@ draft_comes_by Right told name before now reads between reads_now writes writes_
     text_comes Right told name before now reads reads_now writes writes_now d come right done (same ∙ counted) ends
 draft_comes_by Right told name before now reads between reads_now writes writes_now (Err halt) come right done halts counted same ends =
     subst (λ (c : Result Reply ℕ). WriterComes Right (now ≡ before) told name before now reads reads_now writes writes_now c) (sym ends.0)
-    (halt_comes Right (now ≡ before) told name before now reads between reads_now writes writes_now halt (λ e. e) halts counted same ends.1 ends.2)
+    (halt_comes Draft Right (now ≡ before) told name before now reads between reads_now writes writes_now halt (λ e. e) halts counted same ends.1 ends.2)
 
 -- what a run came to that wrote a draft, or was halted before it had one: reading the files left all as before
 pub draft_comes : (Right : Answer → Type 0) (told told_then : Bool) (name : List ℕ) (before files now : Files) (reads between reads_now writes writes_then writes_now : ℕ)

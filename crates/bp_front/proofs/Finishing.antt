@@ -152,9 +152,9 @@ finish_causes come reads reads_now writes writes_now status tells before now fau
 }
 
 -- the status of a run, and what it put and printed under which
-record IsQuiet (status puts puts_now : ℕ) (before now : List ℕ) : Type 0 where
+record IsQuiet (status count count_now : ℕ) (before now : List ℕ) : Type 0 where
   pub words : status ≢ 2
-  pub puts : PutsReport status puts puts_now
+  pub puts : PutsReport status count count_now
   pub silent : (status ≡ 7) ⊎ (status ≡ 9) ⊎ (status ≡ 11) → now ≡ before
 
 finish_quiet : (come : Result Reply ℕ) (reads reads_now writes writes_now status : ℕ) (tells : Bool) (before now : List ℕ) (faults faults_now puts puts_now : ℕ)
@@ -245,12 +245,12 @@ finish_cut Right come reads reads_now writes writes_now status tells before now 
 
 -- the clauses of a command, whose files are told or not
 pub record HasEnd (Right : ℕ → List ℕ → Type 0) (told : Bool) (reads reads_now writes writes_now status : ℕ) (tells : Bool) (before now : List ℕ)
-    (faults faults_now puts puts_now : ℕ) : Type 0 where
+    (faults faults_now count count_now : ℕ) : Type 0 where
   pub answered : IsTrue told → AnswersBy Right status tells before now
   pub exact : IsTrue told → IsOnly Right status
   pub causes : HasCauses status reads reads_now writes writes_now faults faults_now
   pub words : status ≢ 2
-  pub puts : PutsReport status puts puts_now
+  pub puts : PutsReport status count count_now
   pub silent : (status ≡ 7) ⊎ (status ≡ 9) ⊎ (status ≡ 11) → now ≡ before
   pub cut_off : IsTrue told → IsTrue tells → CutsOff (λ (kept : Option Outcome). Right) status before now
 

@@ -92,7 +92,7 @@ reply_right files lp dec Stops Right b (Err (Stopped Failed)) come right = tt
 reply_right files lp dec Stops Right b (Err (Stopped NoMemory)) come right = tt
 
 -- a read that failed halts a run
-pub counts_halt : {T U : Type 0} (fault : ShelfFault) (before now : ℕ) → CountsFailed {T} before now (Err fault) → CountsHalted {U} before now (Err (Stopped fault))
-counts_halt Missing before now counts = counts
-counts_halt Failed before now counts = counts
-counts_halt NoMemory before now counts = counts
+pub counts_halt : (T U : Type 0) (fault : ShelfFault) (before now : ℕ) → CountsFailed {T = T} before now (Err fault) → CountsHalted {T = U} before now (Err (Stopped fault))
+counts_halt T U Missing before now counts = counts
+counts_halt T U Failed before now counts = counts
+counts_halt T U NoMemory before now counts = counts

@@ -56,6 +56,15 @@ front_ends told file b visits checker at there ends h = record {
   there = λ is_told. whole_front file h.text at (there is_told) (h.front is_told) (ends is_told);
 }
 
+ends_later : (file : Option (List ℕ)) (at count : ℕ) → IfSome file (λ all. length all ≤ at) → IfSome file (λ all. length all ≤ at + count)
+ends_later None at count ends = tt
+ends_later (Some all) at count ends = omega (arith, ends)
+
+-- at the file's end, behind a piece that was read there
+pub front_read_ends : (told : Bool) (file : Option (List ℕ)) (b : BlockedProgram) (visits : Option ℕ) (checker : Checker) (at count : ℕ) → (IsTrue told → IsSome file)
+    → (IsTrue told → IfSome file (λ all. length all ≤ at)) → StandsForFront told file b visits checker (at + count) → StandsForFile told file b visits checker
+front_read_ends told file b visits checker at count there ends h = front_ends told file b visits checker (at + count) there (λ is_told. ends_later file at count (ends is_told)) h
+
 -- at a fault, which no further bytes can mend
 pub front_stops : (told : Bool) (file : Option (List ℕ)) (b : BlockedProgram) (visits : Option ℕ) (checker : Checker) (at : ℕ) (fault : FeedFault) → checker.fault ≡ Some fault
     → (IsTrue told → IsSome file) → StandsForFront told file b visits checker at → StandsForFile told file b visits checker

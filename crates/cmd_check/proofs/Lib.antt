@@ -1,5 +1,4 @@
 pub mod Certificates
 pub mod OneAnswer
 pub mod Replies
-pub mod Printed
 pub mod Fronts

@@ -1,6 +1,5 @@
 -- A program in blocks is answered by one status.
 use Rattle.std.proofs.Common.{◌≡◌, refl, ◌∙◌, sym, subst, ℕ, Bool, List, [], Option, Some, None, Result, Err}
-use Rattle.std.proofs.lemmas.List.{append-nil}
 use Rattle.bp_theory.specs.Claims.{Certificate, IsCertified}
 use Rattle.bp_theory.specs.Judgement.{IsFirstFault, HasItsPoint, named_value}
 use Rattle.bp_theory.specs.declared.CheckKind.{CheckKind}
@@ -8,8 +7,10 @@ use Rattle.bp_theory.proofs.JudgeProof.{judged_lem}
 use Rattle.bp_shelf.specs.Shelf.{Files}
 use Rattle.bp_shelf.specs.declared.shelf.ShelfFault.{ShelfFault}
 use Rattle.bp_shelf.specs.declared.shelf.ShelfFault.TheVariants.{Missing, Failed, NoMemory}
-use Rattle.bp_front.specs.Answers.{AnswersBy, IsOnly}
-use Rattle.bp_front.specs.Endings.{status_of}
+use Rattle.bp_front.specs.Endings.{IsRightReply}
+use Rattle.bp_front.specs.declared.front.Halt.TheVariants.{Stopped}
+use Rattle.bp_front.proofs.Finishing.{HasOneReply}
+use Rattle.bp_front.proofs.Lifts.{one_reply}
 use Rattle.block_program.specs.Blocked.{BlockedProgram}
 use Rattle.cert_form.specs.Fault.{IsCertText}
 use Rattle.cert_form.specs.Fault as texts
@@ -17,7 +18,7 @@ use Rattle.cert_form.specs.Written.{cert_of}
 use Rattle.cert_text.specs.Programs.{frame_for}
 use Rattle.cert_form.specs.declared.fault.CertKind.{CertKind}
 use Rattle.cert_form.proofs.LawProofs.{certificates_are_one, certificates_are_faultless}
-use Rattle.cmd_check.specs.Checks.{ChecksBlocked, ChecksWithin, ChecksVisiting, missing, faulty, accepted, rejected, unknown, known}
+use Rattle.cmd_check.specs.Checks.{ChecksBlocked, ChecksWithin, ChecksVisiting, AnswersCheck, missing, faulty, accepted, rejected, unknown, known}
 use Rattle.cmd_check.proofs.Certificates.{one_written, fitting_point}
 
 pub one_text : (file : Option (List ℕ)) (t u : List ℕ) → file ≡ Some t → file ≡ Some u → t ≡ u
@@ -74,38 +75,27 @@ one_within most files cert b s t r q (known none right) (unknown line at is _) =
 one_within most files cert b s t r q (known none right) (known none' right') = one_check files cert b s t r q right right'
 
 -- whether a number of visits is given or not
-pub one_visiting : (visits : Option ℕ) (files : Files) (cert : List ℕ) (b : BlockedProgram) (s t : ℕ) (r q : List ℕ)
+one_visiting : (visits : Option ℕ) (files : Files) (cert : List ℕ) (b : BlockedProgram) (s t : ℕ) (r q : List ℕ)
     → ChecksVisiting visits files cert b s r → ChecksVisiting visits files cert b t q → s ≡ t
 one_visiting None files cert b s t r q right right' = one_check files cert b s t r q right right'
 one_visiting (Some most) files cert b s t r q right right' = one_within most files cert b s t r q right right'
 
 -- a file that isn't there
-pub missing_visiting : (visits : Option ℕ) (files : Files) (cert : List ℕ) (b : BlockedProgram) → files cert ≡ None → ChecksVisiting visits files cert b 11 []
+missing_visiting : (visits : Option ℕ) (files : Files) (cert : List ℕ) (b : BlockedProgram) → files cert ≡ None → ChecksVisiting visits files cert b 11 []
 missing_visiting None files cert b gone = missing gone refl refl
 missing_visiting (Some most) files cert b gone = known (λ line at. no_text (files cert) at.text gone at.there) (missing gone refl refl)
-
-pub missing_only : (visits : Option ℕ) (files : Files) (cert : List ℕ) (b : BlockedProgram) (t : ℕ) (q : List ℕ) → files cert ≡ None
-    → ChecksVisiting visits files cert b t q → 11 ≡ t
-missing_only visits files cert b t q gone right = one_visiting visits files cert b 11 t [] q (missing_visiting visits files cert b gone) right
 
 -- a fault as an error
 pub as_missing : {T : Type 0} (fault : ShelfFault) → fault ≡ Missing → ◌≡◌ {A = Result T ShelfFault} (Err fault) (Err Missing)
 as_missing {T} fault is = subst (λ (f : ShelfFault). ◌≡◌ {A = Result T ShelfFault} (Err fault) (Err f)) is refl
 
 -- a file that could not be had: it isn't there, or it could not be read, or memory was wanting
-pub stop_answers : (visits : Option ℕ) (files : Files) (cert : List ℕ) (b : BlockedProgram) (fault : ShelfFault) (status : ℕ) (tells : Bool) (bytes : List ℕ)
-    → (fault ≡ Missing → files cert ≡ None) → status ≡ status_of fault → AnswersBy (ChecksVisiting visits files cert b) status tells bytes bytes
-stop_answers visits files cert b Missing status tells bytes gone is = λ no_read no_write no_want. (
-  [],
-  subst (λ (s : ℕ). ChecksVisiting visits files cert b s []) (sym is) (missing_visiting visits files cert b (gone refl)),
-  λ told. sym (append-nil bytes),
-)
-stop_answers visits files cert b Failed status tells bytes gone is = λ no_read no_write no_want. absurd (no_read is)
-stop_answers visits files cert b NoMemory status tells bytes gone is = λ no_read no_write no_want. absurd (no_want is)
+pub fault_right : (visits : Option ℕ) (files : Files) (cert : List ℕ) (b : BlockedProgram) (fault : ShelfFault) → (fault ≡ Missing → files cert ≡ None)
+    → IsRightReply (ChecksVisiting visits files cert b) (Err (Stopped fault))
+fault_right visits files cert b Missing gone = missing_visiting visits files cert b (gone refl)
+fault_right visits files cert b Failed gone = tt
+fault_right visits files cert b NoMemory gone = tt
 
-pub stop_only : (visits : Option ℕ) (files : Files) (cert : List ℕ) (b : BlockedProgram) (fault : ShelfFault) (status : ℕ) → (fault ≡ Missing → files cert ≡ None)
-    → status ≡ status_of fault → IsOnly (ChecksVisiting visits files cert b) status
-stop_only visits files cert b Missing status gone is = λ no_read no_write no_want meant report right.
-    is ∙ missing_only visits files cert b meant report (gone refl) right
-stop_only visits files cert b Failed status gone is = λ no_read no_write no_want. absurd (no_read is)
-stop_only visits files cert b NoMemory status gone is = λ no_read no_write no_want. absurd (no_want is)
+-- the files are answered by one status
+pub one_answer : (files : Files) (lp cert : List ℕ) (dec : Option (List ℕ)) (visits : Option ℕ) → HasOneReply (AnswersCheck files lp cert dec visits)
+one_answer files lp cert dec visits = one_reply files lp dec (Unit {0}) (ChecksVisiting visits files cert) (λ b s t r q right right'. one_visiting visits files cert b s t r q right right')

@@ -1,5 +1,5 @@
 -- The replies of `check`.
-use Rattle.std.specs.Prelude.{◌≡◌, ◌⊎◌, ℕ, Bool, IsTrue, List, take, length, Option, Some, IfSome}
+use Rattle.std.specs.Prelude.{◌≡◌, ℕ, Bool, IsTrue, List, take, length, Option, Some, IfSome}
 use Rattle.bp_shelf.specs.Shelf.{Files}
 use Rattle.block_program.specs.Blocked.{BlockedProgram}
 use Rattle.cert_check.specs.declared.judge.Judged.{Judged}
@@ -30,10 +30,6 @@ pub record StandsForFront (told : Bool) (file : Option (List ℕ)) (b : BlockedP
   pub stands : ChecksFor b visits checker text
   pub size : length text ≡ count
   pub front : IsTrue told → IfSome file (λ all. text ≡ take count all)
-
--- the statuses of replies: accepted, refused, rejected or unknown
-abbrev pub IsCheckStatus : ℕ → Type 0
-IsCheckStatus status = (status ≡ 0) ⊎ (status ≡ 3) ⊎ (status ≡ 6) ⊎ (status ≡ 10)
 
 -- the status of a judged certificate: accepted, rejected or unknown
 abbrev pub judged_status : Judged → ℕ

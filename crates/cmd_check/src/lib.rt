@@ -7,13 +7,15 @@ ghost use Rattle.std.specs.Option.{option_map};
 ghost use Rattle.bp_shelf.specs.Shelf.{CountsFailed, file_limit};
 ghost use Rattle.bp_shelf.specs.declared.shelf.ShelfFault.TheVariants.{Missing};
 ghost use Rattle.bp_front.specs.Answers.{AnswersBy, IsOnly, CutsOff, HasCauses, PutsReport, IsUnput};
+ghost use Rattle.bp_front.specs.Endings.{IsReplyStatus, IsRightReply};
+ghost use Rattle.bp_front.specs.Halts.{CountsHalted};
 ghost use Rattle.cmd_check.specs.Checks.{AnswersCheck, ChecksVisiting};
 ghost use Rattle.block_program.specs.Blocked.{BlockedProgram};
 ghost use Rattle.cert_stream.specs.Checks.{IsMadeFor, ChecksFor};
-ghost use Rattle.cmd_check.specs.Replies.{IsCheckStatus, IsReplyTo, RepliesFrom, StandsForFile, StandsForFront, TellsJudged};
+ghost use Rattle.cmd_check.specs.Replies.{IsReplyTo, StandsForFile, StandsForFront, TellsJudged};
 
 use block_program::Blocked;
-use bp_front::{Ended, Halt, Reply, load, print, stopped_by};
+use bp_front::{Ended, Halt, Reply, finish, load, reply_or_status};
 use bp_report::cert_text;
 use bp_shelf::{Shelf, ShelfFault, Sink};
 use cert_check::Judged;
@@ -65,75 +67,64 @@ pub fn check<F: Shelf, O: Sink>(
         CutsOff (λ kept. AnswersCheck (F.file shelf.old) lp.now cert.now (option_map
         (λ name. name.now) dec.entry) visits) result.status (O.taken out.old) (O.taken out.new) }
 {
-    match load(alloc, shelf, lp, dec) {
-        Ok(b) => check_blocks(alloc, shelf, out, &b, cert, visits),
-        Err(Halt::Refused(report)) => print(alloc, out, &Reply { status: 3, report }, None),
-        Err(Halt::Stopped(fault)) => stopped_by(alloc, fault),
-    }
+    let answer = checked(alloc, shelf, lp, cert, dec, visits);
+    finish(alloc, out, reply_or_status(answer))
 }
 
-// Checks the certificate of a file against a program in blocks, and prints what it is judged to be.
-fn check_blocks<F: Shelf, O: Sink>(
+// The reply to the certificate of a file beside a model's, or what a run ends with before it.
+fn checked<F: Shelf>(
     alloc: Global,
     shelf: &mut F,
-    out: &mut O,
-    b: &Blocked,
+    lp: &str,
     cert: &str,
+    dec: Option<&str>,
     visits: Option<u64>,
-) -> Ended
-    requires uncut { b.now.cuts ≡ [] }
-    ensures answered { IsTrue (F.tells shelf.old) →
-        AnswersBy (ChecksVisiting visits (F.file shelf.old) cert.now b.now) result.status
-        (O.tells out.old) (O.taken out.old) (O.taken out.new) }
-    ensures exact { IsTrue (F.tells shelf.old) →
-        IsOnly (ChecksVisiting visits (F.file shelf.old) cert.now b.now) result.status }
-    ensures causes { HasCauses result.status (F.read_faults shelf.old) (F.read_faults shelf.new)
-        (F.write_faults shelf.old) (F.write_faults shelf.new) (O.faults out.old)
-        (O.faults out.new) }
-    ensures kept { result.kept ≡ None }
-    ensures events { result.events.items ≡ [] }
-    ensures words { result.status ≢ 2 }
+) -> Result<Reply, Halt>
+    ensures right { IsTrue (F.tells shelf.old) →
+        IsRightReply (AnswersCheck (F.file shelf.old) lp.now cert.now (option_map
+        (λ name. name.now) dec.entry) visits) result }
+    ensures statuses { IfOk result (λ reply. IsReplyStatus reply.status) }
     ensures files { F.file shelf.new ≡ F.file shelf.old }
+    ensures cause { CountsHalted (F.read_faults shelf.old) (F.read_faults shelf.new) result }
     ensures writes { F.write_faults shelf.new ≡ F.write_faults shelf.old }
-    ensures silent { (result.status ≡ 7) ⊎ (result.status ≡ 9) ⊎ (result.status ≡ 11) →
-        O.taken out.new ≡ O.taken out.old }
-    ensures puts { PutsReport result.status (O.puts out.old) (O.puts out.new) }
-    ensures failed { result.status ≡ 8 →
-        IsUnput (F.file shelf.new ≡ F.file shelf.old) (F.write_faults shelf.old)
-        (F.write_faults shelf.new) (O.faults out.old) (O.faults out.new) (O.puts out.old)
-        (O.puts out.new) }
-    ensures cut_off { IsTrue (F.tells shelf.old) → IsTrue (O.tells out.old) →
-        CutsOff (λ kept. ChecksVisiting visits (F.file shelf.old) cert.now b.now) result.status
-        (O.taken out.old) (O.taken out.new) }
 {
-    match judged_file(alloc, shelf, b, cert, visits) {
-        Ok(reply) => print(alloc, out, &reply, None),
-        Err(fault) => stopped_by(alloc, fault),
+    match load(alloc, shelf, lp, dec) {
+        Ok(b) => judged_file(alloc, shelf, &b, cert, visits),
+        Err(halt) => Err(halt),
     }
 }
 
-// Judges the certificate of a file.
+// The reply to the certificate of a file beside a program in blocks, or what a run ends with before it.
 fn judged_file<F: Shelf>(
     alloc: Global,
     shelf: &mut F,
     b: &Blocked,
     cert: &str,
     visits: Option<u64>,
-) -> Result<Reply, ShelfFault>
+) -> Result<Reply, Halt>
     requires uncut { b.now.cuts ≡ [] }
     ensures right { IsTrue (F.tells shelf.old) →
-        IfOk result (RepliesFrom visits (F.file shelf.old) cert.now b.now) }
-    ensures statuses { IfOk result (λ reply. IsCheckStatus reply.status) }
-    ensures missing { IsTrue (F.tells shelf.old) → IsErrOf result ShelfFault.Missing →
-        F.file shelf.old cert.now ≡ None }
+        IsRightReply (ChecksVisiting visits (F.file shelf.old) cert.now b.now) result }
+    ensures statuses { IfOk result (λ reply. IsReplyStatus reply.status) }
     ensures files { F.file shelf.new ≡ F.file shelf.old }
-    ensures cause { CountsFailed (F.read_faults shelf.old) (F.read_faults shelf.new) result }
+    ensures cause { CountsHalted (F.read_faults shelf.old) (F.read_faults shelf.new) result }
     ensures writes { F.write_faults shelf.new ≡ F.write_faults shelf.old }
 {
-    let mut checker = Checker::make(alloc, b, visits)?;
-    let mut buffer = buffer_of(alloc, BUFFER)?;
-    feed_file(alloc, shelf, b, cert, &mut checker, &mut buffer)?;
-    Ok(reply_of(alloc, checker)?)
+    let Ok(made) = buffer_of(alloc, BUFFER) else {
+        return Err(Halt::Stopped(ShelfFault::NoMemory));
+    };
+    let mut buffer = made;
+    let Ok(fresh) = Checker::make(alloc, b, visits) else {
+        return Err(Halt::Stopped(ShelfFault::NoMemory));
+    };
+    let mut checker = fresh;
+    match feed_file(alloc, shelf, b, cert, &mut checker, &mut buffer) {
+        Ok(()) => match reply_of(alloc, checker) {
+            Ok(reply) => Ok(reply),
+            Err(_) => Err(Halt::Stopped(ShelfFault::NoMemory)),
+        },
+        Err(fault) => Err(Halt::Stopped(fault)),
+    }
 }
 
 // A buffer of some bytes, of which only the length is told.
@@ -209,9 +200,6 @@ fn feed_more<F: Shelf>(
     ensures writes { F.write_faults shelf.new ≡ F.write_faults shelf.old }
 {
     let count = shelf.read_at(cert, at, buffer)?;
-    if count == 0 {
-        return Ok(0);
-    }
     match checker.feed(alloc, b, &buffer[..count]) {
         Err(FeedFault::At { .. }) => Ok(0),
         Err(FeedFault::NoMemory) => Err(ShelfFault::NoMemory),
@@ -225,7 +213,7 @@ fn reply_of(alloc: Global, checker: Checker) -> Result<Reply, AllocError>
         IsMadeFor b checker × ChecksFor b visits checker text }
     ensures right { (b : BlockedProgram) (visits : Option ℕ) (text : List ℕ) → IsMadeFor b checker →
         ChecksFor b visits checker text → IfOk result (IsReplyTo visits b text) }
-    ensures statuses { IfOk result (λ reply. IsCheckStatus reply.status) }
+    ensures statuses { IfOk result (λ reply. IsReplyStatus reply.status) }
 {
     match checker.finish() {
         Ok(judged) => verdict(alloc, &judged),

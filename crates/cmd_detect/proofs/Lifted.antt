@@ -16,11 +16,11 @@ use Rattle.bp_report.specs.Report.{detected_report}
 use Rattle.bp_report.specs.Refusals.{rows_refusal}
 use Rattle.bp_front.specs.Front.{HasModel}
 use Rattle.bp_front.specs.Halts.{CountsHalted}
-use Rattle.bp_front.specs.Written.{Answer, stops, IsHalt, IsTextHalt}
+use Rattle.bp_front.specs.Written.{Answer, stops, draft_answer, IsHalt, IsTextHalt}
+use Rattle.bp_front.specs.declared.draft.Draft.{Draft}
 use Rattle.bp_front.specs.declared.front.Halt.{Halt}
 use Rattle.bp_front.specs.declared.front.Halt.TheVariants.{Refused, Stopped}
-use Rattle.cmd_detect.specs.declared.Found.{Found}
-use Rattle.cmd_detect.specs.Detects.{DetectsBeside, many, found, RowsCome, missing, faulty, read, Detects, with_model, answer_of}
+use Rattle.cmd_detect.specs.Detects.{DetectsBeside, many, found, RowsCome, missing, faulty, read, Detects, with_model}
 
 -- a front of so many bytes is the whole list, or both are too long
 front_or_long : (all front : List ℕ) (most : ℕ) → 16777216 < most → front ≡ take most all
@@ -77,12 +77,12 @@ pub front_halts : {T : Type 0} (files : Files) (lp rows : List ℕ) (m : NamedPr
 front_halts files lp rows m fault (Ok x) is model gone = tt
 front_halts files lp rows m fault (Err e) is model gone = subst (λ (s : Halt). IsHalt (Detects files lp rows) s) (sym is) (front_halted files lp rows m fault model gone)
 
-pub list_found : (files : Files) (lp rows : List ℕ) (m : NamedProgram) (front : List ℕ) (r : Result Found Halt) (most : ℕ) → 16777216 < most → HasModel (files lp) m → IsSome (files rows)
-    → IfSome (files rows) (λ all. front ≡ take most all) → IfOk r (λ f. RowsCome m (Some front) (answer_of f)) → IfOk r (λ f. Detects files lp rows (answer_of f))
-list_found files lp rows m front (Ok f) most above model there is_front come = with_model m (answer_of f) model (rows_file m (files rows) front (answer_of f) most above there is_front come)
+pub list_found : (files : Files) (lp rows : List ℕ) (m : NamedProgram) (front : List ℕ) (r : Result Draft Halt) (most : ℕ) → 16777216 < most → HasModel (files lp) m → IsSome (files rows)
+    → IfSome (files rows) (λ all. front ≡ take most all) → IfOk r (λ f. RowsCome m (Some front) (draft_answer f)) → IfOk r (λ f. Detects files lp rows (draft_answer f))
+list_found files lp rows m front (Ok f) most above model there is_front come = with_model m (draft_answer f) model (rows_file m (files rows) front (draft_answer f) most above there is_front come)
 list_found files lp rows m front (Err e) most above model there is_front come = tt
 
-pub list_halted : (files : Files) (lp rows : List ℕ) (m : NamedProgram) (front : List ℕ) (r : Result Found Halt) (most : ℕ) → 16777216 < most → HasModel (files lp) m → IsSome (files rows)
+pub list_halted : (files : Files) (lp rows : List ℕ) (m : NamedProgram) (front : List ℕ) (r : Result Draft Halt) (most : ℕ) → 16777216 < most → HasModel (files lp) m → IsSome (files rows)
     → IfSome (files rows) (λ all. front ≡ take most all) → IfErr r (IsTextHalt (RowsCome m (Some front))) → IfErr r (IsHalt (Detects files lp rows))
 list_halted files lp rows m front (Ok f) most above model there is_front halts = tt
 list_halted files lp rows m front (Err (Refused report)) most above model there is_front halts =
@@ -101,8 +101,8 @@ list_counts Right (Err (Stopped NoMemory)) before now halts same = same
 
 -- ---- a list
 
-pub blocks_found : (m : NamedProgram) (list master : List ℕ) (r : Result Found Halt) → ListsRows list m master → IfOk r (λ f. DetectsBeside m master (answer_of f)) → IfOk r (λ f. RowsCome m (Some list) (answer_of f))
-blocks_found m list master (Ok f) lists come = read list master (answer_of f) refl lists come
+pub blocks_found : (m : NamedProgram) (list master : List ℕ) (r : Result Draft Halt) → ListsRows list m master → IfOk r (λ f. DetectsBeside m master (draft_answer f)) → IfOk r (λ f. RowsCome m (Some list) (draft_answer f))
+blocks_found m list master (Ok f) lists come = read list master (draft_answer f) refl lists come
 blocks_found m list master (Err e) lists come = tt
 
 pub blocks_halted : {T : Type 0} (m : NamedProgram) (list master : List ℕ) (r : Result T Halt) → ListsRows list m master → IfErr r (IsTextHalt (DetectsBeside m master)) → IfErr r (IsTextHalt (RowsCome m (Some list)))
@@ -116,8 +116,8 @@ come_as : (m : NamedProgram) (master : List ℕ) (s status : ℕ) (r report x te
     → DetectsBeside m master (record { status = s; report = r; text = Some x }) → DetectsBeside m master (record { status = status; report = report; text = Some text })
 come_as m master s status r report x text a b c come = rw (a, b, c) come
 
-pub found_come : (m : NamedProgram) (master : List ℕ) (d : Decomposition) (f : Found) → IsFound m.program master d → d.blocks ≤ 4096 → f.text.items ≡ text_of m d
-    → f.reply.report.items ≡ detected_report d.blocks → f.reply.status ≡ 0 → DetectsBeside m master (answer_of f)
+pub found_come : (m : NamedProgram) (master : List ℕ) (d : Decomposition) (f : Draft) → IsFound m.program master d → d.blocks ≤ 4096 → f.text.items ≡ text_of m d
+    → f.reply.report.items ≡ detected_report d.blocks → f.reply.status ≡ 0 → DetectsBeside m master (draft_answer f)
 found_come m master d f is few text report done =
     come_as m master 0 f.reply.status (detected_report d.blocks) f.reply.report.items (text_of m d) f.text.items done report text (found d is few)
 

@@ -13,7 +13,6 @@ use Rattle.bp_report.specs.Report.{detected_report}
 use Rattle.bp_report.specs.Refusals.{rows_refusal}
 use Rattle.bp_front.specs.Front.{HasModel, HasLpFault}
 use Rattle.bp_front.specs.Written.{Answer, stops, Answered}
-use Rattle.cmd_detect.specs.declared.Found.{Found}
 
 -- what master rows of a program are answered: more blocks than a decomposition may have, or the decomposition that is written
 pub data DetectsBeside (m : NamedProgram) (master : List ℕ) : Answer → Type 0 where
@@ -37,7 +36,3 @@ pub data Detects (files : Files) (lp rows : List ℕ) : Answer → Type 0 where
 -- the same by its status and report
 abbrev pub AnswersDetect : Files → (lp rows : List ℕ) → (status : ℕ) → (report : List ℕ) → Type 0
 AnswersDetect files lp rows status report = Answered (Detects files lp rows) status report
-
--- the text and the report of a decomposition that was found
-abbrev pub answer_of : Found → Answer
-answer_of f = record { status = f.reply.status; report = f.reply.report.items; text = Some f.text.items }

@@ -10,24 +10,17 @@ ghost use Rattle.dec_words.specs.Text.{IsRowName, text_of};
 ghost use Rattle.bp_report.specs.Report.{detected_report};
 ghost use Rattle.bp_front.specs.Halts.{CountsHalted};
 ghost use Rattle.bp_front.specs.Answers.{AnswersBy, IsOnly, CutsOff, HasCauses, PutsReport, FailsToWrite};
-ghost use Rattle.bp_front.specs.Written.{IsHalt, IsTextHalt};
-ghost use Rattle.cmd_detect.specs.Detects.{DetectsBeside, RowsCome, Detects, AnswersDetect, answer_of};
+ghost use Rattle.bp_front.specs.Written.{IsHalt, IsTextHalt, draft_answer};
+ghost use Rattle.cmd_detect.specs.Detects.{DetectsBeside, RowsCome, Detects, AnswersDetect};
 ghost use Rattle.cmd_detect.specs.Files.{DetectLeaves, DetectWrites};
 
-use bp_front::{Ended, Halt, Reply, load_model, print, read_front, stopped, stopped_by};
+use bp_front::{Draft, Ended, Halt, Reply, finish, load_model, read_front, write_draft};
 use bp_model::{Dec, Model};
 use bp_report::{detected_text, rows_text};
 use bp_shelf::{Shelf, ShelfFault, Sink};
 use dec_find::{FindFault, RowsFault, RowsKind, dec_text, find, read_rows};
 use lp_read::MAX_TEXT;
 use std::alloc::{AllocError, Global};
-
-// The text of a decomposition that was found, and the report on it.
-#[derive(Drop)]
-struct Found {
-    text: Vec<u8>,
-    reply: Reply,
-}
 
 /// Writes the decomposition of a model beside the master rows that a file lists, and prints how many blocks it has. No
 /// other file is changed; what stands after a write that failed or for want of memory is told by the status.
@@ -66,21 +59,15 @@ pub fn detect<F: Shelf, O: Sink>(
         CutsOff (λ kept. AnswersDetect (F.file shelf.old) lp.now rows.now) result.status
         (O.taken out.old) (O.taken out.new) }
 {
-    match load_found(alloc, shelf, lp, rows) {
-        Ok(found) => match shelf.replace(dec, &found.text) {
-            Ok(()) => print(alloc, out, &found.reply, None),
-            Err(ShelfFault::Failed) => stopped(alloc, 8),
-            Err(_) => stopped(alloc, 9),
-        },
-        Err(Halt::Refused(report)) => print(alloc, out, &Reply { status: 3, report }, None),
-        Err(Halt::Stopped(fault)) => stopped_by(alloc, fault),
-    }
+    let draft = load_found(alloc, shelf, lp, rows);
+    let come = write_draft(shelf, dec, draft);
+    finish(alloc, out, come)
 }
 
 // The decomposition beside the master rows of a file, or what a run ends with.
-fn load_found<F: Shelf>(alloc: Global, shelf: &mut F, lp: &str, rows: &str) -> Result<Found, Halt>
+fn load_found<F: Shelf>(alloc: Global, shelf: &mut F, lp: &str, rows: &str) -> Result<Draft, Halt>
     ensures found { IsTrue (F.tells shelf.old) →
-        IfOk result (λ f. Detects (F.file shelf.old) lp.now rows.now (answer_of f)) }
+        IfOk result (λ f. Detects (F.file shelf.old) lp.now rows.now (draft_answer f)) }
     ensures done { IfOk result (λ f. f.reply.status ≡ 0) }
     ensures halted { IsTrue (F.tells shelf.old) →
         IfErr result (IsHalt (Detects (F.file shelf.old) lp.now rows.now)) }
@@ -95,10 +82,10 @@ fn load_found<F: Shelf>(alloc: Global, shelf: &mut F, lp: &str, rows: &str) -> R
 }
 
 // The decomposition beside the master rows of a list, or what the list is refused for.
-fn found_in(alloc: Global, model: &Model, list: &[u8]) -> Result<Found, Halt>
+fn found_in(alloc: Global, model: &Model, list: &[u8]) -> Result<Draft, Halt>
     requires kept { IsKept model.now }
     requires names { All IsRowName model.now.row_names }
-    ensures found { IfOk result (λ f. RowsCome model.now (Some list.now) (answer_of f)) }
+    ensures found { IfOk result (λ f. RowsCome model.now (Some list.now) (draft_answer f)) }
     ensures done { IfOk result (λ f. f.reply.status ≡ 0) }
     ensures halted { IfErr result (IsTextHalt (RowsCome model.now (Some list.now))) }
 {
@@ -120,11 +107,11 @@ fn rows_of(alloc: Global, model: &Model, list: &[u8]) -> Result<Vec<u32>, Halt>
 }
 
 // The decomposition beside master rows, or the refusal of too many blocks.
-fn blocks_of(alloc: Global, model: &Model, master: &[u32]) -> Result<Found, Halt>
+fn blocks_of(alloc: Global, model: &Model, master: &[u32]) -> Result<Draft, Halt>
     requires kept { IsKept model.now }
     requires names { All IsRowName model.now.row_names }
     requires below { All (λ r. r < length model.now.program.rows) master.now }
-    ensures found { IfOk result (λ f. DetectsBeside model.now master.now (answer_of f)) }
+    ensures found { IfOk result (λ f. DetectsBeside model.now master.now (draft_answer f)) }
     ensures done { IfOk result (λ f. f.reply.status ≡ 0) }
     ensures halted { IfErr result (IsTextHalt (DetectsBeside model.now master.now)) }
 {
@@ -136,7 +123,7 @@ fn blocks_of(alloc: Global, model: &Model, master: &[u32]) -> Result<Found, Halt
 }
 
 // The text of a decomposition and the report on it.
-fn written(alloc: Global, model: &Model, dec: &Dec) -> Result<Found, AllocError>
+fn written(alloc: Global, model: &Model, dec: &Dec) -> Result<Draft, AllocError>
     requires places { HasPlaces model.now.program dec.now }
     requires unlisted { dec.now.listed ≡ [] }
     requires names { All IsRowName model.now.row_names }
@@ -146,7 +133,7 @@ fn written(alloc: Global, model: &Model, dec: &Dec) -> Result<Found, AllocError>
 {
     let text = dec_text(alloc, model, dec)?;
     let report = detected_text(alloc, dec.blocks())?;
-    Ok(Found {
+    Ok(Draft {
         text,
         reply: Reply { status: 0, report },
     })

@@ -23,9 +23,10 @@ use Rattle.cert_text.specs.Programs.{frame_for}
 use Rattle.cert_report.specs.Certificates.{merged_report}
 use Rattle.search_outcome.specs.Outcomes.{outcome_certificate}
 use Rattle.search_outcome.proofs.Outcomes.{outcome_certified}
+use Rattle.bp_front.specs.Written.{draft_answer}
 use Rattle.cmd_merge.specs.Opens.{IsOpened}
-use Rattle.cmd_merge.specs.Merges.{AnswersBoth, answer_of}
-use Rattle.cmd_merge.specs.declared.written.Merged.{Merged}
+use Rattle.cmd_merge.specs.Merges.{AnswersBoth}
+use Rattle.bp_front.specs.declared.draft.Draft.{Draft}
 use Rattle.cmd_merge.proofs.ClaimProof.{merged_claim}
 
 -- a kept point is that of the pair that it is kept of
@@ -56,12 +57,12 @@ own_steps t = record { few = omega arith; spent = λ some. refl }
 pub few_together : (m n : ℕ) → m < 2 ^ 61 → n < 2 ^ 61 → m + n < 2 ^ 62
 few_together m n h g = omega (arith, h, g)
 
-pub both_answered : (b : BlockedProgram) (cuts : List Cut) (text more : List ℕ) (first second from : Loaded) (kept : Option Kept) (o : Outcome) (m : Merged) → IsFormed b
+pub both_answered : (b : BlockedProgram) (cuts : List Cut) (text more : List ℕ) (first second from : Loaded) (kept : Option Kept) (o : Outcome) (m : Draft) → IsFormed b
     → (one : IsOpened b text first) → (other : IsOpened b more second) → IsMergedOf first second from → as_pair kept ≡ from.best
     → ((most : ℕ) → HasStopped most from.grove.tree → EndsWithin (with_cuts b cuts) most o) → grove_in o ≡ from.grove → point_of o ≡ kept_point kept
     → IsText (frame_for (with_cuts b cuts)) (version_with cuts) (cert_of (outcome_certificate (with_cuts b cuts) o)) m.text.items
     → m.reply.report.items ≡ merged_report b.named.program.maximises o → m.reply.status ≡ 0
-    → AnswersBoth (with_cuts b cuts) one.cert other.cert first second (answer_of m)
+    → AnswersBoth (with_cuts b cuts) one.cert other.cert first second (draft_answer m)
 both_answered b cuts text more first second from kept o m formed one other is kept_of ended grove point spelled told done =
     let t : GrowingTree = from.grove.tree in
     let ends : EndsWithin (with_cuts b cuts) (steps (certificate_tree t)) o = ended (steps (certificate_tree t)) (own_steps t) in

@@ -23,7 +23,6 @@ use Rattle.cmd_merge.specs.Opens.{IsOpened, IsOpenedText, RefusesFile}
 use Rattle.cmd_merge.specs.declared.opening.Opened.{Opened}
 use Rattle.cmd_merge.specs.declared.opening.Stop.{Stop}
 use Rattle.cmd_merge.specs.declared.opening.Stop.TheVariants.{Refused, Stopped}
-use Rattle.cmd_merge.specs.declared.written.Merged.{Merged}
 
 -- Two valid certificates and what is loaded of them are answered by a merged one: its tree is the two trees made into one, its text is written and
 -- spells a valid certificate, whose claim has the better value and a bound no worse than either's.
@@ -93,7 +92,3 @@ pub data Merges (files : Files) (lp one other : List ℕ) (dec : Option (List �
 -- the same by its status and report
 abbrev pub AnswersMerge : Files → (lp one other : List ℕ) → (dec : Option (List ℕ)) → (status : ℕ) → (report : List ℕ) → Type 0
 AnswersMerge files lp one other dec status report = Answered (Merges files lp one other dec) status report
-
--- the text and the report of a merged certificate
-abbrev pub answer_of : Merged → Answer
-answer_of m = record { status = m.reply.status; report = m.reply.report.items; text = Some m.text.items }

@@ -2,26 +2,27 @@
 ghost use Rattle.std.specs.Prelude.{◌≡◌, ◌≤◌, IfOk, IfErr};
 ghost use Rattle.bp_theory.specs.Limits.{most_cuts};
 ghost use Rattle.branch_tree.specs.Adopted.{point_in};
-ghost use Rattle.cmd_merge.specs.Merges.{JoinsBoth, StopsBoth, cut_line, answer_of};
+ghost use Rattle.bp_front.specs.Written.{draft_answer};
+ghost use Rattle.cmd_merge.specs.Merges.{JoinsBoth, StopsBoth, cut_line};
 ghost use Rattle.cmd_merge.specs.Opens.{CanMerge};
 ghost use Rattle.cmd_merge.specs.Stops.{IsRefusal};
 
 use crate::opening::{Opened, Stop};
 use crate::same::common;
-use crate::written::{Merged, written};
-use bp_front::Reply;
+use crate::written::written;
+use bp_front::{Draft, Reply};
 use bp_report::merge_text;
 use branch_tree::Loaded;
 use std::alloc::Global;
 
 /// The merged certificate of two, of which the cuts of one begin with those of the other: it has the more cuts. Else it is
 /// refused, on the line of the first cut of the second that is another than the first's.
-pub fn join(alloc: Global, one: Opened, other: Opened) -> Result<Merged, Stop>
+pub fn join(alloc: Global, one: Opened, other: Opened) -> Result<Draft, Stop>
     requires first { CanMerge one.program one.from }
     requires second { CanMerge other.program other.from }
     requires model { other.program.named ≡ one.program.named }
     requires dec { other.program.dec ≡ one.program.dec }
-    ensures merged { IfOk result (λ m. JoinsBoth one other (answer_of m)) }
+    ensures merged { IfOk result (λ m. JoinsBoth one other (draft_answer m)) }
     ensures done { IfOk result (λ m. m.reply.status ≡ 0) }
     ensures stopped { IfErr result (StopsBoth one other) }
     ensures refusals { IfErr result IsRefusal }

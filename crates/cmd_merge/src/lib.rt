@@ -10,16 +10,16 @@ ghost use Rattle.std.specs.Prelude.{◌≡◌, ◌≢◌, ◌⊎◌, [], IfOk, I
 ghost use Rattle.std.specs.Option.{option_map};
 ghost use Rattle.bp_shelf.specs.Shelf.{OthersAsBefore};
 ghost use Rattle.bp_front.specs.Answers.{AnswersBy, IsOnly, CutsOff, HasCauses, PutsReport, FailsToWrite};
-ghost use Rattle.cmd_merge.specs.Merges.{MergesBlocked, Merges, AnswersMerge, answer_of};
-ghost use Rattle.cmd_merge.specs.Stops.{IsStop, IsRefusal, CountsStopped};
+ghost use Rattle.bp_front.specs.Written.{draft_answer};
+ghost use Rattle.cmd_merge.specs.Merges.{MergesBlocked, Merges, AnswersMerge};
+ghost use Rattle.cmd_merge.specs.Stops.{IsStop, IsRefusal, CountsStopped, WritesMerged, come_by_stop};
 ghost use Rattle.cmd_merge.specs.Files.{MergeLeaves, MergeWrites};
 
 use crate::joined::join;
 use crate::opening::{Stop, open_cert};
-use crate::written::Merged;
 use block_program::Blocked;
-use bp_front::{Ended, Halt, Reply, load, print, stopped, stopped_by};
-use bp_shelf::{Shelf, ShelfFault, Sink};
+use bp_front::{Draft, Ended, Halt, Reply, fault_status, finish, load, put_draft};
+use bp_shelf::{Shelf, Sink};
 use std::alloc::Global;
 
 /// Merges the certificates of two files, writes the merged one to a named file, and prints how many of its leaves are
@@ -67,14 +67,35 @@ pub fn merge<F: Shelf, O: Sink>(
         CutsOff (λ kept. AnswersMerge (F.file shelf.old) lp.now first.now second.now (option_map
         (λ name. name.now) dec.entry)) result.status (O.taken out.old) (O.taken out.new) }
 {
-    match load_merged(alloc, shelf, lp, first, second, dec) {
-        Ok(merged) => match shelf.replace(new, &merged.text) {
-            Ok(()) => print(alloc, out, &merged.reply, None),
-            Err(ShelfFault::Failed) => stopped(alloc, 8),
-            Err(_) => stopped(alloc, 9),
-        },
-        Err(Stop::Refused(reply)) => print(alloc, out, &reply, None),
-        Err(Stop::Stopped(fault)) => stopped_by(alloc, fault),
+    let merged = load_merged(alloc, shelf, lp, first, second, dec);
+    let come = write_merged(shelf, new, merged);
+    finish(alloc, out, come)
+}
+
+// Writes the merged certificate: what the run comes to is the reply to it, or the status of the write, or what the run stopped
+// for before there was one.
+fn write_merged<F: Shelf>(
+    shelf: &mut F,
+    new: &str,
+    merged: Result<Draft, Stop>,
+) -> Result<Reply, u8>
+    ensures writes { WritesMerged (F.tells shelf.old) new.now (F.file shelf.old)
+        (F.file shelf.new) (F.write_faults shelf.old) (F.write_faults shelf.new) merged result }
+    ensures reads { F.read_faults shelf.new ≡ F.read_faults shelf.old }
+{
+    match merged {
+        Ok(draft) => put_draft(shelf, new, draft),
+        Err(stop) => come_by(stop),
+    }
+}
+
+// What a run comes to that stopped.
+fn come_by(stop: Stop) -> Result<Reply, u8>
+    ensures { result ≡ come_by_stop stop }
+{
+    match stop {
+        Stop::Refused(reply) => Ok(reply),
+        Stop::Stopped(fault) => Err(fault_status(fault)),
     }
 }
 
@@ -86,10 +107,10 @@ fn load_merged<F: Shelf>(
     first: &str,
     second: &str,
     dec: Option<&str>,
-) -> Result<Merged, Stop>
+) -> Result<Draft, Stop>
     ensures merged { IsTrue (F.tells shelf.old) →
         IfOk result (λ m. Merges (F.file shelf.old) lp.now first.now second.now (option_map
-        (λ name. name.now) dec.entry) (answer_of m)) }
+        (λ name. name.now) dec.entry) (draft_answer m)) }
     ensures done { IfOk result (λ m. m.reply.status ≡ 0) }
     ensures stopped { IsTrue (F.tells shelf.old) →
         IfErr result (IsStop (Merges (F.file shelf.old) lp.now first.now second.now (option_map
@@ -114,11 +135,11 @@ fn merge_files<F: Shelf>(
     b: &Blocked,
     first: &str,
     second: &str,
-) -> Result<Merged, Stop>
+) -> Result<Draft, Stop>
     requires uncut { b.now.cuts ≡ [] }
     ensures merged { IsTrue (F.tells shelf.old) →
         IfOk result (λ m. MergesBlocked (F.file shelf.old) b.now first.now second.now
-        (answer_of m)) }
+        (draft_answer m)) }
     ensures done { IfOk result (λ m. m.reply.status ≡ 0) }
     ensures stopped { IsTrue (F.tells shelf.old) →
         IfErr result (IsStop (MergesBlocked (F.file shelf.old) b.now first.now second.now)) }

@@ -3,23 +3,17 @@ ghost use Rattle.std.specs.Prelude.{◌≡◌, ℕ, List, IfOk};
 ghost use Rattle.bp_theory.specs.declared.Cut.{Cut};
 ghost use Rattle.block_program.specs.Blocked.{BlockedProgram, IsFormed};
 ghost use Rattle.cert_load.specs.Recut.{with_cuts};
-ghost use Rattle.cmd_merge.specs.Merges.{AnswersBoth, answer_of};
+ghost use Rattle.bp_front.specs.Written.{draft_answer};
+ghost use Rattle.cmd_merge.specs.Merges.{AnswersBoth};
 ghost use Rattle.cmd_merge.specs.Opens.{IsOpened, CanMerge};
 
 use block_program::Blocked;
-use bp_front::Reply;
+use bp_front::{Draft, Reply};
 use bp_search::{conclude, kept_from};
 use branch_tree::Loaded;
 use cert_report::merged_text;
 use cert_text::write_cert;
 use std::alloc::{AllocError, Global};
-
-/// The text of a merged certificate, and the report on it.
-#[derive(Drop)]
-pub struct Merged {
-    pub text: Vec<u8>,
-    pub reply: Reply,
-}
 
 /// The merged certificate of two loaded trees, with the program's cuts.
 pub fn written(
@@ -27,13 +21,13 @@ pub fn written(
     b: &Blocked,
     first: Loaded,
     second: Loaded,
-) -> Result<Merged, AllocError>
+) -> Result<Draft, AllocError>
     requires first { CanMerge b.now first }
     requires second { CanMerge b.now second }
     ensures merged { IfOk result (λ m. (plain : BlockedProgram) (cuts : List Cut) (text more : List ℕ) →
         IsFormed plain → b.now ≡ with_cuts plain cuts → (one : IsOpened plain text first) →
         (other : IsOpened plain more second) →
-        AnswersBoth b.now one.cert other.cert first second (answer_of m)) }
+        AnswersBoth b.now one.cert other.cert first second (draft_answer m)) }
     ensures done { IfOk result (λ m. m.reply.status ≡ 0) }
 {
     // For the proof alone: `b` is formed.
@@ -43,7 +37,7 @@ pub fn written(
     let outcome = conclude(b, grove, kept_from(best));
     let text = write_cert(alloc, b, &outcome)?;
     let report = merged_text(alloc, b, &outcome)?;
-    Ok(Merged {
+    Ok(Draft {
         text,
         reply: Reply { status: 0, report },
     })

@@ -1,7 +1,7 @@
 -- What a text is answered is answered for its file, and for the files of a run.
-use Rattle.std.proofs.Common.{◌≡◌, ◌∙◌, inl, refl, sym, ap, subst, ℕ, ◌+◌, ◌*◌, ◌-◌, ◌<◌, ◌≤◌, ◌^◌, Bool, List, [], length, take, Option, Some, None, Result, Ok, Err, IsSome, IfSome, IfOk, IfErr, IsErrAnd, arith}
+use Rattle.std.proofs.Common.{◌≡◌, ◌∙◌, refl, sym, ap, subst, ℕ, ◌+◌, ◌*◌, ◌-◌, ◌<◌, ◌≤◌, ◌^◌, List, [], length, take, Option, Some, None, Result, Ok, Err, IsSome, IfSome, IfOk, IfErr, IsErrAnd, arith}
 use Rattle.std.specs.Prelude.{min}
-use Rattle.std.proofs.lemmas.List.{append-nil, take_all}
+use Rattle.std.proofs.lemmas.List.{take_all}
 use Rattle.bp_shelf.specs.Shelf.{Files, AllShort}
 use Rattle.bp_shelf.specs.declared.shelf.ShelfFault.{ShelfFault}
 use Rattle.bp_shelf.specs.declared.shelf.ShelfFault.TheVariants.{Missing, Failed, NoMemory}
@@ -14,14 +14,11 @@ use Rattle.cert_form.specs.declared.cert.Cert.{Cert as Kept}
 use Rattle.cert_text.specs.Programs.{frame_for}
 use Rattle.cert_form.proofs.Fine.{text_nodes}
 use Rattle.bp_report.specs.Report.{migrated_report}
-use Rattle.bp_front.specs.Answers.{AnswersBy}
-use Rattle.bp_front.specs.Endings.{status_of}
 use Rattle.bp_front.specs.Front.{FilesCome, blocked}
 use Rattle.bp_front.specs.Halts.{ComesToHalt, CountsHalted}
-use Rattle.bp_front.specs.Written.{Answer, stops, Answered, IsHalt, IsTextHalt}
+use Rattle.bp_front.specs.Written.{Answer, stops, IsHalt, IsTextHalt}
 use Rattle.bp_front.specs.declared.front.Halt.{Halt}
 use Rattle.bp_front.specs.declared.front.Halt.TheVariants.{Refused, Stopped}
-use Rattle.bp_front.proofs.Written.{right_answers}
 use Rattle.cmd_migrate.specs.declared.Migrated.{Migrated}
 use Rattle.cmd_migrate.specs.Migrates.{TextMigrates, missing, Migrates, stopped, went_on, ReadsCert, ReadsFiles}
 
@@ -107,12 +104,3 @@ pub front_halts : {T : Type 0} (files : Files) (lp cert : List ℕ) (dec : Optio
     → IfErr r (IsHalt (Migrates files lp cert dec))
 front_halts files lp cert dec halt (Ok x) is h = tt
 front_halts files lp cert dec halt (Err e) is h = subst (λ (s : Halt). IsHalt (Migrates files lp cert dec) s) (sym is) (front_halted files lp cert dec halt h)
-
--- ---- the end of a run
-
--- a run that a fault stops is answered by its status
-pub halt_answers : (Right : Answer → Type 0) (status : ℕ) (fault : ShelfFault) (tells : Bool) (taken : List ℕ) → IsHalt Right (Stopped fault) → status ≡ status_of fault
-    → AnswersBy (Answered Right) status tells taken taken
-halt_answers Right status Missing tells taken right is = right_answers Right (stops 11 []) status tells taken taken right (inl is) (λ told no_write. sym (append-nil taken))
-halt_answers Right status Failed tells taken right is = λ no_read no_write no_want. absurd (no_read is)
-halt_answers Right status NoMemory tells taken right is = λ no_read no_write no_want. absurd (no_want is)

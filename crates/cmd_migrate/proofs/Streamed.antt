@@ -1,27 +1,34 @@
 -- What stands of a certificate that was read and is written line by line.
-use Rattle.std.proofs.Common.{◌≡◌, ◌⊎◌, inl, inr, refl, sym, subst, ℕ, List, [], ◌∷◌, ◌++◌, map, Option, Some, Result, Ok, Err}
+use Rattle.std.proofs.Common.{◌≡◌, ◌≢◌, ◌⊎◌, ◌∙◌, inl, inr, refl, sym, ap, subst, ℕ, Bool, IsTrue, List, [], ◌∷◌, ◌++◌, map, Option, Some, Result, Ok, Err, IfOk, IfErr}
 use Rattle.bp_shelf.specs.Shelf.{Files, OthersAsBefore}
 use Rattle.block_program.specs.Blocked.{BlockedProgram}
 use Rattle.bp_theory.specs.declared.Cut.{Cut}
 use Rattle.cert_form.specs.Text.{Version}
 use Rattle.cert_form.specs.Written.{written_cut}
-use Rattle.cert_form.specs.Fault.{IsText, IsCertText}
+use Rattle.cert_form.specs.Fault.{IsText}
 use Rattle.cert_form.specs.Kept.{kept_cert}
 use Rattle.cert_form.specs.Sketch.{tree_of}
 use Rattle.cert_form.specs.Plain.{version_with, plain_text}
+use Rattle.cert_form.specs.declared.cert.Cert.{Cert as Kept}
 use Rattle.cert_write.specs.Changes.{changing_nodes}
 use Rattle.cert_form.specs.Nodes.{nodes}
 use Rattle.cert_text.specs.Programs.{frame_for}
 use Rattle.cert_write.proofs.ChangeText.{rewritten}
 use Rattle.cert_stream.specs.Streams.{Rewrites}
+use Rattle.cert_file.specs.Appends.{CountsStop}
 use Rattle.cert_file.specs.declared.stop.StreamStop.{StreamStop}
-use Rattle.cert_file.specs.declared.stop.StreamStop.TheVariants.{NoMemory}
+use Rattle.cert_file.specs.declared.stop.StreamStop.TheVariants.{Failed, NoMemory}
 use Rattle.bp_report.specs.Report.{migrated_report}
-use Rattle.bp_front.specs.Written.{Answer, TextStands}
-use Rattle.bp_front.proofs.Written.{right_leaves, right_writes}
+use Rattle.bp_front.specs.Halts.{CountsHalted}
+use Rattle.bp_front.specs.Written.{Answer, IsHalt, LeavesText}
+use Rattle.bp_front.specs.declared.ending.Reply.{Reply}
+use Rattle.bp_front.specs.declared.front.Halt.{Halt}
+use Rattle.bp_front.proofs.Drafts.{HasText, WriterComes, replied, unwritten, wanting, halt_comes, halt_unfailed}
 use Rattle.cmd_migrate.specs.declared.Migrated.{Migrated}
 use Rattle.cmd_migrate.specs.Migrates.{version_anew, TextMigrates, migrated, Migrates, went_on, ReadsFiles}
-use Rattle.cmd_migrate.specs.Files.{HoldsPart, MigrateLeaves, MigrateWrites, stands, part}
+use Rattle.cmd_migrate.specs.Files.{HoldsPart, LeavesPart, MigrateLeaves, stands, part}
+use Rattle.cmd_migrate.specs.Writes.{stop_status_of, IsAnew, WritesAnew, whole, failed, WritesMigrated}
+use Rattle.cmd_migrate.specs.Writes as writing
 
 -- the answer that writes a text
 abbrev pub answer_with : Migrated → List ℕ → Answer
@@ -59,57 +66,92 @@ is_right files lp cert dec m h =
     let r = h.2 in
     with_right files lp cert dec m (text_anew m) h (rewritten (frame_for h.0) r.spells.0 m.cert.claim m.cert.point m.cert.cuts (tree_of m.cert.tree) r.text r.spells.1)
 
--- a writer of the certificate: what it did to the files
-abbrev pub Written : Migrated → (name : List ℕ) → (before now : Files) → Result (Unit {0}) StreamStop → Type 0
-Written m name before now result = (old : List ℕ) → IsCertText (frame_for m.b) (kept_cert m.cert) old → Rewrites (frame_for m.b) m.cert name before now result
-
--- what it did for the program that the certificate was read for
+-- what a writer did for the program that the certificate was read for
 written_so : (files : Files) (lp cert : List ℕ) (dec : Option (List ℕ)) (name : List ℕ) (m : Migrated) (before now : Files) (result : Result (Unit {0}) StreamStop)
-    → (h : ReadsFiles files lp cert dec m) → Written m name before now result → Rewrites (frame_for h.0) m.cert name before now result
-written_so files lp cert dec name m before now result h writes =
-    let P : BlockedProgram → Type 0 = λ b. (old : List ℕ) → IsCertText (frame_for b) (kept_cert m.cert) old → Rewrites (frame_for b) m.cert name before now result in
-    subst P h.2.same writes h.2.text h.2.spells
+    → (h : ReadsFiles files lp cert dec m) → IsAnew m.b m.cert name before now result → Rewrites (frame_for h.0) m.cert name before now result
+written_so files lp cert dec name m before now result h writes = subst (λ (b : BlockedProgram). IsAnew b m.cert name before now result) h.2.same writes h.2.text h.2.spells
 
 -- it is written whole
-whole : (files : Files) (lp cert : List ℕ) (dec : Option (List ℕ)) (name : List ℕ) (m : Migrated) (between now : Files) (x : Unit {0}) → between ≡ files → ReadsFiles files lp cert dec m
-    → Written m name between now (Ok x) → (a : Answer) × Migrates files lp cert dec a × (a.status ≡ m.reply.status) × TextStands name files now a.text
-whole files lp cert dec name m between now x same h writes =
-    let done = written_so files lp cert dec name m between now (Ok x) h writes in
-    let new = done.holds.0 in (
-      answer_with m new,
-      with_right files lp cert dec m new h done.holds.1,
-      refl,
-      (done.holds.2, subst (λ (before : Files). OthersAsBefore name before now) same done.others),
-    )
-
-pub whole_leaves : (files : Files) (lp cert : List ℕ) (dec : Option (List ℕ)) (name : List ℕ) (m : Migrated) (between now : Files) (x : Unit {0}) (status : ℕ) → between ≡ files
-    → ReadsFiles files lp cert dec m → Written m name between now (Ok x) → (status ≡ m.reply.status) ⊎ (status ≡ 8) → MigrateLeaves lp cert dec name files now status
-whole_leaves files lp cert dec name m between now x status same h writes is =
-    let w = whole files lp cert dec name m between now x same h writes in
-    let ends : (status ≡ w.0.status) ⊎ (status ≡ 8) = subst (λ (s : ℕ). (status ≡ s) ⊎ (status ≡ 8)) (sym w.2) is in
-    stands (right_leaves (Migrates files lp cert dec) name files now w.0 status w.1 ends w.3)
-
-pub whole_writes : (files : Files) (lp cert : List ℕ) (dec : Option (List ℕ)) (name : List ℕ) (m : Migrated) (between now : Files) (x : Unit {0}) → between ≡ files
-    → ReadsFiles files lp cert dec m → Written m name between now (Ok x) → MigrateWrites lp cert dec name files now
-whole_writes files lp cert dec name m between now x same h writes =
-    let w = whole files lp cert dec name m between now x same h writes in
-    right_writes (Migrates files lp cert dec) name files now w.0 w.1 w.3
-
--- a write failed
-pub others_stand : (files : Files) (lp cert : List ℕ) (dec : Option (List ℕ)) (name : List ℕ) (m : Migrated) (between now : Files) (result : Result (Unit {0}) StreamStop) → between ≡ files
-    → ReadsFiles files lp cert dec m → Written m name between now result → OthersAsBefore name files now
-others_stand files lp cert dec name m between now result same h writes =
-    subst (λ (before : Files). OthersAsBefore name before now) same (written_so files lp cert dec name m between now result h writes).others
+whole_text : (files : Files) (lp cert : List ℕ) (dec : Option (List ℕ)) (name : List ℕ) (m : Migrated) (now : Files) (done : Unit {0}) → ReadsFiles files lp cert dec m
+    → IsAnew m.b m.cert name files now (Ok done) → HasText (Migrates files lp cert dec) name files now m.reply
+whole_text files lp cert dec name m now done h writes =
+    let so = written_so files lp cert dec name m files now (Ok done) h writes in
+    let new = so.holds.0 in
+    record { text = Some new; right = with_right files lp cert dec m new h so.holds.1; stands = (so.holds.2, so.others) }
 
 -- memory was wanting
-pub part_leaves : (files : Files) (lp cert : List ℕ) (dec : Option (List ℕ)) (name : List ℕ) (m : Migrated) (between now : Files) (status : ℕ) → between ≡ files
-    → ReadsFiles files lp cert dec m → Written m name between now (Err NoMemory) → status ≡ 9 → MigrateLeaves lp cert dec name files now status
-part_leaves files lp cert dec name m between now status same h writes is =
-    let done = written_so files lp cert dec name m between now (Err NoMemory) h writes in
-    part (record { holds = by done.holds; others = subst (λ (before : Files). OthersAsBefore name before now) same done.others }) is
+part_text : (files : Files) (lp cert : List ℕ) (dec : Option (List ℕ)) (name : List ℕ) (m : Migrated) (now : Files) → ReadsFiles files lp cert dec m
+    → IsAnew m.b m.cert name files now (Err NoMemory) → LeavesPart (Migrates files lp cert dec) name files now
+part_text files lp cert dec name m now h writes =
+    let so = written_so files lp cert dec name m files now (Err NoMemory) h writes in
+    record { holds = by so.holds; others = so.others }
   where
-    by : (now name ≡ between name) ⊎ ((xs : List ℕ) × (rest : List ℕ) × IsText (frame_for h.0) (version_with m.cert.cuts) (kept_cert m.cert) (xs ++ rest) × (now name ≡ Some xs))
+    by : (now name ≡ files name) ⊎ ((xs : List ℕ) × (rest : List ℕ) × IsText (frame_for h.0) (version_with m.cert.cuts) (kept_cert m.cert) (xs ++ rest) × (now name ≡ Some xs))
         → (now name ≡ files name) ⊎ HoldsPart (Migrates files lp cert dec) (now name)
-    by (inl stays) = inl (subst (λ (before : Files). now name ≡ before name) same stays)
+    by (inl stays) = inl stays
     by (inr begins) =
         inr (answer_with m (begins.0 ++ begins.1), with_right files lp cert dec m (begins.0 ++ begins.1) h begins.2, (begins.0, begins.1, refl, begins.3))
+
+-- a writer that stopped
+pub anew_stopped : (b : BlockedProgram) (cert : Kept) (told : Bool) (name : List ℕ) (before now : Files) (writes writes_now : ℕ) (reply : Reply) (stop : StreamStop)
+    → (IsTrue told → IsAnew b cert name before now (Err stop)) → CountsStop {X = Unit {0}} writes writes_now (Err stop)
+    → WritesAnew b cert told name before now writes writes_now reply (Err (stop_status_of stop))
+anew_stopped b cert told name before now writes writes_now reply Failed anew counted = failed anew counted.1
+anew_stopped b cert told name before now writes writes_now reply NoMemory anew counted = writing.wanting anew counted
+
+-- nothing was written
+unchanged : (Right : Answer → Type 0) (name : List ℕ) (before now : Files) → now ≡ before → LeavesPart Right name before now
+unchanged Right name before now same = record { holds = inl (ap (λ (files : Files). files name) same); others = λ other apart. ap (λ (files : Files). files other) same }
+
+-- ---- the run
+
+comes_by : (told : Bool) (before : Files) (lp cert : List ℕ) (dec : Option (List ℕ)) (name : List ℕ) (now : Files) (reads between reads_now writes writes_now : ℕ)
+    (r : Result Migrated Halt) (come : Result Reply ℕ) → (IsTrue told → IfOk r (λ m. ReadsFiles before lp cert dec m)) → IfOk r (λ m. m.reply.status ≡ 0)
+    → (IsTrue told → IfErr r (IsHalt (Migrates before lp cert dec))) → CountsHalted reads between r → reads_now ≡ between
+    → WritesMigrated told name before now writes writes_now r come
+    → WriterComes (Migrates before lp cert dec) (LeavesPart (Migrates before lp cert dec) name before now) told name before now reads reads_now writes writes_now come
+comes_by told before lp cert dec name now reads between reads_now writes writes_now (Ok m) come read done halts counted same (whole x anew w) =
+    replied m.reply (inl done) (λ is_told. whole_text before lp cert dec name m now x (read is_told) (anew is_told)) (same ∙ counted) w
+comes_by told before lp cert dec name now reads between reads_now writes writes_now (Ok m) come read done halts counted same (failed anew rose) =
+    unwritten (λ is_told. (answer_of m, is_right before lp cert dec m (read is_told)))
+    (λ is_told. (written_so before lp cert dec name m before now (Err Failed) (read is_told) (anew is_told)).others) (same ∙ counted) rose
+comes_by told before lp cert dec name now reads between reads_now writes writes_now (Ok m) come read done halts counted same (writing.wanting anew w) =
+    wanting (λ is_told. part_text before lp cert dec name m now (read is_told) (anew is_told)) (same ∙ counted) w
+comes_by told before lp cert dec name now reads between reads_now writes writes_now (Err halt) come read done halts counted same ends =
+    let Right : Answer → Type 0 = Migrates before lp cert dec in
+    subst (λ (c : Result Reply ℕ). WriterComes Right (LeavesPart Right name before now) told name before now reads reads_now writes writes_now c) (sym ends.0)
+    (halt_comes Migrated Right (LeavesPart Right name before now) told name before now reads between reads_now writes writes_now halt (unchanged Right name before now) halts counted same ends.1 ends.2)
+
+-- what a run came to that wrote a certificate anew, or was halted before it had one: reading the files left all as before
+pub migrated_comes : (told told_then : Bool) (before files : Files) (lp cert : List ℕ) (dec : Option (List ℕ)) (name : List ℕ) (now : Files)
+    (reads between reads_now writes writes_then writes_now : ℕ) (r : Result Migrated Halt) (come : Result Reply ℕ) → (IsTrue told → IfOk r (λ m. ReadsFiles before lp cert dec m))
+    → IfOk r (λ m. m.reply.status ≡ 0) → (IsTrue told → IfErr r (IsHalt (Migrates before lp cert dec))) → CountsHalted reads between r → told_then ≡ told → files ≡ before
+    → writes_then ≡ writes → reads_now ≡ between → WritesMigrated told_then name files now writes_then writes_now r come
+    → WriterComes (Migrates before lp cert dec) (LeavesPart (Migrates before lp cert dec) name before now) told name before now reads reads_now writes writes_now come
+migrated_comes told told_then before files lp cert dec name now reads between reads_now writes writes_then writes_now r come read done halts counted same_told same_files same_writes same_reads ends =
+    let a : WritesMigrated told name files now writes_then writes_now r come = subst (λ (t : Bool). WritesMigrated t name files now writes_then writes_now r come) same_told ends in
+    let b : WritesMigrated told name before now writes_then writes_now r come = subst (λ (fs : Files). WritesMigrated told name fs now writes_then writes_now r come) same_files a in
+    comes_by told before lp cert dec name now reads between reads_now writes writes_now r come read done halts counted same_reads
+    (subst (λ (n : ℕ). WritesMigrated told name before now n writes_now r come) same_writes b)
+
+-- the reply to it is none of a failed write
+anew_unfailed : (b : BlockedProgram) (cert : Kept) (told : Bool) (name : List ℕ) (before now : Files) (writes writes_now : ℕ) (reply : Reply) (come : Result Reply ℕ) → reply.status ≡ 0
+    → WritesAnew b cert told name before now writes writes_now reply come → IfOk come (λ r. r.status ≢ 8)
+anew_unfailed b cert told name before now writes writes_now reply come done (whole x anew w) = λ e. absurd (cc)
+anew_unfailed b cert told name before now writes writes_now reply come done (failed anew rose) = tt
+anew_unfailed b cert told name before now writes writes_now reply come done (writing.wanting anew w) = tt
+
+pub migrated_unfailed : (told : Bool) (name : List ℕ) (before now : Files) (writes writes_now : ℕ) (r : Result Migrated Halt) (come : Result Reply ℕ) → IfOk r (λ m. m.reply.status ≡ 0)
+    → WritesMigrated told name before now writes writes_now r come → IfOk come (λ reply. reply.status ≢ 8)
+migrated_unfailed told name before now writes writes_now (Ok m) come done ends = anew_unfailed m.b m.cert told name before now writes writes_now m.reply come done ends
+migrated_unfailed told name before now writes writes_now (Err halt) come done ends = subst (λ (c : Result Reply ℕ). IfOk c (λ reply. reply.status ≢ 8)) (sym ends.0) (halt_unfailed halt)
+
+-- the files after such a run
+pub migrated_leaves : (lp cert : List ℕ) (dec : Option (List ℕ)) (name : List ℕ) (before now : Files) (status : ℕ)
+    → LeavesText (Migrates before lp cert dec) name before now status ⊎ (LeavesPart (Migrates before lp cert dec) name before now × (status ≡ 9))
+    → MigrateLeaves lp cert dec name before now status
+migrated_leaves lp cert dec name before now status (inl leaves) = stands leaves
+migrated_leaves lp cert dec name before now status (inr begins) = part begins.0 begins.1
+
+pub part_others : (Right : Answer → Type 0) (name : List ℕ) (before now : Files) → LeavesPart Right name before now → OthersAsBefore name before now
+part_others Right name before now begins = begins.others

@@ -2,3 +2,4 @@
 pub mod Migrates
 pub mod Files
 pub mod Laws
+pub mod Writes

@@ -13,9 +13,10 @@ ghost use Rattle.bp_report.specs.Report.{migrated_report};
 ghost use Rattle.cmd_migrate.specs.Laws.{AreReadAlike, AreJudgedAlike};
 ghost use Rattle.cmd_migrate.specs.Migrates.{TextMigrates, Migrates, AnswersMigrate, ReadsCert, ReadsFiles};
 ghost use Rattle.cmd_migrate.specs.Files.{MigrateLeaves, MigrateWrites};
+ghost use Rattle.cmd_migrate.specs.Writes.{WritesAnew, WritesMigrated, stop_status_of};
 
 use block_program::Blocked;
-use bp_front::{Ended, Halt, Reply, load, print, read_front, stopped, stopped_by};
+use bp_front::{Ended, Halt, Reply, finish, halted, load, read_front};
 use bp_report::{cert_text, migrated_text};
 use bp_shelf::{Shelf, ShelfFault, Sink};
 use cert_stream::{StreamStop, rewrite_stream};
@@ -74,14 +75,71 @@ pub fn migrate<F: Shelf, O: Sink>(
         CutsOff (λ kept. AnswersMigrate (F.file shelf.old) lp.now cert.now (option_map (λ name.
         name.now) dec.entry)) result.status (O.taken out.old) (O.taken out.new) }
 {
-    match load_migrated(alloc, shelf, lp, cert, dec) {
-        Ok(migrated) => match rewrite_stream(alloc, &migrated.b, &migrated.cert, shelf, new) {
-            Ok(()) => print(alloc, out, &migrated.reply, None),
-            Err(StreamStop::Failed) => stopped(alloc, 8),
-            Err(StreamStop::NoMemory) => stopped(alloc, 9),
-        },
-        Err(Halt::Refused(report)) => print(alloc, out, &Reply { status: 3, report }, None),
-        Err(Halt::Stopped(fault)) => stopped_by(alloc, fault),
+    let migrated = load_migrated(alloc, shelf, lp, cert, dec);
+    let come = write_migrated(alloc, shelf, new, migrated);
+    finish(alloc, out, come)
+}
+
+// Writes a certificate anew into a named file: what the run comes to is the reply to it, or the status of the write, or what
+// the run was halted for before there was one.
+fn write_migrated<F: Shelf>(
+    alloc: Global,
+    shelf: &mut F,
+    new: &str,
+    migrated: Result<Migrated, Halt>,
+) -> Result<Reply, u8>
+    ensures writes { WritesMigrated (F.tells shelf.old) new.now (F.file shelf.old)
+        (F.file shelf.new) (F.write_faults shelf.old) (F.write_faults shelf.new) migrated result }
+    ensures reads { F.read_faults shelf.new ≡ F.read_faults shelf.old }
+{
+    match migrated {
+        Ok(migrated) => put_migrated(alloc, shelf, new, migrated),
+        Err(halt) => halted(halt),
+    }
+}
+
+// Writes a certificate that was read.
+fn put_migrated<F: Shelf>(
+    alloc: Global,
+    shelf: &mut F,
+    new: &str,
+    migrated: Migrated,
+) -> Result<Reply, u8>
+    ensures writes { WritesAnew migrated.b migrated.cert (F.tells shelf.old) new.now
+        (F.file shelf.old) (F.file shelf.new) (F.write_faults shelf.old) (F.write_faults shelf.new)
+        migrated.reply result }
+    ensures reads { F.read_faults shelf.new ≡ F.read_faults shelf.old }
+{
+    let Migrated { b, cert, reply } = migrated;
+    write_anew(alloc, shelf, new, &b, &cert, reply)
+}
+
+// Writes a certificate anew: what the run comes to is this reply, or the status of the write.
+fn write_anew<F: Shelf>(
+    alloc: Global,
+    shelf: &mut F,
+    new: &str,
+    b: &Blocked,
+    cert: &Cert,
+    reply: Reply,
+) -> Result<Reply, u8>
+    ensures writes { WritesAnew b.now cert.now (F.tells shelf.old) new.now (F.file shelf.old)
+        (F.file shelf.new) (F.write_faults shelf.old) (F.write_faults shelf.new) reply result }
+    ensures reads { F.read_faults shelf.new ≡ F.read_faults shelf.old }
+{
+    match rewrite_stream(alloc, b, cert, shelf, new) {
+        Ok(()) => Ok(reply),
+        Err(stop) => Err(stop_status(stop)),
+    }
+}
+
+// The status of a writer that stopped.
+fn stop_status(stop: StreamStop) -> u8
+    ensures { result ≡ stop_status_of stop }
+{
+    match stop {
+        StreamStop::Failed => 8,
+        StreamStop::NoMemory => 9,
     }
 }
 

@@ -11,7 +11,6 @@ use Rattle.block_class.specs.Classes.{Grouping, AreSameClasses}
 use Rattle.bp_report.specs.Report.{proposed_report}
 use Rattle.bp_front.specs.Front.{BlocksCome, blocked, HasModel, HasLpFault}
 use Rattle.bp_front.specs.Written.{Answer, stops, Answered}
-use Rattle.cmd_propose.specs.declared.Proposal.{Proposal}
 
 -- A decomposition that may be proposed for a program, with its program in blocks and the classes at the root: it is that beside
 -- some master rows, it is read back from its text, and its blocks are accepted.
@@ -47,7 +46,3 @@ pub data Proposes (files : Files) (lp : List ℕ) : Answer → Type 0 where
 -- the same by its status and report
 abbrev pub AnswersPropose : Files → (lp : List ℕ) → (status : ℕ) → (report : List ℕ) → Type 0
 AnswersPropose files lp status report = Answered (Proposes files lp) status report
-
--- the text and the report of a decomposition that is proposed
-abbrev pub answer_of : Proposal → Answer
-answer_of p = record { status = p.reply.status; report = p.reply.report.items; text = Some p.text.items }

@@ -10,27 +10,20 @@ ghost use Rattle.block_class.specs.Classes.{AreSameClasses};
 ghost use Rattle.bp_front.specs.Front.{BlocksCome, blocked};
 ghost use Rattle.bp_front.specs.Halts.{CountsHalted};
 ghost use Rattle.bp_front.specs.Answers.{AnswersBy, IsOnly, CutsOff, HasCauses, PutsReport, FailsToWrite};
-ghost use Rattle.bp_front.specs.Written.{IsHalt};
-ghost use Rattle.cmd_propose.specs.Proposes.{Proposes, ModelProposes, AnswersPropose, HasReport, IsReported, answer_of};
+ghost use Rattle.bp_front.specs.Written.{IsHalt, draft_answer};
+ghost use Rattle.cmd_propose.specs.Proposes.{Proposes, ModelProposes, AnswersPropose, HasReport, IsReported};
 ghost use Rattle.cmd_propose.specs.Files.{ProposeLeaves, ProposeWrites};
 
 use block_class::Classes;
 use block_form::{BlockFault, check_blocks};
 use block_program::{Blocked, Zone};
-use bp_front::{Ended, Halt, Reply, load_model, print, stopped, stopped_by};
+use bp_front::{Draft, Ended, Halt, Reply, finish, load_model, write_draft};
 use bp_model::{Dec, Model};
 use bp_report::proposed_text;
-use bp_shelf::{Shelf, ShelfFault, Sink};
+use bp_shelf::{Shelf, Sink};
 use dec_find::dec_text;
 use dec_guess::guess;
 use std::alloc::{AllocError, Global};
-
-// The text of a decomposition that is proposed, and the report on it.
-#[derive(Drop)]
-struct Proposal {
-    text: Vec<u8>,
-    reply: Reply,
-}
 
 /// Writes a decomposition of a model, which it chooses itself, and prints how many blocks, classes of blocks and master
 /// rows it has. No other file is changed; what stands after a write that failed or for want of memory is told by the
@@ -69,21 +62,15 @@ pub fn propose<F: Shelf, O: Sink>(
         CutsOff (λ kept. AnswersPropose (F.file shelf.old) lp.now) result.status (O.taken out.old)
         (O.taken out.new) }
 {
-    match load_proposal(alloc, shelf, lp) {
-        Ok(proposal) => match shelf.replace(dec, &proposal.text) {
-            Ok(()) => print(alloc, out, &proposal.reply, None),
-            Err(ShelfFault::Failed) => stopped(alloc, 8),
-            Err(_) => stopped(alloc, 9),
-        },
-        Err(Halt::Refused(report)) => print(alloc, out, &Reply { status: 3, report }, None),
-        Err(Halt::Stopped(fault)) => stopped_by(alloc, fault),
-    }
+    let draft = load_proposal(alloc, shelf, lp);
+    let come = write_draft(shelf, dec, draft);
+    finish(alloc, out, come)
 }
 
 // A decomposition of a file's model, or what a run ends with.
-fn load_proposal<F: Shelf>(alloc: Global, shelf: &mut F, lp: &str) -> Result<Proposal, Halt>
+fn load_proposal<F: Shelf>(alloc: Global, shelf: &mut F, lp: &str) -> Result<Draft, Halt>
     ensures proposed { IsTrue (F.tells shelf.old) →
-        IfOk result (λ p. Proposes (F.file shelf.old) lp.now (answer_of p)) }
+        IfOk result (λ p. Proposes (F.file shelf.old) lp.now (draft_answer p)) }
     ensures done { IfOk result (λ p. p.reply.status ≡ 0) }
     ensures halted { IsTrue (F.tells shelf.old) →
         IfErr result (IsHalt (Proposes (F.file shelf.old) lp.now)) }
@@ -97,10 +84,10 @@ fn load_proposal<F: Shelf>(alloc: Global, shelf: &mut F, lp: &str) -> Result<Pro
 }
 
 // A decomposition of a model.
-fn proposal_of(alloc: Global, model: Model) -> Result<Proposal, AllocError>
+fn proposal_of(alloc: Global, model: Model) -> Result<Draft, AllocError>
     requires kept { IsKept model }
     requires names { All IsRowName model.row_names }
-    ensures proposed { IfOk result (λ p. ModelProposes model (answer_of p)) }
+    ensures proposed { IfOk result (λ p. ModelProposes model (draft_answer p)) }
     ensures done { IfOk result (λ p. p.reply.status ≡ 0) }
 {
     let dec = guess(alloc, &model)?;
@@ -108,16 +95,16 @@ fn proposal_of(alloc: Global, model: Model) -> Result<Proposal, AllocError>
 }
 
 // The text of a decomposition beside master rows and the report on it.
-fn written(alloc: Global, model: Model, dec: Dec) -> Result<Proposal, AllocError>
+fn written(alloc: Global, model: Model, dec: Dec) -> Result<Draft, AllocError>
     requires kept { IsKept model }
     requires names { All IsRowName model.row_names }
     requires guess { IsGuess model.program dec }
-    ensures proposed { IfOk result (λ p. ModelProposes model (answer_of p)) }
+    ensures proposed { IfOk result (λ p. ModelProposes model (draft_answer p)) }
     ensures done { IfOk result (λ p. p.reply.status ≡ 0) }
 {
     let text = dec_text(alloc, &model, &dec)?;
     let report = report_of(alloc, model, dec)?;
-    Ok(Proposal {
+    Ok(Draft {
         text,
         reply: Reply { status: 0, report },
     })

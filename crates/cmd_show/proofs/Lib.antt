@@ -1,1 +1,1 @@
-pub mod Causes
+mod OneAnswer

@@ -3,15 +3,16 @@
 
 ghost use Rattle.std.specs.Prelude.{◌≡◌, ◌≢◌, ◌⊎◌, [], IfOk, IsTrue, None};
 ghost use Rattle.std.specs.Option.{option_map};
-ghost use Rattle.bp_shelf.specs.Shelf.{Rose, next_count};
 ghost use Rattle.bp_front.specs.Answers.{AnswersBy, IsOnly, CutsOff, HasCauses, PutsReport, IsUnput};
-ghost use Rattle.cmd_show.specs.Shows.{AnswersShow, ShowsBlocked, RepliesShow};
+ghost use Rattle.bp_front.specs.Endings.{IsReplyStatus, IsRightReply};
+ghost use Rattle.bp_front.specs.Halts.{CountsHalted};
+ghost use Rattle.cmd_show.specs.Shows.{AnswersShow, RepliesShow};
 
 use block_class::Classes;
 use block_program::{Blocked, Zone};
-use bp_front::{Ended, Halt, Reply, load, print, stopped, stopped_by};
+use bp_front::{Ended, Halt, Reply, finish, load, reply_or_status};
 use bp_report::show_blocks_text;
-use bp_shelf::{Shelf, Sink};
+use bp_shelf::{Shelf, ShelfFault, Sink};
 use std::alloc::{AllocError, Global};
 
 /// Prints the sizes of the program in blocks that the files come to, its classes at the root and, where they are wanted, the
@@ -49,38 +50,37 @@ pub fn show<F: Shelf, O: Sink>(
         CutsOff (λ kept. AnswersShow (F.file shelf.old) lp.now (option_map
         (λ name. name.now) dec.entry) blocks) result.status (O.taken out.old) (O.taken out.new) }
 {
-    match load(alloc, shelf, lp, dec) {
-        Ok(b) => print_blocked(alloc, out, &b, blocks),
-        Err(Halt::Refused(report)) => print(alloc, out, &Reply { status: 3, report }, None),
-        Err(Halt::Stopped(fault)) => stopped_by(alloc, fault),
-    }
+    let answer = shown(alloc, shelf, lp, dec, blocks);
+    finish(alloc, out, reply_or_status(answer))
 }
 
-// Prints the sizes and classes of a program in blocks, and its blocks where they are wanted.
-fn print_blocked<O: Sink>(alloc: Global, out: &mut O, b: &Blocked, blocks: bool) -> Ended
-    ensures answered { AnswersBy (ShowsBlocked blocks b.now) result.status (O.tells out.old)
-        (O.taken out.old) (O.taken out.new) }
-    ensures exact { IsOnly (ShowsBlocked blocks b.now) result.status }
-    ensures statuses { (result.status ≡ 0) ⊎ (result.status ≡ 8) ⊎ (result.status ≡ 9) }
-    ensures kept { result.kept ≡ None }
-    ensures events { result.events.items ≡ [] }
-    ensures fault { result.status ≡ 8 → Rose (O.faults out.old) (O.faults out.new) }
-    ensures quiet { result.status ≢ 8 → O.faults out.new ≡ O.faults out.old }
-    ensures silent { result.status ≡ 9 → O.taken out.new ≡ O.taken out.old }
-    ensures once { result.status ≢ 9 → O.puts out.new ≡ next_count (O.puts out.old) }
-    ensures never { result.status ≡ 9 → O.puts out.new ≡ O.puts out.old }
-    ensures cut_off { IsTrue (O.tells out.old) →
-        CutsOff (λ kept. ShowsBlocked blocks b.now) result.status (O.taken out.old)
-        (O.taken out.new) }
+// The reply to `show`, or what a run ends with before it.
+fn shown<F: Shelf>(
+    alloc: Global,
+    shelf: &mut F,
+    lp: &str,
+    dec: Option<&str>,
+    blocks: bool,
+) -> Result<Reply, Halt>
+    ensures right { IsTrue (F.tells shelf.old) →
+        IsRightReply (AnswersShow (F.file shelf.old) lp.now (option_map
+        (λ name. name.now) dec.entry) blocks) result }
+    ensures statuses { IfOk result (λ reply. IsReplyStatus reply.status) }
+    ensures files { F.file shelf.new ≡ F.file shelf.old }
+    ensures cause { CountsHalted (F.read_faults shelf.old) (F.read_faults shelf.new) result }
+    ensures writes { F.write_faults shelf.new ≡ F.write_faults shelf.old }
 {
-    match shown(alloc, b, blocks) {
-        Ok(reply) => print(alloc, out, &reply, None),
-        Err(_) => stopped(alloc, 9),
+    match load(alloc, shelf, lp, dec) {
+        Ok(b) => match reply_to(alloc, &b, blocks) {
+            Ok(reply) => Ok(reply),
+            Err(_) => Err(Halt::Stopped(ShelfFault::NoMemory)),
+        },
+        Err(halt) => Err(halt),
     }
 }
 
-// The reply to `show`.
-fn shown(alloc: Global, b: &Blocked, blocks: bool) -> Result<Reply, AllocError>
+// The reply to `show` for a program in blocks.
+fn reply_to(alloc: Global, b: &Blocked, blocks: bool) -> Result<Reply, AllocError>
     ensures { IfOk result (RepliesShow blocks b.now) }
 {
     let root = Zone::root(alloc, b)?;

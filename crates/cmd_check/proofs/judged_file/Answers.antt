@@ -1,13 +1,24 @@
+use Rattle.bp_front.specs.declared.ending.Reply.{Reply}
+use Rattle.bp_front.proofs.Lifts.{counts_halt}
+use Rattle.cmd_check.proofs.OneAnswer.{as_missing, fault_right}
 use Rattle.cmd_check.proofs.Replies.{file_replies}
 use Rattle.cmd_check.proofs.judged_file.Goals as goal
 
 pub reply_of-requires : goal.reply_of-requires
 reply_of-requires g c =
-    let file = c.in_ok-feed_file.ensures.stands c.args.visits c.in_ok-checker.ensures.stands in
-    record { stands = (c.args.b.now, c.args.visits, file.text, c.in_ok-feed_file.ensures.made_for, file.stands) }
+    let file = c.in-Ok-feed_file.ensures.stands c.args.visits c.in-Ok-make.ensures.stands in
+    record { stands = (c.args.b.now, c.args.visits, file.text, c.in-Ok-feed_file.ensures.made_for, file.stands) }
 
-pub returns-clause-right : goal.returns-clause-right
-returns-clause-right g c = λ told.
-    let file = c.in_ok-feed_file.ensures.stands c.args.visits c.in_ok-checker.ensures.stands in
-    file_replies c.args.visits (g.F.Shelf.tells c.args.shelf.now) (g.F.Shelf.file c.args.shelf.now) c.args.cert.now c.args.b.now c.feed_file.new.checker c.in_ok-reply_of.field-0 told file
-    (c.in_ok-reply_of.ensures.right c.args.b.now c.args.visits file.text c.in_ok-feed_file.ensures.made_for file.stands)
+pub returns-in-Ok-reply_of-clause-right : goal.returns-in-Ok-reply_of-clause-right
+returns-in-Ok-reply_of-clause-right g c = λ told.
+    let file = c.in-Ok-feed_file.ensures.stands c.args.visits c.in-Ok-make.ensures.stands in
+    file_replies c.args.visits (g.F.Shelf.tells c.args.shelf.now) (g.F.Shelf.file c.args.shelf.now) c.args.cert.now c.args.b.now c.feed_file.new.checker c.in-Ok-reply_of.reply told file
+    (c.in-Ok-reply_of.ensures.right c.args.b.now c.args.visits file.text c.in-Ok-feed_file.ensures.made_for file.stands)
+
+pub returns-in-Err-feed_file-clause-right : goal.returns-in-Err-feed_file-clause-right
+returns-in-Err-feed_file-clause-right g c = λ told.
+    fault_right c.args.visits (g.F.Shelf.file c.args.shelf.now) c.args.cert.now c.args.b.now c.in-Err-feed_file.fault
+    (λ is. c.in-Err-feed_file.ensures.missing told (as_missing c.in-Err-feed_file.fault is))
+
+pub returns-in-Err-feed_file-clause-cause : goal.returns-in-Err-feed_file-clause-cause
+returns-in-Err-feed_file-clause-cause g c = counts_halt (Unit {0}) Reply c.in-Err-feed_file.fault _ _ c.in-Err-feed_file.ensures.cause

@@ -1,99 +1,43 @@
-use Rattle.std.proofs.Common.{◌∙◌, inr, ◌≡◌, refl, sym, subst, ℕ, Bool, IsTrue, List, Some}
-use Rattle.bp_shelf.specs.Shelf.{Files, OthersAsBefore}
-use Rattle.bp_front.specs.Written.{stops, begun}
-use Rattle.bp_front.proofs.Written.{right_answers, right_only, right_leaves, right_writes, right_cut, unwritten_cut, halt_only, written_stands}
-use Rattle.cmd_detect.specs.Detects.{Detects, answer_of}
+use Rattle.std.proofs.Common.{◌≡◌}
+use Rattle.bp_front.proofs.Drafts.{draft_comes, draft_leaves, draft_others, draft_unfailed, writers_end}
+use Rattle.cmd_detect.specs.Detects.{Detects}
 use Rattle.cmd_detect.proofs.OneAnswer.{one_answer}
 use Rattle.cmd_detect.proofs.detect.Goals as goal
 
-pub returns-in-Ok-replace-clause-answered : goal.returns-in-Ok-replace-clause-answered
-returns-in-Ok-replace-clause-answered g c = λ told.
-    right_answers (Detects (g.F.Shelf.file c.args.shelf.now) c.args.lp.now c.args.rows.now) (answer_of c.in-Ok.found) c.print.result.status
-    (g.O.Sink.tells c.args.out.now) (g.O.Sink.taken c.args.out.now) (g.O.Sink.taken c.print.new.out) (c.in-Ok.ensures.found told) c.print.ensures.status c.print.ensures.printed
+pub finish-requires : goal.finish-requires
+finish-requires g c =
+    draft_unfailed (g.F.Shelf.tells c.load_found-draft.new.shelf) c.args.dec.now (g.F.Shelf.file c.load_found-draft.new.shelf) (g.F.Shelf.file c.write_draft-come.new.shelf)
+    (g.F.Shelf.write_faults c.load_found-draft.new.shelf) (g.F.Shelf.write_faults c.write_draft-come.new.shelf) c.load_found-draft.result c.write_draft-come.result c.load_found-draft.ensures.done c.write_draft-come.ensures.writes
 
-pub returns-in-Ok-replace-clause-exact : goal.returns-in-Ok-replace-clause-exact
-returns-in-Ok-replace-clause-exact g c = λ told.
-    right_only (Detects (g.F.Shelf.file c.args.shelf.now) c.args.lp.now c.args.rows.now)
-    (one_answer (g.F.Shelf.file c.args.shelf.now) c.args.lp.now c.args.rows.now) (answer_of c.in-Ok.found) c.print.result.status (c.in-Ok.ensures.found told) c.print.ensures.status
-
-pub returns-in-Ok-replace-clause-leaves : goal.returns-in-Ok-replace-clause-leaves
-returns-in-Ok-replace-clause-leaves g c = λ told.
-    let still : IsTrue (g.F.Shelf.tells c.load_found.new.shelf) = subst (λ (t : Bool). IsTrue t) (sym c.in-Ok.ensures.told) told in
-    right_leaves (Detects (g.F.Shelf.file c.args.shelf.now) c.args.lp.now c.args.rows.now) c.args.dec.now (g.F.Shelf.file c.args.shelf.now) (g.F.Shelf.file c.replace.new.self) (answer_of c.in-Ok.found) c.print.result.status
-    (c.in-Ok.ensures.found told) c.print.ensures.status
-    (written_stands c.args.dec.now c.deref.result.now c.in-Ok.found.text.items (g.F.Shelf.file c.args.shelf.now) (g.F.Shelf.file c.load_found.new.shelf) (g.F.Shelf.file c.replace.new.self)
-    c.in-Ok.ensures.files c.deref.ensures.value (c.in-Ok-replace.ensures.files still))
-
-pub returns-in-Ok-replace-clause-failed : goal.returns-in-Ok-replace-clause-failed
-returns-in-Ok-replace-clause-failed g c = λ is_fault. inr (record {
-  rose = c.print.ensures.fault is_fault;
-  no_write = c.in-Ok-replace.ensures.cause ∙ c.in-Ok.ensures.writes;
-  once = c.print.ensures.once;
-  stands = λ told.
-      let still : IsTrue (g.F.Shelf.tells c.load_found.new.shelf) = subst (λ (t : Bool). IsTrue t) (sym c.in-Ok.ensures.told) told in
-      right_writes (Detects (g.F.Shelf.file c.args.shelf.now) c.args.lp.now c.args.rows.now) c.args.dec.now (g.F.Shelf.file c.args.shelf.now) (g.F.Shelf.file c.replace.new.self) (answer_of c.in-Ok.found)
-      (c.in-Ok.ensures.found told)
-      (written_stands c.args.dec.now c.deref.result.now c.in-Ok.found.text.items (g.F.Shelf.file c.args.shelf.now) (g.F.Shelf.file c.load_found.new.shelf) (g.F.Shelf.file c.replace.new.self)
-      c.in-Ok.ensures.files c.deref.ensures.value (c.in-Ok-replace.ensures.files still));
-})
-
-pub returns-in-Ok-replace-clause-cut_off : goal.returns-in-Ok-replace-clause-cut_off
-returns-in-Ok-replace-clause-cut_off g c = λ told heard.
-    right_cut (Detects (g.F.Shelf.file c.args.shelf.now) c.args.lp.now c.args.rows.now) (answer_of c.in-Ok.found) c.print.result.status
-    (g.O.Sink.taken c.args.out.now) (g.O.Sink.taken c.print.new.out) (c.in-Ok.ensures.found told) (c.print.ensures.partly heard)
-
-pub returns-in-Err-Failed-clause-leaves : goal.returns-in-Err-Failed-clause-leaves
-returns-in-Err-Failed-clause-leaves g c = λ told.
-    let still : IsTrue (g.F.Shelf.tells c.load_found.new.shelf) = subst (λ (t : Bool). IsTrue t) (sym c.in-Ok.ensures.told) told in
-    let files = c.in-Err-Failed.ensures.files still in
-    begun (subst (λ (before : Files). OthersAsBefore c.args.dec.now before (g.F.Shelf.file c.replace.new.self)) c.in-Ok.ensures.files (rw c.in-Err-Failed.field-0-is at files))
-    c.stopped.ensures.status
-
-pub returns-in-Err-Failed-clause-cut_off : goal.returns-in-Err-Failed-clause-cut_off
-returns-in-Err-Failed-clause-cut_off g c = λ told heard.
-    unwritten_cut (Detects (g.F.Shelf.file c.args.shelf.now) c.args.lp.now c.args.rows.now) (answer_of c.in-Ok.found) c.stopped.result.status
-    (g.O.Sink.taken c.args.out.now) (g.O.Sink.taken c.args.out.now) (c.in-Ok.ensures.found told) refl
-
-pub returns-in-Err-Refused-clause-answered : goal.returns-in-Err-Refused-clause-answered
-returns-in-Err-Refused-clause-answered g c = λ told.
-    let halts = c.in-Err-Refused.ensures.halted told in
-    right_answers (Detects (g.F.Shelf.file c.args.shelf.now) c.args.lp.now c.args.rows.now) (stops 3 c.in-Err-Refused.report.items) c.print-in-Err-Refused.result.status
-    (g.O.Sink.tells c.args.out.now) (g.O.Sink.taken c.args.out.now) (g.O.Sink.taken c.print-in-Err-Refused.new.out) (rw c.in-Err-Refused.field-0-is at halts) c.print-in-Err-Refused.ensures.status
-    c.print-in-Err-Refused.ensures.printed
-
-pub returns-in-Err-Refused-clause-exact : goal.returns-in-Err-Refused-clause-exact
-returns-in-Err-Refused-clause-exact g c = λ told.
-    let halts = c.in-Err-Refused.ensures.halted told in
-    right_only (Detects (g.F.Shelf.file c.args.shelf.now) c.args.lp.now c.args.rows.now)
-    (one_answer (g.F.Shelf.file c.args.shelf.now) c.args.lp.now c.args.rows.now) (stops 3 c.in-Err-Refused.report.items) c.print-in-Err-Refused.result.status
-    (rw c.in-Err-Refused.field-0-is at halts) c.print-in-Err-Refused.ensures.status
-
-pub returns-in-Err-Refused-clause-leaves : goal.returns-in-Err-Refused-clause-leaves
-returns-in-Err-Refused-clause-leaves g c = λ told.
-    let halts = c.in-Err-Refused.ensures.halted told in
-    right_leaves (Detects (g.F.Shelf.file c.args.shelf.now) c.args.lp.now c.args.rows.now) c.args.dec.now (g.F.Shelf.file c.args.shelf.now) (g.F.Shelf.file c.load_found.new.shelf) (stops 3 c.in-Err-Refused.report.items)
-    c.print-in-Err-Refused.result.status (rw c.in-Err-Refused.field-0-is at halts) c.print-in-Err-Refused.ensures.status c.in-Err-Refused.ensures.files
-
-pub returns-in-Err-Refused-clause-failed : goal.returns-in-Err-Refused-clause-failed
-returns-in-Err-Refused-clause-failed g c = λ is_fault. inr (record {
-  rose = c.print-in-Err-Refused.ensures.fault is_fault;
-  no_write = c.in-Err-Refused.ensures.writes;
-  once = c.print-in-Err-Refused.ensures.once;
-  stands = λ told.
-      let halts = c.in-Err-Refused.ensures.halted told in
-      right_writes (Detects (g.F.Shelf.file c.args.shelf.now) c.args.lp.now c.args.rows.now) c.args.dec.now (g.F.Shelf.file c.args.shelf.now) (g.F.Shelf.file c.load_found.new.shelf) (stops 3 c.in-Err-Refused.report.items)
-      (rw c.in-Err-Refused.field-0-is at halts) c.in-Err-Refused.ensures.files;
-})
-
-pub returns-in-Err-Refused-clause-cut_off : goal.returns-in-Err-Refused-clause-cut_off
-returns-in-Err-Refused-clause-cut_off g c = λ told heard.
-    let halts = c.in-Err-Refused.ensures.halted told in
-    right_cut (Detects (g.F.Shelf.file c.args.shelf.now) c.args.lp.now c.args.rows.now) (stops 3 c.in-Err-Refused.report.items) c.print-in-Err-Refused.result.status
-    (g.O.Sink.taken c.args.out.now) (g.O.Sink.taken c.print-in-Err-Refused.new.out) (rw c.in-Err-Refused.field-0-is at halts) (c.print-in-Err-Refused.ensures.partly heard)
-
-pub returns-clause-exact : goal.returns-clause-exact
-returns-clause-exact g c = λ told.
-    let halts = c.in-Err-Stopped.ensures.halted told in
-    halt_only (Detects (g.F.Shelf.file c.args.shelf.now) c.args.lp.now c.args.rows.now)
-    (one_answer (g.F.Shelf.file c.args.shelf.now) c.args.lp.now c.args.rows.now) c.stopped_by.result.status c.in-Err-Stopped.fault
-    (rw c.in-Err-Stopped.field-0-is at halts) c.stopped_by.ensures.status
+pub returns : goal.returns
+returns g c =
+    let files = g.F.Shelf.file c.args.shelf.now in
+    let now = g.F.Shelf.file c.write_draft-come.new.shelf in
+    let Right = Detects files c.args.lp.now c.args.rows.now in
+    let told = g.F.Shelf.tells c.args.shelf.now in
+    let reads = g.F.Shelf.read_faults c.args.shelf.now in
+    let reads_now = g.F.Shelf.read_faults c.write_draft-come.new.shelf in
+    let writes = g.F.Shelf.write_faults c.args.shelf.now in
+    let writes_now = g.F.Shelf.write_faults c.write_draft-come.new.shelf in
+    let comes = draft_comes Right told (g.F.Shelf.tells c.load_found-draft.new.shelf) c.args.dec.now files (g.F.Shelf.file c.load_found-draft.new.shelf) now reads
+    (g.F.Shelf.read_faults c.load_found-draft.new.shelf) reads_now writes (g.F.Shelf.write_faults c.load_found-draft.new.shelf) writes_now c.load_found-draft.result c.write_draft-come.result
+    c.load_found-draft.ensures.found c.load_found-draft.ensures.done c.load_found-draft.ensures.halted c.load_found-draft.ensures.cause c.load_found-draft.ensures.told c.load_found-draft.ensures.files c.load_found-draft.ensures.writes
+    c.write_draft-come.ensures.reads c.write_draft-come.ensures.writes in
+    let end = writers_end Right (now ≡ files) told c.args.dec.now files now reads reads_now writes writes_now c.write_draft-come.result c.finish.result.status
+    (g.O.Sink.tells c.args.out.now) (g.O.Sink.taken c.args.out.now) (g.O.Sink.taken c.finish.new.out) (g.O.Sink.faults c.args.out.now)
+    (g.O.Sink.faults c.finish.new.out) (g.O.Sink.puts c.args.out.now) (g.O.Sink.puts c.finish.new.out) (one_answer files c.args.lp.now c.args.rows.now)
+    (draft_others c.args.dec.now files now) comes c.finish.ensures.ends in
+    record {
+      answered = end.ends.answered;
+      exact = end.ends.exact;
+      causes = end.ends.causes;
+      kept = c.finish.ensures.kept;
+      events = c.finish.ensures.events;
+      words = end.ends.words;
+      leaves = λ is_told. draft_leaves Right c.args.dec.now files now c.finish.result.status (end.leaves is_told);
+      others = end.others;
+      puts = end.ends.puts;
+      failed = end.failed;
+      silent = end.ends.silent;
+      cut_off = end.ends.cut_off;
+    }

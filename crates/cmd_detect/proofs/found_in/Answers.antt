@@ -1,7 +1,7 @@
 use Rattle.std.proofs.Common.{subst, ℕ, List, Some, IfOk, IfErr}
-use Rattle.bp_front.specs.Written.{IsTextHalt}
+use Rattle.bp_front.specs.Written.{draft_answer, IsTextHalt}
 use Rattle.bp_front.proofs.Written.{text_halts}
-use Rattle.cmd_detect.specs.Detects.{DetectsBeside, RowsCome, answer_of}
+use Rattle.cmd_detect.specs.Detects.{DetectsBeside, RowsCome}
 use Rattle.cmd_detect.proofs.Lifted.{blocks_found, blocks_halted}
 use Rattle.cmd_detect.proofs.found_in.Goals as goal
 
@@ -12,7 +12,7 @@ returns-in_err-master-clause-halted c =
 pub returns-clause-found : goal.returns-clause-found
 returns-clause-found c =
     blocks_found c.args.model.now c.args.list.now c.in_ok-master.master.items c.blocks_of.result c.in_ok-master.ensures.rows
-    (subst (λ (rows : List ℕ). IfOk c.blocks_of.result (λ f. DetectsBeside c.args.model.now rows (answer_of f))) c.deref.ensures.value c.blocks_of.ensures.found)
+    (subst (λ (rows : List ℕ). IfOk c.blocks_of.result (λ f. DetectsBeside c.args.model.now rows (draft_answer f))) c.deref.ensures.value c.blocks_of.ensures.found)
 
 pub returns-clause-halted : goal.returns-clause-halted
 returns-clause-halted c =

@@ -1,9 +1,9 @@
 use Rattle.std.proofs.Common.{◌≡◌, ◌∙◌, refl, lit<, sym, subst, ap, ℕ, Bool, IsTrue, List, Some, IfOk, IfErr, IsSome, IfSome, take}
 use Rattle.bp_shelf.specs.Shelf.{Files}
 use Rattle.bp_shelf.specs.declared.shelf.ShelfFault.TheVariants.{Missing}
-use Rattle.bp_front.specs.Written.{IsTextHalt}
+use Rattle.bp_front.specs.Written.{draft_answer, IsTextHalt}
 use Rattle.bp_front.proofs.Written.{lp_halts}
-use Rattle.cmd_detect.specs.Detects.{RowsCome, answer_of, Detects, missing_lp, faulty_lp}
+use Rattle.cmd_detect.specs.Detects.{RowsCome, Detects, missing_lp, faulty_lp}
 use Rattle.cmd_detect.proofs.Lifted.{front_halts, still_missing, list_found, list_halted, list_counts}
 use Rattle.cmd_detect.proofs.load_found.Goals as goal
 
@@ -26,7 +26,7 @@ returns-clause-found g c = λ told.
     list_found (g.F.Shelf.file c.args.shelf.now) c.args.lp.now c.args.rows.now c.in_ok-model.model list.items c.found_in.result 16777217 (lit< tt) (c.in_ok-model.ensures.model told)
     (subst (λ (files : Files). IsSome (files c.args.rows.now)) c.in_ok-model.ensures.files (c.in_ok-list.ensures.found still refl (lit< tt)))
     (subst (λ (files : Files). IfSome (files c.args.rows.now) (λ all. list.items ≡ take 16777217 all)) c.in_ok-model.ensures.files (c.in_ok-list.ensures.bytes still))
-    (subst (λ (t : List ℕ). IfOk c.found_in.result (λ f. RowsCome c.in_ok-model.model (Some t) (answer_of f))) c.deref.ensures.value c.found_in.ensures.found)
+    (subst (λ (t : List ℕ). IfOk c.found_in.result (λ f. RowsCome c.in_ok-model.model (Some t) (draft_answer f))) c.deref.ensures.value c.found_in.ensures.found)
 
 pub returns-clause-halted : goal.returns-clause-halted
 returns-clause-halted g c = λ told.

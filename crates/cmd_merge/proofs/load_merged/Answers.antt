@@ -1,7 +1,8 @@
 use Rattle.std.proofs.Common.{sym, subst, Bool, IsTrue, List, ℕ, Option, IfOk, IfErr}
 use Rattle.std.specs.Option.{option_map}
 use Rattle.bp_shelf.specs.Shelf.{Files}
-use Rattle.cmd_merge.specs.Merges.{MergesBlocked, Merges, stopped, went_on, answer_of}
+use Rattle.bp_front.specs.Written.{draft_answer}
+use Rattle.cmd_merge.specs.Merges.{MergesBlocked, Merges, stopped, went_on}
 use Rattle.cmd_merge.specs.Stops.{IsStop}
 use Rattle.cmd_merge.proofs.StopProof.{stops_as, blocks_merged, front_stops}
 use Rattle.cmd_merge.proofs.load_merged.Goals as goal
@@ -11,7 +12,7 @@ returns-in-Ok-clause-merged g c = λ told.
     let files = g.F.Shelf.file c.args.shelf.now in
     let still : IsTrue (g.F.Shelf.tells c.load.new.shelf) = subst (λ (t : Bool). IsTrue t) (sym c.in-Ok.ensures.told) told in
     blocks_merged files c.args.lp.now c.args.first.now c.args.second.now (option_map (λ name. name.now) c.args.dec) c.in-Ok.b c.merge_files.result (c.in-Ok.ensures.blocked told)
-    (subst (λ (fs : Files). IfOk c.merge_files.result (λ m. MergesBlocked fs c.in-Ok.b c.args.first.now c.args.second.now (answer_of m))) c.in-Ok.ensures.files (c.merge_files.ensures.merged still))
+    (subst (λ (fs : Files). IfOk c.merge_files.result (λ m. MergesBlocked fs c.in-Ok.b c.args.first.now c.args.second.now (draft_answer m))) c.in-Ok.ensures.files (c.merge_files.ensures.merged still))
 
 pub returns-in-Ok-clause-stopped : goal.returns-in-Ok-clause-stopped
 returns-in-Ok-clause-stopped g c = λ told.

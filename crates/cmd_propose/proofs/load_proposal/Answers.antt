@@ -1,5 +1,6 @@
 use Rattle.bp_front.proofs.Written.{lp_halts}
-use Rattle.cmd_propose.specs.Proposes.{Proposes, missing_lp, faulty_lp, with_model, answer_of}
+use Rattle.bp_front.specs.Written.{draft_answer}
+use Rattle.cmd_propose.specs.Proposes.{Proposes, missing_lp, faulty_lp, with_model}
 use Rattle.cmd_propose.proofs.load_proposal.Goals as goal
 
 pub returns-in_err-model-clause-halted : goal.returns-in_err-model-clause-halted
@@ -9,4 +10,4 @@ returns-in_err-model-clause-halted g c = λ told.
 
 pub returns-clause-proposed : goal.returns-clause-proposed
 returns-clause-proposed g c = λ told.
-    with_model c.in_ok-model.model (answer_of c.in_ok-proposal_of.field-0) (c.in_ok-model.ensures.model told) c.in_ok-proposal_of.ensures.proposed
+    with_model c.in_ok-model.model (draft_answer c.in_ok-proposal_of.field-0) (c.in_ok-model.ensures.model told) c.in_ok-proposal_of.ensures.proposed

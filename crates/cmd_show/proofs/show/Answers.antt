@@ -1,40 +1,36 @@
+use Rattle.std.proofs.Common.{◌≡◌, ◌≢◌, sym, subst, ℕ, Result, IfOk}
 use Rattle.std.specs.Option.{option_map}
-use Rattle.bp_front.proofs.Lifts.{lift_answers, lift_only, lift_cut, stop_only, fault_only, printed_status}
-use Rattle.cmd_show.specs.Shows.{ShowsBlocked}
-use Rattle.cmd_show.proofs.Causes.{shown_causes}
+use Rattle.bp_front.specs.declared.ending.Reply.{Reply}
+use Rattle.bp_front.proofs.Finishing.{readers_end, unfailed}
+use Rattle.cmd_show.specs.Shows.{AnswersShow}
+use Rattle.cmd_show.proofs.OneAnswer.{one_answer}
 use Rattle.cmd_show.proofs.show.Goals as goal
 
-pub returns-in-Ok-clause-answered : goal.returns-in-Ok-clause-answered
-returns-in-Ok-clause-answered g c = λ told.
-    lift_answers (g.F.Shelf.file c.args.shelf.now) c.args.lp.now (option_map (λ name. name.now) c.args.dec) (Unit {0}) (ShowsBlocked c.args.blocks) c.in-Ok.b
-    c.print_blocked.result.status (g.O.Sink.tells c.args.out.now) (g.O.Sink.taken c.args.out.now) (g.O.Sink.taken c.print_blocked.new.out) (c.in-Ok.ensures.blocked told)
-    c.print_blocked.ensures.answered
+pub finish-requires : goal.finish-requires
+finish-requires g c =
+    subst (λ (come : Result Reply ℕ). IfOk come (λ reply. reply.status ≢ 8)) (sym c.reply_or_status.ensures) (unfailed c.shown-answer.result c.shown-answer.ensures.statuses)
 
-pub returns-in-Ok-clause-exact : goal.returns-in-Ok-clause-exact
-returns-in-Ok-clause-exact g c = λ told.
-    lift_only (g.F.Shelf.file c.args.shelf.now) c.args.lp.now (option_map (λ name. name.now) c.args.dec) (Unit {0}) (ShowsBlocked c.args.blocks) c.in-Ok.b
-    c.print_blocked.result.status (c.in-Ok.ensures.blocked told) c.print_blocked.ensures.exact
-
-pub returns-in-Ok-clause-cut_off : goal.returns-in-Ok-clause-cut_off
-returns-in-Ok-clause-cut_off g c = λ told heard.
-    lift_cut (g.F.Shelf.file c.args.shelf.now) c.args.lp.now (option_map (λ name. name.now) c.args.dec) (λ _. Unit {0}) (λ _. ShowsBlocked c.args.blocks) c.in-Ok.b
-    c.print_blocked.result.status (g.O.Sink.taken c.args.out.now) (g.O.Sink.taken c.print_blocked.new.out) (c.in-Ok.ensures.blocked told)
-    (c.print_blocked.ensures.cut_off heard)
-
-pub returns-in-Err-Refused-clause-exact : goal.returns-in-Err-Refused-clause-exact
-returns-in-Err-Refused-clause-exact g c = λ told.
-    let halts = c.in-Err-Refused.ensures.halted told in
-    stop_only (g.F.Shelf.file c.args.shelf.now) c.args.lp.now (option_map (λ name. name.now) c.args.dec) (Unit {0}) (ShowsBlocked c.args.blocks) c.print.result.status 3 c.in-Err-Refused.report.items
-    (rw c.in-Err-Refused.field-0-is at halts) (printed_status c.print.result.status 3 c.print.ensures.status)
-
-pub returns-in-Err-Stopped-clause-exact : goal.returns-in-Err-Stopped-clause-exact
-returns-in-Err-Stopped-clause-exact g c = λ told.
-    let halts = c.in-Err-Stopped.ensures.halted told in
-    fault_only (g.F.Shelf.file c.args.shelf.now) c.args.lp.now (option_map (λ name. name.now) c.args.dec) (Unit {0}) (ShowsBlocked c.args.blocks) c.stopped_by.result.status c.in-Err-Stopped.fault
-    (rw c.in-Err-Stopped.field-0-is at halts) c.stopped_by.ensures.status
-
-pub returns-in-Ok-clause-causes : goal.returns-in-Ok-clause-causes
-returns-in-Ok-clause-causes g c =
-    shown_causes c.print_blocked.result.status (g.F.Shelf.read_faults c.args.shelf.now) (g.F.Shelf.read_faults c.load.new.shelf) (g.F.Shelf.write_faults c.args.shelf.now)
-    (g.F.Shelf.write_faults c.load.new.shelf) (g.O.Sink.faults c.args.out.now) (g.O.Sink.faults c.print_blocked.new.out) c.print_blocked.ensures.statuses
-    c.in-Ok.ensures.cause c.in-Ok.ensures.writes c.print_blocked.ensures.fault c.print_blocked.ensures.quiet
+pub returns : goal.returns
+returns g c =
+    let files = g.F.Shelf.file c.args.shelf.now in
+    let dec = option_map (λ name. name.now) c.args.dec in
+    let end = readers_end (AnswersShow files c.args.lp.now dec c.args.blocks) (g.F.Shelf.file c.shown-answer.new.shelf ≡ files) c.shown-answer.result c.reply_or_status.result
+    (g.F.Shelf.tells c.args.shelf.now) (g.F.Shelf.read_faults c.args.shelf.now) (g.F.Shelf.read_faults c.shown-answer.new.shelf) (g.F.Shelf.write_faults c.args.shelf.now)
+    (g.F.Shelf.write_faults c.shown-answer.new.shelf) c.finish.result.status (g.O.Sink.tells c.args.out.now) (g.O.Sink.taken c.args.out.now) (g.O.Sink.taken c.finish.new.out)
+    (g.O.Sink.faults c.args.out.now) (g.O.Sink.faults c.finish.new.out) (g.O.Sink.puts c.args.out.now) (g.O.Sink.puts c.finish.new.out) c.reply_or_status.ensures
+    (one_answer files c.args.lp.now dec c.args.blocks) c.shown-answer.ensures.right c.shown-answer.ensures.statuses c.shown-answer.ensures.cause c.shown-answer.ensures.writes c.shown-answer.ensures.files
+    c.finish.ensures.ends in
+    record {
+      answered = end.ends.answered;
+      exact = end.ends.exact;
+      causes = end.ends.causes;
+      kept = c.finish.ensures.kept;
+      events = c.finish.ensures.events;
+      words = end.ends.words;
+      files = c.shown-answer.ensures.files;
+      writes = c.shown-answer.ensures.writes;
+      silent = end.ends.silent;
+      puts = end.ends.puts;
+      failed = end.failed;
+      cut_off = end.ends.cut_off;
+    }

@@ -1,8 +1,8 @@
 -- The certificate with the more cuts begins with those of the other.
 use Rattle.std.proofs.Common.{◌≡◌, ◌∙◌, ℕ, List, ◌++◌, length, take, sym, ap}
 use Rattle.bp_theory.specs.declared.Cut.{Cut}
+use Rattle.bp_front.specs.Written.{draft_answer}
 use Rattle.cmd_merge.specs.declared.opening.Opened.{Opened}
-use Rattle.cmd_merge.specs.Merges.{answer_of}
 use Rattle.cmd_merge.proofs.JoinProof.{begins, may_merge, joins_first, joins_second}
 use Rattle.cmd_merge.proofs.joined.join.Goals as goal
 
@@ -21,7 +21,7 @@ written-requires-clause-second c =
 
 pub returns-then-count-cuts-clause-merged : goal.returns-then-count-cuts-clause-merged
 returns-then-count-cuts-clause-merged c =
-    joins_first c.args.one c.args.other (answer_of c.in_ok-written.field-0)
+    joins_first c.args.one c.args.other (draft_answer c.in_ok-written.field-0)
     (longer_by c.args.one.program.cuts c.args.other.program.cuts c.cuts.result.now c.cuts-2.result.now c.common-count.result c.cuts.ensures.cuts c.cuts-2.ensures.cuts
     c.common-count.ensures.alike (c.if-count-cuts.true ∙ ap length c.cuts-3.ensures.cuts))
     c.in_ok-written.ensures.merged
@@ -35,7 +35,7 @@ written-requires-then-count-cuts-2-clause-first c =
 
 pub returns-then-count-cuts-2-clause-merged : goal.returns-then-count-cuts-2-clause-merged
 returns-then-count-cuts-2-clause-merged c =
-    joins_second c.args.one c.args.other (answer_of c.in_ok-written-2.field-0)
+    joins_second c.args.one c.args.other (draft_answer c.in_ok-written-2.field-0)
     (longer_by c.args.other.program.cuts c.args.one.program.cuts c.cuts-2.result.now c.cuts.result.now c.common-count.result c.cuts-2.ensures.cuts c.cuts.ensures.cuts
     (sym c.common-count.ensures.alike) (c.if-count-cuts-2.true ∙ ap length c.cuts-4.ensures.cuts))
     c.in_ok-written-2.ensures.merged

@@ -7,8 +7,9 @@ use Rattle.cert_form.specs.Plain.{version_with}
 use Rattle.cert_text.specs.Programs.{frame_for}
 use Rattle.cert_form.specs.Written.{cert_of}
 use Rattle.search_outcome.specs.Outcomes.{outcome_certificate}
-use Rattle.cmd_merge.specs.Merges.{AnswersBoth, answer_of}
-use Rattle.cmd_merge.specs.declared.written.Merged.{Merged}
+use Rattle.bp_front.specs.Written.{draft_answer}
+use Rattle.cmd_merge.specs.Merges.{AnswersBoth}
+use Rattle.bp_front.specs.declared.draft.Draft.{Draft}
 use Rattle.cmd_merge.proofs.WrittenProof.{running, few_together, both_answered}
 use Rattle.cmd_merge.proofs.written.written.Goals as goal
 
@@ -21,8 +22,8 @@ conclude-outcome-requires c = running c.args.b.now c.in_ok-from.from.grove c.in_
 pub returns-clause-merged : goal.returns-clause-merged
 returns-clause-merged c = λ plain cuts text more formed over one other.
     let o = c.conclude-outcome.result in
-    let m : Merged = record { text = c.in_ok-text.text; reply = record { status = 0; report = c.in_ok-report.report } } in
-    subst (λ (x : BlockedProgram). AnswersBoth x one.cert other.cert c.args.first c.args.second (answer_of m)) (sym over)
+    let m : Draft = record { text = c.in_ok-text.text; reply = record { status = 0; report = c.in_ok-report.report } } in
+    subst (λ (x : BlockedProgram). AnswersBoth x one.cert other.cert c.args.first c.args.second (draft_answer m)) (sym over)
     (both_answered plain cuts text more c.args.first c.args.second c.in_ok-from.from c.kept_from.result o m formed one other c.in_ok-from.ensures.merged c.kept_from.ensures
     (λ most stopped. subst (λ (x : BlockedProgram). EndsWithin x most o) over (c.conclude-outcome.ensures.ends most stopped))
     c.conclude-outcome.ensures.grove c.conclude-outcome.ensures.point
