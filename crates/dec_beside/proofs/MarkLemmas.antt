@@ -1,12 +1,10 @@
 -- The rows that are marked, of the first ones.
-use Rattle.std.proofs.Common.{◌≡◌, ℕ, ◌+◌, ◌<◌, Bool, true, false, cond, List, [], ◌∷◌, ◌++◌, length, get_or, map, All, refl, sym, ap, subst, ◌∙◌, arith, append-nil}
-use Rattle.std.specs.Prelude.{filter, slice_get}
+use Rattle.std.proofs.Common.{◌≡◌, ℕ, ◌+◌, ◌<◌, Bool, true, false, cond, List, [], ◌∷◌, ◌++◌, get_or, All, sym, ap, ◌∙◌, arith, append-nil}
+use Rattle.std.specs.Prelude.{filter}
 use Rattle.std.specs.List.{range_with_len}
-use Rattle.std.specs.Option.{unwrap_or}
 use Rattle.std.proofs.lemmas.List.{map-id}
 use Rattle.std.proofs.lemmas.List.FromFn.{filter_of_map_range_with_len_more, length-range_with_len, get_or-range_with_len}
 use Rattle.std.proofs.lemmas.List.Elements.{All-filter}
-use Rattle.std.proofs.lemmas.Option.{unwrap_or-slice_get}
 
 abbrev pub marked_below : (marks : List Bool) → (rows : ℕ) → List ℕ
 marked_below marks n = filter (λ r. get_or marks r false) (range_with_len 0 n)
@@ -19,15 +17,11 @@ more marks n =
     ∙ filter_of_map_range_with_len_more test (λ (r : ℕ). r) 0 n n same
     ∙ ap (λ (xs : List ℕ). filter test xs ++ cond (test n) (n ∷ []) []) (map-id (range_with_len 0 n))
 
--- a row more, by the mark that is read of it
-by_mark : (marks : List Bool) (n : ℕ) (b : Bool) → unwrap_or (slice_get marks n) false ≡ b → marked_below marks (n + 1) ≡ marked_below marks n ++ cond b (n ∷ []) []
-by_mark marks n b is = more marks n ∙ ap (λ (x : Bool). marked_below marks n ++ cond x (n ∷ []) []) (sym (unwrap_or-slice_get marks n false) ∙ is)
+pub marked_more : (marks : List Bool) (n : ℕ) → get_or marks n false ≡ true → marked_below marks (n + 1) ≡ marked_below marks n ++ (n ∷ [])
+marked_more marks n is = more marks n ∙ ap (λ (b : Bool). marked_below marks n ++ cond b (n ∷ []) []) is
 
-pub marked_more : (marks : List Bool) (n : ℕ) → unwrap_or (slice_get marks n) false ≡ true → marked_below marks (n + 1) ≡ marked_below marks n ++ (n ∷ [])
-marked_more marks n is = by_mark marks n true is
-
-pub unmarked_more : (marks : List Bool) (n : ℕ) → unwrap_or (slice_get marks n) false ≡ false → marked_below marks (n + 1) ≡ marked_below marks n
-unmarked_more marks n is = by_mark marks n false is ∙ append-nil (marked_below marks n)
+pub unmarked_more : (marks : List Bool) (n : ℕ) → get_or marks n false ≡ false → marked_below marks (n + 1) ≡ marked_below marks n
+unmarked_more marks n is = more marks n ∙ ap (λ (b : Bool). marked_below marks n ++ cond b (n ∷ []) []) is ∙ append-nil (marked_below marks n)
 
 -- the marked rows are rows
 pub marked_there : (marks : List Bool) (n : ℕ) → All (λ r. r < n) (marked_below marks n)
