@@ -7,8 +7,9 @@ use Rattle.cmd_check.proofs.OneAnswer.{one_answer}
 use Rattle.cmd_check.proofs.check.Goals as goal
 
 pub finish-requires : goal.finish-requires
-finish-requires g c =
-    subst (λ (come : Result Reply ℕ). IfOk come (λ reply. reply.status ≢ 8)) (sym c.reply_or_status.ensures) (unfailed c.checked-answer.result c.checked-answer.ensures.statuses)
+finish-requires g c = record {
+  unfailed = subst (λ (come : Result Reply ℕ). IfOk come (λ reply. reply.status ≢ 8)) (sym c.reply_or_status.ensures) (unfailed c.checked-answer.result c.checked-answer.ensures.statuses);
+}
 
 pub returns : goal.returns
 returns g c =

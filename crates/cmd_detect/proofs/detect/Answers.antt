@@ -5,9 +5,10 @@ use Rattle.cmd_detect.proofs.OneAnswer.{one_answer}
 use Rattle.cmd_detect.proofs.detect.Goals as goal
 
 pub finish-requires : goal.finish-requires
-finish-requires g c =
-    draft_unfailed (g.F.Shelf.tells c.load_found-draft.new.shelf) c.args.dec.now (g.F.Shelf.file c.load_found-draft.new.shelf) (g.F.Shelf.file c.write_draft-come.new.shelf)
-    (g.F.Shelf.write_faults c.load_found-draft.new.shelf) (g.F.Shelf.write_faults c.write_draft-come.new.shelf) c.load_found-draft.result c.write_draft-come.result c.load_found-draft.ensures.done c.write_draft-come.ensures.writes
+finish-requires g c = record {
+  unfailed = draft_unfailed (g.F.Shelf.tells c.load_found-draft.new.shelf) c.args.dec.now (g.F.Shelf.file c.load_found-draft.new.shelf) (g.F.Shelf.file c.write_draft-come.new.shelf)
+      (g.F.Shelf.write_faults c.load_found-draft.new.shelf) (g.F.Shelf.write_faults c.write_draft-come.new.shelf) c.load_found-draft.result c.write_draft-come.result c.load_found-draft.ensures.done c.write_draft-come.ensures.writes;
+}
 
 pub returns : goal.returns
 returns g c =

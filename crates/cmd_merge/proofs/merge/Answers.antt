@@ -7,10 +7,11 @@ use Rattle.cmd_merge.proofs.StopProof.{merged_comes, merged_unfailed}
 use Rattle.cmd_merge.proofs.merge.Goals as goal
 
 pub finish-requires : goal.finish-requires
-finish-requires g c =
-    merged_unfailed (g.F.Shelf.tells c.load_merged-merged.new.shelf) c.args.new.now (g.F.Shelf.file c.load_merged-merged.new.shelf) (g.F.Shelf.file c.write_merged-come.new.shelf)
-    (g.F.Shelf.write_faults c.load_merged-merged.new.shelf) (g.F.Shelf.write_faults c.write_merged-come.new.shelf) c.load_merged-merged.result c.write_merged-come.result
-    c.load_merged-merged.ensures.done c.load_merged-merged.ensures.refusals c.write_merged-come.ensures.writes
+finish-requires g c = record {
+  unfailed = merged_unfailed (g.F.Shelf.tells c.load_merged-merged.new.shelf) c.args.new.now (g.F.Shelf.file c.load_merged-merged.new.shelf) (g.F.Shelf.file c.write_merged-come.new.shelf)
+      (g.F.Shelf.write_faults c.load_merged-merged.new.shelf) (g.F.Shelf.write_faults c.write_merged-come.new.shelf) c.load_merged-merged.result c.write_merged-come.result
+      c.load_merged-merged.ensures.done c.load_merged-merged.ensures.refusals c.write_merged-come.ensures.writes;
+}
 
 pub returns : goal.returns
 returns g c =

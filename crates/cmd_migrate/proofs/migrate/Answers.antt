@@ -7,10 +7,11 @@ use Rattle.cmd_migrate.proofs.Streamed.{migrated_comes, migrated_leaves, migrate
 use Rattle.cmd_migrate.proofs.migrate.Goals as goal
 
 pub finish-requires : goal.finish-requires
-finish-requires g c =
-    migrated_unfailed (g.F.Shelf.tells c.load_migrated-migrated.new.shelf) c.args.new.now (g.F.Shelf.file c.load_migrated-migrated.new.shelf) (g.F.Shelf.file c.write_migrated-come.new.shelf)
-    (g.F.Shelf.write_faults c.load_migrated-migrated.new.shelf) (g.F.Shelf.write_faults c.write_migrated-come.new.shelf) c.load_migrated-migrated.result c.write_migrated-come.result
-    c.load_migrated-migrated.ensures.done c.write_migrated-come.ensures.writes
+finish-requires g c = record {
+  unfailed = migrated_unfailed (g.F.Shelf.tells c.load_migrated-migrated.new.shelf) c.args.new.now (g.F.Shelf.file c.load_migrated-migrated.new.shelf) (g.F.Shelf.file c.write_migrated-come.new.shelf)
+      (g.F.Shelf.write_faults c.load_migrated-migrated.new.shelf) (g.F.Shelf.write_faults c.write_migrated-come.new.shelf) c.load_migrated-migrated.result c.write_migrated-come.result
+      c.load_migrated-migrated.ensures.done c.write_migrated-come.ensures.writes;
+}
 
 pub returns : goal.returns
 returns g c =

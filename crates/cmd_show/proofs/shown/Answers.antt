@@ -11,6 +11,6 @@ returns-in-Ok-reply_to-clause-right g c = λ told. went_on c.in-Ok.b (c.in-Ok.en
 pub returns-in-Ok-reply_to-clause-statuses : goal.returns-in-Ok-reply_to-clause-statuses
 returns-in-Ok-reply_to-clause-statuses g c = shown_status c.args.blocks c.in-Ok.b c.in-Ok-reply_to.reply c.in-Ok-reply_to.ensures
 
-pub returns-in-Err-clause-right : goal.returns-in-Err-clause-right
-returns-in-Err-clause-right g c = λ told.
+pub returns-clause-right : goal.returns-clause-right
+returns-clause-right g c = λ told.
     halt_right (g.F.Shelf.file c.args.shelf.now) c.args.lp.now (option_map (λ name. name.now) c.args.dec) (Unit {0}) (ShowsBlocked c.args.blocks) c.in-Err.halt tt (c.in-Err.ensures.halted told)
