@@ -15,10 +15,10 @@ returns-in-Ok-reply_of-clause-right g c = λ told.
     file_replies c.args.visits (g.F.Shelf.tells c.args.shelf.now) (g.F.Shelf.file c.args.shelf.now) c.args.cert.now c.args.b.now c.feed_file.new.checker c.in-Ok-reply_of.reply told file
     (c.in-Ok-reply_of.ensures.right c.args.b.now c.args.visits file.text c.in-Ok-feed_file.ensures.made_for file.stands)
 
-pub returns-in-Err-feed_file-clause-right : goal.returns-in-Err-feed_file-clause-right
-returns-in-Err-feed_file-clause-right g c = λ told.
+pub returns-clause-right : goal.returns-clause-right
+returns-clause-right g c = λ told.
     fault_right c.args.visits (g.F.Shelf.file c.args.shelf.now) c.args.cert.now c.args.b.now c.in-Err-feed_file.fault
     (λ is. c.in-Err-feed_file.ensures.missing told (as_missing c.in-Err-feed_file.fault is))
 
-pub returns-in-Err-feed_file-clause-cause : goal.returns-in-Err-feed_file-clause-cause
-returns-in-Err-feed_file-clause-cause g c = counts_halt (Unit {0}) Reply c.in-Err-feed_file.fault _ _ c.in-Err-feed_file.ensures.cause
+pub returns-clause-cause : goal.returns-clause-cause
+returns-clause-cause g c = counts_halt (Unit {0}) Reply c.in-Err-feed_file.fault _ _ c.in-Err-feed_file.ensures.cause
