@@ -17,8 +17,8 @@ returns-in-Ok-reply_of-clause-right g c = λ told.
 
 pub returns-clause-right : goal.returns-clause-right
 returns-clause-right g c = λ told.
-    fault_right c.args.visits (g.F.Shelf.file c.args.shelf.now) c.args.cert.now c.args.b.now c.in-Err-feed_file.fault
-    (λ is. c.in-Err-feed_file.ensures.missing told (as_missing c.in-Err-feed_file.fault is))
+    fault_right c.args.visits (g.F.Shelf.file c.args.shelf.now) c.args.cert.now c.args.b.now c.in-Err.fault
+    (λ is. c.in-Err.ensures.missing told (as_missing c.in-Err.fault is))
 
 pub returns-clause-cause : goal.returns-clause-cause
-returns-clause-cause g c = counts_halt (Unit {0}) Reply c.in-Err-feed_file.fault _ _ c.in-Err-feed_file.ensures.cause
+returns-clause-cause g c = counts_halt (Unit {0}) Reply c.in-Err.fault _ _ c.in-Err.ensures.cause
