@@ -4,16 +4,16 @@ use Rattle.bp_theory.specs.declared.Cut.{Cut}
 use Rattle.bp_theory.specs.declared.Row.{Row}
 use Rattle.round_sums.specs.Cutting.{IsEarlierCut}
 use Rattle.cut_list.specs.Taken.{IsTaken}
-use Rattle.cut_hint.proofs.search.take_cuts.Goals as goal
+use Rattle.cut_hint.proofs.search.take_cut.Goals as goal
 
-pub loop-one-preserved-in-Some-branch-3 : goal.loop-one-preserved-in-Some-branch-3
-loop-one-preserved-in-Some-branch-3 c =
+pub returns : goal.returns
+returns c =
     let p = c.args.b.now.named.program in
     let d = c.args.b.now.dec in
     let cut : Cut = c.in_ok-cut.cut in
-    let row : Row = c.in-Some-2.row in
-    let rows : List Row = c.loop-one.rows.items in
+    let row : Row = c.in-Some.row in
+    let rows : List Row = c.args.rows.now.items in
     let taken : IsTaken p d c.as_slice.result.now cut row =
-    subst (λ (found : Option Row). IfSome found (IsTaken p d c.as_slice.result.now cut)) c.in-Some-2.is c.in_ok-row.ensures in
+    subst (λ (found : Option Row). IfSome found (IsTaken p d c.as_slice.result.now cut)) c.in-Some.is c.in_ok-row.ensures.taken in
     let pushed : c.push.new.self.items ≡ rows ++ row ∷ [] = c.in_ok-push.ensures.items in
-    subst (All (IsEarlierCut p)) (sym pushed) (All-push (IsEarlierCut p) rows row c.loop-one.invariant taken.kept)
+    subst (All (IsEarlierCut p)) (sym pushed) (All-push (IsEarlierCut p) rows row c.requires taken.kept)
