@@ -84,11 +84,7 @@ fn from_start(alloc: Global, within: Within, symbol: Symbol) -> Step
             Stage::Bounds(within, BoundStage::Name(name)),
         ))),
         Symbol::Word(section) => {
-            let Within {
-                front,
-                parts,
-                so_far,
-            } = within;
+            let (front, parts, so_far) = within.into_parts();
             behind_part(alloc, front, parts, Part::Bounds(so_far), section)
         }
         _ => from_signs(within, Items::new(alloc), symbol),

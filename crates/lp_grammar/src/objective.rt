@@ -197,7 +197,7 @@ fn open_word(
     ensures { (text : List ℕ) → step_in text result ≡ specs_open_word maximises
         (label_in text label) (gap_in (item_in text) gap) section }
 {
-    let Gap { before, signs } = gap;
+    let (before, signs) = gap.into_parts();
     if before.is_none() && signs.len() == 0 {
         rows_word(alloc, maximises, label, None, section)
     } else {
@@ -241,7 +241,7 @@ fn put_item(
         (λ r. item_sum_in text r ≡ put (gap_in (item_in text) gap)
         (λ signs. term (named factor (name_in text variable) signs))) }
 {
-    let Gap { before, signs } = gap;
+    let (before, signs) = gap.into_parts();
     let item = Item::Term(Term {
         signs,
         factor,
@@ -259,7 +259,7 @@ fn put_constant(alloc: Global, gap: Gap<Item>, size: u64) -> Result<Sum<Item>, A
         (λ r. item_sum_in text r ≡ put (gap_in (item_in text) gap)
         (λ signs. constant (signed_by size signs))) }
 {
-    let Gap { before, signs } = gap;
+    let (before, signs) = gap.into_parts();
     let item = Item::Constant(Signed { signs, size });
     match before {
         None => Ok(lone(alloc, item)),

@@ -13,14 +13,32 @@ use lp_tree::{
 use std::alloc::{AllocError, Global};
 
 /// A place for a summand: what stands before it, and its signs so far. With nothing before it, it is the first.
-#[derive(Drop)]
 pub struct Gap<A> {
     pub before: Option<(Sum<A>, Sign)>,
     pub signs: Items<Sign>,
 }
 
+// How a gap goes is proved here once, and not again wherever one goes.
+impl<A: Drop> Drop for Gap<A> {
+    fn drop(self) {
+        let Gap {
+            before: _,
+            signs: _,
+        } = self;
+    }
+}
+
+impl<A: Drop> Gap<A> {
+    /// What stands before the place, and its signs.
+    pub fn into_parts(self) -> (Option<(Sum<A>, Sign)>, Items<Sign>)
+        ensures { result ≡ (self.before, self.signs) }
+    {
+        let Gap { before, signs } = self;
+        (before, signs)
+    }
+}
+
 /// An objective and the rows so far.
-#[derive(Drop)]
 pub struct Front {
     pub maximises: bool,
     pub label: Option<TextRange>,
@@ -28,12 +46,75 @@ pub struct Front {
     pub rows: Items<Row>,
 }
 
+// As of a gap: so that no caller has to prove how each form of an objective goes.
+impl Drop for Front {
+    fn drop(self) {
+        let Front {
+            maximises: _,
+            label: _,
+            objective: _,
+            rows: _,
+        } = self;
+    }
+}
+
+impl Front {
+    // The tree of an objective, rows and parts.
+    fn into_tree(self, parts: Items<Part>) -> Tree
+        ensures { result ≡ record {
+          maximises = self.maximises;
+          label = self.label;
+          objective = self.objective;
+          rows = self.rows;
+          parts = parts;
+        } }
+    {
+        let Front {
+            maximises,
+            label,
+            objective,
+            rows,
+        } = self;
+        Tree {
+            maximises,
+            label,
+            objective,
+            rows,
+            parts,
+        }
+    }
+}
+
 /// Inside a bounds section: what stands before it, and its statements so far.
-#[derive(Drop)]
 pub struct Within {
     pub front: Front,
     pub parts: Items<Part>,
     pub so_far: Items<Bound>,
+}
+
+// As of a gap.
+impl Drop for Within {
+    fn drop(self) {
+        let Within {
+            front: _,
+            parts: _,
+            so_far: _,
+        } = self;
+    }
+}
+
+impl Within {
+    /// What stands before the section, and its statements.
+    pub fn into_parts(self) -> (Front, Items<Part>, Items<Bound>)
+        ensures { result ≡ (self.front, self.parts, self.so_far) }
+    {
+        let Within {
+            front,
+            parts,
+            so_far,
+        } = self;
+        (front, parts, so_far)
+    }
 }
 
 /// Inside an objective.
@@ -155,7 +236,7 @@ pub fn put_term(
         (λ r. term_sum_in text r ≡ put (gap_in (term_in text) gap)
         (named factor (name_in text variable))) }
 {
-    let Gap { before, signs } = gap;
+    let (before, signs) = gap.into_parts();
     let term = Term {
         signs,
         factor,
@@ -172,7 +253,7 @@ pub fn more_sign<A: Drop>(gap: Gap<A>, sign: Sign) -> Result<Gap<A>, AllocError>
     ensures before { IfOk result (λ r. r.before ≡ gap.before) }
     ensures signs { IfOk result (λ r. r.signs ≡ gap.signs ++ sign ∷ []) }
 {
-    let Gap { before, mut signs } = gap;
+    let (before, mut signs) = gap.into_parts();
     signs.push(sign)?;
     Ok(Gap { before, signs })
 }
@@ -208,7 +289,7 @@ pub fn from_word(
         ),
         Section::Generals => Stage::Generals(front, parts, Items::new(alloc)),
         Section::Binaries => Stage::Binaries(front, parts, Items::new(alloc)),
-        Section::End => Stage::Done(tree_of(front, parts)),
+        Section::End => Stage::Done(front.into_tree(parts)),
         _ => return None,
     };
     Some((Site::Other, stage))
@@ -229,29 +310,4 @@ pub fn behind_part(
     let mut parts = parts;
     parts.push(part)?;
     Ok(from_word(alloc, front, parts, section))
-}
-
-/// The tree of an objective, rows and parts.
-fn tree_of(front: Front, parts: Items<Part>) -> Tree
-    ensures { result ≡ record {
-      maximises = front.maximises;
-      label = front.label;
-      objective = front.objective;
-      rows = front.rows;
-      parts = parts;
-    } }
-{
-    let Front {
-        maximises,
-        label,
-        objective,
-        rows,
-    } = front;
-    Tree {
-        maximises,
-        label,
-        objective,
-        rows,
-        parts,
-    }
 }
