@@ -15,7 +15,7 @@ ghost use Rattle.lp_grammar.specs.Parser.{step as specs_step, from_p_generals, f
 use crate::bound::from_bound;
 use crate::objective::{from_objective, from_start};
 use crate::row::from_row;
-use crate::stage::{Step, behind_part};
+use crate::stage::{Step, behind_part, let_tree_go};
 use bp_theory::Items;
 use lp_tree::{Part, Site, Symbol, TextRange};
 pub use stage::{BoundStage, Front, Gap, ObjectiveStage, RowStage, Stage, Within, let_go};
@@ -33,7 +33,10 @@ pub fn step(alloc: Global, bytes: &[u8], stage: Stage, symbol: Symbol) -> Step
         Stage::Generals(front, parts, names) => from_generals(alloc, front, parts, names, symbol),
         Stage::Binaries(front, parts, names) => from_binaries(alloc, front, parts, names, symbol),
         Stage::Bounds(within, stage) => from_bound(alloc, bytes, within, stage, symbol),
-        Stage::Done(_) => Ok(None),
+        Stage::Done(tree) => {
+            let_tree_go(tree);
+            Ok(None)
+        }
     }
 }
 

@@ -1,10 +1,8 @@
 // Reading rows: what the next symbol makes of one.
-ghost use Rattle.std.specs.Prelude.{◌≡◌, ℕ, List, IfOk, Some};
-ghost use Rattle.lp_tree.specs.declared.tree.Site.TheVariants.{RowFirst as row_first};
-ghost use Rattle.lp_grammar.specs.declared.stage.Stage.TheVariants as stages;
+ghost use Rattle.std.specs.Prelude.{◌≡◌, ℕ, List, IfOk};
 ghost use Rattle.lp_tree.specs.TreeIn.{symbol_in, name_in, label_in, term_in};
 ghost use Rattle.lp_grammar.specs.StageIn.{step_in, front_in, term_sum_in, gap_in, row_stage_in};
-ghost use Rattle.lp_grammar.specs.Parser.{step as specs_step, from_r_row, from_r_name, from_r_signs, from_r_number, from_r_open, from_r_factor, from_r_sum, from_r_compared, from_n_open, from_n_factor, from_n_sum, from_n_compared, direction_of as specs_direction_of, second_row as specs_second_row};
+ghost use Rattle.lp_grammar.specs.Parser.{step as specs_step, from_r_row, from_r_name, from_r_signs, from_r_number, from_r_open, from_r_factor, from_r_sum, from_r_compared, from_n_open, from_n_factor, from_n_sum, from_n_compared, direction_of as specs_direction_of};
 
 use crate::stage::{
     Front, Gap, RowStage, Stage, Step, from_word, lone, longer, more_sign, put_term, with_row,
@@ -56,27 +54,23 @@ fn from_start(alloc: Global, front: Front, symbol: Symbol) -> Step
     ensures { (text : List ℕ) → IfOk result
         (λ r. step_in text r ≡ from_r_row (front_in text front) (symbol_in text symbol)) }
 {
-    match symbol {
-        Symbol::Name(name) => Ok(begun(front, RowStage::Name(name))),
+    let stage = match symbol {
+        Symbol::Name(name) => RowStage::Name(name),
         Symbol::Number(size) => {
             let signs = Items::new(alloc);
-            Ok(begun(front, RowStage::Number(None, signs, size)))
+            RowStage::Number(None, signs, size)
         }
         Symbol::Sign(sign) => {
             let mut signs = Items::new(alloc);
             signs.push(sign)?;
-            Ok(begun(front, RowStage::Signs(None, signs)))
+            RowStage::Signs(None, signs)
         }
-        Symbol::Word(section) => Ok(from_word(alloc, front, Items::new(alloc), section)),
-        _ => Ok(None),
-    }
-}
-
-/// A row that its first symbol begins.
-fn begun(front: Front, stage: RowStage) -> Option<(Site, Stage)>
-    ensures { result ≡ Some (row_first, stages.Row front stage) }
-{
-    Some((Site::RowFirst, Stage::Row(front, stage)))
+        Symbol::Word(section) => {
+            return Ok(from_word(alloc, front, Items::new(alloc), section));
+        }
+        _ => return Ok(None),
+    };
+    Ok(Some((Site::RowFirst, Stage::Row(front, stage))))
 }
 
 /// A symbol behind a row's first name.
@@ -361,27 +355,6 @@ pub fn direction_of(first: Comparison, second: Comparison) -> Option<Direction>
     }
 }
 
-/// A second comparison of a row, which has to agree with the first.
-fn second_row(
-    alloc: Global,
-    front: Front,
-    label: Option<TextRange>,
-    side: Signed,
-    sum: Sum<Term>,
-    direction: Option<Direction>,
-) -> Option<(Site, Stage)>
-    ensures { (text : List ℕ) → step_in text result ≡ specs_second_row (front_in text front)
-        (label_in text label) side (term_sum_in text sum) direction }
-{
-    match direction {
-        None => None,
-        Some(direction) => {
-            let stage = RowStage::NumberCompared(label, side, direction, sum, Items::new(alloc));
-            Some((Site::RowMore, Stage::Row(front, stage)))
-        }
-    }
-}
-
 /// A symbol behind a term of a number-first row.
 fn from_number_sum(
     alloc: Global,
@@ -407,14 +380,14 @@ fn from_number_sum(
                 Stage::Row(front, RowStage::NumberOpen(label, side, comparison, gap)),
             )))
         }
-        Symbol::Comparison(second) => Ok(second_row(
-            alloc,
-            front,
-            label,
-            side,
-            sum,
-            direction_of(comparison, second),
-        )),
+        Symbol::Comparison(second) => match direction_of(comparison, second) {
+            Some(direction) => {
+                let signs = Items::new(alloc);
+                let stage = RowStage::NumberCompared(label, side, direction, sum, signs);
+                Ok(Some((Site::RowMore, Stage::Row(front, stage))))
+            }
+            None => Ok(None),
+        },
         _ => {
             let front = with_row(front, Row::NumberFirst(label, side, comparison, sum))?;
             from_start(alloc, front, symbol)

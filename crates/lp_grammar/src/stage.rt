@@ -202,7 +202,8 @@ fn let_row_go(_stage: RowStage) {}
 
 fn let_bound_go(_stage: BoundStage) {}
 
-fn let_tree_go(_tree: Tree) {}
+/// Lets a tree go.
+pub(crate) fn let_tree_go(_tree: Tree) {}
 
 /// A sum of one summand.
 pub fn lone<A: Drop>(alloc: Global, first: A) -> Sum<A>
