@@ -1,3 +1,4 @@
--- Other crates cite Pools. The rest is for contracts here alone.
+-- Other crates cite Pools and Stores. The rest is for contracts here alone.
 pub mod Pools
+pub mod Stores
 pub mod Inside

@@ -3,7 +3,7 @@ use Rattle.std.specs.Prelude.{◌≡◌, All}
 use Rattle.block_program.specs.Blocked.{BlockedProgram}
 use Rattle.block_forms.specs.Forms.{forms_in}
 use Rattle.block_pricers.specs.Works.{forms_of}
-use Rattle.col_store.specs.Stores.{IsStoreOf}
+use Rattle.col_pool.specs.Stores.{IsStoreOf}
 use Rattle.hint_pools.specs.declared.pools.Pools.{Pools}
 
 -- the pricers are those of a program's blocks, and each column of each pool is a point of its block

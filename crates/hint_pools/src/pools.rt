@@ -2,15 +2,14 @@
 ghost use Rattle.std.specs.Prelude.{◌≡◌, ◌<◌, IfOk, All, length};
 ghost use Rattle.block_forms.specs.Forms.{forms_in};
 ghost use Rattle.block_pricers.specs.Works.{forms_of};
-ghost use Rattle.col_store.specs.Stores.{IsStoreOf};
+ghost use Rattle.col_pool.specs.Stores.{IsStoreOf};
 ghost use Rattle.hint_pools.specs.Pools.{AreMadeFor};
 
 use crate::budget::PricingBudget;
 use block_class::Classes;
 use block_program::{Blocked, Zone};
 use bp_theory::Proof;
-use col_pool::{Column, Pool};
-use col_store::Store;
+use col_pool::{Column, Pool, Store};
 use lone_leaf::{LoneLeaves, serves};
 use pricing::Cap;
 use std::alloc::{AllocError, Global};

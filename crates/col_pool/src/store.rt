@@ -1,9 +1,10 @@
 // Columns with the block that owns them.
 ghost use Rattle.std.specs.Prelude.{◌<◌, IfOk, length};
-ghost use Rattle.col_store.specs.Stores.{IsStoreOf};
+ghost use Rattle.col_pool.specs.Stores.{IsStoreOf};
 
+use crate::fault::{Added, PoolFault};
+use crate::pool::Pool;
 use block_program::Blocked;
-use col_pool::{Added, Pool, PoolFault};
 use std::alloc::{AllocError, Global};
 
 /// The columns of blocks that are the same: points of the one that owns them.
@@ -15,7 +16,7 @@ pub struct Store {
 
 impl Store {
     ghost use Rattle.std.specs.Prelude.{◌<◌, IfOk, length};
-    ghost use Rattle.col_store.specs.Stores.{IsStoreOf};
+    ghost use Rattle.col_pool.specs.Stores.{IsStoreOf};
 
     /// No columns yet of a block.
     pub fn make(alloc: Global, b: &Blocked, owner: u32) -> Result<Store, AllocError>
