@@ -20,7 +20,7 @@ ROOMS = {  # a room's title: its colour, and its crates
     "blocks": ("#cfe2f3", "block_program proof_fit block_parts block_form round_sums round_cut cut_list block_class disagg"),
     "pricing and bounds": ("#d0e0e3", "pricing depth_search search_price load_table knap_price layer_graph state_graph graph_pass var_order state_price proof_costs block_forms block_pricers lagr_bound"),
     "hints: nothing proved rests on how good they are": (
-        "#eeeeee", "col_pool col_store master_simplex master_measure master_lp lp_factor lp_core row_lp cut_hint column_lp lone_leaf point_hint hint_pools column_hint node_hint"),
+        "#eeeeee", "col_pool master_simplex master_measure master_lp lp_factor lp_core row_lp cut_hint column_lp lone_leaf point_hint hint_pools column_hint node_hint"),
     "search": ("#f4cccc", "grove_parts branch_tree node_bound node_eval bp_search crew_turns bp_crew tree_merge"),
     "certificates": ("#ead1dc", "cert_form cert_lines cert_write cert_read cert_text line_check cert_check tree_load cert_load cert_walk cert_file cert_stream"),
     "files, words and reports": ("#fce5cd", "bp_shelf bp_real bp_watch bp_reason word_orders bp_words report_lines block_lines search_lines bp_report cert_report bp_front"),
