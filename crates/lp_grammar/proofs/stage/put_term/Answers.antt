@@ -1,5 +1,5 @@
 -- A term behind a sum stands in the place behind it.
-use Rattle.std.proofs.Common.{◌≡◌, List, [], ◌∷◌, ◌++◌, map, Option, Some, Result, Ok, Err, IfOk, refl, sym, ap, ◌∙◌}
+use Rattle.std.proofs.Common.{◌≡◌, [], ◌∷◌, ◌++◌, Some, Result, Ok, Err, IfOk, refl, sym, ap, ◌∙◌}
 use Rattle.std.proofs.lemmas.List.{map-append}
 use Rattle.lp_tree.specs.declared.tree.Sign.{Sign}
 use Rattle.lp_tree.specs.declared.tree.Sum.{Sum}
@@ -9,7 +9,7 @@ use Rattle.lp_grammar.proofs.stage.put_term.Goals as goal
 
 -- a longer sum, as its text has it
 longer_in : {A B E : Type 0} (f : A → B) (sum : Sum A) (s : Sign) (a : A) (r : Result (Sum A) E) → IfOk r (λ x. x.first ≡ sum.first) → IfOk r (λ x. x.more ≡ sum.more ++ (s, a) ∷ []) → IfOk r (λ x. sum_in f x ≡ longer (sum_in f sum) s (f a))
-longer_in f sum s a (Ok x) first more = rw (first, more, map-append (λ m. (m.0, f m.1)) sum.more ((s, a) ∷ [])) refl
+longer_in {B = B} f sum s a (Ok x) first more = rw (first, more, map-append {B = Sign × B} (λ m. (m.0, f m.1)) sum.more ((s, a) ∷ [])) refl
 longer_in f sum s a (Err e) first more = tt
 
 pub returns-in-Some : goal.returns-in-Some
