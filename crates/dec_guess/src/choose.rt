@@ -5,8 +5,8 @@ ghost use Rattle.dec_beside.specs.Guess.{IsGuess};
 
 use crate::borders::{border_marks, open_counts};
 use crate::columns::{Lists, columns_of};
-use crate::groups::{Choice, Keyed, Likeness, chosen_marks, mix};
-use crate::order::{breadth_first, shortest_first, text_order, twice_mean_terms};
+use crate::groups::{Keyed, Likeness, alike_marks, longer_marks, mix};
+use crate::order::{breadth_first, numbers_below, shortest_first, twice_mean_terms};
 use crate::partition::Levels;
 use crate::peel::peeled_marks;
 use crate::score::score_of;
@@ -33,7 +33,7 @@ const LOOKS_OF_LEVELS: u64 = 3;
 const LEAST_INSIDE: usize = 4;
 
 // Into how many parts rows are cut, or the largest part of so many that variables are peeled apart to.
-const COUNTS: [usize; 6] = [2, 4, 8, 16, 32, 64];
+const COUNTS: [u32; 6] = [2, 4, 8, 16, 32, 64];
 
 // In what rows are alike whose groups are looked at one by one, and then by pairs.
 const SINGLE: [Likeness; 5] = [
@@ -77,17 +77,6 @@ fn size_of(m: &Model) -> u64 {
     size
 }
 
-// A hash of a list of rows, which are marked.
-fn hash_of(marks: &[bool]) -> u64 {
-    let mut hash = 0;
-    for (row, mark) in marks.iter().enumerate() {
-        if *mark {
-            hash = mix(hash, row as u64);
-        }
-    }
-    hash
-}
-
 // The score of the decomposition beside marked rows, 0 where there is none.
 fn score_beside(alloc: Global, m: &Model, marks: &[bool]) -> Result<u64, AllocError> {
     let found = beside(alloc, m, marks)?;
@@ -98,9 +87,14 @@ fn score_beside(alloc: Global, m: &Model, marks: &[bool]) -> Result<u64, AllocEr
 }
 
 impl Proposal {
-    // Whether a list wasn't seen; it then is.
+    // Whether a list wasn't seen, by a hash of its rows; it then is.
     fn is_new(&mut self, marks: &[bool]) -> bool {
-        let hash = hash_of(marks);
+        let mut hash = 0;
+        for (row, mark) in marks.iter().enumerate() {
+            if *mark {
+                hash = mix(hash, row as u64);
+            }
+        }
         if self.seen.as_slice().contains(&hash) {
             return false;
         }
@@ -120,10 +114,24 @@ impl Proposal {
         true
     }
 
-    // Looks at the decomposition beside marked rows, unless they were seen, and keeps it where its score is greater.
-    fn consider(&mut self, alloc: Global, m: &Model, marks: Vec<bool>) {
-        if self.is_new(marks.as_slice()) && self.may_look(1) {
-            self.take_if_better(alloc, m, marks);
+    // Looks at the decomposition beside marked rows, unless they are more than so many or were seen.
+    fn consider(
+        &mut self,
+        alloc: Global,
+        m: &Model,
+        marks: Result<Vec<bool>, AllocError>,
+        most: usize,
+    ) {
+        match marks {
+            Ok(marks) => {
+                if count_of(marks.as_slice()) <= most
+                    && self.is_new(marks.as_slice())
+                    && self.may_look(1)
+                {
+                    self.take_if_better(alloc, m, marks);
+                }
+            }
+            Err(AllocError) => self.lacks = true,
         }
     }
 
@@ -141,96 +149,33 @@ impl Proposal {
         }
     }
 
-    // Looks at the rows that are chosen as master rows.
-    fn consider_chosen(&mut self, alloc: Global, m: &Model, choice: Choice) {
-        match chosen_marks(alloc, m, choice) {
-            Ok(marks) => self.consider(alloc, m, marks),
-            Err(AllocError) => self.lacks = true,
-        }
-    }
-
     // Looks at the rows of each group as master rows, and at all others.
     fn consider_single(&mut self, alloc: Global, m: &Model, likeness: Likeness) {
         match Keyed::new(alloc, m, likeness) {
             Ok(keyed) => {
-                self.consider_groups(alloc, m, &keyed);
-                self.consider_others(alloc, m, &keyed);
+                let keys = keyed.keys.as_slice();
+                for are_others in [false, true].as_slice() {
+                    for group in keyed.groups.as_slice() {
+                        let marks = alike_marks(alloc, keys, *group, *group, *are_others);
+                        self.consider(alloc, m, marks, usize::MAX);
+                    }
+                }
             }
             Err(AllocError) => self.lacks = true,
-        }
-    }
-
-    // Looks at the rows of each group as master rows.
-    fn consider_groups(&mut self, alloc: Global, m: &Model, keyed: &Keyed) {
-        let keys = keyed.keys.as_slice();
-        for group in keyed.groups.as_slice() {
-            self.consider_chosen(alloc, m, Choice::Alike(keys, *group, *group));
-        }
-    }
-
-    // Looks at the rows of all groups but one as master rows.
-    fn consider_others(&mut self, alloc: Global, m: &Model, keyed: &Keyed) {
-        let keys = keyed.keys.as_slice();
-        for group in keyed.groups.as_slice() {
-            self.consider_chosen(alloc, m, Choice::Others(keys, *group));
         }
     }
 
     // Looks at the rows of each two groups as master rows.
     fn consider_paired(&mut self, alloc: Global, m: &Model, likeness: Likeness) {
         match Keyed::new(alloc, m, likeness) {
-            Ok(keyed) => self.consider_pairs(
-                alloc,
-                m,
-                keyed.keys.as_slice(),
-                keyed.groups.as_slice(),
-            ),
-            Err(AllocError) => self.lacks = true,
-        }
-    }
-
-    // Looks at the rows of each two of these groups as master rows.
-    fn consider_pairs(&mut self, alloc: Global, m: &Model, keys: &[u64], groups: &[u64]) {
-        for at in 0..groups.len() {
-            self.consider_pairs_of(alloc, m, keys, groups[at], &groups[at..]);
-        }
-    }
-
-    // Looks at the rows of a group and of one of several others as master rows.
-    fn consider_pairs_of(
-        &mut self,
-        alloc: Global,
-        m: &Model,
-        keys: &[u64],
-        one: u64,
-        others: &[u64],
-    ) {
-        for other in others {
-            self.consider_chosen(alloc, m, Choice::Alike(keys, one, *other));
-        }
-    }
-
-    // Looks at the longest rows as master rows: for each number of terms those with more.
-    fn consider_long(&mut self, alloc: Global, m: &Model) {
-        match lengths_of(alloc, m) {
-            Ok(lengths) => self.consider_longer(alloc, m, lengths.as_slice()),
-            Err(AllocError) => self.lacks = true,
-        }
-    }
-
-    // Looks at the rows with more terms than each of these numbers as master rows.
-    fn consider_longer(&mut self, alloc: Global, m: &Model, lengths: &[usize]) {
-        for length in lengths {
-            self.consider_chosen(alloc, m, Choice::Longer(*length));
-        }
-    }
-
-    // Looks at marked rows as master rows, where they are few.
-    fn consider_marked(&mut self, alloc: Global, m: &Model, marks: Result<Vec<bool>, AllocError>) {
-        match marks {
-            Ok(marks) => {
-                if are_few(m, marks.as_slice()) {
-                    self.consider(alloc, m, marks);
+            Ok(keyed) => {
+                let groups = keyed.groups.as_slice();
+                for at in 0..groups.len() {
+                    for other in &groups[at..] {
+                        let keys = keyed.keys.as_slice();
+                        let marks = alike_marks(alloc, keys, groups[at], *other, false);
+                        self.consider(alloc, m, marks, usize::MAX);
+                    }
                 }
             }
             Err(AllocError) => self.lacks = true,
@@ -243,9 +188,8 @@ impl Proposal {
             if !self.may_look(1) {
                 return;
             }
-            let most = m.vars() as usize / *count.max(&1);
-            let marks = peeled_marks(alloc, m, order, most as u64);
-            self.consider_marked(alloc, m, marks);
+            let marks = peeled_marks(alloc, m, order, m.vars() / *count.max(&1));
+            self.consider(alloc, m, marks, few_of(m));
         }
     }
 
@@ -257,36 +201,41 @@ impl Proposal {
                 return;
             }
             let marks = border_marks(alloc, m, order, open, *count);
-            self.consider_marked(alloc, m, marks);
+            self.consider(alloc, m, marks, few_of(m));
         }
     }
 
     // Looks at the rows as master rows that cross parts with few common variables.
-    fn consider_partitions(&mut self, alloc: Global, m: &Model, levels: &Levels) {
-        for count in COUNTS.as_slice() {
-            if !self.may_look(LOOKS_OF_LEVELS) {
-                return;
-            }
-            let marks = levels.marks(alloc, m, *count);
-            self.consider_marked(alloc, m, marks);
-        }
-    }
-
-    // Looks at what an order of rows gives.
-    fn consider_order(&mut self, alloc: Global, m: &Model, order: Result<Vec<u32>, AllocError>) {
-        match order {
-            Ok(order) => {
-                self.consider_peeled(alloc, m, order.as_slice());
-                self.consider_cuts(alloc, m, order.as_slice());
+    fn consider_partitions(
+        &mut self,
+        alloc: Global,
+        m: &Model,
+        levels: Result<Levels, AllocError>,
+    ) {
+        match levels {
+            Ok(levels) => {
+                for count in COUNTS.as_slice() {
+                    if !self.may_look(LOOKS_OF_LEVELS) {
+                        break;
+                    }
+                    let marks = levels.marks(alloc, m, *count);
+                    self.consider(alloc, m, marks, few_of(m));
+                }
             }
             Err(AllocError) => self.lacks = true,
         }
     }
 
-    // Looks at what the narrowest cuts of an order give.
-    fn consider_cuts(&mut self, alloc: Global, m: &Model, order: &[u32]) {
-        match open_counts(alloc, m, order) {
-            Ok(open) => self.consider_borders(alloc, m, order, open.as_slice()),
+    // Looks at what an order of rows and its narrowest cuts give.
+    fn consider_order(&mut self, alloc: Global, m: &Model, order: Result<Vec<u32>, AllocError>) {
+        match order {
+            Ok(order) => {
+                self.consider_peeled(alloc, m, order.as_slice());
+                match open_counts(alloc, m, order.as_slice()) {
+                    Ok(open) => self.consider_borders(alloc, m, order.as_slice(), open.as_slice()),
+                    Err(AllocError) => self.lacks = true,
+                }
+            }
             Err(AllocError) => self.lacks = true,
         }
     }
@@ -301,70 +250,65 @@ impl Proposal {
         }
     }
 
-    // Looks at what the lengths of rows and an order by them give.
+    // Looks at the longest rows as master rows, for each number of terms those with more, and at what an order by lengths
+    // gives.
     fn consider_lengths(&mut self, alloc: Global, m: &Model) {
-        self.consider_long(alloc, m);
+        match lengths_of(alloc, m) {
+            Ok(lengths) => {
+                for length in lengths.as_slice() {
+                    self.consider(alloc, m, longer_marks(alloc, m, *length), usize::MAX);
+                }
+            }
+            Err(AllocError) => self.lacks = true,
+        }
         match shortest_first(alloc, m) {
             Ok(shortest) => self.consider_peeled(alloc, m, shortest.as_slice()),
             Err(AllocError) => self.lacks = true,
         }
     }
 
-    // Looks at what orders give in which rows stand together.
+    // Looks at what orders give in which rows stand together, that of the text and breadth-first ones, and what parts of
+    // the graph of rows give.
     fn consider_orders(&mut self, alloc: Global, m: &Model) {
-        self.consider_order(alloc, m, text_order(alloc, m));
+        self.consider_order(alloc, m, numbers_below(alloc, m.rows()));
         match columns_of(alloc, m) {
-            Ok(columns) => self.consider_near(alloc, m, &columns),
-            Err(AllocError) => self.lacks = true,
-        }
-    }
-
-    // Looks at what breadth-first orders and parts of the graph of rows give.
-    fn consider_near(&mut self, alloc: Global, m: &Model, columns: &Lists) {
-        self.consider_order(alloc, m, breadth_first(alloc, m, columns, usize::MAX));
-        self.consider_order(
-            alloc,
-            m,
-            breadth_first(alloc, m, columns, twice_mean_terms(m)),
-        );
-        match Levels::new(alloc, m, columns) {
-            Ok(levels) => self.consider_partitions(alloc, m, &levels),
+            Ok(columns) => {
+                for most in [usize::MAX, twice_mean_terms(m)].as_slice() {
+                    self.consider_order(alloc, m, breadth_first(alloc, m, &columns, *most));
+                }
+                self.consider_partitions(alloc, m, Levels::new(alloc, m, &columns));
+            }
             Err(AllocError) => self.lacks = true,
         }
     }
 }
 
-// Whether marked rows are few beside all.
-fn are_few(m: &Model, marks: &[bool]) -> bool {
+// How many rows are few beside all.
+fn few_of(m: &Model) -> usize {
+    m.rows() as usize / LEAST_INSIDE
+}
+
+// How many rows are marked.
+fn count_of(marks: &[bool]) -> usize {
     let mut count: usize = 0;
     for mark in marks {
         if *mark {
             count = count.saturating_add(1);
         }
     }
-    count <= m.rows() as usize / LEAST_INSIDE
+    count
 }
 
 // The greatest numbers of terms that rows have, each once, the greatest first.
 fn lengths_of(alloc: Global, m: &Model) -> Result<Vec<usize>, AllocError> {
-    let all = sorted_lengths(alloc, m)?;
     let mut lengths = Vec::new(alloc);
-    for length in all.as_slice().iter().rev() {
-        if lengths.len() < MOST_LENGTHS && lengths.last() != Some(length) {
-            lengths.push(*length)?;
-        }
-    }
-    Ok(lengths)
-}
-
-// The numbers of terms of all rows, the least first.
-fn sorted_lengths(alloc: Global, m: &Model) -> Result<Vec<usize>, AllocError> {
-    let mut all = Vec::new(alloc);
     for row in m.all_rows() {
-        all.push(row.terms.len())?;
+        lengths.push(row.terms.len())?;
     }
-    all.sort()?;
-    Ok(all)
+    lengths.sort_by_key(|length| usize::MAX - *length)?;
+    lengths.dedup();
+    lengths.truncate(MOST_LENGTHS);
+    Ok(lengths)
 }
 
 /// A decomposition of a model: the blocks beside master rows that were chosen by the names and the forms of rows or by

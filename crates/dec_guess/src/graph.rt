@@ -1,15 +1,20 @@
 // Graphs of rows, and coarser ones of pairs of their vertices.
-use crate::columns::Lists;
+use crate::columns::{Lists, number_at, put};
 use bp_model::Model;
 use std::alloc::{AllocError, Global};
 
-/// A graph: for each vertex how many rows it stands for, its edges, each in both directions, and its neighbours, one that
-/// several edges lead to as often.
+// What stands for the new number of a vertex that has none.
+const FREE: u32 = u32::MAX;
+
+/// A graph: how many rows and vertices there are, for each vertex how many rows it stands for, its edges, each in both
+/// directions, and its neighbours, one that several edges lead to as often.
 #[derive(Drop)]
 pub struct Graph {
-    weights: Vec<u64>,
+    pub rows: u32,
+    pub vertices: u32,
+    pub weights: Vec<u32>,
     edges: Vec<(u32, u32)>,
-    neighbours: Lists,
+    pub neighbours: Lists,
 }
 
 impl Graph {
@@ -17,15 +22,23 @@ impl Graph {
     pub fn of_rows(alloc: Global, m: &Model, columns: &Lists) -> Result<Graph, AllocError> {
         let weights = Vec::from_elem(alloc, 1, m.rows() as usize)?;
         match edges_of(alloc, m, columns) {
-            Ok(edges) => Graph::new(alloc, weights, edges),
+            Ok(edges) => Graph::new(alloc, m.rows(), m.rows(), weights, edges),
             Err(fault) => Err(fault),
         }
     }
 
-    // The graph of vertices and edges.
-    fn new(alloc: Global, weights: Vec<u64>, edges: Vec<(u32, u32)>) -> Result<Graph, AllocError> {
-        match Lists::new(alloc, weights.len(), edges.as_slice()) {
+    // The graph of so many rows and vertices with these weights and edges.
+    fn new(
+        alloc: Global,
+        rows: u32,
+        vertices: u32,
+        weights: Vec<u32>,
+        edges: Vec<(u32, u32)>,
+    ) -> Result<Graph, AllocError> {
+        match Lists::new(alloc, vertices as usize, edges.as_slice()) {
             Ok(neighbours) => Ok(Graph {
+                rows,
+                vertices,
                 weights,
                 edges,
                 neighbours,
@@ -34,32 +47,21 @@ impl Graph {
         }
     }
 
-    /// How many vertices there are.
-    pub fn vertices(&self) -> u32 {
-        u32::try_from(self.weights.len()).unwrap_or(u32::MAX)
-    }
-
-    /// How many rows a vertex stands for.
-    pub fn weight(&self, vertex: u32) -> u64 {
-        self.weights.get(vertex as usize).copied().unwrap_or(0)
-    }
-
-    /// The neighbours of a vertex.
-    pub fn neighbours(&self, vertex: u32) -> &[u32] {
-        self.neighbours.of(vertex)
-    }
-
     /// The graph whose vertices are those of this one merged, so many by their new numbers.
     pub fn merged(
         &self,
         alloc: Global,
         merged: &[u32],
-        vertices: usize,
+        vertices: u32,
     ) -> Result<Graph, AllocError> {
-        let mut weights = Vec::from_elem(alloc, 0u64, vertices)?;
-        add_weights(weights.as_mut_slice(), merged, self.weights.as_slice());
+        let mut weights = Vec::from_elem(alloc, 0u32, vertices as usize)?;
+        for (vertex, weight) in merged.iter().zip(self.weights.as_slice()) {
+            if let Some(sum) = weights.get_mut(*vertex as usize) {
+                *sum = sum.saturating_add(*weight);
+            }
+        }
         match merged_edges(alloc, merged, self.edges.as_slice()) {
-            Ok(edges) => Graph::new(alloc, weights, edges),
+            Ok(edges) => Graph::new(alloc, self.rows, vertices, weights, edges),
             Err(fault) => Err(fault),
         }
     }
@@ -78,15 +80,6 @@ fn edges_of(alloc: Global, m: &Model, columns: &Lists) -> Result<Vec<(u32, u32)>
     Ok(edges)
 }
 
-// Adds the weights of vertices to those of the vertices that they are merged to.
-fn add_weights(sums: &mut [u64], merged: &[u32], weights: &[u64]) {
-    for (vertex, weight) in merged.iter().zip(weights) {
-        if let Some(sum) = sums.get_mut(*vertex as usize) {
-            *sum = sum.saturating_add(*weight);
-        }
-    }
-}
-
 // The edges whose ends are merged to different vertices.
 fn merged_edges(
     alloc: Global,
@@ -95,8 +88,8 @@ fn merged_edges(
 ) -> Result<Vec<(u32, u32)>, AllocError> {
     let mut all = Vec::new(alloc);
     for (one, other) in edges {
-        let one = new_number(merged, *one);
-        let other = new_number(merged, *other);
+        let one = number_at(merged, *one);
+        let other = number_at(merged, *other);
         if one != other {
             all.push((one, other))?;
         }
@@ -104,58 +97,38 @@ fn merged_edges(
     Ok(all)
 }
 
-fn new_number(merged: &[u32], vertex: u32) -> u32 {
-    merged.get(vertex as usize).copied().unwrap_or(0)
-}
-
 /// Merges each vertex with the free neighbour that most edges lead to: new numbers of vertices, and how many there are.
 /// (Heavy-edge matching.)
 pub fn matched(alloc: Global, graph: &Graph) -> Result<(Vec<u32>, u32), AllocError> {
-    let mut links = Vec::from_elem(alloc, 0u32, graph.vertices() as usize)?;
-    let mut merged = Vec::from_elem(alloc, u32::MAX, graph.vertices() as usize)?;
-    let count = match_all(graph, links.as_mut_slice(), merged.as_mut_slice());
-    Ok((merged, count))
-}
-
-// Numbers each free vertex and its mate anew: how many numbers there are.
-fn match_all(graph: &Graph, links: &mut [u32], merged: &mut [u32]) -> u32 {
+    let mut links = Vec::from_elem(alloc, 0u32, graph.vertices as usize)?;
+    let mut merged = Vec::from_elem(alloc, FREE, graph.vertices as usize)?;
     let mut count: u32 = 0;
-    for vertex in 0..graph.vertices() {
-        if is_free(merged, vertex) {
-            let mate = heaviest(graph, merged, links, vertex);
-            number(merged, vertex, count);
-            number(merged, mate, count);
+    for vertex in 0..graph.vertices {
+        if number_at(merged.as_slice(), vertex) == FREE {
+            let mate = heaviest(graph, merged.as_slice(), links.as_mut_slice(), vertex);
+            put(merged.as_mut_slice(), vertex, count);
+            put(merged.as_mut_slice(), mate, count);
             count = count.saturating_add(1);
         }
     }
-    count
-}
-
-fn is_free(merged: &[u32], vertex: u32) -> bool {
-    merged.get(vertex as usize) == Some(&u32::MAX)
-}
-
-fn number(merged: &mut [u32], vertex: u32, number: u32) {
-    if let Some(place) = merged.get_mut(vertex as usize) {
-        *place = number;
-    }
+    Ok((merged, count))
 }
 
 // The free neighbour of a vertex that most edges lead to, or the vertex itself.
 fn heaviest(graph: &Graph, merged: &[u32], links: &mut [u32], vertex: u32) -> u32 {
     let mut best = vertex;
     let mut most: u32 = 0;
-    for other in graph.neighbours(vertex) {
+    for other in graph.neighbours.of(vertex) {
         if let Some(count) = links.get_mut(*other as usize) {
             *count = count.saturating_add(1);
-            if most < *count && is_free(merged, *other) {
+            if most < *count && number_at(merged, *other) == FREE {
                 most = *count;
                 best = *other;
             }
         }
     }
-    for other in graph.neighbours(vertex) {
-        number(links, *other, 0);
+    for other in graph.neighbours.of(vertex) {
+        put(links, *other, 0);
     }
     best
 }

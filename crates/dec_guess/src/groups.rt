@@ -1,5 +1,5 @@
 // Keys of rows, by which rows that are alike in their names or in their forms have one, and the rows that are chosen by them.
-ghost use Rattle.std.specs.Prelude.{◌≡◌, ◌<◌, IfOk, length};
+ghost use Rattle.std.specs.Prelude.{◌<◌, length};
 
 use bp_model::{Model, Row, Sense};
 use std::alloc::{AllocError, Global};
@@ -40,25 +40,21 @@ pub struct Keyed {
 }
 
 impl Keyed {
-    /// The keys of a model's rows.
+    /// The keys of a model's rows, and the first that differ from all before them.
     pub fn new(alloc: Global, m: &Model, likeness: Likeness) -> Result<Keyed, AllocError> {
-        let keys = keys_of(alloc, m, likeness)?;
-        match groups_of(alloc, keys.as_slice()) {
-            Ok(groups) => Ok(Keyed { keys, groups }),
-            Err(fault) => Err(fault),
+        let mut keyed = Keyed {
+            keys: Vec::new(alloc),
+            groups: Vec::new(alloc),
+        };
+        for row in 0..m.rows() {
+            let key = key_of(m, row, likeness);
+            keyed.keys.push(key)?;
+            if keyed.groups.len() < MOST_GROUPS && !keyed.groups.as_slice().contains(&key) {
+                keyed.groups.push(key)?;
+            }
         }
+        Ok(keyed)
     }
-}
-
-/// Rows of a model.
-#[derive(Clone, Copy)]
-pub enum Choice<'a> {
-    /// Those that have one of two keys.
-    Alike(&'a [u64], u64, u64),
-    /// Those that have another key.
-    Others(&'a [u64], u64),
-    /// Those with more terms than a number.
-    Longer(usize),
 }
 
 /// A hash with one value more. (Fowler, Noll and Vo, FNV-1a.)
@@ -104,10 +100,12 @@ fn front_key(name: &[u8]) -> u64 {
 // A hash of a row's sense, of whether its side is 0, 1 or another, and of whether its coefficients are 1, 1 and -1, or
 // others.
 fn form_key(row: &Row) -> u64 {
-    mix(
-        mix(mix(START, sense_key(row.sense)), side_key(row)),
-        coefs_key(row),
-    )
+    let side = match row.rhs {
+        0 => 0,
+        1 => 1,
+        _ => 2,
+    };
+    mix(mix(mix(START, sense_key(row.sense)), side), coefs_key(row))
 }
 
 fn sense_key(sense: Sense) -> u64 {
@@ -116,14 +114,6 @@ fn sense_key(sense: Sense) -> u64 {
         Sense::Ge => 1,
         Sense::Eq => 2,
         Sense::In => 3,
-    }
-}
-
-fn side_key(row: &Row) -> u64 {
-    match row.rhs {
-        0 => 0,
-        1 => 1,
-        _ => 2,
     }
 }
 
@@ -168,50 +158,26 @@ fn key_of(m: &Model, row: u32, likeness: Likeness) -> u64
     }
 }
 
-// For each row a hash of that in which it is like others.
-fn keys_of(alloc: Global, m: &Model, likeness: Likeness) -> Result<Vec<u64>, AllocError>
-    ensures { IfOk result (λ keys. length keys.items ≡ length m.now.program.rows) }
-{
-    let mut keys = Vec::new(alloc);
-    for row in 0..m.rows() {
-        keys.push(key_of(m, row, likeness))?;
-    }
-    Ok(keys)
-}
-
-// The first keys that differ from all before them, in the order of rows.
-fn groups_of(alloc: Global, keys: &[u64]) -> Result<Vec<u64>, AllocError> {
-    let mut groups = Vec::new(alloc);
+/// Marks for the rows that have one of two keys, or for all others, where each row has a key.
+pub fn alike_marks(
+    alloc: Global,
+    keys: &[u64],
+    one: u64,
+    other: u64,
+    are_others: bool,
+) -> Result<Vec<bool>, AllocError> {
+    let mut marks = Vec::new(alloc);
     for key in keys {
-        if groups.len() < MOST_GROUPS && !groups.as_slice().contains(key) {
-            groups.push(*key)?;
-        }
+        marks.push((*key == one || *key == other) != are_others)?;
     }
-    Ok(groups)
+    Ok(marks)
 }
 
-// Whether a row is chosen.
-fn is_chosen(m: &Model, row: u32, choice: Choice) -> bool
-    requires { row < length m.now.program.rows }
-{
-    match choice {
-        Choice::Alike(keys, one, other) => match keys.get(row as usize) {
-            Some(key) => *key == one || *key == other,
-            None => false,
-        },
-        Choice::Others(keys, one) => match keys.get(row as usize) {
-            Some(key) => *key != one,
-            None => false,
-        },
-        Choice::Longer(terms) => m.row(row).terms.len() > terms,
-    }
-}
-
-/// Marks for the rows that are chosen.
-pub fn chosen_marks(alloc: Global, m: &Model, choice: Choice) -> Result<Vec<bool>, AllocError> {
-    let mut marks = Vec::with_capacity(alloc, m.rows() as usize)?;
-    for row in 0..m.rows() {
-        marks.push(is_chosen(m, row, choice))?;
+/// Marks for the rows with more terms than a number.
+pub fn longer_marks(alloc: Global, m: &Model, terms: usize) -> Result<Vec<bool>, AllocError> {
+    let mut marks = Vec::new(alloc);
+    for row in m.all_rows() {
+        marks.push(row.terms.len() > terms)?;
     }
     Ok(marks)
 }

@@ -1,6 +1,14 @@
 // Marks of rows and variables.
-use bp_model::{Model, Row};
+use bp_model::{Model, Term};
 use std::alloc::{AllocError, Global};
+
+/// The terms of a row, none where the row isn't there.
+pub fn terms_of(m: &Model, row: u32) -> &[Term] {
+    match m.all_rows().get(row as usize) {
+        Some(row) => row.terms.as_slice(),
+        None => &[],
+    }
+}
 
 /// Marks for rows in numbered parts: none for a row whose variables stand in rows of its part alone, of those that were left
 /// unmarked before it.
@@ -14,33 +22,24 @@ pub fn crossing_marks(
     let mut marks = Vec::from_elem(alloc, true, m.rows() as usize)?;
     for row in order {
         if let Some(part) = parts.get(*row as usize) {
-            unmark(homes.as_mut_slice(), marks.as_mut_slice(), m, *row, *part);
+            if let Some(mark) = marks.get_mut(*row as usize) {
+                *mark = !settle(homes.as_mut_slice(), terms_of(m, *row), *part);
+            }
         }
     }
     Ok(marks)
 }
 
-// Takes a row's mark away where its variables can have its part as their home, which they then have.
-fn unmark(homes: &mut [Option<u32>], marks: &mut [bool], m: &Model, row: u32, part: u32) {
-    if let Some(whole) = m.all_rows().get(row as usize) {
-        if let Some(mark) = marks.get_mut(row as usize) {
-            if settle(homes, whole, part) {
-                *mark = false;
-            }
-        }
-    }
-}
-
-// Gives the variables of a row its part as their home, unless one has another home: whether it could.
-fn settle(homes: &mut [Option<u32>], row: &Row, part: u32) -> bool {
-    for term in row.terms.as_slice() {
+// Gives the variables of a row's terms its part as their home, unless one has another home: whether it could.
+fn settle(homes: &mut [Option<u32>], terms: &[Term], part: u32) -> bool {
+    for term in terms {
         if let Some(Some(home)) = homes.get(term.var as usize) {
             if *home != part {
                 return false;
             }
         }
     }
-    for term in row.terms.as_slice() {
+    for term in terms {
         if let Some(home) = homes.get_mut(term.var as usize) {
             *home = Some(part);
         }
@@ -48,10 +47,10 @@ fn settle(homes: &mut [Option<u32>], row: &Row, part: u32) -> bool {
     true
 }
 
-/// How many variables of a row weren't known; they are then.
-pub fn mark_variables(known: &mut [bool], row: &Row) -> u32 {
+/// How many variables of terms weren't known; they are then.
+pub fn mark_variables(known: &mut [bool], terms: &[Term]) -> u32 {
     let mut new: u32 = 0;
-    for term in row.terms.as_slice() {
+    for term in terms {
         if let Some(seen) = known.get_mut(term.var as usize) {
             if !*seen {
                 *seen = true;

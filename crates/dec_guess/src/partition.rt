@@ -1,9 +1,9 @@
 // Parts of rows with few common variables between them, by graphs that become coarser. (George Karypis and Vipin Kumar,
 // 'Multilevel k-way partitioning scheme for irregular graphs', 1998.)
-use crate::columns::Lists;
+use crate::columns::{Lists, number_at, put};
 use crate::graph::{Graph, matched};
 use crate::marks::crossing_marks;
-use crate::order::text_order;
+use crate::order::{Walk, numbers_below};
 use bp_model::Model;
 use std::alloc::{AllocError, Global};
 
@@ -11,7 +11,7 @@ use std::alloc::{AllocError, Global};
 const MOST_LEVELS: u32 = 12;
 
 // How many vertices a part has at least where parts are grown.
-const LEAST_VERTICES: usize = 4;
+const LEAST_VERTICES: u32 = 4;
 
 // How often each vertex is looked at on a level.
 const PASSES: u32 = 3;
@@ -25,14 +25,8 @@ struct Level {
 }
 
 impl Level {
-    // The graph with its vertices merged.
-    fn coarser(&self, alloc: Global) -> Result<Graph, AllocError> {
-        self.graph
-            .merged(alloc, self.merged.as_slice(), self.count as usize)
-    }
-
     // For each vertex its part, of so many, where those of the coarser vertices are known, or none.
-    fn parts(&self, alloc: Global, coarser: &[u32], count: usize) -> Result<Vec<u32>, AllocError> {
+    fn parts(&self, alloc: Global, coarser: &[u32], count: u32) -> Result<Vec<u32>, AllocError> {
         if coarser.is_empty() {
             grown(alloc, &self.graph, count)
         } else {
@@ -80,7 +74,9 @@ impl Levels {
     fn add_coarser(&mut self, alloc: Global) -> Result<(), AllocError> {
         match self.all.last() {
             Some(level) => {
-                let graph = level.coarser(alloc)?;
+                let graph = level
+                    .graph
+                    .merged(alloc, level.merged.as_slice(), level.count)?;
                 self.add(alloc, graph)
             }
             None => Ok(()),
@@ -88,10 +84,10 @@ impl Levels {
     }
 
     // For each row its part, of so many: parts are grown in a coarse graph, and mended in each finer one.
-    fn parts(&self, alloc: Global, count: usize) -> Result<Vec<u32>, AllocError> {
+    fn parts(&self, alloc: Global, count: u32) -> Result<Vec<u32>, AllocError> {
         let mut parts = Vec::new(alloc);
         for level in self.all.as_slice().iter().rev() {
-            if (level.graph.vertices() as usize) >= count.saturating_mul(LEAST_VERTICES) {
+            if level.graph.vertices >= count.saturating_mul(LEAST_VERTICES) {
                 parts = level.parts(alloc, parts.as_slice(), count)?;
                 mend(alloc, &level.graph, parts.as_mut_slice(), count)?;
             }
@@ -99,31 +95,23 @@ impl Levels {
         Ok(parts)
     }
 
-    // The rows whose neighbours are in their own part first, and then by how many are in others.
-    fn inner_first(&self, alloc: Global, m: &Model, parts: &[u32]) -> Result<Vec<u32>, AllocError> {
-        let mut order = text_order(alloc, m)?;
-        if let Some(level) = self.all.first() {
-            order.sort_by_key(|row| crossings_of(&level.graph, parts, *row))?;
-        }
-        Ok(order)
-    }
-
-    /// Marks for the rows that cross so many parts, which have few common variables.
-    pub fn marks(&self, alloc: Global, m: &Model, count: usize) -> Result<Vec<bool>, AllocError> {
+    /// Marks for the rows that cross so many parts, which have few common variables: rows whose neighbours are in their own
+    /// part come first, and then those with the fewest in others.
+    pub fn marks(&self, alloc: Global, m: &Model, count: u32) -> Result<Vec<bool>, AllocError> {
         let parts = self.parts(alloc, count)?;
-        let order = self.inner_first(alloc, m, parts.as_slice())?;
+        let mut order = numbers_below(alloc, m.rows())?;
+        if let Some(level) = self.all.first() {
+            order.sort_by_key(|row| crossings_of(&level.graph, parts.as_slice(), *row))?;
+        }
         crossing_marks(alloc, m, order.as_slice(), parts.as_slice())
     }
 }
 
-fn part_of(parts: &[u32], vertex: u32) -> u32 {
-    parts.get(vertex as usize).copied().unwrap_or(0)
-}
-
 fn crossings_of(graph: &Graph, parts: &[u32], row: u32) -> u32 {
+    let own = number_at(parts, row);
     let mut crossings: u32 = 0;
-    for other in graph.neighbours(row) {
-        if part_of(parts, *other) != part_of(parts, row) {
+    for other in graph.neighbours.of(row) {
+        if number_at(parts, *other) != own {
             crossings = crossings.saturating_add(1);
         }
     }
@@ -134,205 +122,118 @@ fn crossings_of(graph: &Graph, parts: &[u32], row: u32) -> u32 {
 fn handed_down(alloc: Global, merged: &[u32], parts: &[u32]) -> Result<Vec<u32>, AllocError> {
     let mut finer = Vec::new(alloc);
     for vertex in merged {
-        finer.push(part_of(parts, *vertex))?;
+        finer.push(number_at(parts, *vertex))?;
     }
     Ok(finer)
 }
 
-// Vertices that a part comes to breadth first, how many of them were left, whether each was seen, and whether memory was
-// wanting, with which it fails at its end.
-#[derive(Drop)]
-struct Growth {
-    queue: Vec<u32>,
-    left: usize,
-    seen: Vec<bool>,
-    lacks: bool,
-}
-
-impl Growth {
-    fn come_to(&mut self, vertex: u32) {
-        if let Some(seen) = self.seen.get_mut(vertex as usize) {
-            if !*seen {
-                *seen = true;
-                if self.queue.push(vertex).is_err() {
-                    self.lacks = true;
-                }
-            }
-        }
-    }
-
-    // The vertices in the order in which they are come to.
-    fn run(&mut self, graph: &Graph) {
-        for _ in 0..graph.vertices() {
-            let Some(vertex) = self.queue.get(self.left).copied() else {
-                return;
-            };
-            self.left = self.left.saturating_add(1);
-            for other in graph.neighbours(vertex) {
-                self.come_to(*other);
-            }
-        }
-    }
-
-    fn finished(self) -> Result<Vec<u32>, AllocError> {
-        if self.lacks {
-            return Err(AllocError);
-        }
-        Ok(self.queue)
-    }
-}
-
 // The vertices breadth first.
 fn grown_order(alloc: Global, graph: &Graph) -> Result<Vec<u32>, AllocError> {
-    let seen = Vec::from_elem(alloc, false, graph.vertices() as usize)?;
-    let mut growth = Growth {
-        queue: Vec::new(alloc),
-        left: 0,
-        seen,
-        lacks: false,
-    };
-    for vertex in 0..graph.vertices() {
-        growth.come_to(vertex);
-        growth.run(graph);
+    let seen = Vec::from_elem(alloc, false, graph.vertices as usize)?;
+    let mut walk = Walk::new(alloc, seen);
+    for vertex in 0..graph.vertices {
+        walk.come_to(vertex);
+        for _ in 0..graph.vertices {
+            let Some(next) = walk.next() else {
+                break;
+            };
+            for other in graph.neighbours.of(next) {
+                walk.come_to(*other);
+            }
+        }
     }
-    growth.finished()
+    walk.finished()
 }
 
 // Parts of a graph, of about as many rows each, grown breadth first one behind the other.
-fn grown(alloc: Global, graph: &Graph, count: usize) -> Result<Vec<u32>, AllocError> {
+fn grown(alloc: Global, graph: &Graph, count: u32) -> Result<Vec<u32>, AllocError> {
     let order = grown_order(alloc, graph)?;
-    let mut parts = Vec::from_elem(alloc, 0u32, graph.vertices() as usize)?;
-    part_evenly(graph, order.as_slice(), count, parts.as_mut_slice());
-    Ok(parts)
-}
-
-// Cuts an order of vertices into parts of about as many rows each.
-fn part_evenly(graph: &Graph, order: &[u32], count: usize, parts: &mut [u32]) {
-    let target = rows_of(graph) / (count as u64).max(1);
+    let mut parts = Vec::from_elem(alloc, 0u32, graph.vertices as usize)?;
+    let target = graph.rows / count.max(1);
     let mut part: u32 = 0;
-    let mut rows: u64 = 0;
-    for vertex in order {
-        put_part(parts, *vertex, part);
-        rows = rows.saturating_add(graph.weight(*vertex));
-        if target <= rows && (part as usize).saturating_add(1) < count {
+    let mut rows: u32 = 0;
+    for vertex in order.as_slice() {
+        put(parts.as_mut_slice(), *vertex, part);
+        rows = rows.saturating_add(number_at(graph.weights.as_slice(), *vertex));
+        if target <= rows && part.saturating_add(1) < count {
             part = part.saturating_add(1);
             rows = 0;
         }
     }
-}
-
-fn put_part(parts: &mut [u32], vertex: u32, part: u32) {
-    if let Some(mine) = parts.get_mut(vertex as usize) {
-        *mine = part;
-    }
-}
-
-fn rows_of(graph: &Graph) -> u64 {
-    let mut rows: u64 = 0;
-    for vertex in 0..graph.vertices() {
-        rows = rows.saturating_add(graph.weight(vertex));
-    }
-    rows
+    Ok(parts)
 }
 
 // Moves vertices into the parts that most of their edges lead to, as long as no part becomes too large.
-fn mend(alloc: Global, graph: &Graph, parts: &mut [u32], count: usize) -> Result<(), AllocError> {
-    let mut sizes = Sizes::new(alloc, graph, count)?;
-    for vertex in 0..graph.vertices() {
-        sizes.add(part_of(parts, vertex), graph.weight(vertex));
+fn mend(alloc: Global, graph: &Graph, parts: &mut [u32], count: u32) -> Result<(), AllocError> {
+    let mut rows = Vec::from_elem(alloc, 0u32, count as usize)?;
+    let links = Vec::from_elem(alloc, 0u32, count as usize)?;
+    for vertex in 0..graph.vertices {
+        if let Some(sum) = rows.get_mut(number_at(parts, vertex) as usize) {
+            *sum = sum.saturating_add(number_at(graph.weights.as_slice(), vertex));
+        }
     }
+    let most = graph.rows.saturating_mul(5) / count.saturating_mul(4).max(1);
+    let mut sizes = Sizes {
+        rows,
+        most: most.saturating_add(1),
+        links,
+    };
     for _ in 0..PASSES {
-        for vertex in 0..graph.vertices() {
+        for vertex in 0..graph.vertices {
             sizes.move_vertex(graph, parts, vertex);
         }
     }
     Ok(())
 }
 
-// How many rows each part has, and how many edges lead from a vertex to each part.
+// How many rows each part has, how many it may have, and how many edges lead from a vertex to each part.
 #[derive(Drop)]
 struct Sizes {
-    rows: Vec<u64>,
+    rows: Vec<u32>,
+    most: u32,
     links: Vec<u32>,
-    most: u64,
 }
 
 impl Sizes {
-    fn new(alloc: Global, graph: &Graph, count: usize) -> Result<Sizes, AllocError> {
-        let most = rows_of(graph).saturating_mul(5) / (count as u64).saturating_mul(4).max(1);
-        let rows = Vec::from_elem(alloc, 0, count)?;
-        let links = Vec::from_elem(alloc, 0, count)?;
-        Ok(Sizes {
-            rows,
-            links,
-            most: most.saturating_add(1),
-        })
-    }
-
-    fn add(&mut self, part: u32, rows: u64) {
-        if let Some(sum) = self.rows.get_mut(part as usize) {
-            *sum = sum.saturating_add(rows);
-        }
-    }
-
-    fn remove(&mut self, part: u32, rows: u64) {
-        if let Some(sum) = self.rows.get_mut(part as usize) {
-            *sum = sum.saturating_sub(rows);
-        }
-    }
-
-    fn has_room(&self, part: u32, rows: u64) -> bool {
-        match self.rows.get(part as usize) {
-            Some(sum) => sum.saturating_add(rows) <= self.most,
-            None => false,
-        }
-    }
-
-    fn links_to(&self, part: u32) -> u32 {
-        self.links.get(part as usize).copied().unwrap_or(0)
-    }
-
     // Moves a vertex where more of its edges lead than into its own part.
     fn move_vertex(&mut self, graph: &Graph, parts: &mut [u32], vertex: u32) {
-        let own = part_of(parts, vertex);
-        self.count_links(graph, parts, vertex);
-        let part = self.best_part(graph, parts, vertex, own);
-        self.forget_links(graph, parts, vertex);
+        let own = number_at(parts, vertex);
+        let part = self.best_part(graph, parts, vertex);
         if part == own {
             return;
         }
-        let rows = graph.weight(vertex);
-        self.remove(own, rows);
-        self.add(part, rows);
-        put_part(parts, vertex, part);
-    }
-
-    fn count_links(&mut self, graph: &Graph, parts: &[u32], vertex: u32) {
-        for other in graph.neighbours(vertex) {
-            if let Some(count) = self.links.get_mut(part_of(parts, *other) as usize) {
-                *count = count.saturating_add(1);
-            }
+        let weight = number_at(graph.weights.as_slice(), vertex);
+        if let Some(rows) = self.rows.get_mut(own as usize) {
+            *rows = rows.saturating_sub(weight);
         }
-    }
-
-    fn forget_links(&mut self, graph: &Graph, parts: &[u32], vertex: u32) {
-        for other in graph.neighbours(vertex) {
-            if let Some(count) = self.links.get_mut(part_of(parts, *other) as usize) {
-                *count = 0;
-            }
+        if let Some(rows) = self.rows.get_mut(part as usize) {
+            *rows = rows.saturating_add(weight);
         }
+        put(parts, vertex, part);
     }
 
     // The part with room that most edges of a vertex lead to, its own where none has more.
-    fn best_part(&self, graph: &Graph, parts: &[u32], vertex: u32, own: u32) -> u32 {
-        let mut best = own;
-        let mut most = self.links_to(own);
-        for other in graph.neighbours(vertex) {
-            let part = part_of(parts, *other);
-            if most < self.links_to(part) && self.has_room(part, graph.weight(vertex)) {
-                most = self.links_to(part);
+    fn best_part(&mut self, graph: &Graph, parts: &[u32], vertex: u32) -> u32 {
+        let neighbours = graph.neighbours.of(vertex);
+        for other in neighbours {
+            if let Some(count) = self.links.get_mut(number_at(parts, *other) as usize) {
+                *count = count.saturating_add(1);
+            }
+        }
+        let weight = number_at(graph.weights.as_slice(), vertex);
+        let mut best = number_at(parts, vertex);
+        let mut most = number_at(self.links.as_slice(), best);
+        for other in neighbours {
+            let part = number_at(parts, *other);
+            let links = number_at(self.links.as_slice(), part);
+            let rows = number_at(self.rows.as_slice(), part);
+            if most < links && rows.saturating_add(weight) <= self.most {
+                most = links;
                 best = part;
             }
+        }
+        for other in neighbours {
+            put(self.links.as_mut_slice(), number_at(parts, *other), 0);
         }
         best
     }

@@ -1,25 +1,28 @@
 // Parts of variables that rows join, as long as no part becomes too large: a row is left out where it would make one
 // part of what falls apart without it. (Parts are joined by size: Tarjan and van Leeuwen, 'Worst-case analysis of set
 // union algorithms', 1984.)
+use crate::columns::{number_at, put};
+use crate::marks::terms_of;
 use crate::order::numbers_below;
-use bp_model::{Model, Row};
+use bp_model::{Model, Term};
 use std::alloc::{AllocError, Global};
 
 // How far a variable's part is looked for: parts are joined by size, so that no way is longer than their number's
 // binary digits.
 const LONGEST_WAY: u32 = 64;
 
-/// Variables in parts: each has another of its part above it, and the first of a part knows how many are in it.
+// Variables in parts: each has another of its part above it, the first of a part knows how many are in it, and parts
+// that are counted are told.
 #[derive(Drop)]
-pub struct Parts {
+struct Parts {
     above: Vec<u32>,
-    sizes: Vec<u64>,
+    sizes: Vec<u32>,
     counted: Vec<bool>,
 }
 
 impl Parts {
-    /// Each variable in a part of its own.
-    pub fn new(alloc: Global, m: &Model) -> Result<Parts, AllocError> {
+    // Each variable in a part of its own.
+    fn new(alloc: Global, m: &Model) -> Result<Parts, AllocError> {
         let above = numbers_below(alloc, m.vars())?;
         let sizes = Vec::from_elem(alloc, 1, m.vars() as usize)?;
         let counted = Vec::from_elem(alloc, false, m.vars() as usize)?;
@@ -34,51 +37,34 @@ impl Parts {
     fn first_of(&mut self, var: u32) -> u32 {
         let mut at = var;
         for _ in 0..LONGEST_WAY {
-            let next = self.above.get(at as usize).copied().unwrap_or(at);
+            let next = number_at(self.above.as_slice(), at);
             if next == at {
                 return at;
             }
-            let above = self.above.get(next as usize).copied().unwrap_or(next);
-            if let Some(place) = self.above.get_mut(at as usize) {
-                *place = above;
-            }
+            let above = number_at(self.above.as_slice(), next);
+            put(self.above.as_mut_slice(), at, above);
             at = above;
         }
         at
     }
 
-    fn size_of(&self, first: u32) -> u64 {
-        self.sizes.get(first as usize).copied().unwrap_or(0)
-    }
-
-    // Counts a part once: how many variables it has, and none when it is counted again.
-    fn count(&mut self, first: u32) -> u64 {
-        let size = self.size_of(first);
-        match self.counted.get_mut(first as usize) {
-            Some(counted) if !*counted => {
-                *counted = true;
-                size
+    // How many variables the parts of a row's terms have together, each part counted once.
+    fn size_with(&mut self, terms: &[Term]) -> u32 {
+        let mut size: u32 = 0;
+        for term in terms {
+            let first = self.first_of(term.var);
+            if let Some(counted) = self.counted.get_mut(first as usize) {
+                if !*counted {
+                    *counted = true;
+                    size = size.saturating_add(number_at(self.sizes.as_slice(), first));
+                }
             }
-            _ => 0,
         }
-    }
-
-    fn uncount(&mut self, first: u32) {
-        if let Some(counted) = self.counted.get_mut(first as usize) {
-            *counted = false;
-        }
-    }
-
-    // How many variables the parts of a row have together.
-    fn size_with(&mut self, row: &Row) -> u64 {
-        let mut size: u64 = 0;
-        for term in row.terms.as_slice() {
+        for term in terms {
             let first = self.first_of(term.var);
-            size = size.saturating_add(self.count(first));
-        }
-        for term in row.terms.as_slice() {
-            let first = self.first_of(term.var);
-            self.uncount(first);
+            if let Some(counted) = self.counted.get_mut(first as usize) {
+                *counted = false;
+            }
         }
         size
     }
@@ -90,27 +76,28 @@ impl Parts {
         if one == other {
             return;
         }
-        let size = self.size_of(one).saturating_add(self.size_of(other));
-        let (below, above) = if self.size_of(one) < self.size_of(other) {
+        let size = number_at(self.sizes.as_slice(), one);
+        let others = number_at(self.sizes.as_slice(), other);
+        let (below, above) = if size < others {
             (one, other)
         } else {
             (other, one)
         };
-        if let Some(place) = self.above.get_mut(below as usize) {
-            *place = above;
-        }
-        if let Some(place) = self.sizes.get_mut(above as usize) {
-            *place = size;
-        }
+        put(self.above.as_mut_slice(), below, above);
+        put(
+            self.sizes.as_mut_slice(),
+            above,
+            size.saturating_add(others),
+        );
     }
 
-    // Joins the parts of a row where they have at most so many variables together: whether it did.
-    fn take(&mut self, row: &Row, most: u64) -> bool {
-        if most < self.size_with(row) {
+    // Joins the parts of a row's terms where they have at most so many variables together: whether it did.
+    fn take(&mut self, terms: &[Term], most: u32) -> bool {
+        if most < self.size_with(terms) {
             return false;
         }
-        if let Some(first) = row.terms.as_slice().first() {
-            for term in row.terms.as_slice() {
+        if let Some(first) = terms.first() {
+            for term in terms {
                 self.join(first.var, term.var);
             }
         }
@@ -123,15 +110,13 @@ pub fn peeled_marks(
     alloc: Global,
     m: &Model,
     order: &[u32],
-    most: u64,
+    most: u32,
 ) -> Result<Vec<bool>, AllocError> {
     let mut parts = Parts::new(alloc, m)?;
     let mut marks = Vec::from_elem(alloc, true, m.rows() as usize)?;
     for row in order {
         if let Some(mark) = marks.get_mut(*row as usize) {
-            if let Some(whole) = m.all_rows().get(*row as usize) {
-                *mark = !parts.take(whole, most);
-            }
+            *mark = !parts.take(terms_of(m, *row), most);
         }
     }
     Ok(marks)

@@ -43,10 +43,9 @@ impl Sight {
     // What columns gain: nothing for a block of one link between two variables, which is a box but for one point.
     fn gain(&self) -> u64 {
         if self.rows < 2 && self.weight < OF_OTHERS {
-            0
-        } else {
-            self.weight
+            return 0;
         }
+        self.vars.saturating_mul(self.weight)
     }
 }
 
@@ -80,7 +79,10 @@ fn sights_of(alloc: Global, m: &Model, dec: &Dec) -> Result<Vec<Sight>, AllocErr
     for (row, place) in m.all_rows().iter().zip(dec.places()) {
         if let Some(block) = place {
             if let Some(sight) = sights.get_mut(*block as usize) {
-                sight.add(row, u64::from(mark_variables(known.as_mut_slice(), row)));
+                sight.add(
+                    row,
+                    u64::from(mark_variables(known.as_mut_slice(), row.terms.as_slice())),
+                );
             }
         }
     }
@@ -94,15 +96,8 @@ fn kinds_of(alloc: Global, sights: &[Sight]) -> Result<u64, AllocError> {
         hashes.push(sight.hash)?;
     }
     hashes.sort()?;
-    let mut kinds: u64 = 0;
-    let mut last = None;
-    for hash in hashes.as_slice() {
-        if last != Some(*hash) {
-            kinds = kinds.saturating_add(1);
-        }
-        last = Some(*hash);
-    }
-    Ok(kinds)
+    hashes.dedup();
+    Ok(hashes.len() as u64)
 }
 
 // So many thousandths a part is of a whole.
@@ -119,7 +114,7 @@ pub fn score_of(alloc: Global, m: &Model, dec: &Dec) -> Result<u64, AllocError> 
     let mut largest: u64 = 0;
     let mut rows: u64 = 0;
     for sight in sights.as_slice() {
-        gain = gain.saturating_add(sight.vars.saturating_mul(sight.gain()));
+        gain = gain.saturating_add(sight.gain());
         largest = largest.max(sight.vars);
         rows = rows.saturating_add(sight.rows);
     }
