@@ -110,33 +110,3 @@ pub fn drops_after(task: Task, drops: u32) -> u32
         Task::Drop => drops + 1,
     }
 }
-
-#[cfg(test)]
-mod tests {
-    use super::*;
-    use std::test::Fail;
-
-    // Of two workers and one live leaf the second takes the leaf, and then it reports on it.
-    #[test]
-    fn the_first_events_from_seed_0(rt: HostRuntime) -> Result<(), Fail> {
-        let first = next_state(0);
-        assert_eq!(rt; first >> 33, 167_951_807);
-        let second = next_state(first);
-        assert_eq!(rt; second >> 33, 218_396_424);
-        let choice = picked(rt.alloc(), &[false, false], true, true, first)?;
-        assert_eq!(rt; choice.worker, 1);
-        assert!(rt; is_told(choice.task, false));
-        let choice = picked(rt.alloc(), &[false, true], false, true, second)?;
-        assert_eq!(rt; choice.worker, 1);
-        assert!(rt; is_told(choice.task, true));
-        Ok(())
-    }
-
-    fn is_told(task: Task, report: bool) -> bool {
-        match task {
-            Task::Take => !report,
-            Task::Report => report,
-            Task::Drop => false,
-        }
-    }
-}
