@@ -9,7 +9,7 @@ use Rattle.lp_token.specs.declared.LpKind.{LpKind}
 use Rattle.lp_meaning.specs.Reading as lp_text
 use Rattle.lp_meaning.specs.Model.{Means}
 use Rattle.dec_read.specs.Reading as dec_text
-use Rattle.dec_read.specs.declared.fault.DecKind.{DecKind}
+use Rattle.dec_tokens.specs.declared.kind.DecKind.{DecKind}
 use Rattle.bp_front.specs.Front.{HasModel, HasDec}
 use Rattle.bp_front.specs.Halts.{LpHalts, DecHalts, IsLpHalt, IsDecHalt}
 use Rattle.bp_front.specs.declared.front.Halt.{Halt}

@@ -10,7 +10,7 @@ use Rattle.lp_meaning.specs.Reading as lp_text
 use Rattle.lp_meaning.specs.Model.{Means}
 use Rattle.lp_read.proofs.Readings as lp_laws
 use Rattle.dec_read.specs.Reading as dec_text
-use Rattle.dec_read.specs.declared.fault.DecKind.{DecKind}
+use Rattle.dec_tokens.specs.declared.kind.DecKind.{DecKind}
 use Rattle.block_program.specs.Blocked.{BlockedProgram, IsFormed}
 use Rattle.block_form.specs.Checks.{HasBlockFault}
 use Rattle.block_program.proofs.PlainLemmas.{plain_blocking}

@@ -7,7 +7,7 @@ use Rattle.bp_shelf.specs.Shelf.{Files}
 use Rattle.lp_token.specs.declared.LpKind.{LpKind}
 use Rattle.lp_meaning.specs.Reading as lp_text
 use Rattle.lp_meaning.specs.Model.{Means}
-use Rattle.dec_read.specs.declared.fault.DecKind.{DecKind}
+use Rattle.dec_tokens.specs.declared.kind.DecKind.{DecKind}
 use Rattle.dec_read.specs.Reading as dec_text
 use Rattle.block_program.specs.Blocked.{BlockedProgram, IsFormed}
 use Rattle.block_form.specs.Checks.{HasBlockFault}

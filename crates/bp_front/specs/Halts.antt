@@ -6,7 +6,7 @@ use Rattle.bp_shelf.specs.declared.shelf.ShelfFault.TheVariants.{Missing, Failed
 use Rattle.bp_theory.specs.Decomposition.{Decomposition}
 use Rattle.lp_token.specs.declared.LpKind.{LpKind}
 use Rattle.lp_meaning.specs.Reading as lp_text
-use Rattle.dec_read.specs.declared.fault.DecKind.{DecKind}
+use Rattle.dec_tokens.specs.declared.kind.DecKind.{DecKind}
 use Rattle.dec_read.specs.Reading as dec_text
 use Rattle.bp_report.specs.Refusals.{lp_refusal, dec_refusal}
 use Rattle.bp_front.specs.Front.{FilesCome, BlocksCome, TextsCome, ends, HasLpFault, HasDecFault, LacksDec}

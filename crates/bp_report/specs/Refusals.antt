@@ -3,7 +3,7 @@ use Rattle.std.specs.Prelude.{ℕ, ◌<◌, List, [], ◌++◌, length, get_or, 
 use Rattle.bp_model.specs.Named.{NamedProgram}
 use Rattle.lp_token.specs.declared.LpKind.{LpKind}
 use Rattle.lp_token.specs.declared.fault.LpFault.TheVariants as lp_fault
-use Rattle.dec_read.specs.declared.fault.DecKind.{DecKind}
+use Rattle.dec_tokens.specs.declared.kind.DecKind.{DecKind}
 use Rattle.dec_read.specs.declared.fault.DecFault.TheVariants as dec_fault
 use Rattle.cert_form.specs.declared.fault.CertKind.{CertKind}
 use Rattle.cert_form.specs.declared.fault.CertFault.TheVariants as cert_fault

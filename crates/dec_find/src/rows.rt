@@ -3,7 +3,7 @@ ghost use Rattle.std.specs.Prelude.{◌<◌, All, IfOk, IfErr, length};
 ghost use Rattle.dec_words.specs.Rows.{ListsRows, IsRowsFault};
 
 use bp_model::Model;
-use dec_read::{Cursor, next_word};
+use dec_tokens::{Cursor, next_word};
 use dec_words::{Listing, RowsFault, RowsKind};
 use std::alloc::Global;
 

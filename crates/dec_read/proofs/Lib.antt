@@ -1,6 +1,2 @@
-pub mod CutLemmas
 pub mod LawLemmas
-pub mod ListLemmas
-pub mod TakeLemmas
-pub mod ReadLemmas
-pub mod PlaceLemmas
+pub mod EndLemmas

@@ -1,8 +1,2 @@
--- Other crates cite all of these.
-pub mod Cut
-pub mod Words
-pub mod Parts
-pub mod Faults
+-- Other crates cite this.
 pub mod Reading
-pub mod Scan
-pub mod State

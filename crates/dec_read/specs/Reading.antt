@@ -1,19 +1,15 @@
 -- The decomposition that a text means, and its first fault.
-use Rattle.std.specs.Prelude.{◌≡◌, ℕ, ◌<◌, ◌≤◌, List, length, Option, None, Some, slice_get}
+use Rattle.std.specs.Prelude.{◌≡◌, ℕ, ◌<◌, ◌≤◌, List, length, None, Some, slice_get}
 use Rattle.bp_theory.specs.Limits.{most_bytes}
 use Rattle.bp_theory.specs.Decomposition.{Decomposition}
 use Rattle.bp_model.specs.Named.{NamedProgram}
-use Rattle.dec_read.specs.Cut.{Token, tokens, end_line}
-use Rattle.dec_read.specs.Parts.{Part, parts_before, decomposition_of}
-use Rattle.dec_read.specs.Faults.{fault_at, end_fault}
-use Rattle.dec_read.specs.declared.fault.DecKind.{DecKind}
-use Rattle.dec_read.specs.declared.fault.DecKind.TheVariants.{Limit}
+use Rattle.dec_tokens.specs.Cut.{Token, tokens, end_line}
+use Rattle.dec_tokens.specs.Parts.{parts_of, decomposition_of}
+use Rattle.dec_tokens.specs.Faults.{fault_at, end_fault}
+use Rattle.dec_tokens.specs.declared.kind.DecKind.{DecKind}
+use Rattle.dec_tokens.specs.declared.kind.DecKind.TheVariants.{Limit}
 use Rattle.dec_read.specs.declared.fault.DecFault.{DecFault}
 use Rattle.dec_read.specs.declared.fault.DecFault.TheVariants.{At, NoMemory}
-
--- what all tokens of a text are
-abbrev pub parts_of : List ℕ → List Part
-parts_of text = parts_before (tokens text) (length (tokens text))
 
 -- the decomposition that a text means: neither a token nor the end is at fault
 pub record ReadsDecomposition (text : List ℕ) (m : NamedProgram) (d : Decomposition) : Type 0 where

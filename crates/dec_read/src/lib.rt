@@ -2,25 +2,20 @@
 //! that a text means, or its first fault, by line and kind.
 #![tactic(auto)]
 
-mod cut;
 mod fault;
-mod state;
-mod words;
 
 ghost use Rattle.std.specs.Prelude.{◌≡◌, ◌≤◌, ◌⊎◌, ℕ, List, IfOk, IfErr};
 ghost use Rattle.bp_theory.specs.Decomposition.{Decomposition, HasPlaces};
 ghost use Rattle.bp_model.specs.Dec.{HasListed};
 ghost use Rattle.bp_model.specs.Named.{NamedProgram};
-ghost use Rattle.dec_read.specs.declared.fault.DecKind.{DecKind};
+ghost use Rattle.dec_tokens.specs.declared.kind.DecKind.{DecKind};
 ghost use Rattle.dec_read.specs.Reading.{ReadsDecomposition, HasDecTextFault, IsFault};
 
 use bp_model::{Dec, Model};
-use cut::end_line;
-pub use cut::{Cursor, Word, next_word};
-pub use fault::{DecFault, DecKind};
-use state::Reader;
+pub use dec_tokens::DecKind;
+use dec_tokens::{Cursor, Reader, end_line, next_word};
+pub use fault::DecFault;
 use std::alloc::Global;
-pub use words::holds_bad_byte;
 
 /// The greatest length of a text in bytes.
 const MOST_BYTES: usize = 16_777_216;

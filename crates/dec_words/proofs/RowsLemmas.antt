@@ -9,10 +9,10 @@ use Rattle.std.specs.Prelude.{slice_get, option_and_then, All}
 use Rattle.std.specs.List.{list_any, IsDistinct}
 use Rattle.std.specs.Str.{bytes_eq}
 use Rattle.bp_model.specs.Named.{NamedProgram}
-use Rattle.dec_read.specs.Cut.{Token, tokens}
-use Rattle.dec_read.specs.Scan.{tokens_at}
-use Rattle.dec_read.specs.Parts.{is_among, number_among}
-use Rattle.dec_read.proofs.ListLemmas.{among_found, among_absent, number_found, number_inside, map_update, map_at}
+use Rattle.dec_tokens.specs.Cut.{Token, tokens}
+use Rattle.dec_tokens.specs.Scan.{tokens_at}
+use Rattle.dec_tokens.specs.Parts.{is_among, number_among}
+use Rattle.dec_tokens.proofs.ListLemmas.{among_found, among_absent, number_found, number_inside, map_update, map_at}
 use Rattle.dec_words.specs.Rows.{words_in, name_fault, word_fault, fault_at, ListsRows, HasRowsFault, too_long, at_token}
 use Rattle.dec_words.specs.Listing.{Keeps, StandsBefore}
 use Rattle.dec_words.specs.declared.fault.RowsKind.{RowsKind}

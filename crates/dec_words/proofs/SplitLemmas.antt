@@ -5,8 +5,8 @@ use Rattle.std.specs.List.{AllByRecursion, list_any, list_all, flat_map}
 use Rattle.std.proofs.lemmas.Bool.{or_parts, and_parts, false_from_ne_true, ltb-true, both_ways}
 use Rattle.std.proofs.lemmas.Bool.Decides.{eqb_tells}
 use Rattle.std.proofs.lemmas.List.{append-nil}
-use Rattle.dec_read.specs.Cut.{Token, token_of, is_white, is_line_feed, with_front, split, without_comment, is_filled, words_of, line_tokens, tokens_from}
-use Rattle.dec_read.specs.Words.{has_bad_byte, is_bad}
+use Rattle.dec_tokens.specs.Cut.{Token, token_of, is_white, is_line_feed, with_front, split, without_comment, is_filled, words_of, line_tokens, tokens_from}
+use Rattle.dec_tokens.specs.Words.{has_bad_byte, is_bad}
 use Rattle.dec_words.specs.Text.{Line, line_bytes, spaced}
 
 -- a printed character of ASCII that is no backslash

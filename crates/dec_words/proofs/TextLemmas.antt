@@ -9,19 +9,20 @@ use Rattle.std.specs.Prelude.{codes, decimal, is_none, slice_get, All, OnOk}
 use Rattle.std.specs.List.{AllByRecursion, range_with_len, zip, flat_map}
 use Rattle.bp_theory.specs.Decomposition.{Decomposition, HasPlaces, IsPlace, is_block}
 use Rattle.bp_model.specs.Named.{NamedProgram, IsKept}
-use Rattle.dec_read.specs.Cut.{Token}
-use Rattle.dec_read.specs.State.{HasRead}
-use Rattle.dec_read.specs.declared.words.Keyword.TheVariants.{Nblocks}
-use Rattle.dec_read.specs.Scan.{tokens_at}
-use Rattle.dec_read.specs.Parts.{Part, rows_listed, place_in, section_behind, has_come, refuses_unlisted, block_count, vars_listed, decomposition_of}
-use Rattle.dec_read.specs.Faults.{end_fault, lacks_row, awaits_number}
+use Rattle.dec_tokens.specs.Cut.{Token}
+use Rattle.dec_tokens.specs.State.{HasRead}
+use Rattle.dec_tokens.specs.declared.words.Keyword.TheVariants.{Nblocks}
+use Rattle.dec_tokens.specs.Scan.{tokens_at}
+use Rattle.dec_tokens.specs.Parts.{Part, rows_listed, place_in, section_behind, has_come, refuses_unlisted, block_count, vars_listed, decomposition_of}
+use Rattle.dec_tokens.specs.Faults.{end_fault, lacks_row, awaits_number}
 use Rattle.dec_read.specs.Reading.{ReadsDecomposition}
-use Rattle.dec_read.specs.declared.words.Section.TheVariants.{Rows}
-use Rattle.dec_read.specs.declared.words.Section.{Section}
-use Rattle.dec_read.specs.declared.fault.DecKind.{DecKind}
-use Rattle.dec_read.specs.declared.fault.DecKind.TheVariants as kinds
-use Rattle.dec_read.proofs.ListLemmas.{map_at}
-use Rattle.dec_read.proofs.ReadLemmas.{read_none, end_reads}
+use Rattle.dec_tokens.specs.declared.words.Section.TheVariants.{Rows}
+use Rattle.dec_tokens.specs.declared.words.Section.{Section}
+use Rattle.dec_tokens.specs.declared.kind.DecKind.{DecKind}
+use Rattle.dec_tokens.specs.declared.kind.DecKind.TheVariants as kinds
+use Rattle.dec_tokens.proofs.ListLemmas.{map_at}
+use Rattle.dec_tokens.proofs.ReadLemmas.{read_none}
+use Rattle.dec_read.proofs.EndLemmas.{end_reads}
 use Rattle.row_blocks.specs.Joined.{place_at}
 use Rattle.dec_words.specs.Text.{IsRowName, Line, same_place, names_among, names_of, spaced, block_head, master_head, block_line, master_line, lines_of, line_bytes, text_of, line_at, AreLines}
 use Rattle.dec_words.specs.declared.text.Lines.{Lines}

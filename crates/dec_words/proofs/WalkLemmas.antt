@@ -9,19 +9,19 @@ use Rattle.std.proofs.lemmas.Option.{slice_get-get_or}
 use Rattle.std.proofs.lemmas.Slice.Eq.{bytes_eq-Decides}
 use Rattle.bp_theory.specs.Decomposition.{Decomposition, is_block}
 use Rattle.bp_model.specs.Named.{NamedProgram}
-use Rattle.dec_read.specs.Cut.{Token, token_of, line_tokens, tokens}
-use Rattle.dec_read.specs.Words.{keyword_of, has_bad_byte, number_of}
-use Rattle.dec_read.specs.Parts.{Part, keyword, number, row, part_of, part_in, part_by, number_part, section_behind, opened, numbered, has_come, block_count, refuses_unlisted, rows_listed, vars_listed, is_among, is_listed, place_in}
-use Rattle.dec_read.specs.Faults.{token_fault, part_fault, keyword_fault, number_fault, row_fault, awaits_number, is_single, names_block}
-use Rattle.dec_read.specs.State.{HasRead}
-use Rattle.dec_read.specs.declared.words.Keyword.{Keyword}
-use Rattle.dec_read.specs.declared.words.Keyword.TheVariants.{Nblocks, Block, MasterConss}
-use Rattle.dec_read.specs.declared.words.Section.{Section}
-use Rattle.dec_read.specs.declared.words.Section.TheVariants.{Outside, Awaits, Rows}
-use Rattle.dec_read.specs.declared.fault.DecKind.{DecKind}
-use Rattle.dec_read.specs.declared.fault.DecKind.TheVariants as kinds
-use Rattle.dec_read.proofs.ListLemmas.{among_found, number_found}
-use Rattle.dec_read.proofs.ReadLemmas.{read_more}
+use Rattle.dec_tokens.specs.Cut.{Token, token_of, line_tokens, tokens}
+use Rattle.dec_tokens.specs.Words.{keyword_of, has_bad_byte, number_of}
+use Rattle.dec_tokens.specs.Parts.{Part, keyword, number, row, part_of, part_in, part_by, number_part, section_behind, opened, numbered, has_come, block_count, refuses_unlisted, rows_listed, vars_listed, is_among, is_listed, place_in}
+use Rattle.dec_tokens.specs.Faults.{token_fault, part_fault, keyword_fault, number_fault, row_fault, awaits_number, is_single, names_block}
+use Rattle.dec_tokens.specs.State.{HasRead}
+use Rattle.dec_tokens.specs.declared.words.Keyword.{Keyword}
+use Rattle.dec_tokens.specs.declared.words.Keyword.TheVariants.{Nblocks, Block, MasterConss}
+use Rattle.dec_tokens.specs.declared.words.Section.{Section}
+use Rattle.dec_tokens.specs.declared.words.Section.TheVariants.{Outside, Awaits, Rows}
+use Rattle.dec_tokens.specs.declared.kind.DecKind.{DecKind}
+use Rattle.dec_tokens.specs.declared.kind.DecKind.TheVariants as kinds
+use Rattle.dec_tokens.proofs.ListLemmas.{among_found, number_found}
+use Rattle.dec_tokens.proofs.ReadLemmas.{read_more}
 use Rattle.row_blocks.specs.Joined.{place_at}
 use Rattle.dec_words.specs.Text.{Line, same_place, names_among, names_of, block_line, master_line}
 use Rattle.row_blocks.proofs.NumberLemmas.{no_some, one_some}

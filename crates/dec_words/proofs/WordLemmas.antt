@@ -8,8 +8,8 @@ use Rattle.std.proofs.lemmas.Bool.Decides.{eqb_tells}
 use Rattle.std.proofs.lemmas.Fmt.{decimal_nonempty, digits_decimal, digits_value-decimal}
 use Rattle.std.proofs.lemmas.Str.Parse.{IsDigitsTest, FoldsDigits, IsNumeralModel, numerals_by_fold}
 use Rattle.lp_token.specs.Lexeme.{is_name, is_name_byte, is_point}
-use Rattle.dec_read.specs.Cut.{is_filled}
-use Rattle.dec_read.specs.Words.{value_of, is_digits, number_of}
+use Rattle.dec_tokens.specs.Cut.{is_filled}
+use Rattle.dec_tokens.specs.Words.{value_of, is_digits, number_of}
 use Rattle.dec_words.specs.Text.{IsRowName}
 use Rattle.dec_words.proofs.SplitLemmas.{IsPlain, IsWord}
 

@@ -2,8 +2,8 @@
 use Rattle.std.specs.Prelude.{◌≡◌, ℕ, ◌<◌, ◌++◌, ◌∷◌, [], List, map, take, drop, length, Option, None, Some, Result, Ok, Err, All}
 use Rattle.std.specs.declared.alloc.AllocError.{AllocError}
 use Rattle.bp_model.specs.Named.{NamedProgram}
-use Rattle.dec_read.specs.Cut.{Token, tokens}
-use Rattle.dec_read.specs.Parts.{is_among, number_among}
+use Rattle.dec_tokens.specs.Cut.{Token, tokens}
+use Rattle.dec_tokens.specs.Parts.{is_among, number_among}
 use Rattle.dec_words.specs.Rows.{words_in, fault_at}
 use Rattle.dec_words.specs.declared.fault.RowsKind.{RowsKind}
 use Rattle.dec_words.specs.declared.rows.Listing.{Listing}

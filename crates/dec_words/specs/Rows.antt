@@ -2,9 +2,9 @@
 use Rattle.std.specs.Prelude.{◌≡◌, ℕ, ◌<◌, ◌≤◌, ◌∷◌, [], Bool, if◌then◌else◌, List, map, take, length, Option, None, Some, slice_get, option_and_then}
 use Rattle.bp_theory.specs.Limits.{most_bytes}
 use Rattle.bp_model.specs.Named.{NamedProgram}
-use Rattle.dec_read.specs.Cut.{Token, tokens}
-use Rattle.dec_read.specs.Words.{has_bad_byte}
-use Rattle.dec_read.specs.Parts.{is_among, number_among}
+use Rattle.dec_tokens.specs.Cut.{Token, tokens}
+use Rattle.dec_tokens.specs.Words.{has_bad_byte}
+use Rattle.dec_tokens.specs.Parts.{is_among, number_among}
 use Rattle.dec_words.specs.declared.fault.RowsKind.{RowsKind}
 use Rattle.dec_words.specs.declared.fault.RowsKind.TheVariants.{BadByte, UnknownRow, RowTwice, Limit}
 use Rattle.dec_words.specs.declared.fault.RowsFault.{RowsFault}

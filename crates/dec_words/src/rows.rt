@@ -7,7 +7,7 @@ ghost use Rattle.dec_words.specs.Listing.{Keeps, Takes};
 
 use crate::fault::RowsKind;
 use bp_model::Model;
-use dec_read::holds_bad_byte;
+use dec_tokens::holds_bad_byte;
 use std::alloc::{AllocError, Global};
 use std::str;
 

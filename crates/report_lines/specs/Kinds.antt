@@ -4,8 +4,8 @@ use Rattle.bp_theory.specs.declared.CheckKind.{CheckKind}
 use Rattle.bp_theory.specs.declared.CheckKind.TheVariants as check
 use Rattle.lp_token.specs.declared.LpKind.{LpKind}
 use Rattle.lp_token.specs.declared.LpKind.TheVariants as lp
-use Rattle.dec_read.specs.declared.fault.DecKind.{DecKind}
-use Rattle.dec_read.specs.declared.fault.DecKind.TheVariants as dec
+use Rattle.dec_tokens.specs.declared.kind.DecKind.{DecKind}
+use Rattle.dec_tokens.specs.declared.kind.DecKind.TheVariants as dec
 use Rattle.dec_words.specs.declared.fault.RowsKind.{RowsKind}
 use Rattle.dec_words.specs.declared.fault.RowsKind.TheVariants as rows
 use Rattle.cert_form.specs.declared.fault.CertKind.{CertKind}

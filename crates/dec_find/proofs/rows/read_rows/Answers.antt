@@ -1,6 +1,6 @@
 use Rattle.std.proofs.Common.{◌≡◌, ◌≤◌, ℕ, List, length, [], ◌∷◌, ◌++◌, arith, sym, subst, take, Option, None, Some, Ok, refl, ◌∙◌}
-use Rattle.dec_read.specs.Cut.{tokens}
-use Rattle.dec_read.specs.Scan.{tokens_at, token_in}
+use Rattle.dec_tokens.specs.Cut.{tokens}
+use Rattle.dec_tokens.specs.Scan.{tokens_at, token_in}
 use Rattle.dec_words.specs.Rows.{words_in, word_fault}
 use Rattle.dec_words.specs.Listing.{Takes}
 use Rattle.dec_words.specs.declared.fault.RowsKind.{RowsKind}

@@ -1,5 +1,5 @@
 use Rattle.std.proofs.Common.{◌≡◌, ◌-◌, length}
-use Rattle.dec_read.specs.Scan.{StandsIn, tokens_at}
+use Rattle.dec_tokens.specs.Scan.{StandsIn, tokens_at}
 use Rattle.dec_words.specs.Listing.{StandsBefore}
 use Rattle.dec_find.proofs.rows.read_rows.Given as goal
 

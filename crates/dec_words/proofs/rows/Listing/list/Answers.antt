@@ -1,7 +1,7 @@
 use Rattle.std.proofs.Common.{refl, ◌≡◌, ◌∙◌, ℕ, ap, sym, subst, arith, true, get_or, Bool, Some, List, Option}
 use Rattle.std.proofs.Math.ListN.{set}
 use Rattle.std.specs.Prelude.{slice_get, Contains}
-use Rattle.dec_read.proofs.ListLemmas.{among_absent, number_inside}
+use Rattle.dec_tokens.proofs.ListLemmas.{among_absent, number_inside}
 use Rattle.dec_words.proofs.RowsLemmas.{name_unknown, name_twice, name_new, seen_is, keeps_more}
 use Rattle.dec_words.proofs.rows.Listing.list.Goals as goal
 

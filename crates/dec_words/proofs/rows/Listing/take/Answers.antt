@@ -1,6 +1,6 @@
 use Rattle.std.proofs.Common.{◌≡◌, ◌∙◌, false, sym}
-use Rattle.dec_read.specs.Words.{has_bad_byte}
-use Rattle.dec_read.proofs.ListLemmas.{plain_is_text}
+use Rattle.dec_tokens.specs.Words.{has_bad_byte}
+use Rattle.dec_tokens.proofs.ListLemmas.{plain_is_text}
 use Rattle.dec_words.proofs.rows.Listing.take.Goals as goal
 
 pub list-requires-clause-text : goal.list-requires-clause-text
