@@ -17,7 +17,7 @@ PICTURE = TOP / "docs/pictures/layers.svg"
 ROOMS = {  # a room's title: its colour, and its crates
     "theory: definitions and laws": ("#fff3c4", "bp_theory search_laws"),
     "texts and models": ("#d9ead3", "lp_token lp_tree lp_grammar bp_model lp_meaning lp_read dec_tokens dec_read row_blocks dec_words dec_find dec_beside dec_guess bp_gen"),
-    "blocks": ("#cfe2f3", "block_program proof_fit block_parts block_form round_sums round_cut cut_list block_class disagg"),
+    "blocks": ("#cfe2f3", "block_program proof_fit block_parts block_form round_sums round_cut cut_list block_class column_deals disagg"),
     "pricing and bounds": ("#d0e0e3", "pricing depth_search search_price load_table knap_price layer_graph state_graph graph_pass var_order state_price proof_costs block_forms block_pricers lagr_bound"),
     "hints: nothing proved rests on how good they are": (
         "#eeeeee", "col_pool master_simplex master_measure master_lp lp_factor lp_core row_lp cut_hint column_lp lone_leaf point_hint hint_pools column_hint node_hint"),

@@ -2,16 +2,10 @@
 //! show where to split a zone.
 #![tactic(auto)]
 
-mod agree;
 mod answer;
-mod deal;
-mod mixed;
-mod point;
-mod split;
 mod spreading;
-mod whole;
 
 pub use answer::Spread;
-pub use mixed::most_mixed;
+pub use column_deals::most_mixed;
 pub use search_laws::UsedColumn as Used;
 pub use spreading::spread;

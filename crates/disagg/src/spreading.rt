@@ -1,19 +1,17 @@
 // Weights of columns, spread over the blocks of their classes.
-ghost use Rattle.std.specs.Prelude.{◌≡◌, ◌<◌, ◌^◌, length, All, IfOk};
+ghost use Rattle.std.specs.Prelude.{◌≡◌, ◌<◌, ◌^◌, length, All, IfOk, MatchOption};
 ghost use Rattle.bp_theory.specs.Trees.{IsZone};
 ghost use Rattle.search_laws.specs.Spread.{AreClasses, IsUsed};
-ghost use Rattle.disagg.specs.Spreads.{HasWeight, IsSpreadOut};
+ghost use Rattle.column_deals.specs.Deals.{HasWeight, HaveNumbers};
+ghost use Rattle.disagg.specs.Spreads.{IsSpreadOut};
 
-use crate::agree::copies_agree;
 use crate::answer::Spread;
-use crate::deal::{columns_of_blocks, decks};
-use crate::mixed::most_mixed;
-use crate::point::dealt_point;
-use crate::split::chosen_split;
-use crate::whole::is_spreadable;
 use block_class::Classes;
 use block_program::{Blocked, Zone};
 use bp_theory::Items;
+use column_deals::{
+    chosen_split, columns_of_blocks, copies_agree, dealt_point, decks, is_spreadable, most_mixed,
+};
 use search_laws::UsedColumn;
 use std::alloc::{AllocError, Global};
 
@@ -42,12 +40,24 @@ pub fn spread(
     }
     let decks = decks(alloc, classes, used)?;
     let columns = columns_of_blocks(alloc, classes, blocks, &decks)?;
-    let point = dealt_point(alloc, b, used, &columns)?;
-    if !copies_agree(b, used, &columns, &point) {
-        return Ok(Spread { point: None, split });
+    let dealt = dealt_point(alloc, b, used, &columns)?;
+    let point = agreed_point(b, used, &columns, dealt);
+    Ok(Spread { point, split })
+}
+
+// A dealt point, where all copies of each variable have one number in it.
+fn agreed_point(
+    b: &Blocked,
+    used: &[UsedColumn],
+    columns: &[usize],
+    dealt: Vec<i64>,
+) -> Option<Items<i64>>
+    ensures { MatchOption result
+        (HaveNumbers b.now.blocking used.now columns.now dealt.items → ⊥)
+        (λ x. HaveNumbers b.now.blocking used.now columns.now x × (x ≡ dealt.items)) }
+{
+    if !copies_agree(b, used, columns, &dealt) {
+        return None;
     }
-    Ok(Spread {
-        point: Some(Items::from_vec(point)),
-        split,
-    })
+    Some(Items::from_vec(dealt))
 }

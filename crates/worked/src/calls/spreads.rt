@@ -3,7 +3,7 @@ ghost use Rattle.std.specs.Prelude.{◌≡◌, ◌<◌, length, All, IfOk, IfSom
 ghost use Rattle.bp_theory.specs.Bound.{IsPoint};
 ghost use Rattle.search_laws.specs.Spread.{IsUsed};
 ghost use Rattle.col_pool.specs.Pools.{root_block};
-ghost use Rattle.disagg.specs.Spreads.{HasWeight};
+ghost use Rattle.column_deals.specs.Deals.{HasWeight};
 
 use crate::calls::told::Told;
 use block_class::Classes;

@@ -1,0 +1,2 @@
+-- Other crates cite Deals.
+pub mod Deals
