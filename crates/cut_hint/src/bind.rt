@@ -55,7 +55,7 @@ impl Front {
 
     /// A cut as one that was made.
     pub fn made(&self, alloc: Global, cut: &Cut) -> Result<Made, AllocError> {
-        let mut mults = Vec::with_capacity(alloc, cut.rows.len())?;
+        let mut mults = Vec::new(alloc);
         for mult in cut.rows.as_slice() {
             mults.push((self.relaxed_place(mult.0), mult.1))?;
         }
@@ -84,21 +84,35 @@ pub fn bound_cuts(
     made: &[Made],
     is_wanted: &mut [bool],
 ) -> Result<Vec<Cut>, AllocError> {
-    for (k, cut) in made.iter().enumerate().rev() {
+    want_all(front, made, is_wanted);
+    let mut places = Vec::from_elem(alloc, NONE, made.len())?;
+    wanted(alloc, front, made, is_wanted, places.as_mut_slice())
+}
+
+// Wants the rows too that wanted cuts were made of.
+fn want_all(front: Front, made: &[Made], is_wanted: &mut [bool]) {
+    for k in (0..made.len()).rev() {
         if is_set(is_wanted, front.place(k)) {
-            for mult in &cut.mults {
+            for mult in &made[k].mults {
                 set(is_wanted, mult.0);
             }
         }
     }
-    let mut places = Vec::from_elem(alloc, NONE, made.len())?;
+}
+
+// The cuts that are wanted, whose places among them are written.
+fn wanted(
+    alloc: Global,
+    front: Front,
+    made: &[Made],
+    is_wanted: &[bool],
+    places: &mut [u32],
+) -> Result<Vec<Cut>, AllocError> {
     let mut cuts = Vec::new(alloc);
     for (k, cut) in made.iter().enumerate() {
-        if is_set(is_wanted, front.place(k)) {
-            if let Some(kept) = places.get_mut(k) {
-                *kept = front.place(cuts.len());
-            }
-            cuts.push(renumbered(alloc, front, cut, places.as_slice())?)?;
+        if k < places.len() && is_set(is_wanted, front.place(k)) {
+            places[k] = front.place(cuts.len());
+            cuts.push(renumbered(alloc, front, cut, places)?)?;
         }
     }
     Ok(cuts)
@@ -106,7 +120,7 @@ pub fn bound_cuts(
 
 // A cut with the numbers of rows, where the cuts that were made have other places.
 fn renumbered(alloc: Global, front: Front, cut: &Made, places: &[u32]) -> Result<Cut, AllocError> {
-    let mut rows = Items::with_capacity(alloc, cut.mults.len())?;
+    let mut rows = Items::new(alloc);
     for mult in &cut.mults {
         rows.push((front.number(moved(front, mult.0, places)), mult.1))?;
     }
@@ -119,8 +133,10 @@ fn moved(front: Front, row: u32, places: &[u32]) -> u32 {
     if row < behind {
         return row;
     }
-    match places.get((row - behind) as usize) {
-        Some(place) => *place,
-        None => NONE,
+    let made = (row - behind) as usize;
+    if made < places.len() {
+        places[made]
+    } else {
+        NONE
     }
 }

@@ -3,10 +3,10 @@
 ghost use Rattle.std.specs.Prelude.{◌≡◌};
 ghost use Rattle.round_cut.specs.Several.{AreRowsOfCuts};
 
-use crate::bind::{Front, bound_cuts};
+use crate::bind::{Front, Made, bound_cuts};
 use crate::columns::{Point, Root, root_of};
 use crate::missed::{missed_at, numbered};
-use crate::numbers::whole_at;
+use crate::numbers::{set, whole_at};
 use crate::state::master_sides;
 use crate::trial::{Found, Trial};
 use block_form::recut;
@@ -52,10 +52,12 @@ fn are_joined(front: Front, entries: &[(u32, i64)]) -> bool {
     false
 }
 
-// What the rounds have come to: the program's cuts and those behind them, multipliers to begin the next round from, the cuts that
-// the greatest bound is of, the bound of the first root, the greatest, and how many rounds rose by little.
+// What the rounds have come to: combinations of rows, the program's cuts and those behind them, multipliers to begin the next
+// round from, the cuts that the greatest bound is of, the bound of the first root, the greatest, and how many rounds rose by
+// little.
 #[derive(Drop)]
 struct Rounds {
+    trial: Trial,
     cuts: Vec<Cut>,
     mults: Vec<i64>,
     wanted: Vec<Cut>,
@@ -67,7 +69,9 @@ struct Rounds {
 /// Cuts behind those of a program whose blocks have rows, so many in all at most: those with multipliers at the root with the
 /// greatest bound, and those that these were made of.
 pub fn search_by_columns(alloc: Global, b: &Blocked, most: u32) -> Result<Vec<Cut>, AllocError> {
+    let trial = Trial::make(alloc, b.model().vars() as usize)?;
     let mut rounds = Rounds {
+        trial,
         cuts: copies_of(alloc, b.cuts())?,
         mults: Vec::new(alloc),
         wanted: Vec::new(alloc),
@@ -75,9 +79,8 @@ pub fn search_by_columns(alloc: Global, b: &Blocked, most: u32) -> Result<Vec<Cu
         greatest: 0,
         idle: 0,
     };
-    let mut trial = Trial::make(alloc, b.model().vars() as usize)?;
     for round in 1..ROUNDS + 1 {
-        if !rounds.go_on(alloc, b, &mut trial, most, round == ROUNDS)? {
+        if !rounds.go_on(alloc, b, most, round == ROUNDS)? {
             break;
         }
     }
@@ -92,7 +95,6 @@ impl Rounds {
         &mut self,
         alloc: Global,
         b: &Blocked,
-        trial: &mut Trial,
         most: u32,
         is_last: bool,
     ) -> Result<bool, AllocError> {
@@ -102,10 +104,10 @@ impl Rounds {
         let Some(point) = self.judge(alloc, b, rows.as_slice())? else {
             return Ok(false);
         };
-        if is_last || trial.is_spent() {
+        if is_last || self.trial.is_spent() {
             return Ok(false);
         }
-        let more = found_at(alloc, b, rows.as_slice(), &point, trial, most)?;
+        let more = found_at(alloc, b, rows.as_slice(), &point, &mut self.trial, most)?;
         self.add(alloc, b, rows, more, most)
     }
 
@@ -217,7 +219,7 @@ fn found_at(
 
 // What was found as cuts.
 fn cuts_of(alloc: Global, front: Front, found: &[Found]) -> Result<Vec<Cut>, AllocError> {
-    let mut cuts = Vec::with_capacity(alloc, found.len())?;
+    let mut cuts = Vec::new(alloc);
     for one in found {
         cuts.push(numbered(alloc, front, one)?)?;
     }
@@ -232,15 +234,30 @@ fn wanted_cuts(
     mults: &[i64],
 ) -> Result<Vec<Cut>, AllocError> {
     let front = Front::of(b);
-    let given = front.given as usize;
+    let made = made_of(alloc, front, cuts)?;
+    let many = (front.behind() as usize).saturating_add(made.len());
+    let mut is_wanted = Vec::from_elem(alloc, false, many)?;
+    want(front, made.len(), mults, is_wanted.as_mut_slice());
+    bound_cuts(alloc, front, made.as_slice(), is_wanted.as_mut_slice())
+}
+
+// The cuts that were made, behind those of a program.
+fn made_of(alloc: Global, front: Front, cuts: &[Cut]) -> Result<Vec<Made>, AllocError> {
     let mut made = Vec::new(alloc);
-    let mut is_wanted = Vec::from_elem(alloc, false, front.behind() as usize)?;
     for (number, cut) in cuts.iter().enumerate() {
-        if number >= given {
+        if number >= front.given as usize {
             made.push(front.made(alloc, cut)?)?;
-            let row = (front.first as usize).saturating_add(number);
-            is_wanted.push(whole_at(mults, place(row)) != 0)?;
         }
     }
-    bound_cuts(alloc, front, made.as_slice(), is_wanted.as_mut_slice())
+    Ok(made)
+}
+
+// Wants so many cuts that were made where they have multipliers.
+fn want(front: Front, many: usize, mults: &[i64], is_wanted: &mut [bool]) {
+    let first = front.first.saturating_add(front.given);
+    for k in 0..place(many) {
+        if whole_at(mults, first.saturating_add(k)) != 0 {
+            set(is_wanted, front.behind().saturating_add(k));
+        }
+    }
 }

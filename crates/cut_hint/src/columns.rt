@@ -12,6 +12,7 @@ use crate::numbers::low_at;
 use crate::relaxation::Relaxation;
 use block_class::Classes;
 use block_program::{Blocked, Zone};
+use bp_theory::Span;
 use branch_tree::{Grove, Turn};
 use col_pool::Column;
 use column_hint::{
@@ -195,7 +196,7 @@ fn members_of<'a>(
     pools: &'a Pools,
     master: &RestrictedMaster,
 ) -> Result<Vec<Member<'a>>, AllocError> {
-    let mut members = Vec::with_capacity(alloc, master.len())?;
+    let mut members = Vec::new(alloc);
     for number in 0..master.len() {
         if let Some(found) = master.column(number) {
             if let Some(column) = pools.column(found.place) {
@@ -209,59 +210,60 @@ fn members_of<'a>(
     Ok(members)
 }
 
+// What a relaxation over columns has of each: what it takes from the rows, how many there may be of it, and what it costs.
+#[derive(Drop)]
+struct Lists {
+    vectors: Vectors,
+    spans: Vec<Range>,
+    costs: Vec<f64>,
+}
+
 impl<'a> Columns<'a> {
     // The relaxation over the columns.
     fn relaxed(&self, alloc: Global) -> Result<Lp, AllocError> {
-        let spans = self.spans(alloc)?;
-        let costs = self.costs(alloc)?;
+        let mut lists = Lists {
+            vectors: Vectors::make(alloc),
+            spans: Vec::new(alloc),
+            costs: Vec::new(alloc),
+        };
+        for member in self.members {
+            self.list(member, &mut lists)?;
+        }
         let ranges = self.ranges(alloc)?;
-        let by_columns = self.by_columns(alloc)?;
+        let Lists {
+            vectors,
+            spans,
+            costs,
+        } = lists;
         Lp::make(
             alloc,
-            by_columns,
+            vectors,
             ranges.as_slice(),
             spans.as_slice(),
             costs.as_slice(),
         )
     }
 
-    // From none of a column to as many as its class has blocks.
-    fn spans(&self, alloc: Global) -> Result<Vec<Range>, AllocError> {
-        let mut spans = Vec::from_elem(alloc, NOTHING, self.members.len())?;
-        for (span, member) in spans.iter_mut().zip(self.members.iter()) {
-            span.upper = self.many(member.class);
-        }
-        Ok(spans)
-    }
-
-    // What the columns cost.
-    fn costs(&self, alloc: Global) -> Result<Vec<f64>, AllocError> {
-        let mut costs = Vec::from_elem(alloc, 0.0, self.members.len())?;
-        for (cost, member) in costs.iter_mut().zip(self.members.iter()) {
-            *cost = nearest_i64_to_f64(member.column.cost);
-        }
-        Ok(costs)
-    }
-
-    // What each column takes from the rows, and that it is one of its class.
-    fn by_columns(&self, alloc: Global) -> Result<Vectors, AllocError> {
+    // Lists a column: what it takes from the rows, and that it is one of its class; from none of it to as many as its class has
+    // blocks; and its cost.
+    fn list(&self, member: &Member<'a>, lists: &mut Lists) -> Result<(), AllocError> {
         let front = Front::of(self.b);
-        let rows = self.b.named_rows();
-        let mut columns = Vectors::make(alloc);
-        for member in self.members {
-            for act in member.column.acts.as_slice() {
-                columns.add(Entry {
-                    place: front.relaxed_place(act.0),
-                    value: nearest_i64_to_f64(act.1),
-                })?;
-            }
-            columns.add(Entry {
-                place: rows.saturating_add(member.class),
-                value: 1.0,
+        for act in member.column.acts.as_slice() {
+            lists.vectors.add(Entry {
+                place: front.relaxed_place(act.0),
+                value: nearest_i64_to_f64(act.1),
             })?;
-            columns.close()?;
         }
-        Ok(columns)
+        lists.vectors.add(Entry {
+            place: self.b.named_rows().saturating_add(member.class),
+            value: 1.0,
+        })?;
+        lists.spans.push(Range {
+            lower: 0.0,
+            upper: self.many(member.class),
+        })?;
+        lists.costs.push(nearest_i64_to_f64(member.column.cost))?;
+        lists.vectors.close()
     }
 
     // The ranges of rows less what blocks of one point take, and how many blocks each class has.
@@ -279,8 +281,9 @@ impl<'a> Columns<'a> {
         for row in 0..self.b.named_rows() {
             let range = own.range(row as usize);
             let taken = self.taken(row);
-            if let Some(kept) = ranges.get_mut(front.relaxed_place(row) as usize) {
-                *kept = Range {
+            let place = front.relaxed_place(row) as usize;
+            if place < ranges.len() {
+                ranges[place] = Range {
                     lower: range.lower - taken,
                     upper: range.upper - taken,
                 };
@@ -288,8 +291,9 @@ impl<'a> Columns<'a> {
         }
         for class in 0..self.classes.len() {
             let many = self.many(class);
-            if let Some(kept) = ranges.get_mut(own.rows().saturating_add(class as usize)) {
-                *kept = Range {
+            let place = own.rows().saturating_add(class as usize);
+            if place < ranges.len() {
+                ranges[place] = Range {
                     lower: many,
                     upper: many,
                 };
@@ -304,21 +308,21 @@ impl<'a> Columns<'a> {
 
     // What the blocks of one point take from a row.
     fn taken(&self, row: u32) -> f64 {
-        match self.master.settled_sums().get(row as usize) {
-            Some(sum) => nearest_i64_to_f64(whole(*sum)),
-            None => 0.0,
+        let sums = self.master.settled_sums();
+        let place = row as usize;
+        if place < sums.len() {
+            nearest_i64_to_f64(whole(sums[place]))
+        } else {
+            0.0
         }
     }
 
     // The values of the variables' first copies where a relaxation gives columns weights, those of a class dealt out evenly to its
     // blocks.
     fn values_at(&self, alloc: Global, relaxation: &Relaxation) -> Result<Vec<f64>, AllocError> {
-        let weights = relaxation.values(alloc)?;
         let spans = self.b.model().spans();
-        let mut values = Vec::from_elem(alloc, 0.0, spans.len())?;
-        for (value, span) in values.iter_mut().zip(spans.iter()) {
-            *value = nearest_i64_to_f64(span.lo);
-        }
+        let mut values: Vec<f64> = spans.iter().map(low_of).collect(alloc)?;
+        let weights = relaxation.values(alloc)?;
         for (number, member) in self.members.iter().enumerate() {
             self.deal_out(
                 member,
@@ -344,15 +348,20 @@ impl<'a> Columns<'a> {
     }
 }
 
+// The lower end of a span.
+fn low_of(span: &Span) -> f64 {
+    nearest_i64_to_f64(span.lo)
+}
+
 // Adds a part of what a block's point has above the lower ends of spans to values of first copies.
 fn deal(b: &Blocked, number: u32, point: &[i64], part: f64, values: &mut [f64])
     requires { number < length b.now.blocking.blocks }
 {
     let spans = b.model().spans();
-    for (var, coordinate) in b.block(number).vars().iter().zip(point) {
-        if is_first_copy(b, number, *var) {
+    for (k, var) in b.block(number).vars().iter().enumerate() {
+        if k < point.len() && is_first_copy(b, number, *var) {
             let place = *var as usize;
-            let above = coordinate.saturating_sub(low_at(spans, *var));
+            let above = point[k].saturating_sub(low_at(spans, *var));
             put(
                 values,
                 place,

@@ -4,6 +4,7 @@
 use crate::numbers::remainder;
 use crate::state::{Fit, State};
 use crate::trial::Trial;
+use bp_theory::Term;
 use lp_factor::{NONE, place};
 use std::alloc::{AllocError, Global};
 use std::num::saturating_f64_to_i64;
@@ -25,96 +26,106 @@ const UNIT: f64 = 1e9;
 // How many bits a word has.
 const BITS: u32 = 64;
 
-// A sum of rows: which variables have odd coefficients, and which of the near rows it has, both by bits; whether its side is odd,
-// how far the values are from it, and whether it is used up.
+// A sum of rows: by bits, which variables have odd coefficients, and behind these which of the near rows it has; whether its
+// side is odd, how far the values are from it, and whether it is used up.
 #[derive(Drop)]
 struct Sum {
-    odd: Vec<u64>,
-    rows: Vec<u64>,
+    bits: Vec<u64>,
     is_odd: bool,
     slack: f64,
     is_spent: bool,
 }
+
+// A variable or a row by its place, with a key by which it is ordered.
+type Keyed = (i64, u32);
 
 /// Tries halves of rows and of sums of rows.
 pub fn try_halves(alloc: Global, state: &State, trial: &mut Trial) -> Result<(), AllocError> {
     let order = order_of(alloc, state)?;
     let near = near_rows(alloc, state)?;
     let mut sums = sums_of(alloc, state, order.as_slice(), near.as_slice())?;
-    let bits = place(order.len());
+    let vars = order.len();
     try_sums(
         alloc,
         state,
         near.as_slice(),
         sums.as_mut_slice(),
-        bits,
+        vars,
         trial,
-    )
+    );
+    Ok(())
 }
 
 // Rows as sums of one row each, over the variables in an order.
 fn sums_of(
     alloc: Global,
     state: &State,
-    order: &[u32],
-    near: &[u32],
+    order: &[Keyed],
+    near: &[Keyed],
 ) -> Result<Vec<Sum>, AllocError> {
-    let bits = bits_of(alloc, order, state.above.len())?;
+    let places = places_of(alloc, order, state.above.len())?;
+    let many = words_of(order.len().saturating_add(near.len()));
     let mut sums = Vec::new(alloc);
     for (k, row) in near.iter().enumerate() {
-        let mut sum = sum_of(alloc, state, bits.as_slice(), order.len(), near.len(), *row)?;
-        turn(sum.rows.as_mut_slice(), place(k));
-        sums.push(sum)?;
+        let mut bits = Vec::from_elem(alloc, 0u64, many)?;
+        turn(bits.as_mut_slice(), row_bit(order.len(), k));
+        sums.push(sum_of(state, bits, places.as_slice(), row.1))?;
     }
     Ok(sums)
+}
+
+// The bit of a near row behind those of so many variables.
+fn row_bit(vars: usize, near: usize) -> u32 {
+    place(vars.saturating_add(near))
 }
 
 // Tries sums, and takes bit by bit out of all but one.
 fn try_sums(
     alloc: Global,
     state: &State,
-    near: &[u32],
+    near: &[Keyed],
     sums: &mut [Sum],
-    bits: u32,
+    vars: usize,
     trial: &mut Trial,
-) -> Result<(), AllocError> {
+) {
     for sum in sums.iter() {
-        try_sum(alloc, state, near, sum, trial)?;
+        try_sum(alloc, state, near, vars, sum, trial);
     }
-    for bit in 0..bits {
+    for bit in 0..place(vars) {
         if trial.is_spent() {
             break;
         }
-        eliminate(alloc, state, near, sums, bit, trial)?;
+        eliminate(alloc, state, near, sums, vars, bit, trial);
     }
-    Ok(())
 }
 
 // The variables whose values are above the lower ends of their spans, the farthest first.
-fn order_of(alloc: Global, state: &State) -> Result<Vec<u32>, AllocError> {
+fn order_of(alloc: Global, state: &State) -> Result<Vec<Keyed>, AllocError> {
     let mut order = Vec::new(alloc);
     for (var, above) in state.above.iter().enumerate() {
         if *above > NOTHING {
-            order.push((saturating_f64_to_i64(*above * UNIT), place(var)))?;
+            let key = saturating_f64_to_i64(*above * UNIT).saturating_neg();
+            order.push((key, place(var)))?;
         }
     }
-    order.sort_by_key(|entry| entry.0.saturating_neg())?;
-    seconds_of(alloc, order.as_slice())
+    order.sort_unstable();
+    Ok(order)
 }
 
 // The bit of each variable, none where its value is at the lower end of its span.
-fn bits_of(alloc: Global, order: &[u32], vars: usize) -> Result<Vec<u32>, AllocError> {
+fn places_of(alloc: Global, order: &[Keyed], vars: usize) -> Result<Vec<u32>, AllocError> {
     let mut bits = Vec::from_elem(alloc, NONE, vars)?;
     for (bit, var) in order.iter().enumerate() {
-        if let Some(kept) = bits.get_mut(*var as usize) {
-            *kept = place(bit);
+        let var = var.1 as usize;
+        if var < bits.len() {
+            bits[var] = place(bit);
         }
     }
     Ok(bits)
 }
 
 // The rows that are near to their sides, the nearest first.
-fn near_rows(alloc: Global, state: &State) -> Result<Vec<u32>, AllocError> {
+fn near_rows(alloc: Global, state: &State) -> Result<Vec<Keyed>, AllocError> {
     let mut near = Vec::new(alloc);
     for row in 0..state.rows() {
         if let Some(side) = state.side(row) {
@@ -123,52 +134,27 @@ fn near_rows(alloc: Global, state: &State) -> Result<Vec<u32>, AllocError> {
             }
         }
     }
-    near.sort_by_key(|entry| entry.0)?;
+    near.sort_unstable();
     near.truncate(MOST_SUMS);
-    seconds_of(alloc, near.as_slice())
+    Ok(near)
 }
 
-// The second numbers of pairs.
-fn seconds_of(alloc: Global, pairs: &[(i64, u32)]) -> Result<Vec<u32>, AllocError> {
-    let mut seconds = Vec::from_elem(alloc, 0u32, pairs.len())?;
-    for (second, pair) in seconds.iter_mut().zip(pairs.iter()) {
-        *second = pair.1;
-    }
-    Ok(seconds)
-}
-
-// A row as a sum that has none of so many rows yet, over so many variables.
-fn sum_of(
-    alloc: Global,
-    state: &State,
-    bits: &[u32],
-    vars: usize,
-    rows: usize,
-    row: u32,
-) -> Result<Sum, AllocError> {
+// A row as a sum whose bits of variables aren't set yet, which have these places.
+fn sum_of(state: &State, bits: Vec<u64>, places: &[u32], row: u32) -> Sum {
     let mut sum = Sum {
-        odd: Vec::from_elem(alloc, 0u64, words_of(vars))?,
-        rows: Vec::from_elem(alloc, 0u64, words_of(rows))?,
+        bits,
         is_odd: false,
         slack: NEAR,
         is_spent: false,
     };
-    let (Some(combined), Some(side)) = (state.row(row), state.side(row)) else {
-        return Ok(sum);
-    };
-    sum.is_odd = is_odd(side.number);
-    sum.slack = side.slack;
-    for term in combined.terms.as_slice() {
-        if is_odd(term.coef) {
-            if is_odd(state.low(term.var)) {
-                sum.is_odd = !sum.is_odd;
-            }
-            if let Some(bit) = bits.get(term.var as usize) {
-                turn(sum.odd.as_mut_slice(), *bit);
-            }
+    if let Some((side, terms)) = state.sided(row) {
+        sum.is_odd = is_odd(side.number);
+        sum.slack = side.slack;
+        for term in terms {
+            sum.take(state, places, term);
         }
     }
-    Ok(sum)
+    sum
 }
 
 // How many words have so many bits.
@@ -178,23 +164,15 @@ fn words_of(bits: usize) -> usize {
 
 // Whether a bit is set.
 fn has(words: &[u64], bit: u32) -> bool {
-    match words.get((bit / BITS) as usize) {
-        Some(word) => (*word >> (bit % BITS)) & 1 == 1,
-        None => false,
-    }
+    let place = (bit / BITS) as usize;
+    place < words.len() && (words[place] >> (bit % BITS)) & 1 == 1
 }
 
 // Turns a bit, if it is there.
 fn turn(words: &mut [u64], bit: u32) {
-    if let Some(word) = words.get_mut((bit / BITS) as usize) {
-        *word = *word ^ (1u64 << (bit % BITS));
-    }
-}
-
-// Turns the bits that others have set.
-fn turn_all(words: &mut [u64], others: &[u64]) {
-    for (word, other) in words.iter_mut().zip(others.iter()) {
-        *word = *word ^ *other;
+    let place = (bit / BITS) as usize;
+    if place < words.len() {
+        words[place] = words[place] ^ (1u64 << (bit % BITS));
     }
 }
 
@@ -207,73 +185,95 @@ fn is_odd(number: i64) -> bool {
 fn eliminate(
     alloc: Global,
     state: &State,
-    near: &[u32],
+    near: &[Keyed],
     sums: &mut [Sum],
+    vars: usize,
     bit: u32,
     trial: &mut Trial,
-) -> Result<(), AllocError> {
-    let Some(chosen) = taken_out(alloc, sums, bit)? else {
-        return Ok(());
+) {
+    let Some(chosen) = taken_out(alloc, sums, bit) else {
+        return;
     };
     for sum in sums.iter_mut() {
-        if !sum.is_spent && has(sum.odd.as_slice(), bit) {
-            trial.spend(chosen.odd.len());
-            add(sum, &chosen);
+        if sum.is_open(bit) {
+            trial.spend(words_of(vars));
+            sum.add(&chosen);
             if sum.slack < NEAR_TOGETHER {
-                try_sum(alloc, state, near, sum, trial)?;
+                try_sum(alloc, state, near, vars, sum, trial);
             } else {
                 sum.is_spent = true;
             }
         }
     }
-    Ok(())
 }
 
 // The nearest sum that has a bit, taken out of the others.
-fn taken_out(alloc: Global, sums: &mut [Sum], bit: u32) -> Result<Option<Sum>, AllocError> {
+fn taken_out(alloc: Global, sums: &mut [Sum], bit: u32) -> Option<Sum> {
     for sum in sums.iter_mut() {
-        if !sum.is_spent && has(sum.odd.as_slice(), bit) {
+        if sum.is_open(bit) {
             sum.is_spent = true;
-            return Ok(Some(Sum {
-                odd: sum.odd.as_slice().to_vec(alloc)?,
-                rows: sum.rows.as_slice().to_vec(alloc)?,
+            return Some(Sum {
+                bits: std::mem::replace(&mut sum.bits, Vec::new(alloc)),
                 is_odd: sum.is_odd,
                 slack: sum.slack,
                 is_spent: true,
-            }));
+            });
         }
     }
-    Ok(None)
+    None
 }
 
-// Adds a sum to another; rows that are in both leave it.
-fn add(sum: &mut Sum, other: &Sum) {
-    turn_all(sum.odd.as_mut_slice(), other.odd.as_slice());
-    turn_all(sum.rows.as_mut_slice(), other.rows.as_slice());
-    sum.is_odd = sum.is_odd != other.is_odd;
-    sum.slack += other.slack;
+impl Sum {
+    // Whether the sum has a bit, and isn't used up.
+    fn is_open(&self, bit: u32) -> bool {
+        !self.is_spent && has(self.bits.as_slice(), bit)
+    }
+
+    // Takes in a term of a row that the sum has, where variables have bits at these places.
+    fn take(&mut self, state: &State, places: &[u32], term: &Term) {
+        let place = term.var as usize;
+        if is_odd(term.coef) {
+            self.is_odd = self.is_odd != is_odd(state.low(term.var));
+            if place < places.len() {
+                turn(self.bits.as_mut_slice(), places[place]);
+            }
+        }
+    }
+
+    // Adds another sum; rows that are in both leave it.
+    fn add(&mut self, other: &Sum) {
+        let others = other.bits.as_slice();
+        for (k, word) in self.bits.iter_mut().enumerate() {
+            if k < others.len() {
+                *word = *word ^ others[k];
+            }
+        }
+        self.is_odd = self.is_odd != other.is_odd;
+        self.slack += other.slack;
+    }
 }
 
 // Tries the half of a sum whose side is odd.
 fn try_sum(
     alloc: Global,
     state: &State,
-    near: &[u32],
+    near: &[Keyed],
+    vars: usize,
     sum: &Sum,
     trial: &mut Trial,
-) -> Result<(), AllocError> {
+) {
     if !sum.is_odd || trial.is_spent() {
-        return Ok(());
+        return;
     }
     trial.clear();
     for (k, row) in near.iter().enumerate() {
-        if has(sum.rows.as_slice(), place(k)) {
-            let mult = match state.side(*row) {
+        if has(sum.bits.as_slice(), row_bit(vars, k)) {
+            let mult = match state.side(row.1) {
                 Some(side) if side.fit == Fit::Negative => -1,
                 _ => 1,
             };
-            trial.add(state, *row, mult)?;
+            trial.add(state, row.1, mult);
         }
     }
-    trial.judge(alloc, state, 2)
+    trial.judge(alloc, state, 2);
 }

@@ -1,8 +1,8 @@
 // Cuts from single rows over their coefficients (G. Cornuejols and M. Dawande, A class of hard small 0-1 programs, 1999, use
 // such of knapsacks): to a multiple of a row those equations with coefficients 1 and -1 are added that leave least to be lost by
 // rounding, so that a variable near its upper end counts as the rest of its equation.
-use crate::numbers::{is_set, remainder, set, whole_at};
-use crate::state::{Fit, State};
+use crate::numbers::remainder;
+use crate::state::{Fit, Side, State};
 use crate::trial::Trial;
 use bp_theory::Term;
 use std::alloc::{AllocError, Global};
@@ -11,7 +11,7 @@ use std::num::nearest_i64_to_f64;
 // How many divisors of a row are tried, the greatest first, and which multiples of the row.
 const MOST_DIVISORS: usize = 12;
 
-const MULTIPLES: [i64; 3] = [1, 2, 3];
+const MULTIPLES: [i64; 6] = [1, -1, 2, -2, 3, -3];
 
 const GREATEST: u64 = 1 << 20;
 
@@ -30,45 +30,37 @@ struct Equation {
 
 /// Tries the rows that aren't such equations themselves.
 pub fn try_lifted(alloc: Global, state: &State, trial: &mut Trial) -> Result<(), AllocError> {
-    let mut is_equation = Vec::from_elem(alloc, false, state.own.len())?;
-    let equations = equations_of(alloc, state, is_equation.as_mut_slice())?;
+    let equations = equations_of(alloc, state)?;
     for row in 0..state.rows() {
         if trial.is_spent() {
             break;
         }
-        if !is_set(is_equation.as_slice(), row) {
-            try_row(alloc, state, equations.as_slice(), row, trial)?;
+        if let Some((side, terms)) = state.sided(row) {
+            if !is_equation(&side, terms) {
+                try_row(alloc, state, equations.as_slice(), row, side, terms, trial)?;
+            }
         }
     }
     Ok(())
 }
 
-// The equations with coefficients 1 and -1, whose places are set.
-fn equations_of(
-    alloc: Global,
-    state: &State,
-    is_equation: &mut [bool],
-) -> Result<Vec<Equation>, AllocError> {
+// The equations with coefficients 1 and -1.
+fn equations_of(alloc: Global, state: &State) -> Result<Vec<Equation>, AllocError> {
     let mut equations = Vec::new(alloc);
     for row in 0..state.rows() {
-        let (Some(side), Some(terms)) = (state.side(row), terms_of(state, row)) else {
-            continue;
-        };
-        if side.fit == Fit::Either && terms.iter().all(is_unit) {
-            set(is_equation, row);
-            let terms = standing(alloc, state, terms)?;
-            equations.push(Equation { row, terms })?;
+        if let Some((side, terms)) = state.sided(row) {
+            if is_equation(&side, terms) {
+                let terms = standing(alloc, state, terms)?;
+                equations.push(Equation { row, terms })?;
+            }
         }
     }
     Ok(equations)
 }
 
-// The terms of a row, where it is there.
-fn terms_of<'a>(state: &State<'a>, row: u32) -> Option<&'a [Term]> {
-    match state.row(row) {
-        Some(row) => Some(row.terms.as_slice()),
-        None => None,
-    }
+// Whether a row is an equation with coefficients 1 and -1.
+fn is_equation(side: &Side, terms: &[Term]) -> bool {
+    side.fit == Fit::Either && terms.iter().all(is_unit)
 }
 
 // Whether a coefficient is 1 or -1.
@@ -93,18 +85,15 @@ fn try_row(
     state: &State,
     equations: &[Equation],
     row: u32,
+    side: Side,
+    terms: &[Term],
     trial: &mut Trial,
 ) -> Result<(), AllocError> {
-    let (Some(side), Some(terms)) = (state.side(row), terms_of(state, row)) else {
-        return Ok(());
-    };
     let divisors = divisors_of(alloc, state, terms)?;
     for q in &divisors {
-        for multiple in MULTIPLES {
-            for mult in [multiple, multiple.saturating_neg()] {
-                if side.admits(mult) {
-                    try_multiple(alloc, state, equations, row, mult, *q, trial)?;
-                }
+        for mult in MULTIPLES {
+            if side.admits(mult) {
+                try_multiple(alloc, state, equations, row, mult, *q, trial);
             }
         }
     }
@@ -120,11 +109,11 @@ fn try_multiple(
     mult: i64,
     q: u32,
     trial: &mut Trial,
-) -> Result<(), AllocError> {
+) {
     trial.clear();
-    trial.add(state, row, mult)?;
-    lift(state, equations, q, trial)?;
-    trial.judge(alloc, state, q)
+    trial.add(state, row, mult);
+    lift(state, equations, q, trial);
+    trial.judge(alloc, state, q);
 }
 
 // The greatest magnitudes of coefficients of variables that are above the lower ends of their spans.
@@ -136,49 +125,38 @@ fn divisors_of(alloc: Global, state: &State, terms: &[Term]) -> Result<Vec<u32>,
             sizes.push(size as u32)?;
         }
     }
-    sizes.sort()?;
-    let mut divisors = Vec::new(alloc);
-    let mut last = 0;
-    for size in sizes.iter().rev() {
-        if *size != last && divisors.len() < MOST_DIVISORS {
-            last = *size;
-            divisors.push(*size)?;
-        }
-    }
-    Ok(divisors)
+    sizes.sort_unstable();
+    sizes.dedup();
+    sizes.reverse();
+    sizes.truncate(MOST_DIVISORS);
+    Ok(sizes)
 }
 
 // Adds equations to a combination, one by one, where less is then lost when it is divided and rounded.
-fn lift(
-    state: &State,
-    equations: &[Equation],
-    q: u32,
-    trial: &mut Trial,
-) -> Result<(), AllocError> {
+fn lift(state: &State, equations: &[Equation], q: u32, trial: &mut Trial) {
     for equation in equations {
         let terms = equation.terms.as_slice();
-        let mult = best_mult(state, terms, trial.sums(), q);
+        let mult = best_mult(state, terms, trial, q);
         trial.spend(terms.len().saturating_mul(terms.len()));
         if mult != 0 {
-            trial.add(state, equation.row, mult)?;
+            trial.add(state, equation.row, mult);
         }
     }
-    Ok(())
 }
 
 // The multiplier of an equation at which least is lost.
-fn best_mult(state: &State, terms: &[Term], sums: &[i64], q: u32) -> i64 {
+fn best_mult(state: &State, terms: &[Term], trial: &Trial, q: u32) -> i64 {
     let mut best = 0;
-    let mut least = loss(state, terms, sums, q, 0);
+    let mut least = loss(state, terms, trial, q, 0);
     if least < SMALLER {
         return 0;
     }
     for term in terms {
-        let sum = whole_at(sums, term.var).saturating_mul(term.coef);
+        let sum = trial.sum(term.var).saturating_mul(term.coef);
         let up = remainder(sum.saturating_neg(), q);
         if up != 0 {
             for mult in [up, up.saturating_sub(i64::from(q))] {
-                let next = loss(state, terms, sums, q, mult);
+                let next = loss(state, terms, trial, q, mult);
                 if next < least - SMALLER {
                     least = next;
                     best = mult;
@@ -190,11 +168,11 @@ fn best_mult(state: &State, terms: &[Term], sums: &[i64], q: u32) -> i64 {
 }
 
 // What is lost at the values when coefficients are rounded up to multiples of a divisor, an equation times a multiplier added.
-fn loss(state: &State, terms: &[Term], sums: &[i64], q: u32, mult: i64) -> f64 {
+fn loss(state: &State, terms: &[Term], trial: &Trial, q: u32, mult: i64) -> f64 {
     let mut lost = 0.0;
     for term in terms {
         let more = term.coef.saturating_mul(mult);
-        let sum = whole_at(sums, term.var).saturating_add(more);
+        let sum = trial.sum(term.var).saturating_add(more);
         let rest = remainder(sum.saturating_neg(), q);
         lost += nearest_i64_to_f64(rest) * state.above(term.var);
     }

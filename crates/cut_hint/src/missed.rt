@@ -60,7 +60,7 @@ fn search_missed(
 
 /// What was found as a cut.
 pub fn numbered(alloc: Global, front: Front, found: &Found) -> Result<Cut, AllocError> {
-    let mut rows = Items::with_capacity(alloc, found.mults.len())?;
+    let mut rows = Items::new(alloc);
     for mult in &found.mults {
         rows.push((front.number(mult.0), mult.1))?;
     }

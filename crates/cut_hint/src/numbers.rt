@@ -19,31 +19,34 @@ pub fn rounded_up(number: i64, divisor: u32) -> i64 {
 
 /// The whole number at a place, 0 where there is none.
 pub fn whole_at(numbers: &[i64], place: u32) -> i64 {
-    match numbers.get(place as usize) {
-        Some(number) => *number,
-        None => 0,
+    let place = place as usize;
+    if place < numbers.len() {
+        numbers[place]
+    } else {
+        0
     }
 }
 
 /// The lower end of the span at a place, 0 where there is none.
 pub fn low_at(spans: &[Span], place: u32) -> i64 {
-    match spans.get(place as usize) {
-        Some(span) => span.lo,
-        None => 0,
+    let place = place as usize;
+    if place < spans.len() {
+        spans[place].lo
+    } else {
+        0
     }
 }
 
 /// Whether a flag is set at a place.
 pub fn is_set(flags: &[bool], place: u32) -> bool {
-    match flags.get(place as usize) {
-        Some(flag) => *flag,
-        None => false,
-    }
+    let place = place as usize;
+    place < flags.len() && flags[place]
 }
 
 /// Sets the flag at a place, if it is there.
 pub fn set(flags: &mut [bool], place: u32) {
-    if let Some(flag) = flags.get_mut(place as usize) {
-        *flag = true;
+    let place = place as usize;
+    if place < flags.len() {
+        flags[place] = true;
     }
 }

@@ -1,7 +1,7 @@
 // The relaxation of a program's rows while cuts are added to it.
 use crate::numbers::set;
 use block_program::Blocked;
-use bp_theory::Row;
+use bp_theory::{Row, Term};
 use lp_core::{ENDLESS, Effort, End, Lp, Range};
 use lp_factor::{Basic, Entry, Factor, Vectors, place};
 use row_lp::relaxation_of;
@@ -62,13 +62,8 @@ impl Relaxation {
 
     /// Adds the row of a cut.
     pub fn add(&mut self, alloc: Global, row: &Row) -> Result<(), AllocError> {
-        let mut entries = Vec::with_capacity(alloc, row.terms.len())?;
-        for term in row.terms.as_slice() {
-            entries.push(Entry {
-                place: term.var,
-                value: nearest_i64_to_f64(term.coef),
-            })?;
-        }
+        let terms = row.terms.as_slice();
+        let entries: Vec<Entry> = terms.iter().map(entry_of).collect(alloc)?;
         let range = Range {
             lower: nearest_i64_to_f64(row.low),
             upper: ENDLESS,
@@ -136,14 +131,14 @@ impl Relaxation {
     // What the basis has.
     fn basis(&self, alloc: Global) -> Result<Vec<Basic>, AllocError> {
         let many = self.lp.columns();
-        let mut basis = Vec::from_elem(alloc, Basic::Logical(0), self.lp.rows())?;
-        for (kept, basic) in basis.iter_mut().zip(self.lp.head().iter()) {
+        let mut basis = Vec::new(alloc);
+        for basic in self.lp.head() {
             let index = *basic as usize;
-            *kept = if index < many {
+            basis.push(if index < many {
                 Basic::Column(*basic)
             } else {
                 Basic::Logical(place(index - many))
-            };
+            })?;
         }
         Ok(basis)
     }
@@ -166,24 +161,40 @@ impl Relaxation {
 
     /// Which rows hold with equality by the basis, or, where there are no values, show that there are none.
     pub fn binding(&self, alloc: Global, end: End) -> Result<Vec<bool>, AllocError> {
-        let mut binds = Vec::from_elem(alloc, end != End::Empty, self.lp.rows())?;
-        if end == End::Empty {
-            for (row, number) in self.lp.ray().iter().enumerate() {
-                if number.abs() > NOTHING {
-                    set(binds.as_mut_slice(), place(row));
-                }
-            }
-            return Ok(binds);
-        }
-        let many = self.lp.columns();
-        for basic in self.lp.head() {
-            let index = *basic as usize;
-            if many <= index {
-                if let Some(flag) = binds.get_mut(index - many) {
-                    *flag = false;
-                }
-            }
+        let is_empty = end == End::Empty;
+        let mut binds = Vec::from_elem(alloc, !is_empty, self.lp.rows())?;
+        if is_empty {
+            write_ray(self.lp.ray(), binds.as_mut_slice());
+        } else {
+            write_slack(self.lp.head(), self.lp.columns(), binds.as_mut_slice());
         }
         Ok(binds)
+    }
+}
+
+// A term as an entry of a row.
+fn entry_of(term: &Term) -> Entry {
+    Entry {
+        place: term.var,
+        value: nearest_i64_to_f64(term.coef),
+    }
+}
+
+// Sets the flags of the rows that a ray has.
+fn write_ray(ray: &[f64], binds: &mut [bool]) {
+    for (row, number) in ray.iter().enumerate() {
+        if number.abs() > NOTHING {
+            set(binds, place(row));
+        }
+    }
+}
+
+// Clears the flags of the rows whose logicals are basic, behind so many columns.
+fn write_slack(head: &[u32], columns: usize, binds: &mut [bool]) {
+    for basic in head {
+        let index = *basic as usize;
+        if columns <= index && index - columns < binds.len() {
+            binds[index - columns] = false;
+        }
     }
 }

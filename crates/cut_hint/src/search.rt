@@ -115,10 +115,9 @@ impl Rounds {
 
     // Takes a cut with its row.
     fn take(&mut self, alloc: Global, row: &Row, found: Found) -> Result<(), AllocError> {
-        self.relaxation.add(alloc, row)?;
         let Found { q, mults, .. } = found;
         self.made.push(Made { q, mults })?;
-        Ok(())
+        self.relaxation.add(alloc, row)
     }
 
     // The cuts that are wanted in the end.

@@ -1,13 +1,13 @@
 // The rows that cuts may combine, at the values of the relaxation.
 use crate::numbers::low_at;
 use block_program::Blocked;
-use bp_theory::{Row, Sense, Span};
+use bp_theory::{Row, Sense, Span, Term};
 use lp_factor::{at, place, put};
 use std::alloc::{AllocError, Global};
 use std::num::nearest_i64_to_f64;
 
 /// Which signs of multipliers fit a row's side that the values are at.
-#[derive(Clone, Copy, Debug, PartialEq, Eq)]
+#[derive(Clone, Copy, PartialEq, Eq)]
 pub enum Fit {
     Positive,
     Negative,
@@ -50,8 +50,8 @@ impl<'a> State<'a> {
         place(self.own.len().saturating_add(self.cuts.len()))
     }
 
-    /// A row by its place, where it is there.
-    pub fn row(&self, row: u32) -> Option<&'a Row> {
+    // A row by its place, where it is there.
+    fn row(&self, row: u32) -> Option<&'a Row> {
         let place = row as usize;
         if place < self.own.len() {
             self.own.get(place)
@@ -62,8 +62,21 @@ impl<'a> State<'a> {
 
     /// The side of a row, where it is there.
     pub fn side(&self, row: u32) -> Option<Side> {
-        match self.sides.get(row as usize) {
-            Some(side) => *side,
+        let place = row as usize;
+        if place < self.sides.len() {
+            self.sides[place]
+        } else {
+            None
+        }
+    }
+
+    /// The side and the terms of a row, where it is there.
+    pub fn sided(&self, row: u32) -> Option<(Side, &'a [Term])> {
+        match self.row(row) {
+            Some(found) => match self.side(row) {
+                Some(side) => Some((side, found.terms.as_slice())),
+                None => None,
+            },
             None => None,
         }
     }
@@ -106,8 +119,9 @@ pub fn sides_of(
 // Writes the sides of rows at values from a place on.
 fn write_sides(sides: &mut [Option<Side>], first: usize, rows: &[Row], values: &[f64]) {
     for (number, row) in rows.iter().enumerate() {
-        if let Some(side) = sides.get_mut(first.saturating_add(number)) {
-            *side = Some(side_of(row, values));
+        let place = first.saturating_add(number);
+        if place < sides.len() {
+            sides[place] = Some(side_of(row, values));
         }
     }
 }
@@ -121,10 +135,9 @@ pub fn master_sides(
 ) -> Result<Vec<Option<Side>>, AllocError> {
     let mut sides = sides_of(alloc, b.model().all_rows(), cuts, values)?;
     for number in 0..b.model().rows() {
-        if b.master_row(number).is_none() {
-            if let Some(side) = sides.get_mut(number as usize) {
-                *side = None;
-            }
+        let place = number as usize;
+        if place < sides.len() && b.master_row(number).is_none() {
+            sides[place] = None;
         }
     }
     Ok(sides)

@@ -43,8 +43,8 @@ pub fn try_tableau(
     if positions.is_empty() {
         return Ok(());
     }
-    let mut factor = relaxation.factored(alloc)?;
     let mut row = Vec::from_elem(alloc, 0.0, relaxation.rows())?;
+    let mut factor = relaxation.factored(alloc)?;
     for position in &positions {
         if trial.is_spent() {
             break;
@@ -53,11 +53,20 @@ pub fn try_tableau(
         put(row.as_mut_slice(), *position, 1.0);
         factor.btran(row.as_mut_slice());
         trial.spend(row.len());
-        for sign in [1.0, -1.0] {
-            try_signed(alloc, row.as_slice(), sign, state, trial)?;
-        }
+        try_both(alloc, row.as_slice(), state, trial)?;
     }
     Ok(())
+}
+
+// Tries a row of the inverse, and this row turned round.
+fn try_both(
+    alloc: Global,
+    row: &[f64],
+    state: &State,
+    trial: &mut Trial,
+) -> Result<(), AllocError> {
+    try_signed(alloc, row, 1.0, state, trial)?;
+    try_signed(alloc, row, -1.0, state, trial)
 }
 
 // Tries a row of the inverse times a sign.
@@ -69,7 +78,8 @@ fn try_signed(
     trial: &mut Trial,
 ) -> Result<(), AllocError> {
     let parts = parts_of(alloc, row, sign)?;
-    try_parts(alloc, parts.as_slice(), state, trial)
+    try_parts(alloc, parts.as_slice(), state, trial);
+    Ok(())
 }
 
 // What the numbers of a row are above whole numbers, where that isn't nothing.
@@ -89,30 +99,36 @@ fn parts_of(alloc: Global, row: &[f64], sign: f64) -> Result<Vec<Part>, AllocErr
 }
 
 // Tries the cut of these parts of rows, and multiples of it.
-fn try_parts(
-    alloc: Global,
-    parts: &[Part],
-    state: &State,
-    trial: &mut Trial,
-) -> Result<(), AllocError> {
+fn try_parts(alloc: Global, parts: &[Part], state: &State, trial: &mut Trial) {
     if parts.is_empty() {
-        return Ok(());
+        return;
     }
     let q = divisor_of(parts);
     trial.spend(parts.len());
     for multiple in MULTIPLES {
         if multiple == 1 || (q > multiple && remainder(i64::from(q), multiple) != 0) {
-            trial.clear();
-            for part in parts {
-                let mult = mult_of(part, q, multiple, state);
-                if mult != 0 {
-                    trial.add(state, part.row, mult)?;
-                }
-            }
-            trial.judge(alloc, state, q)?;
+            try_multiple(alloc, parts, q, multiple, state, trial);
         }
     }
-    Ok(())
+}
+
+// Tries a multiple of the cut of these parts of rows over a divisor.
+fn try_multiple(
+    alloc: Global,
+    parts: &[Part],
+    q: u32,
+    multiple: u32,
+    state: &State,
+    trial: &mut Trial,
+) {
+    trial.clear();
+    for part in parts {
+        let mult = mult_of(part, q, multiple, state);
+        if mult != 0 {
+            trial.add(state, part.row, mult);
+        }
+    }
+    trial.judge(alloc, state, q);
 }
 
 // The least divisor at which all parts are whole, about.

@@ -1,5 +1,5 @@
 // Combinations of rows, and which of them cut the values off when they are rounded.
-use crate::numbers::{rounded_up, whole_at};
+use crate::numbers::rounded_up;
 use crate::state::State;
 use lp_factor::place;
 use std::alloc::{AllocError, Global};
@@ -30,28 +30,41 @@ pub struct Found {
     pub key: i64,
 }
 
+// A variable's sum in the combination at hand, and whether a row with the variable was added to it.
+#[derive(Clone, Copy)]
+struct Slot {
+    sum: i64,
+    is_touched: bool,
+}
+
+// That of a variable which no row that was added has.
+const UNTOUCHED: Slot = Slot {
+    sum: 0,
+    is_touched: false,
+};
+
 /// The combination at hand, and what was found. Sums that leave 64 bits stand at an end: the row of what is taken is computed
-/// exactly.
+/// exactly. Where memory is wanting nothing more is looked at, and what was found can't be taken.
 pub struct Trial {
-    sums: Vec<i64>,
-    is_touched: Vec<bool>,
+    slots: Vec<Slot>,
     touched: Vec<u32>,
     mults: Vec<(u32, i64)>,
     side: i64,
     found: Vec<Found>,
     work: u64,
+    is_short: bool,
 }
 
 impl Drop for Trial {
     fn drop(self) {
         let Trial {
-            sums: _,
-            is_touched: _,
+            slots: _,
             touched: _,
             mults: _,
             side: _,
             found: _,
             work: _,
+            is_short: _,
         } = self;
     }
 }
@@ -59,16 +72,15 @@ impl Drop for Trial {
 impl Trial {
     /// Nothing combined yet, of so many variables.
     pub fn make(alloc: Global, vars: usize) -> Result<Trial, AllocError> {
-        let sums = Vec::from_elem(alloc, 0i64, vars)?;
-        let is_touched = Vec::from_elem(alloc, false, vars)?;
+        let slots = Vec::from_elem(alloc, UNTOUCHED, vars)?;
         Ok(Trial {
-            sums,
-            is_touched,
+            slots,
             touched: Vec::new(alloc),
             mults: Vec::new(alloc),
             side: 0,
             found: Vec::new(alloc),
             work: 0,
+            is_short: false,
         })
     }
 
@@ -76,9 +88,8 @@ impl Trial {
     pub fn clear(&mut self) {
         for var in &self.touched {
             let place = *var as usize;
-            if place < self.sums.len() && place < self.is_touched.len() {
-                self.sums[place] = 0;
-                self.is_touched[place] = false;
+            if place < self.slots.len() {
+                self.slots[place] = UNTOUCHED;
             }
         }
         self.touched.clear();
@@ -87,30 +98,37 @@ impl Trial {
     }
 
     /// Adds a row, by its place, times a multiplier.
-    pub fn add(&mut self, state: &State, row: u32, mult: i64) -> Result<(), AllocError> {
-        let (Some(combined), Some(side)) = (state.row(row), state.side(row)) else {
-            return Ok(());
+    pub fn add(&mut self, state: &State, row: u32, mult: i64) {
+        let Some((side, terms)) = state.sided(row) else {
+            return;
         };
-        self.mults.push((row, mult))?;
+        add_to(&mut self.mults, (row, mult), &mut self.is_short);
         self.side = self.side.saturating_add(side.number.saturating_mul(mult));
-        self.spend(combined.terms.len());
-        for term in combined.terms.as_slice() {
+        self.spend(terms.len());
+        for term in terms {
             let place = term.var as usize;
-            if place < self.sums.len() && place < self.is_touched.len() {
-                if !self.is_touched[place] {
-                    self.is_touched[place] = true;
-                    self.touched.push(term.var)?;
-                }
+            if place < self.slots.len() {
+                let slot = self.slots[place];
                 let more = term.coef.saturating_mul(mult);
-                self.sums[place] = self.sums[place].saturating_add(more);
+                self.slots[place] = Slot {
+                    sum: slot.sum.saturating_add(more),
+                    is_touched: true,
+                };
+                if !slot.is_touched {
+                    add_to(&mut self.touched, term.var, &mut self.is_short);
+                }
             }
         }
-        Ok(())
     }
 
-    /// The coefficients of the combination by variable.
-    pub fn sums(&self) -> &[i64] {
-        self.sums.as_slice()
+    /// The coefficient of a variable in the combination.
+    pub fn sum(&self, var: u32) -> i64 {
+        let place = var as usize;
+        if place < self.slots.len() {
+            self.slots[place].sum
+        } else {
+            0
+        }
     }
 
     /// Notes that so many numbers were looked at.
@@ -118,27 +136,22 @@ impl Trial {
         self.work = self.work.saturating_add(u64::from(place(numbers)));
     }
 
-    /// Whether all that may be looked at was.
+    /// Whether all that may be looked at was, or memory is wanting.
     pub fn is_spent(&self) -> bool {
-        self.work > WORK
+        self.is_short || self.work > WORK
     }
 
     /// Keeps the combination divided by a divisor, where the values miss it by enough.
-    pub fn judge(&mut self, alloc: Global, state: &State, q: u32) -> Result<(), AllocError> {
+    pub fn judge(&mut self, alloc: Global, state: &State, q: u32) {
         let many = self.touched.len();
         self.spend(many);
-        let score = score_of(
-            state,
-            self.touched.as_slice(),
-            self.sums.as_slice(),
-            self.side,
-            q,
-        );
-        let most = SUPPORT.saturating_add(self.sums.len() / 2);
+        let score = self.score(state, q);
+        let most = SUPPORT.saturating_add(self.slots.len() / 2);
         if score.violation > LEAST_VIOLATION && score.support < most {
-            self.keep(alloc, q, &score)?;
+            if self.keep(alloc, q, &score).is_err() {
+                self.is_short = true;
+            }
         }
-        Ok(())
     }
 
     // Keeps the combination divided by a divisor.
@@ -158,7 +171,7 @@ impl Trial {
     // The multipliers in order of rows.
     fn sorted_mults(&self, alloc: Global) -> Result<Vec<(u32, i64)>, AllocError> {
         let mut mults = self.mults.as_slice().to_vec(alloc)?;
-        mults.sort_by_key(|mult| mult.0)?;
+        mults.sort_unstable();
         Ok(mults)
     }
 
@@ -166,7 +179,7 @@ impl Trial {
     fn coefs(&self, alloc: Global, q: u32) -> Result<Vec<(u32, i64)>, AllocError> {
         let mut coefs = Vec::new(alloc);
         for var in &self.touched {
-            let coef = rounded_up(whole_at(self.sums.as_slice(), *var), q);
+            let coef = rounded_up(self.sum(*var), q);
             if coef != 0 {
                 coefs.push((*var, coef))?;
             }
@@ -176,9 +189,47 @@ impl Trial {
 
     /// What was found, the most missed first.
     pub fn take_found(&mut self, alloc: Global) -> Result<Vec<Found>, AllocError> {
+        if self.is_short {
+            return Err(AllocError);
+        }
         let mut found = std::mem::replace(&mut self.found, Vec::new(alloc));
         found.sort_by_key(|cut| cut.key.saturating_neg())?;
         Ok(found)
+    }
+
+    // The score of the combination divided by a divisor; that of no cut where a coefficient is too large.
+    fn score(&self, state: &State, q: u32) -> Score {
+        let mut score = Score {
+            violation: 0.0,
+            square: 0.0,
+            support: 0,
+        };
+        let mut rest = self.side;
+        let mut sum = 0.0;
+        for var in &self.touched {
+            let coef = self.sum(*var);
+            rest = rest.saturating_sub(coef.saturating_mul(state.low(*var)));
+            let rounded = rounded_up(coef, q);
+            if rounded.saturating_abs() > MOST_COEFFICIENT {
+                return score;
+            }
+            if rounded != 0 {
+                let number = nearest_i64_to_f64(rounded);
+                sum += number * state.above(*var);
+                score.square += number * number;
+                score.support = score.support.saturating_add(1);
+            }
+        }
+        let length = f64::max(score.square, 1.0).sqrt();
+        score.violation = (nearest_i64_to_f64(rounded_up(rest, q)) - sum) / length;
+        score
+    }
+}
+
+// Adds an item to a list, or notes that memory is wanting.
+fn add_to<T: Drop>(list: &mut Vec<T>, item: T, is_short: &mut bool) {
+    if list.push(item).is_err() {
+        *is_short = true;
     }
 }
 
@@ -188,32 +239,4 @@ struct Score {
     violation: f64,
     square: f64,
     support: usize,
-}
-
-// The score of sums at variables, with a side, divided by a divisor; that of no cut where a coefficient is too large.
-fn score_of(state: &State, vars: &[u32], sums: &[i64], side: i64, q: u32) -> Score {
-    let mut score = Score {
-        violation: 0.0,
-        square: 0.0,
-        support: 0,
-    };
-    let mut rest = side;
-    let mut sum = 0.0;
-    for var in vars {
-        let coef = whole_at(sums, *var);
-        rest = rest.saturating_sub(coef.saturating_mul(state.low(*var)));
-        let rounded = rounded_up(coef, q);
-        if rounded.saturating_abs() > MOST_COEFFICIENT {
-            return score;
-        }
-        if rounded != 0 {
-            let number = nearest_i64_to_f64(rounded);
-            sum += number * state.above(*var);
-            score.square += number * number;
-            score.support = score.support.saturating_add(1);
-        }
-    }
-    let length = f64::max(score.square, 1.0).sqrt();
-    score.violation = (nearest_i64_to_f64(rounded_up(rest, q)) - sum) / length;
-    score
 }
