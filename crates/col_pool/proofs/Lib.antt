@@ -1,3 +1,4 @@
 pub mod PoolLemmas
 pub mod InsideLemmas
 pub mod SmallLemmas
+pub mod StoreLemmas

@@ -1,5 +1,5 @@
 -- Pools of columns: what a block's sums may come to, columns of a block, and what adding a point answers.
-use Rattle.std.specs.Prelude.{◌≡◌, ◌≢◌, ℕ, ◌<◌, ◌^◌, List, [], ◌∷◌, ◌++◌, map, length, ℤ, pos, slice_index_or, All, AllPairs}
+use Rattle.std.specs.Prelude.{◌≡◌, ◌≢◌, ℕ, ◌<◌, List, [], ◌∷◌, ◌++◌, map, length, ℤ, pos, slice_index_or, All, AllPairs}
 use Rattle.bp_theory.specs.Limits.{most_columns, number_limit}
 use Rattle.std.specs.List.Sorted.{IsStrictlyIncreasing}
 use Rattle.bp_theory.specs.Sums.{dot, sum_at}
