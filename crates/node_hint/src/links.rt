@@ -22,7 +22,7 @@ struct Share {
 }
 
 // What a pass over columns adds up.
-#[derive(Clone, Copy, Debug, PartialEq, Eq)]
+#[derive(Clone, Copy)]
 enum Pass {
     Numbers,
     Distances,
