@@ -5,4 +5,4 @@
 
 mod taken;
 
-pub use taken::{MOST_CUTS, copies_of, extended, row_of_cut, rows_of_cuts, with_others};
+pub use taken::{MOST_CUTS, copies_of, extended, one_list, row_of_cut, rows_of_cuts, with_others};

@@ -1,5 +1,8 @@
 // Cuts that keep the rules, with their rows.
-ghost use Rattle.std.specs.Prelude.{◌≡◌, ◌≤◌, ◌⊎◌, ◌++◌, [], length, All, IfNone, IfOk, IfSome};
+ghost use Rattle.std.specs.Prelude.{◌≡◌, ◌≤◌, ◌⊎◌, ◌++◌, ℕ, List, [], length, All, IfNone, IfOk, IfSome};
+ghost use Rattle.bp_theory.specs.Decomposition.{Decomposition};
+ghost use Rattle.bp_theory.specs.Program.{Program};
+ghost use Rattle.bp_theory.specs.declared.Cut as cuts;
 ghost use Rattle.block_program.specs.Cuts.{KeepsCuts};
 ghost use Rattle.round_sums.specs.Cutting.{IsEarlierCut};
 ghost use Rattle.round_cut.specs.Several.{AreRowsOfCuts};
@@ -12,6 +15,12 @@ use std::alloc::{AllocError, Global};
 
 /// How many cuts there may be.
 pub const MOST_CUTS: usize = 256;
+
+/// A program's cuts go on with the first of others in one way.
+pub fn one_list()
+    ensures { (p : Program) (d : Decomposition) (given others cs ds : List cuts.Cut) (most : ℕ) →
+        HasFirstOf p d given others most cs → HasFirstOf p d given others most ds → cs ≡ ds }
+{}
 
 /// The row of a cut over a program's rows and those of earlier cuts, where there is room for it, the cut keeps the rules, its
 /// signs fit and its sums keep the limit; none for any other cut. It fails for want of memory alone.
