@@ -5,13 +5,6 @@ use bp_theory::{Cut, Items};
 use lp_factor::{NONE, place};
 use std::alloc::{AllocError, Global};
 
-/// A cut that was made: its divisor, and its multipliers by the places of rows, those of cuts behind the program's.
-#[derive(Drop)]
-pub struct Made {
-    pub q: u32,
-    pub mults: Vec<(u32, i64)>,
-}
-
 /// The rows in front of the cuts that were made: how many the program has, the number of its first cut, and how many cuts there
 /// were before.
 #[derive(Clone, Copy)]
@@ -53,15 +46,6 @@ impl Front {
         self.own.saturating_add(self.given)
     }
 
-    /// A cut as one that was made.
-    pub fn made(&self, alloc: Global, cut: &Cut) -> Result<Made, AllocError> {
-        let mut mults = Vec::new(alloc);
-        for mult in cut.rows.as_slice() {
-            mults.push((self.relaxed_place(mult.0), mult.1))?;
-        }
-        Ok(Made { q: cut.q, mults })
-    }
-
     /// The number of a row by its place.
     pub fn number(&self, row: u32) -> u32 {
         if row < self.own {
@@ -81,7 +65,7 @@ impl Front {
 pub fn bound_cuts(
     alloc: Global,
     front: Front,
-    made: &[Made],
+    made: &[Cut],
     is_wanted: &mut [bool],
 ) -> Result<Vec<Cut>, AllocError> {
     want_all(front, made, is_wanted);
@@ -90,11 +74,11 @@ pub fn bound_cuts(
 }
 
 // Wants the rows too that wanted cuts were made of.
-fn want_all(front: Front, made: &[Made], is_wanted: &mut [bool]) {
+fn want_all(front: Front, made: &[Cut], is_wanted: &mut [bool]) {
     for k in (0..made.len()).rev() {
         if is_set(is_wanted, front.place(k)) {
-            for mult in &made[k].mults {
-                set(is_wanted, mult.0);
+            for mult in made[k].rows.as_slice() {
+                set(is_wanted, front.relaxed_place(mult.0));
             }
         }
     }
@@ -104,7 +88,7 @@ fn want_all(front: Front, made: &[Made], is_wanted: &mut [bool]) {
 fn wanted(
     alloc: Global,
     front: Front,
-    made: &[Made],
+    made: &[Cut],
     is_wanted: &[bool],
     places: &mut [u32],
 ) -> Result<Vec<Cut>, AllocError> {
@@ -118,11 +102,12 @@ fn wanted(
     Ok(cuts)
 }
 
-// A cut with the numbers of rows, where the cuts that were made have other places.
-fn renumbered(alloc: Global, front: Front, cut: &Made, places: &[u32]) -> Result<Cut, AllocError> {
+// A cut with other numbers of rows, where the cuts that were made have other places.
+fn renumbered(alloc: Global, front: Front, cut: &Cut, places: &[u32]) -> Result<Cut, AllocError> {
     let mut rows = Items::new(alloc);
-    for mult in &cut.mults {
-        rows.push((front.number(moved(front, mult.0, places)), mult.1))?;
+    for mult in cut.rows.as_slice() {
+        let place = moved(front, front.relaxed_place(mult.0), places);
+        rows.push((front.number(place), mult.1))?;
     }
     Ok(Cut { q: cut.q, rows })
 }

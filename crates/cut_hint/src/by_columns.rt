@@ -3,12 +3,12 @@
 ghost use Rattle.std.specs.Prelude.{◌≡◌};
 ghost use Rattle.round_cut.specs.Several.{AreRowsOfCuts};
 
-use crate::bind::{Front, Made, bound_cuts};
+use crate::bind::{Front, bound_cuts};
 use crate::columns::{Point, Root, root_of};
-use crate::missed::{missed_at, numbered};
+use crate::missed::missed_at;
 use crate::numbers::{set, whole_at};
 use crate::state::master_sides;
-use crate::trial::{Found, Trial};
+use crate::trial::Trial;
 use block_form::recut;
 use block_program::Blocked;
 use bp_theory::{Cut, Items, Row};
@@ -204,7 +204,7 @@ fn found_at(
     let values = point.values.as_slice();
     let sides = master_sides(alloc, b, rows, values)?;
     let most = (most as usize).min(MOST_CUTS);
-    let found = missed_at(
+    missed_at(
         alloc,
         b,
         rows,
@@ -213,17 +213,7 @@ fn found_at(
         sides.as_slice(),
         trial,
         most,
-    )?;
-    cuts_of(alloc, Front::of(b), found.as_slice())
-}
-
-// What was found as cuts.
-fn cuts_of(alloc: Global, front: Front, found: &[Found]) -> Result<Vec<Cut>, AllocError> {
-    let mut cuts = Vec::new(alloc);
-    for one in found {
-        cuts.push(numbered(alloc, front, one)?)?;
-    }
-    Ok(cuts)
+    )
 }
 
 // Of cuts behind those of a program, those with multipliers, and those that these were made of.
@@ -234,22 +224,12 @@ fn wanted_cuts(
     mults: &[i64],
 ) -> Result<Vec<Cut>, AllocError> {
     let front = Front::of(b);
-    let made = made_of(alloc, front, cuts)?;
+    let given = (front.given as usize).min(cuts.len());
+    let made = &cuts[given..];
     let many = (front.behind() as usize).saturating_add(made.len());
     let mut is_wanted = Vec::from_elem(alloc, false, many)?;
     want(front, made.len(), mults, is_wanted.as_mut_slice());
-    bound_cuts(alloc, front, made.as_slice(), is_wanted.as_mut_slice())
-}
-
-// The cuts that were made, behind those of a program.
-fn made_of(alloc: Global, front: Front, cuts: &[Cut]) -> Result<Vec<Made>, AllocError> {
-    let mut made = Vec::new(alloc);
-    for (number, cut) in cuts.iter().enumerate() {
-        if number >= front.given as usize {
-            made.push(front.made(alloc, cut)?)?;
-        }
-    }
-    Ok(made)
+    bound_cuts(alloc, front, made, is_wanted.as_mut_slice())
 }
 
 // Wants so many cuts that were made where they have multipliers.

@@ -63,13 +63,13 @@ struct Member<'a> {
     column: &'a Column,
 }
 
-// A program's columns at the root, with its classes of blocks and its master.
+// A program's columns at the root, with its classes of blocks, its pools and its master.
 #[derive(Clone, Copy)]
 struct Columns<'a> {
     b: &'a Blocked,
     classes: &'a Classes,
+    pools: &'a Pools,
     master: &'a RestrictedMaster,
-    members: &'a [Member<'a>],
 }
 
 /// The root of a program from multipliers by row, or from none. There is none where a program has no leaf.
@@ -175,12 +175,11 @@ fn solved(
     pools: &Pools,
     master: &RestrictedMaster,
 ) -> Result<Option<Point>, AllocError> {
-    let members = members_of(alloc, pools, master)?;
     let columns = Columns {
         b,
         classes,
+        pools,
         master,
-        members: members.as_slice(),
     };
     let mut relaxation = Relaxation::over(columns.relaxed(alloc)?);
     if relaxation.solve()? != End::Optimum {
@@ -188,26 +187,6 @@ fn solved(
     }
     let values = columns.values_at(alloc, &relaxation)?;
     Ok(Some(Point { values, relaxation }))
-}
-
-// The columns of a master.
-fn members_of<'a>(
-    alloc: Global,
-    pools: &'a Pools,
-    master: &RestrictedMaster,
-) -> Result<Vec<Member<'a>>, AllocError> {
-    let mut members = Vec::new(alloc);
-    for number in 0..master.len() {
-        if let Some(found) = master.column(number) {
-            if let Some(column) = pools.column(found.place) {
-                members.push(Member {
-                    class: found.class,
-                    column,
-                })?;
-            }
-        }
-    }
-    Ok(members)
 }
 
 // What a relaxation over columns has of each: what it takes from the rows, how many there may be of it, and what it costs.
@@ -219,6 +198,20 @@ struct Lists {
 }
 
 impl<'a> Columns<'a> {
+    // A column of the master by its number, where it is there.
+    fn member(&self, number: usize) -> Option<Member<'a>> {
+        match self.master.column(number) {
+            Some(found) => match self.pools.column(found.place) {
+                Some(column) => Some(Member {
+                    class: found.class,
+                    column,
+                }),
+                None => None,
+            },
+            None => None,
+        }
+    }
+
     // The relaxation over the columns.
     fn relaxed(&self, alloc: Global) -> Result<Lp, AllocError> {
         let mut lists = Lists {
@@ -226,8 +219,10 @@ impl<'a> Columns<'a> {
             spans: Vec::new(alloc),
             costs: Vec::new(alloc),
         };
-        for member in self.members {
-            self.list(member, &mut lists)?;
+        for number in 0..self.master.len() {
+            if let Some(member) = self.member(number) {
+                self.list(&member, &mut lists)?;
+            }
         }
         let ranges = self.ranges(alloc)?;
         let Lists {
@@ -322,13 +317,12 @@ impl<'a> Columns<'a> {
     fn values_at(&self, alloc: Global, relaxation: &Relaxation) -> Result<Vec<f64>, AllocError> {
         let spans = self.b.model().spans();
         let mut values: Vec<f64> = spans.iter().map(low_of).collect(alloc)?;
-        let weights = relaxation.values(alloc)?;
-        for (number, member) in self.members.iter().enumerate() {
-            self.deal_out(
-                member,
-                at(weights.as_slice(), number),
-                values.as_mut_slice(),
-            );
+        let mut var: usize = 0;
+        for number in 0..self.master.len() {
+            if let Some(member) = self.member(number) {
+                self.deal_out(&member, relaxation.value(var), values.as_mut_slice());
+                var = var.saturating_add(1);
+            }
         }
         Ok(values)
     }

@@ -37,7 +37,7 @@ pub fn try_lifted(alloc: Global, state: &State, trial: &mut Trial) -> Result<(),
         }
         if let Some((side, terms)) = state.sided(row) {
             if !is_equation(&side, terms) {
-                try_row(alloc, state, equations.as_slice(), row, side, terms, trial)?;
+                try_row(alloc, state, equations.as_slice(), row, side, terms, trial);
             }
         }
     }
@@ -88,8 +88,11 @@ fn try_row(
     side: Side,
     terms: &[Term],
     trial: &mut Trial,
-) -> Result<(), AllocError> {
-    let divisors = divisors_of(alloc, state, terms)?;
+) {
+    let Ok(divisors) = divisors_of(alloc, state, terms) else {
+        trial.fall_short();
+        return;
+    };
     for q in &divisors {
         for mult in MULTIPLES {
             if side.admits(mult) {
@@ -97,7 +100,6 @@ fn try_row(
             }
         }
     }
-    Ok(())
 }
 
 // Tries a multiple of a row over a divisor.

@@ -3,7 +3,7 @@ use crate::bind::Front;
 use crate::halves::try_halves;
 use crate::lifted::try_lifted;
 use crate::relaxation::Relaxation;
-use crate::select::chosen;
+use crate::select::take_apart;
 use crate::state::{Side, State, above_of};
 use crate::tableau::try_tableau;
 use crate::trial::{Found, Trial};
@@ -27,7 +27,7 @@ pub fn missed_at(
     sides: &[Option<Side>],
     trial: &mut Trial,
     most: usize,
-) -> Result<Vec<Found>, AllocError> {
+) -> Result<Vec<Cut>, AllocError> {
     let model = b.model();
     let above = above_of(alloc, model.spans(), values)?;
     let state = State {
@@ -37,29 +37,40 @@ pub fn missed_at(
         above: above.as_slice(),
         sides,
     };
-    search_missed(alloc, relaxation, &state, trial, most)
+    try_all(alloc, relaxation, &state, trial)?;
+    trial.clear();
+    let mut found = trial.take_found(alloc)?;
+    let room = most.saturating_sub(rows.len());
+    let many = (most / PART).max(LEAST_CUTS).min(room);
+    take_apart(alloc, found.as_mut_slice(), many, model.spans().len())?;
+    cuts_of(alloc, Front::of(b), found.as_slice())
 }
 
-// What the values of a relaxation miss.
-fn search_missed(
+// Tries all kinds of cuts.
+fn try_all(
     alloc: Global,
     relaxation: &Relaxation,
     state: &State,
     trial: &mut Trial,
-    most: usize,
-) -> Result<Vec<Found>, AllocError> {
+) -> Result<(), AllocError> {
     try_tableau(alloc, relaxation, state, trial)?;
     try_lifted(alloc, state, trial)?;
-    try_halves(alloc, state, trial)?;
-    trial.clear();
-    let found = trial.take_found(alloc)?;
-    let room = most.saturating_sub(state.cuts.len());
-    let many = (most / PART).max(LEAST_CUTS).min(room);
-    chosen(alloc, found, many, state.spans.len())
+    try_halves(alloc, state, trial)
 }
 
-/// What was found as a cut.
-pub fn numbered(alloc: Global, front: Front, found: &Found) -> Result<Cut, AllocError> {
+// What was found and is taken, as cuts.
+fn cuts_of(alloc: Global, front: Front, found: &[Found]) -> Result<Vec<Cut>, AllocError> {
+    let mut cuts = Vec::new(alloc);
+    for one in found {
+        if one.is_taken {
+            cuts.push(numbered(alloc, front, one)?)?;
+        }
+    }
+    Ok(cuts)
+}
+
+// What was found as a cut.
+fn numbered(alloc: Global, front: Front, found: &Found) -> Result<Cut, AllocError> {
     let mut rows = Items::new(alloc);
     for mult in &found.mults {
         rows.push((front.number(mult.0), mult.1))?;

@@ -96,6 +96,11 @@ impl Relaxation {
         self.lp.objective()
     }
 
+    /// The value of a variable.
+    pub fn value(&self, var: usize) -> f64 {
+        self.lp.value(var)
+    }
+
     /// The values of the variables.
     pub fn values(&self, alloc: Global) -> Result<Vec<f64>, AllocError> {
         let mut values = Vec::from_elem(alloc, 0.0, self.lp.columns())?;

@@ -2,11 +2,11 @@
 ghost use Rattle.std.specs.Prelude.{All, OnOk};
 ghost use Rattle.round_sums.specs.Cutting.{IsEarlierCut};
 
-use crate::bind::{Front, Made, bound_cuts};
-use crate::missed::{missed_at, numbered};
+use crate::bind::{Front, bound_cuts};
+use crate::missed::missed_at;
 use crate::relaxation::Relaxation;
 use crate::state::sides_of;
-use crate::trial::{Found, Trial};
+use crate::trial::Trial;
 use block_program::Blocked;
 use bp_theory::{Cut, Row};
 use cut_list::row_of_cut;
@@ -57,7 +57,7 @@ impl Rise {
 struct Rounds {
     relaxation: Relaxation,
     trial: Trial,
-    made: Vec<Made>,
+    made: Vec<Cut>,
     front: Front,
     most: usize,
 }
@@ -92,12 +92,7 @@ impl Rounds {
     }
 
     // The cuts of a round behind the rows of others.
-    fn found(
-        &mut self,
-        alloc: Global,
-        b: &Blocked,
-        rows: &[Row],
-    ) -> Result<Vec<Found>, AllocError> {
+    fn found(&mut self, alloc: Global, b: &Blocked, rows: &[Row]) -> Result<Vec<Cut>, AllocError> {
         let values = self.relaxation.values(alloc)?;
         let values = values.as_slice();
         let sides = sides_of(alloc, b.model().all_rows(), rows, values)?;
@@ -114,9 +109,8 @@ impl Rounds {
     }
 
     // Takes a cut with its row.
-    fn take(&mut self, alloc: Global, row: &Row, found: Found) -> Result<(), AllocError> {
-        let Found { q, mults, .. } = found;
-        self.made.push(Made { q, mults })?;
+    fn take(&mut self, alloc: Global, row: &Row, cut: Cut) -> Result<(), AllocError> {
+        self.made.push(cut)?;
         self.relaxation.add(alloc, row)
     }
 
@@ -181,7 +175,7 @@ fn take_cuts(
     b: &Blocked,
     rows: &mut Vec<Row>,
     rounds: &mut Rounds,
-    found: Vec<Found>,
+    found: Vec<Cut>,
 ) -> Result<bool, AllocError>
     requires { All (IsEarlierCut b.now.named.program) rows.old.items }
     ensures { OnOk result (All (IsEarlierCut b.now.named.program) rows.new.items) }
@@ -201,16 +195,15 @@ fn take_cut(
     b: &Blocked,
     rows: &mut Vec<Row>,
     rounds: &mut Rounds,
-    one: Found,
+    cut: Cut,
 ) -> Result<bool, AllocError>
     requires { All (IsEarlierCut b.now.named.program) rows.old.items }
     ensures { OnOk result (All (IsEarlierCut b.now.named.program) rows.new.items) }
 {
-    let cut = numbered(alloc, rounds.front, &one)?;
     let Some(row) = row_of_cut(alloc, b, rows.as_slice(), &cut)? else {
         return Ok(false);
     };
-    rounds.take(alloc, &row, one)?;
+    rounds.take(alloc, &row, cut)?;
     rows.push(row)?;
     Ok(true)
 }

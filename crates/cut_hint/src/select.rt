@@ -7,27 +7,30 @@ use std::num::nearest_i64_to_f64;
 // The square of the greatest cosine of two cuts.
 const PARALLEL: f64 = 0.81;
 
-/// The cuts that are taken, in order, at most so many, of so many variables.
-pub fn chosen(
+/// Takes cuts in order, at most so many, of so many variables.
+pub fn take_apart(
     alloc: Global,
-    found: Vec<Found>,
+    found: &mut [Found],
     most: usize,
     vars: usize,
-) -> Result<Vec<Found>, AllocError> {
+) -> Result<(), AllocError> {
     let mut numbers = Vec::from_elem(alloc, 0.0, vars)?;
-    let mut taken: Vec<Found> = Vec::new(alloc);
-    for cut in found {
-        if taken.len() >= most {
+    let numbers = numbers.as_mut_slice();
+    let mut taken: usize = 0;
+    for k in 0..found.len() {
+        if taken >= most {
             break;
         }
-        scatter(numbers.as_mut_slice(), &cut, true);
-        let is_parallel = is_parallel_to_one(numbers.as_slice(), &cut, taken.as_slice());
-        scatter(numbers.as_mut_slice(), &cut, false);
+        scatter(numbers, &found[k], true);
+        let square = found[k].square;
+        let is_parallel = is_parallel_to_one(numbers, square, found);
+        scatter(numbers, &found[k], false);
         if !is_parallel {
-            taken.push(cut)?;
+            found[k].is_taken = true;
+            taken = taken.saturating_add(1);
         }
     }
-    Ok(taken)
+    Ok(())
 }
 
 // Writes a cut's coefficients by variable, or 0 in their places.
@@ -42,16 +45,25 @@ fn scatter(numbers: &mut [f64], cut: &Found, is_there: bool) {
     }
 }
 
-// Whether a cut, whose coefficients are given by variable, is almost parallel to one of others.
-fn is_parallel_to_one(numbers: &[f64], cut: &Found, others: &[Found]) -> bool {
+// Whether a cut, whose coefficients are given by variable and the square of their length, is almost parallel to one of others that
+// are taken.
+fn is_parallel_to_one(numbers: &[f64], square: f64, others: &[Found]) -> bool {
     for other in others {
-        let mut sum = 0.0;
-        for coef in &other.coefs {
-            sum += nearest_i64_to_f64(coef.1) * at(numbers, coef.0 as usize);
-        }
-        if sum * sum > PARALLEL * cut.square * other.square {
-            return true;
+        if other.is_taken {
+            let product = product_with(numbers, other);
+            if product * product > PARALLEL * square * other.square {
+                return true;
+            }
         }
     }
     false
+}
+
+// The product of coefficients by variable with those of a cut.
+fn product_with(numbers: &[f64], cut: &Found) -> f64 {
+    let mut sum = 0.0;
+    for coef in &cut.coefs {
+        sum += nearest_i64_to_f64(coef.1) * at(numbers, coef.0 as usize);
+    }
+    sum
 }

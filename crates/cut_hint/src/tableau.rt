@@ -53,33 +53,18 @@ pub fn try_tableau(
         put(row.as_mut_slice(), *position, 1.0);
         factor.btran(row.as_mut_slice());
         trial.spend(row.len());
-        try_both(alloc, row.as_slice(), state, trial)?;
+        try_signed(alloc, row.as_slice(), 1.0, state, trial);
+        try_signed(alloc, row.as_slice(), -1.0, state, trial);
     }
     Ok(())
 }
 
-// Tries a row of the inverse, and this row turned round.
-fn try_both(
-    alloc: Global,
-    row: &[f64],
-    state: &State,
-    trial: &mut Trial,
-) -> Result<(), AllocError> {
-    try_signed(alloc, row, 1.0, state, trial)?;
-    try_signed(alloc, row, -1.0, state, trial)
-}
-
 // Tries a row of the inverse times a sign.
-fn try_signed(
-    alloc: Global,
-    row: &[f64],
-    sign: f64,
-    state: &State,
-    trial: &mut Trial,
-) -> Result<(), AllocError> {
-    let parts = parts_of(alloc, row, sign)?;
-    try_parts(alloc, parts.as_slice(), state, trial);
-    Ok(())
+fn try_signed(alloc: Global, row: &[f64], sign: f64, state: &State, trial: &mut Trial) {
+    match parts_of(alloc, row, sign) {
+        Ok(parts) => try_parts(alloc, parts.as_slice(), state, trial),
+        Err(_) => trial.fall_short(),
+    }
 }
 
 // What the numbers of a row are above whole numbers, where that isn't nothing.

@@ -20,7 +20,7 @@ const WORK: u64 = 1 << 27;
 const UNIT: f64 = 1e9;
 
 /// A cut that is missed by the values: its multipliers by the places of rows, divisor, coefficients, the square of their length,
-/// and a key that is the greater the more it is missed by.
+/// a key that is the greater the more it is missed by, and whether it is taken.
 #[derive(Drop)]
 pub struct Found {
     pub mults: Vec<(u32, i64)>,
@@ -28,6 +28,7 @@ pub struct Found {
     pub coefs: Vec<(u32, i64)>,
     pub square: f64,
     pub key: i64,
+    pub is_taken: bool,
 }
 
 // A variable's sum in the combination at hand, and whether a row with the variable was added to it.
@@ -141,7 +142,12 @@ impl Trial {
         self.is_short || self.work > WORK
     }
 
-    /// Keeps the combination divided by a divisor, where the values miss it by enough.
+    /// Notes that memory is wanting.
+    pub fn fall_short(&mut self) {
+        self.is_short = true;
+    }
+
+    /// Keeps the combination divided by a divisor, where the values miss it by enough. It is used up.
     pub fn judge(&mut self, alloc: Global, state: &State, q: u32) {
         let many = self.touched.len();
         self.spend(many);
@@ -149,30 +155,25 @@ impl Trial {
         let most = SUPPORT.saturating_add(self.slots.len() / 2);
         if score.violation > LEAST_VIOLATION && score.support < most {
             if self.keep(alloc, q, &score).is_err() {
-                self.is_short = true;
+                self.fall_short();
             }
         }
     }
 
     // Keeps the combination divided by a divisor.
     fn keep(&mut self, alloc: Global, q: u32, score: &Score) -> Result<(), AllocError> {
-        let mults = self.sorted_mults(alloc)?;
         let coefs = self.coefs(alloc, q)?;
+        let mut mults = std::mem::replace(&mut self.mults, Vec::new(alloc));
+        mults.sort_unstable();
         self.found.push(Found {
             mults,
             q,
             coefs,
             square: score.square,
             key: saturating_f64_to_i64(score.violation * UNIT),
+            is_taken: false,
         })?;
         Ok(())
-    }
-
-    // The multipliers in order of rows.
-    fn sorted_mults(&self, alloc: Global) -> Result<Vec<(u32, i64)>, AllocError> {
-        let mut mults = self.mults.as_slice().to_vec(alloc)?;
-        mults.sort_unstable();
-        Ok(mults)
     }
 
     // The coefficients that aren't 0 of the combination divided by a divisor.

@@ -10,7 +10,7 @@ pub returns : goal.returns
 returns c =
     let p = c.args.b.now.named.program in
     let d = c.args.b.now.dec in
-    let cut : Cut = c.in_ok-cut.cut in
+    let cut : Cut = c.args.cut in
     let row : Row = c.in-Some.row in
     let rows : List Row = c.args.rows.now.items in
     let taken : IsTaken p d c.as_slice.result.now cut row =
