@@ -14,7 +14,7 @@ use crate::kept::{Kept, kept_from};
 use crate::steps::step;
 use block_program::Blocked;
 use branch_tree::{Grove, Loaded, Outcome};
-use node_hint::Pools;
+use node_heuristics::Pools;
 use search_laws::Side;
 use std::alloc::{AllocError, Global};
 

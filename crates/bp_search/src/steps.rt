@@ -3,7 +3,7 @@ ghost use Rattle.std.specs.Prelude.{◌≡◌, ◌+◌, ◌-◌, ◌<◌, ◌≤
 ghost use Rattle.bp_theory.specs.Trees.{steps};
 ghost use Rattle.search_laws.specs.Grove.{live_count, certificate_tree};
 ghost use Rattle.branch_tree.specs.Groves.{IsLiveTurn};
-ghost use Rattle.hint_pools.specs.Pools.{AreMadeFor};
+ghost use Rattle.node_memory.specs.Pools.{AreMadeFor};
 ghost use Rattle.bp_search.specs.Searches.{IsRunning};
 ghost use Rattle.bp_search.specs.Below.{IsAsBeside};
 
@@ -12,7 +12,7 @@ use crate::kept::{Kept, cost_of, keep};
 use block_program::Blocked;
 use branch_tree::{Grove, Turn, Verdict};
 use node_eval::evaluate;
-use node_hint::Pools;
+use node_heuristics::Pools;
 use std::alloc::{AllocError, Global};
 
 /// Takes steps until so many are taken or no leaf is live.

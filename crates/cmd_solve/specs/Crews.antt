@@ -8,7 +8,7 @@ use Rattle.branch_tree.specs.declared.loaded.Loaded.{Loaded}
 use Rattle.branch_tree.specs.declared.outcome.Outcome.{Outcome}
 use Rattle.bp_search.specs.Ends.{last_step}
 use Rattle.bp_crew.specs.Runs.{IsCrewRun}
-use Rattle.bp_front.specs.Front.{FilesCome, blocked}
+use Rattle.frontend.specs.Front.{FilesCome, blocked}
 use Rattle.search_start.specs.Starts.{BeginsBy}
 use Rattle.cmd_solve.specs.declared.crew.CrewOrder.{CrewOrder}
 

@@ -1,6 +1,6 @@
 use Rattle.std.proofs.Common.{arith, List}
 use Rattle.search_laws.specs.declared.Side.{Side}
-use Rattle.grove_parts.specs.Queues.{LiesBelow}
+use Rattle.open_nodes.specs.Queues.{LiesBelow}
 use Rattle.bp_search.proofs.Beside.{beside_itself, beside_more, taken_below}
 use Rattle.bp_search.proofs.below.take_steps_below.Goals as goal
 

@@ -1,7 +1,7 @@
 use Rattle.std.proofs.Common.{◌-◌, ◌≤◌}
 use Rattle.bp_theory.specs.Trees.{steps}
 use Rattle.search_laws.specs.Grove.{certificate_tree}
-use Rattle.hint_pools.specs.Pools.{AreMadeFor}
+use Rattle.node_memory.specs.Pools.{AreMadeFor}
 use Rattle.bp_search.specs.Searches.{IsRunning}
 use Rattle.bp_search.proofs.steps.take_steps.Given as goal
 
