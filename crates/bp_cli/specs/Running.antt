@@ -71,8 +71,9 @@ HasPutLast (Propose lp dec) before now = ProposeWrites lp dec before now
 HasPutLast (Merge given) before now = MergeWrites given.lp given.first given.second given.dec given.new before now
 HasPutLast (Migrate lp cert new dec) before now = MigrateWrites lp cert dec new before now
 
--- The events of an order, beside what is kept: those of the crew that solved, where one was ordered and its outcome is kept; and
--- else none.
+-- How an order's search went, beside what is kept: an outcome that is kept goes on from the certificate of the file that is named for
+-- it, where one is named (its tree extends that tree, its point is no dearer, its dual bound no less), and the events are those of the
+-- crew that solved, where one was ordered, and else none.
 abbrev pub ListsEvents : Order → (before : Files) → Option Outcome → List Event → Type 0
 ListsEvents (Solve given) before kept events = HasEvents before given.lp given.dec given.steps given.from given.workers given.order given.cuts kept events
 ListsEvents (Check given) before kept events = events ≡ []
