@@ -1,4 +1,4 @@
-//! Classes of blocks that are the same in a zone, so that each class is priced once and its blocks share columns.
+//! Classes of identical blocks in a zone: each class has one pricing problem, and its blocks share columns.
 #![tactic(auto)]
 
 mod classes;

@@ -1,7 +1,7 @@
-//! The search for a best point of a program in blocks: the live leaf of least bound is evaluated, and shut or forked, until
-//! no leaf is live or the given steps are taken. The tree at the end is the certificate of what is claimed. (Land and
-//! Doig, An automatic method of solving discrete programming problems, 1960; Barnhart, Johnson, Nemhauser, Savelsbergh
-//! and Vance, Branch-and-price: column generation for solving huge integer programs, 1998.)
+//! Branch and price: the open node of least dual bound is evaluated, and shut or branched on, until no node is open or the
+//! given steps are taken. The incumbent and the tree at the end are the certificate of what is claimed. (Land and Doig, An automatic
+//! method of solving discrete programming problems, 1960; Barnhart, Johnson, Nemhauser, Savelsbergh and Vance, Branch-and-price: column
+//! generation for solving huge integer programs, 1998.)
 #![tactic(auto)]
 
 mod below;

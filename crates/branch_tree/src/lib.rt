@@ -1,5 +1,5 @@
-//! The tree of a search: live leaves with their proofs and bounds, shut leaves, and splits; which live leaf is next, and
-//! what stands in the tree once a leaf is shut or forked.
+//! The branch-and-bound tree of a search: open nodes (live leaves) with their dual proofs and bounds, shut leaves, and splits; which
+//! open node is next, and what stands in the tree once a node is shut or branched on.
 #![tactic(auto)]
 
 mod grove;

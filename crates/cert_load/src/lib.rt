@@ -1,5 +1,5 @@
-//! A valid certificate as a tree from which a search goes on: each leaf is shut that the certificate's own point
-//! settles, and each other is live with the bound of its proof.
+//! A valid certificate as a tree from which a search goes on: each leaf that the certificate's own point settles is shut, and each
+//! other is an open node with the dual bound of its proof.
 #![tactic(auto)]
 
 mod fault;

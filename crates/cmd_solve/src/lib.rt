@@ -1,6 +1,5 @@
-//! The command `solve`: the best point of a program in blocks, or that it has none, or a bound where the steps ran out,
-//! from the start or from where a certificate stopped, there also below one open leaf alone, with a certificate where a
-//! file is named for it.
+//! The command `solve`: a best point of a program in blocks, or that it has none, or a dual bound where the steps ran out; from the start
+//! or from where a certificate stopped, also below one open node alone; with a certificate where a file is named for it.
 #![tactic(auto)]
 
 mod crew;

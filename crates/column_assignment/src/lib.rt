@@ -1,6 +1,6 @@
-//! Columns dealt out to the blocks of their classes in order, each as often as its weight says: whether weights are
-//! whole and add up, the column that each block gets, the point of these and whether all copies of a variable agree in
-//! it, the variable that is farthest from whole, and where a zone is split.
+//! The assignment of columns to the blocks of their classes, in order and each as often as its weight says: whether weights are whole and
+//! add up, the column that each block gets, the point of these and whether all copies of a variable agree in it, the most fractional
+//! variable, and where a zone is split.
 #![tactic(auto)]
 
 mod agree;

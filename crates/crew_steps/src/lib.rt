@@ -1,5 +1,5 @@
-//! A crew: workers take live leaves of one search, report verdicts on them, or drop them, in any order. Whatever the order,
-//! no leaf is lost or held twice, and the list of events tells who holds a leaf, how many are live, and how many steps are
+//! The steps of a crew: workers take open nodes of one search, report verdicts on them, or drop them, in any order. Whatever the
+//! order, no node is lost or held twice, and the list of events tells who holds one, how many are open, and how many steps are
 //! taken. What workers may do at a moment is listed, and one of it drawn.
 #![tactic(auto)]
 

@@ -1,5 +1,5 @@
-//! Weights of columns, spread over the blocks of their classes: whole weights give a point of the program, and others
-//! show where to split a zone.
+//! Disaggregation: weights of columns, spread over the blocks of their classes. Whole weights give a point of the program, and others
+//! show which variable to branch on.
 #![tactic(auto)]
 
 mod answer;

@@ -1,5 +1,5 @@
-//! Pricing by a table: a block of one row, whose least costs are found weight by weight (`knapsack_table`). (Gilmore and Gomory, The
-//! theory and computation of knapsack functions, 1966.)
+//! The pricing problem of a block of one row, a knapsack, solved by a table of least costs weight by weight (`knapsack_table`).
+//! (Gilmore and Gomory, The theory and computation of knapsack functions, 1966.)
 #![tactic(auto)]
 
 mod pricer;

@@ -1,7 +1,7 @@
-//! Weak Lagrangian bounds of proofs in zones, exactly: what a proof gives before the blocks (`reduced_costs`), the least of each picked
-//! block's reduced costs over its points (`block_pricers`), and of each other block's over its box. (Geoffrion, Lagrangean relaxation for
-//! integer programming, 1974; Vanderbeck, On Dantzig-Wolfe decomposition in integer programming and ways to perform branching in a
-//! branch-and-price algorithm, 2000.)
+//! The dual bound of a proof in a zone, exactly, by weak Lagrangian duality: what the multipliers give before the blocks
+//! (`reduced_costs`), the optimum of each picked block's pricing problem (`block_pricers`), and the least reduced cost of each other
+//! block over its box. (Geoffrion, Lagrangean relaxation for integer programming, 1974; Vanderbeck, On Dantzig-Wolfe decomposition in
+//! integer programming and ways to perform branching in a branch-and-price algorithm, 2000.)
 #![tactic(auto)]
 
 mod alike;

@@ -1,5 +1,6 @@
-//! The restricted master of column generation: weights of columns and multipliers of rows by a simplex in whole
-//! numbers. Whatever its steps round away, each answer tells exactly how far it is from best and from meeting its rows.
+//! The restricted master problem of column generation in whole numbers: weights of columns and multipliers of rows by a simplex
+//! that rounds, and beside each answer its exact gap and its exact shortfall. It is the exact measure of a restricted master; the search
+//! itself runs on the one in `f64` (`restricted_master`), since nothing that it claims rests on a master's answer.
 #![tactic(auto)]
 
 mod answer;

@@ -1,6 +1,6 @@
-//! What proofs show of a live leaf's zone, and what follows: bounds with the proofs that show them, by pricing or by boxes,
-//! proofs that a zone has no point, zones of one point, and a leaf shut or forked by its bound and a known cost. It asks for
-//! no hints: the model judges points that it is given, and exact bounds judge multipliers.
+//! The dual bounds of a node: what proofs show of its zone, by pricing or by boxes, proofs that the zone is empty, zones of one point,
+//! and a node shut or branched on by its bound and the incumbent's cost. It asks for no hints: the model judges points that it is
+//! given, and exact bounds judge multipliers.
 #![tactic(auto)]
 
 mod boxes;

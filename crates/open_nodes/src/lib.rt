@@ -1,5 +1,5 @@
-//! What a grove is made of: the growing tree with the copies of its paths and proofs, the queue of its live leaves, the turn
-//! that a leaf is handed out as, the bound that a search begins with, and how leaves are put into the queue and forked.
+//! The open nodes of a branch-and-bound tree: the growing tree with copies of paths and proofs, the queue of its live leaves by dual
+//! bound, the turn that a node is handed out as, the bound that a search begins with, and how nodes are queued and branched on.
 #![tactic(auto)]
 
 mod bound;

@@ -1,5 +1,5 @@
-//! What pricing means: the least cost of a point that meets a block's rows within a zone. The trait `Pricer` states it
-//! once for every way to find it, and here stands what these ways share.
+//! The pricing problem: the least cost of a point that meets a block's rows within a zone. The trait `Pricer` states it once for every
+//! way to solve it, and what these ways share stands here.
 #![tactic(auto)]
 
 mod checks;

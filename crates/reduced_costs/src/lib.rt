@@ -1,5 +1,5 @@
-//! What a proof's multipliers make of costs, exactly: what it gives before the blocks, the reduced costs of a block's copies, and the
-//! least of these over a block's box. (Geoffrion, Lagrangean relaxation for integer programming, 1974.)
+//! Reduced costs, exactly: what a dual proof's multipliers give before the blocks, the reduced cost of each variable of a block, and
+//! the least of their sum over the block's box. (Geoffrion, Lagrangean relaxation for integer programming, 1974.)
 #![tactic(auto)]
 
 mod boxes;

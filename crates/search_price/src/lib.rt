@@ -1,5 +1,5 @@
-//! Pricing by a search: depth first over a block's variables (`enumeration`), pruned by what each row can still reach, by cost,
-//! and by cost with rows added.
+//! The pricing problem solved by enumeration: depth first over a block's variables (`enumeration`), pruned by what each row can still
+//! reach, by cost, and by cost with rows added.
 #![tactic(auto)]
 
 mod pricer;

@@ -1,6 +1,6 @@
-//! Passes over a graph of layers: the least cost of a way within a zone and its numbers, in 128 bits, or in 64 where no way of the
-//! zone can cost more than 2^60, and then by two targets a node where a layer's numbers are 0 and 1; and ways beside the cheapest.
-//! All memory for them is taken before.
+//! Shortest paths in a graph of layers: the least cost of a path within a zone and its numbers, in 128 bits, or in 64 where no path of
+//! the zone can cost more than 2^60, and then by two targets a node where a layer's numbers are 0 and 1; and paths beside the
+//! cheapest. All memory for them is taken before.
 #![tactic(auto)]
 
 mod beside;

@@ -1,5 +1,5 @@
-//! How the nodes of a certificate's tree become those of a tree from which a search goes on: a leaf is shut or live, and
-//! the first live leaf that is too deep is told by its line.
+//! The nodes of a certificate's tree as those of a tree from which a search goes on: a leaf is shut or open, and the first open node
+//! that is too deep is told by its line.
 #![tactic(auto)]
 
 mod leaf;

@@ -1,5 +1,5 @@
-//! Two trees of one program, with their best points, made into one that is as far as both: what is shut in either stays
-//! shut, and what is live in both keeps the better bound.
+//! Two trees of one program, with their incumbents, merged into one that is as far as both: what is shut in either stays shut,
+//! and what is open in both keeps the better dual bound.
 #![tactic(auto)]
 
 mod laws;
