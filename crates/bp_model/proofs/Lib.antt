@@ -1,4 +1,3 @@
-pub mod NameLemmas
 pub mod PointLemmas
 pub mod TidyLemmas
 pub mod MakeLemmas

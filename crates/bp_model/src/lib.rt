@@ -14,6 +14,6 @@ pub use bp_theory::{Items, Row, Sense, Span, Term};
 pub use dec::Dec;
 pub use limits::{MAX_BITS, MAX_NUMBER, MAX_ROWS, MAX_TERMS, MAX_VARS};
 pub use model::Model;
-pub use names::Names;
+pub use names::NameList;
 pub use parts::{ModelFault, Parts};
 pub use points::{Miss, activity, first_missed, first_outside, meets};

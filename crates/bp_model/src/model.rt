@@ -1,6 +1,6 @@
 // The model: a program with names, within its limits.
 use crate::limits::{check_spans, keeps_limits};
-use crate::names::Names;
+use crate::names::NameList;
 use crate::parts::{ModelFault, Parts};
 use crate::points::{Miss, activity, first_missed, first_outside, total};
 use crate::tidy::{small, tidied_costs, tidied_rows};
@@ -9,8 +9,8 @@ use std::alloc::Global;
 
 /// A bounded integer program in minimised form, with the names of its variables and rows.
 pub struct Model {
-    names: Names,
-    row_names: Names,
+    names: NameList,
+    row_names: NameList,
     spans: Items<Span>,
     rows: Items<Row>,
     costs: Items<Term>,
@@ -52,7 +52,7 @@ impl std::marker::Model for Model {
 }
 
 impl Model {
-    ghost use Rattle.std.specs.Prelude.{◌≡◌, ◌<◌, length, slice_get, Some, Contains, IfSome, IfNone, IsNone, ◌↔◌, ◌≤◌, IfOk, IfErr, OnOk};
+    ghost use Rattle.std.specs.Prelude.{◌≡◌, ◌<◌, length, slice_get, Some, IfSome, IsNone, ◌↔◌, ◌≤◌, IfOk, IfErr, OnOk};
     ghost use Rattle.bp_theory.specs.Program.{cost, span_at, IsFeasible, IsInside};
     ghost use Rattle.bp_model.specs.Miss.{IsFirstMiss};
     ghost use Rattle.bp_model.specs.Named.{IsKept};
@@ -174,20 +174,18 @@ impl Model {
         self.row_names.get(row)
     }
 
-    /// The variable of a name, where there is one.
-    pub fn var_of(&self, name: &str) -> Option<u32>
-        ensures found { IfSome result (λ var. slice_get self.now.names var ≡ Some name.now) }
-        ensures absent { IfNone result (¬ (Contains self.now.names name.now)) }
+    /// The names of all variables, in order.
+    pub fn names(&self) -> &NameList
+        ensures { result.now ≡ self.now.names }
     {
-        self.names.place_of(name)
+        &self.names
     }
 
-    /// The row of a name, where there is one.
-    pub fn row_of(&self, name: &str) -> Option<u32>
-        ensures found { IfSome result (λ row. slice_get self.now.row_names row ≡ Some name.now) }
-        ensures absent { IfNone result (¬ (Contains self.now.row_names name.now)) }
+    /// The names of all rows, in order.
+    pub fn row_names(&self) -> &NameList
+        ensures { result.now ≡ self.now.row_names }
     {
-        self.row_names.place_of(name)
+        &self.row_names
     }
 
     /// The costs in minimised form, in order of variables, each once and none 0.

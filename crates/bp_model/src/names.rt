@@ -1,55 +1,52 @@
 // Names of variables or rows, each once and in order.
-mod by_bytes;
-
-ghost use Rattle.std.specs.Prelude.{◌≡◌, ◌≢◌, ◌+◌, ◌<◌, ◌^◌, ◌↔◌, ◌++◌, ◌∷◌, [], length, slice_get, Contains, IfOk, IfSome, IfNone, OnErr, IsTrue, MatchBool, Some};
+ghost use Rattle.std.specs.Prelude.{◌≡◌, ◌<◌, ◌^◌, ◌↔◌, [], length, slice_get, map, string_bytes, IsTrue, Some};
 ghost use Rattle.std.specs.List.{IsDistinct};
 ghost use Rattle.std.specs.Str.{bytes_eq};
 
-use indexmap::IndexSet;
-use std::alloc::{AllocError, Global};
 use std::marker::Model;
 
-/// Names, each once, numbered from 0 in the order in which they came: fewer than `2^32`.
-/// Contracts see the list of their bytes.
-pub struct Names {
-    table: IndexSet<String>,
+/// Names, each once, numbered from 0 in order: fewer than `2^32`. Contracts see the list of their bytes.
+pub struct NameList {
+    // The names, by number.
+    names: Vec<String>,
 }
 
 // What goes with one is proved here once, and not again wherever one goes.
-impl Drop for Names {
+impl Drop for NameList {
     fn drop(self) {
-        let Names { table: _ } = self;
+        let NameList { names: _ } = self;
     }
 }
 
-impl Model for Names {
+impl Model for NameList {
     ghost use Rattle.std.specs.Prelude.{ℕ, List, map, string_bytes, length, ◌<◌, ◌^◌};
     ghost use Rattle.std.specs.List.{IsDistinct};
     ghost use Rattle.std.specs.Str.{bytes_eq};
 
     ghost Value = { List (List ℕ) };
 
-    ghost view = { λ n. map string_bytes n.table.keys };
+    ghost view = { λ n. map string_bytes n.names.items };
 
-    ghost invariant = { λ n. IsDistinct bytes_eq (map string_bytes n.table.keys) × (length n.table.keys < 2 ^ 32) };
+    ghost invariant = { λ n. IsDistinct bytes_eq (map string_bytes n.names.items) × (length n.names.items < 2 ^ 32) };
 }
 
-impl Names {
-    /// No names yet.
-    pub fn new(alloc: Global) -> Names
-        ensures { result ≡ [] }
+impl NameList {
+    /// The list of names that are distinct.
+    pub fn from_vec(names: Vec<String>) -> NameList
+        requires distinct { IsDistinct bytes_eq (map string_bytes names.items) }
+        requires few { length names.items < 2 ^ 32 }
+        ensures { result ≡ map string_bytes names.items }
     {
-        Names {
-            table: IndexSet::new(alloc),
-        }
+        NameList { names }
     }
 
     /// How many names there are.
     pub fn len(&self) -> u32
         ensures len { result ≡ length self.now }
         ensures distinct { IsDistinct bytes_eq self.now }
+        ensures few { result < 2 ^ 32 }
     {
-        self.table.len() as u32
+        self.names.len() as u32
     }
 
     /// Whether there is no name.
@@ -64,32 +61,6 @@ impl Names {
         requires { number < length self.now }
         ensures { slice_get self.now number ≡ Some result.now }
     {
-        self.table.as_slice()[number as usize].as_str()
-    }
-
-    /// The number of a name, where it is there.
-    pub fn place_of(&self, name: &str) -> Option<u32>
-        ensures found { IfSome result (λ number. slice_get self.now number ≡ Some name.now) }
-        ensures absent { IfNone result (¬ (Contains self.now name.now)) }
-    {
-        let place = self.table.get_index_of(name)?;
-        Some(place as u32)
-    }
-
-    /// The number of a name, and whether it is new: then it goes last.
-    pub fn add(&mut self, alloc: Global, name: &str) -> Result<(u32, bool), AllocError>
-        requires { length self.old + 1 < 2 ^ 32 }
-        ensures number { IfOk result (λ added. slice_get self.new added.0 ≡ Some name.now) }
-        ensures names { IfOk result (λ added.
-            MatchBool added.1 (self.new ≡ self.old ++ name.now ∷ []) (self.new ≡ self.old)) }
-        ensures is_new { IfOk result (λ added. IsTrue added.1 ↔ (¬ (Contains self.old name.now))) }
-        ensures err { OnErr result (self.new ≡ self.old) }
-    {
-        if let Some(place) = self.place_of(name) {
-            return Ok((place, false));
-        }
-        let place = self.len();
-        self.table.insert(String::from_str(alloc, name)?)?;
-        Ok((place, true))
+        self.names.as_slice()[number as usize].as_str()
     }
 }

@@ -2,18 +2,18 @@
 ghost use Rattle.std.specs.Prelude.{◌↔◌, ◌<◌, ◌^◌, length, All, IsTrue};
 ghost use Rattle.bp_theory.specs.Decomposition.{HasVariablesBelow};
 
-use crate::names::Names;
+use crate::names::NameList;
 use bp_theory::{Items, Row, Span, Term};
 
 /// The parts of a model. Terms may name a variable more than once: their coefficients add up.
 #[derive(Drop)]
 pub struct Parts {
     /// The variables' names.
-    pub names: Names,
+    pub names: NameList,
     /// The variables' spans, in the order of the names.
     pub spans: Items<Span>,
     /// The rows' names.
-    pub row_names: Names,
+    pub row_names: NameList,
     /// The rows, in the order of the names.
     pub rows: Items<Row>,
     /// The costs, in minimised form.

@@ -1,10 +1,11 @@
 // The master rows that a text lists by their names.
-ghost use Rattle.std.specs.Prelude.{◌<◌, All, IfOk, IfErr, length};
+ghost use Rattle.std.specs.Prelude.{◌<◌, ◌≤◌, All, IfOk, IfErr, length};
 ghost use Rattle.dec_write.specs.Rows.{ListsRows, IsRowsFault};
 
 use bp_model::Model;
 use dec_syntax::{Cursor, next_word};
 use dec_write::{Listing, RowsFault, RowsKind};
+use name_table::IndexedModel;
 use std::alloc::Global;
 
 /// The greatest length of a text in bytes.
@@ -22,6 +23,17 @@ pub fn read_rows(alloc: Global, bytes: &[u8], m: &Model) -> Result<Vec<u32>, Row
             kind: RowsKind::Limit,
         });
     }
+    let indexed = IndexedModel::of(alloc, m)?;
+    read_words(alloc, bytes, &indexed)
+}
+
+// The rows that a text of no more than the greatest length lists, or the text's first fault.
+fn read_words(alloc: Global, bytes: &[u8], m: &IndexedModel<'_>) -> Result<Vec<u32>, RowsFault>
+    requires { length bytes.now ≤ 16777216 }
+    ensures rows { IfOk result (λ rows. ListsRows bytes.now m.now rows.items) }
+    ensures below { IfOk result (λ rows. All (λ r. r < length m.now.program.rows) rows.items) }
+    ensures fault { IfErr result (λ fault. IsRowsFault bytes.now m.now fault) }
+{
     let mut listing = Listing::new(alloc, m.rows() as usize)?;
     let mut cursor = Cursor {
         at: 0,

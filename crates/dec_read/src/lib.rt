@@ -4,7 +4,7 @@
 
 mod fault;
 
-ghost use Rattle.std.specs.Prelude.{◌≡◌, ◌≤◌, ◌⊎◌, ℕ, List, IfOk, IfErr};
+ghost use Rattle.std.specs.Prelude.{◌≡◌, ◌≤◌, ◌⊎◌, ℕ, List, length, IfOk, IfErr};
 ghost use Rattle.bp_theory.specs.Decomposition.{Decomposition, HasPlaces};
 ghost use Rattle.bp_model.specs.Dec.{HasListed};
 ghost use Rattle.bp_model.specs.Named.{NamedProgram};
@@ -15,6 +15,7 @@ use bp_model::{Dec, Model};
 pub use dec_syntax::DecKind;
 use dec_syntax::{Cursor, Reader, end_line, next_word};
 pub use fault::DecFault;
+use name_table::IndexedModel;
 use std::alloc::Global;
 
 /// The greatest length of a text in bytes.
@@ -59,6 +60,19 @@ pub fn read_dec(alloc: Global, bytes: &[u8], m: &Model) -> Result<Dec, DecFault>
             kind: DecKind::Limit,
         });
     }
+    let indexed = IndexedModel::of(alloc, m)?;
+    read_tokens(alloc, bytes, &indexed)
+}
+
+// The decomposition of a model that a text of no more than the greatest length means, or the text's first fault.
+fn read_tokens(alloc: Global, bytes: &[u8], m: &IndexedModel<'_>) -> Result<Dec, DecFault>
+    requires { length bytes.now ≤ 16777216 }
+    ensures dec { IfOk result (λ d. ReadsDecomposition bytes.now m.now d) }
+    ensures blocks { IfOk result (λ d. d.blocks ≤ 4096) }
+    ensures places { IfOk result (λ d. HasPlaces m.now.program d) }
+    ensures listed { IfOk result (λ d. HasListed m.now.program d) }
+    ensures fault { IfErr result (λ fault. IsFault bytes.now m.now fault) }
+{
     let mut reader = Reader::new(alloc, m)?;
     let mut cursor = Cursor {
         at: 0,

@@ -11,8 +11,9 @@ ghost use Rattle.dec_syntax.specs.State.{Lists, HasRoom, Keeps, Takes, came_in, 
 
 use crate::kind::DecKind;
 use crate::words::{Keyword, Section, holds_bad_byte, keyword_of, number};
-use bp_model::{Dec, Model};
+use bp_model::Dec;
 use bp_theory::Items;
+use name_table::IndexedModel;
 use std::alloc::{AllocError, Global};
 use std::str;
 
@@ -107,7 +108,7 @@ fn fault_of_number(blocks: u32, keyword: Keyword, n: u32) -> Option<DecKind>
 }
 
 // What is wrong with the name of a variable.
-fn fault_of_variable(m: &Model, name: &[u8]) -> Option<DecKind>
+fn fault_of_variable(m: &IndexedModel<'_>, name: &[u8]) -> Option<DecKind>
     requires { IsUtf8 name.now }
     ensures { result ≡ variable_fault m.now.names name.now }
 {
@@ -132,7 +133,7 @@ fn unlisted(alloc: Global, rows: usize) -> Result<Listing, AllocError>
 
 impl Listing {
     // Lists a row by its name under a place; a fault where it isn't there or is listed already.
-    fn list(&mut self, m: &Model, place: Option<u32>, name: &[u8]) -> Option<DecKind>
+    fn list(&mut self, m: &IndexedModel<'_>, place: Option<u32>, name: &[u8]) -> Option<DecKind>
         requires text { IsUtf8 name.now }
         requires kept { IsKept m.now }
         requires room { HasRoom m.now.row_names self.old }
@@ -168,7 +169,7 @@ impl Listing {
 
 impl Reader {
     /// A reader of a text for a model, before its first token.
-    pub fn new(alloc: Global, m: &Model) -> Result<Reader, AllocError>
+    pub fn new(alloc: Global, m: &IndexedModel<'_>) -> Result<Reader, AllocError>
         ensures { IfOk result (λ reader. Keeps m.now reader []) }
     {
         let rows = unlisted(alloc, m.rows() as usize)?;
@@ -243,7 +244,7 @@ impl Reader {
     }
 
     // Lists a row by its name under a place.
-    fn list_row(&mut self, m: &Model, place: Option<u32>, name: &[u8]) -> Option<DecKind>
+    fn list_row(&mut self, m: &IndexedModel<'_>, place: Option<u32>, name: &[u8]) -> Option<DecKind>
         requires text { IsUtf8 name.now }
         requires kept { IsKept m.now }
         requires room { HasRoom m.now.row_names self.old.rows }
@@ -261,7 +262,7 @@ impl Reader {
     // Lists a variable by its name under a place.
     fn list_variable(
         &mut self,
-        m: &Model,
+        m: &IndexedModel<'_>,
         place: Option<u32>,
         name: &[u8],
     ) -> Result<Option<DecKind>, AllocError>
@@ -287,7 +288,7 @@ impl Reader {
     /// Takes a token; its fault, if it has one.
     pub fn take(
         &mut self,
-        m: &Model,
+        m: &IndexedModel<'_>,
         first: bool,
         word: &[u8],
     ) -> Result<Option<DecKind>, AllocError>
@@ -316,7 +317,7 @@ impl Reader {
     }
 
     /// What is wrong with a text that ends here.
-    pub fn fault_at_end(&self, m: &Model) -> Option<DecKind>
+    pub fn fault_at_end(&self, m: &IndexedModel<'_>) -> Option<DecKind>
         ensures { (all : List Part) → Keeps m.now self.now all → result ≡ end_fault m.now all }
     {
         if is_awaiting(self.section) {
@@ -332,7 +333,7 @@ impl Reader {
     }
 
     /// The decomposition that was read.
-    pub fn into_dec(self, m: &Model) -> Dec
+    pub fn into_dec(self, m: &IndexedModel<'_>) -> Dec
         requires { self.blocks ≤ 4096 }
         ensures { (all : List Part) → Keeps m.now self all → result ≡ decomposition_of m.now all }
     {

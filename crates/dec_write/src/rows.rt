@@ -6,8 +6,8 @@ ghost use Rattle.dec_write.specs.Rows.{name_fault, word_fault};
 ghost use Rattle.dec_write.specs.Listing.{Keeps, Takes};
 
 use crate::fault::RowsKind;
-use bp_model::Model;
 use dec_syntax::holds_bad_byte;
+use name_table::IndexedModel;
 use std::alloc::{AllocError, Global};
 use std::str;
 
@@ -39,7 +39,7 @@ impl Listing {
     }
 
     // Lists the row of a name; its fault, if it has one.
-    fn list(&mut self, m: &Model, name: &[u8]) -> Result<Option<RowsKind>, AllocError>
+    fn list(&mut self, m: &IndexedModel<'_>, name: &[u8]) -> Result<Option<RowsKind>, AllocError>
         requires text { IsUtf8 name.now }
         requires kept { IsKept m.now }
         requires room { length self.old.seen.items ≡ length m.now.row_names }
@@ -62,7 +62,11 @@ impl Listing {
     }
 
     /// Takes a word; its fault, if it has one.
-    pub fn take(&mut self, m: &Model, word: &[u8]) -> Result<Option<RowsKind>, AllocError>
+    pub fn take(
+        &mut self,
+        m: &IndexedModel<'_>,
+        word: &[u8],
+    ) -> Result<Option<RowsKind>, AllocError>
         requires kept { IsKept m.now }
         requires room { length self.old.seen.items ≡ length m.now.row_names }
         ensures { (earlier : List (List ℕ)) → Keeps m.now.row_names self.old earlier →

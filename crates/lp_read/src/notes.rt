@@ -12,10 +12,11 @@ ghost use Rattle.lp_syntax.specs.declared.symbol.Symbol.TheVariants as symbols;
 ghost use Rattle.lp_semantics.specs.Meaning.{has_name};
 ghost use Rattle.lp_read.specs.declared.notes.ParseFault.TheVariants.{At, NoMemory};
 
-use bp_model::{MAX_ROWS, MAX_TERMS, MAX_VARS, Names};
+use bp_model::{MAX_ROWS, MAX_TERMS, MAX_VARS};
 use bp_theory::Items;
 use lp_syntax::{Site, Symbol, TextRange, name_at};
 use lp_token::LpKind;
+use name_table::NameTable;
 use std::alloc::{AllocError, Global};
 
 /// Why tokens are no text.
@@ -40,9 +41,9 @@ impl From<AllocError> for ParseFault {
 /// The variables and the rows so far with the tokens where they first stand, and how many terms there are.
 #[derive(Drop)]
 pub struct Notes {
-    pub names: Names,
+    pub names: NameTable,
     pub first_tokens: Items<usize>,
-    pub row_names: Names,
+    pub row_names: NameTable,
     pub row_tokens: Items<usize>,
     pub terms: u32,
 }
@@ -58,9 +59,9 @@ pub fn no_notes(alloc: Global) -> Notes
     } }
 {
     Notes {
-        names: Names::new(alloc),
+        names: NameTable::new(alloc),
         first_tokens: Items::new(alloc),
-        row_names: Names::new(alloc),
+        row_names: NameTable::new(alloc),
         row_tokens: Items::new(alloc),
         terms: 0,
     }

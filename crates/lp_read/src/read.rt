@@ -12,11 +12,12 @@ ghost use Rattle.lp_semantics.specs.Model.{Means, IsFaultOf};
 
 use crate::notes::{Notes, ParseFault};
 use crate::parse::{Parsed, parse};
-use bp_model::{Model, Names};
+use bp_model::Model;
 use bp_theory::Items;
 use lp_semantics::{MeaningFault, model_of};
 use lp_syntax::{Tree, symbols_of};
 use lp_token::{LpFault, LpKind, Tok, tokens};
+use name_table::NameTable;
 use std::alloc::Global;
 
 /// The greatest number of bytes of a text.
@@ -101,8 +102,8 @@ fn model_of_tree(
     alloc: Global,
     text: &[u8],
     tree: Tree,
-    names: Names,
-    row_names: Names,
+    names: NameTable,
+    row_names: NameTable,
 ) -> Result<Model, MeaningFault>
     requires text_of { IsTextOfSome text.now (tree_in text.now tree) }
     requires variables { names ≡ roles.variables (tokens_of (tree_in text.now tree)) }

@@ -8,8 +8,8 @@ ghost use Rattle.lp_semantics.specs.Numbered.{say_at, say_bound, list_general, l
 
 use crate::extended::Extended;
 use crate::number::{is_negative_run, number_of, signed_number};
-use bp_model::Names;
 use lp_syntax::{Bound, Comparison, Direction, Part, TextRange, Value};
+use name_table::NameTable;
 use std::alloc::{AllocError, Global};
 
 /// What the text says of a variable.
@@ -109,7 +109,7 @@ fn compare(table: &mut Vec<Stated>, number: u32, comparison: Comparison, value: 
 }
 
 // Takes up the statements of a bound.
-fn note_bound(text: &[u8], names: &Names, table: &mut Vec<Stated>, bound: &Bound)
+fn note_bound(text: &[u8], names: &NameTable, table: &mut Vec<Stated>, bound: &Bound)
     requires fit { IsFitBound text.now names.now bound.now }
     requires all { vec_len table.old ≡ length names.now }
     ensures items { table.new.items ≡ say_bound names.now table.old.items
@@ -150,7 +150,7 @@ fn note_bound(text: &[u8], names: &Names, table: &mut Vec<Stated>, bound: &Bound
 }
 
 // Takes up the bounds of a section.
-fn note_bounds(text: &[u8], names: &Names, table: &mut Vec<Stated>, bounds: &[Bound])
+fn note_bounds(text: &[u8], names: &NameTable, table: &mut Vec<Stated>, bounds: &[Bound])
     requires fit { All (IsFitBound text.now names.now) bounds.now }
     requires all { vec_len table.old ≡ length names.now }
     ensures items { table.new.items ≡ fold (λ t b. say_bound names.now t (bound_in text.now b))
@@ -163,7 +163,7 @@ fn note_bounds(text: &[u8], names: &Names, table: &mut Vec<Stated>, bounds: &[Bo
 }
 
 // Lists names under generals.
-fn note_generals(text: &[u8], names: &Names, table: &mut Vec<Stated>, listed: &[TextRange])
+fn note_generals(text: &[u8], names: &NameTable, table: &mut Vec<Stated>, listed: &[TextRange])
     requires fit { All (IsKnown text.now names.now) listed.now }
     requires all { vec_len table.old ≡ length names.now }
     ensures items { table.new.items ≡ fold (λ t n. list_general names.now t (name_in text.now n))
@@ -179,7 +179,7 @@ fn note_generals(text: &[u8], names: &Names, table: &mut Vec<Stated>, listed: &[
 }
 
 // Lists names under binaries.
-fn note_binaries(text: &[u8], names: &Names, table: &mut Vec<Stated>, listed: &[TextRange])
+fn note_binaries(text: &[u8], names: &NameTable, table: &mut Vec<Stated>, listed: &[TextRange])
     requires fit { All (IsKnown text.now names.now) listed.now }
     requires all { vec_len table.old ≡ length names.now }
     ensures items { table.new.items ≡ fold (λ t n. list_binary names.now t (name_in text.now n))
@@ -195,7 +195,7 @@ fn note_binaries(text: &[u8], names: &Names, table: &mut Vec<Stated>, listed: &[
 }
 
 // Takes up a section.
-fn note_part(text: &[u8], names: &Names, table: &mut Vec<Stated>, part: &Part)
+fn note_part(text: &[u8], names: &NameTable, table: &mut Vec<Stated>, part: &Part)
     requires fit { IsFitPart text.now names.now part.now }
     requires all { vec_len table.old ≡ length names.now }
     ensures items { table.new.items ≡ say_part names.now table.old.items
@@ -213,7 +213,7 @@ fn note_part(text: &[u8], names: &Names, table: &mut Vec<Stated>, part: &Part)
 pub fn stated_of(
     alloc: Global,
     text: &[u8],
-    names: &Names,
+    names: &NameTable,
     parts: &[Part],
 ) -> Result<Vec<Stated>, AllocError>
     requires { All (IsFitPart text.now names.now) parts.now }

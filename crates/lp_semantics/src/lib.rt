@@ -16,9 +16,10 @@ ghost use Rattle.lp_semantics.specs.Meaning.{tokens_of};
 ghost use Rattle.lp_semantics.specs.PartsOf.{IsTextOfSome};
 ghost use Rattle.lp_semantics.specs.PartsOf.{ArePartsOf, AreLimited, AreVariablesSound, IsRefused, IsModelOf};
 
-use bp_model::{Model, ModelFault, Names, Parts};
+use bp_model::{Model, ModelFault, Parts};
 use lp_syntax::Tree;
 use lp_token::LpKind;
+use name_table::NameTable;
 use std::alloc::{AllocError, Global};
 
 /// What a tree is refused for.
@@ -49,8 +50,8 @@ fn parts_of(
     alloc: Global,
     text: &[u8],
     tree: &Tree,
-    names: Names,
-    row_names: Names,
+    names: NameTable,
+    row_names: NameTable,
 ) -> Result<Parts, MeaningFault>
     requires text_of { IsTextOfSome text.now (tree_in text.now tree.now) }
     requires variables { names ≡ roles.variables (tokens_of (tree_in text.now tree.now)) }
@@ -75,6 +76,8 @@ fn parts_of(
     }
     let rows = terms::rows_of(alloc, text, &names, tree.rows.as_slice())?;
     let objective = terms::objective_of(alloc, text, &names, tree)?;
+    let names = names.into_list(alloc)?;
+    let row_names = row_names.into_list(alloc)?;
     Ok(Parts {
         names,
         spans,
@@ -91,8 +94,8 @@ pub fn model_of(
     alloc: Global,
     text: &[u8],
     tree: &Tree,
-    names: Names,
-    row_names: Names,
+    names: NameTable,
+    row_names: NameTable,
 ) -> Result<Model, MeaningFault>
     requires text_of { IsTextOfSome text.now (tree_in text.now tree.now) }
     requires variables { names ≡ roles.variables (tokens_of (tree_in text.now tree.now)) }

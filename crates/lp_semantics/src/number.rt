@@ -5,8 +5,8 @@ ghost use Rattle.lp_semantics.specs.Fit.{IsKnown};
 ghost use Rattle.lp_semantics.specs.Numbered.{is_minus, is_negative, number_in};
 ghost use Rattle.lp_syntax.specs.TreeIn.{name_in};
 
-use bp_model::Names;
 use lp_syntax::{Sign, TextRange, bytes_at};
+use name_table::NameTable;
 
 /// Whether a sign is minus.
 pub fn is_minus_sign(sign: &Sign) -> bool
@@ -44,7 +44,7 @@ pub fn signed_number(turned: bool, signs: &[Sign], size: u64) -> i64
 }
 
 /// The number of the name at a place.
-pub fn number_of(text: &[u8], names: &Names, place: &TextRange) -> u32
+pub fn number_of(text: &[u8], names: &NameTable, place: &TextRange) -> u32
     requires { IsKnown text.now names.now place.now }
     ensures number { result ≡ number_in names.now (name_in text.now place.now) }
     ensures there { result < length names.now }

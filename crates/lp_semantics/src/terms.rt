@@ -6,9 +6,9 @@ ghost use Rattle.lp_semantics.specs.Fit.{IsSmall, IsFitTerm, IsFitItem, IsFitSum
 ghost use Rattle.lp_semantics.specs.Numbered.{turned_by, raw_term, raw_item, raw_terms, raw_row};
 
 use crate::number::{number_of, signed_number};
-use bp_model::Names;
 use bp_theory::{Items, Sense};
 use lp_syntax::{Comparison, Direction, Item, Row, Sign, Signed, Sum, Term, Tree};
+use name_table::NameTable;
 use std::alloc::{AllocError, Global};
 
 /// The costs with their terms as they are written, and the constant, both in minimised form.
@@ -29,7 +29,7 @@ fn turned_with(turned: bool, sign: &Sign) -> bool
 }
 
 // A term with its variable's number.
-fn numbered(text: &[u8], names: &Names, turned: bool, term: &Term) -> bp_theory::Term
+fn numbered(text: &[u8], names: &NameTable, turned: bool, term: &Term) -> bp_theory::Term
     requires { IsFitTerm text.now names.now term.now }
     ensures { result ≡ raw_term names.now turned (term_in text.now term.now) }
 {
@@ -44,7 +44,7 @@ fn numbered(text: &[u8], names: &Names, turned: bool, term: &Term) -> bp_theory:
 fn terms_of(
     alloc: Global,
     text: &[u8],
-    names: &Names,
+    names: &NameTable,
     sum: &Sum<Term>,
 ) -> Result<Items<bp_theory::Term>, AllocError>
     requires { IsFitSum (IsFitTerm text.now names.now) sum.now }
@@ -117,7 +117,7 @@ fn row_with(
 fn row_of(
     alloc: Global,
     text: &[u8],
-    names: &Names,
+    names: &NameTable,
     row: &Row,
 ) -> Result<bp_theory::Row, AllocError>
     requires { IsFitRow text.now names.now row.now }
@@ -147,7 +147,7 @@ fn row_of(
 pub fn rows_of(
     alloc: Global,
     text: &[u8],
-    names: &Names,
+    names: &NameTable,
     rows: &[Row],
 ) -> Result<Items<bp_theory::Row>, AllocError>
     requires { All (IsFitRow text.now names.now) rows.now }
@@ -183,7 +183,7 @@ impl Objective {
     fn add(
         &mut self,
         text: &[u8],
-        names: &Names,
+        names: &NameTable,
         turned: bool,
         item: &Item,
     ) -> Result<(), AllocError>
@@ -208,7 +208,7 @@ impl Objective {
     fn add_signed(
         &mut self,
         text: &[u8],
-        names: &Names,
+        names: &NameTable,
         turned: bool,
         item: &(Sign, Item),
     ) -> Result<(), AllocError>
@@ -230,7 +230,7 @@ impl Objective {
 fn sum_of_items(
     alloc: Global,
     text: &[u8],
-    names: &Names,
+    names: &NameTable,
     turned: bool,
     sum: &Sum<Item>,
 ) -> Result<Objective, AllocError>
@@ -256,7 +256,7 @@ fn sum_of_items(
 pub fn objective_of(
     alloc: Global,
     text: &[u8],
-    names: &Names,
+    names: &NameTable,
     tree: &Tree,
 ) -> Result<Objective, AllocError>
     requires { MatchOption tree.now.objective (Unit {0}) (IsFitSum (IsFitItem text.now names.now)) }

@@ -1,7 +1,8 @@
 // Models of parts: worked values of the limits, and each call once with ample memory.
 use crate::lp_texts::short;
 use crate::tables::{add, check, check_none};
-use bp_model::{Items, Miss, Model, ModelFault, Names, Parts, Row, Sense, Span, Term};
+use bp_model::{Items, Miss, Model, ModelFault, NameList, Parts, Row, Sense, Span, Term};
+use name_table::{IndexedModel, NameTable};
 use std::alloc::{AllocError, Global};
 use std::test::Fail;
 
@@ -154,31 +155,33 @@ const CASES: [Case; 18] = [
 ];
 
 // Parts without any.
-fn nothing(alloc: Global, constant: i128) -> Parts {
-    Parts {
-        names: Names::new(alloc),
-        row_names: Names::new(alloc),
+fn nothing(alloc: Global, constant: i128) -> Result<Parts, AllocError> {
+    Ok(Parts {
+        names: names(alloc, 0)?,
+        row_names: names(alloc, 0)?,
         spans: Items::new(alloc),
         rows: Items::new(alloc),
         costs: Items::new(alloc),
         constant,
         maximises: false,
-    }
+    })
 }
 
-// One name more: `v0`, `v1` and so on.
-fn add_name(alloc: Global, names: &mut Names) -> Result<(), AllocError> {
-    let number = names.len();
-    if number < u32::MAX {
+// So many names: `v0`, `v1` and so on.
+fn names(alloc: Global, count: usize) -> Result<NameList, AllocError> {
+    let mut names = NameTable::new(alloc);
+    for number in 0..count {
+        if names.len() == u32::MAX {
+            break;
+        }
         names.add(alloc, format!(in alloc; "v{number}")?.as_str())?;
     }
-    Ok(())
+    names.into_list(alloc)
 }
 
-// More variables.
-fn add_spans(alloc: Global, parts: &mut Parts, spans: Spans) -> Result<(), AllocError> {
+// More spans.
+fn add_spans(parts: &mut Parts, spans: Spans) -> Result<(), AllocError> {
     for _ in 0..spans.2 {
-        add_name(alloc, &mut parts.names)?;
         parts.spans.push(Span {
             lo: spans.0,
             hi: spans.1,
@@ -213,7 +216,6 @@ fn at_most(alloc: Global, terms: &[(u32, i64)], rhs: i64) -> Result<Row, AllocEr
 // More rows.
 fn add_rows(alloc: Global, parts: &mut Parts, rows: (u32, Terms, i64)) -> Result<(), AllocError> {
     for _ in 0..rows.0 {
-        add_name(alloc, &mut parts.row_names)?;
         parts.rows.push(at_most(alloc, terms_of(rows.1), rows.2)?)?;
     }
     Ok(())
@@ -229,16 +231,18 @@ fn add_costs(parts: &mut Parts, costs: (u32, Terms, i128)) -> Result<(), AllocEr
 
 // Adds the parts of a case.
 fn add_parts(alloc: Global, parts: &mut Parts, case: &Case) -> Result<(), AllocError> {
-    add_spans(alloc, parts, case.0[0])?;
-    add_spans(alloc, parts, case.0[1])?;
+    add_spans(parts, case.0[0])?;
+    add_spans(parts, case.0[1])?;
     add_rows(alloc, parts, case.1)?;
     add_costs(parts, case.2)
 }
 
 // The parts of a case.
 fn parts_of(alloc: Global, case: &Case) -> Result<Parts, AllocError> {
-    let mut parts = nothing(alloc, case.2.2);
+    let mut parts = nothing(alloc, case.2.2)?;
     add_parts(alloc, &mut parts, case)?;
+    parts.names = names(alloc, parts.spans.len())?;
+    parts.row_names = names(alloc, parts.rows.len())?;
     Ok(parts)
 }
 
@@ -285,8 +289,9 @@ fn made(alloc: Global, case: &Case) -> Result<Model, AllocError> {
 
 // Where a model has names: of a variable, of none, of a row, and of none.
 fn places(alloc: Global, model: &Model) -> Result<String, AllocError> {
-    let (var, no_var) = (model.var_of("v1"), model.var_of("w"));
-    let (row, no_row) = (model.row_of("v0"), model.row_of("v1"));
+    let indexed = IndexedModel::of(alloc, model)?;
+    let (var, no_var) = (indexed.var_of("v1"), indexed.var_of("w"));
+    let (row, no_row) = (indexed.row_of("v0"), indexed.row_of("v1"));
     let spans = model.spans().len();
     format!(in alloc; "; {spans} spans; {var:?} {no_var:?}; {row:?} {no_row:?}")
 }
@@ -358,7 +363,7 @@ fn a_point_costs_its_sum_and_the_constant(rt: HostRuntime) -> Result<(), Fail> {
 fn add_number(
     alloc: Global,
     told: &mut String,
-    names: &mut Names,
+    names: &mut NameTable,
     name: &str,
 ) -> Result<(), AllocError> {
     if names.len() < 9 {
@@ -369,7 +374,7 @@ fn add_number(
 }
 
 // What names tell: how many there are, three of them, and the places of one and of none.
-fn names_told(alloc: Global, names: &Names) -> Result<String, AllocError> {
+fn names_told(alloc: Global, names: &NameTable) -> Result<String, AllocError> {
     if names.len() != 3 {
         return String::from_str(alloc, "not three");
     }
@@ -378,14 +383,25 @@ fn names_told(alloc: Global, names: &Names) -> Result<String, AllocError> {
     format!(in alloc; "; {first} {second} {third}.; {found:?} {none:?}")
 }
 
-// What is told of names while they are added.
+// What a list of names tells: whether it has none, how many it has, and its second one, in a table of its own too.
+fn list_told(alloc: Global, names: &NameList) -> Result<String, AllocError> {
+    if names.len() < 2 {
+        return String::from_str(alloc, "too few");
+    }
+    let (none, count, second) = (names.is_empty(), names.len(), names.get(1));
+    let found = NameTable::of(alloc, names)?.place_of(second);
+    format!(in alloc; "; {none} {count} {second} {found:?}")
+}
+
+// What is told of names while they are added, and of their list.
 fn numbered(alloc: Global) -> Result<String, AllocError> {
-    let mut names = Names::new(alloc);
+    let mut names = NameTable::new(alloc);
     let mut told = format!(in alloc; "{}", names.is_empty())?;
     for name in ["b", "a", "b", ""] {
         add_number(alloc, &mut told, &mut names, name)?;
     }
     add(&mut told, names_told(alloc, &names))?;
+    add(&mut told, list_told(alloc, &names.into_list(alloc)?))?;
     Ok(told)
 }
 
@@ -394,6 +410,6 @@ fn names_are_numbered_in_order(rt: HostRuntime) -> Result<(), Fail> {
     check(
         &rt,
         numbered(rt.alloc()),
-        "true; 0 true; 1 true; 0 false; 2 true; b a .; Some(1) None",
+        "true; 0 true; 1 true; 0 false; 2 true; b a .; Some(1) None; false 3 a Some(1)",
     )
 }

@@ -87,8 +87,8 @@ rows_made text names all rs slice made e same h =
 
 pub returns-clause-parts : goal.returns-clause-parts
 returns-clause-parts c = record {
-  names = c.requires.variables;
-  row_names = c.requires.row_names;
+  names = c.in_ok-names.ensures ∙ c.requires.variables;
+  row_names = c.in_ok-row_names.ensures ∙ c.requires.row_names;
   spans = c.in-Ok.ensures.spans
       ∙ spans_are (tree_in c.args.text.now c.args.tree.now) c.as_slice-2.result.now
       (table_told c.args.text.now c.requires.text_of.0 c.args.tree.now c.args.names c.in_ok-stated.stated.items c.as_slice-2.result.now c.requires.text_of.1 c.requires.variables

@@ -4,8 +4,9 @@ ghost use Rattle.cut_sums.specs.Cutting.{IsEarlierCut};
 
 use block_form::check_blocks;
 use block_program::Blocked;
-use bp_model::{Dec, Model, Names, Parts};
+use bp_model::{Dec, Model, NameList, Parts};
 use bp_theory::{Cut, Items, Row, Sense, Span, Term};
+use name_table::NameTable;
 use round_cut::{CutFault, cut_row, keeps_rules};
 use std::alloc::{AllocError, Global};
 
@@ -42,15 +43,15 @@ pub fn own<'a>(terms: &'a [(u32, i64)], rhs: i64, block: u32) -> Line<'a> {
 }
 
 // So many names: `v0`, `v1` and so on.
-fn names(alloc: Global, count: usize) -> Result<Names, AllocError> {
-    let mut names = Names::new(alloc);
+fn names(alloc: Global, count: usize) -> Result<NameList, AllocError> {
+    let mut names = NameTable::new(alloc);
     for i in 0..count {
         if names.len() == u32::MAX {
             break;
         }
         names.add(alloc, format!(in alloc; "v{i}")?.as_str())?;
     }
-    Ok(names)
+    names.into_list(alloc)
 }
 
 // A row of a line.

@@ -1,7 +1,7 @@
 -- A name that isn't there goes last.
-use Rattle.std.proofs.Common.{◌≡◌, ◌<◌, ◌+◌, ◌∙◌, ◌++◌, ◌∷◌, [], ◌^◌, ℕ, List, sym, subst, ap, length, slice_get, Some, Contains, arith}
-use Rattle.bp_model.proofs.NameLemmas.{texts, distinct_texts, insert_text, pushed_at, length-texts}
-use Rattle.bp_model.proofs.names.Names.add.Goals as goal
+use Rattle.std.proofs.Common.{◌≡◌, ◌<◌, ◌+◌, ◌∙◌, ◌++◌, ◌∷◌, [], ◌^◌, sym, subst, ap, length, slice_get, Some, Contains, arith}
+use Rattle.name_table.proofs.NameLemmas.{texts, distinct_texts, insert_text, pushed_at, length-texts}
+use Rattle.name_table.proofs.table.NameTable.add.Goals as goal
 
 pub invariant_of-self-2 : goal.invariant_of-self-2
 invariant_of-self-2 c =

@@ -1,7 +1,7 @@
 use Rattle.std.proofs.Common.{◌-◌, length}
 use Rattle.dec_syntax.specs.Scan.{StandsIn, tokens_at}
 use Rattle.dec_syntax.specs.State.{StandsBefore}
-use Rattle.dec_read.proofs.read_dec.Given as goal
+use Rattle.dec_read.proofs.read_tokens.Given as goal
 
 abbrev pub invariant-loop-word : goal.invariant-loop-word
 invariant-loop-word l = record {

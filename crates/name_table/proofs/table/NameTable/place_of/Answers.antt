@@ -1,7 +1,7 @@
 -- What the table finds among its strings is found among their bytes.
-use Rattle.std.proofs.Common.{◌≡◌, ◌<◌, ◌∙◌, sym, subst, length, slice_get, Some, IfNone, Contains, None}
-use Rattle.bp_model.proofs.NameLemmas.{texts, text_found, text_absent}
-use Rattle.bp_model.proofs.names.Names.place_of.Goals as goal
+use Rattle.std.proofs.Common.{◌≡◌, sym, subst, slice_get, Some, IfNone, Contains}
+use Rattle.name_table.proofs.NameLemmas.{text_found, text_absent}
+use Rattle.name_table.proofs.table.NameTable.place_of.Goals as goal
 
 pub returns-in_err-place-clause-absent : goal.returns-in_err-place-clause-absent
 returns-in_err-place-clause-absent c =

@@ -1,11 +1,10 @@
 -- What isn't UTF-8 is no string's bytes.
-use Rattle.std.proofs.Common.{◌≡◌, List, ℕ, ◌<◌, map, length, get_or, string_bytes, String, Global, Contains, subst, sym, ◌∙◌}
+use Rattle.std.proofs.Common.{List, ℕ, get_or, string_bytes, String, Global, Contains, subst, sym}
 use Rattle.std.specs.Str.{IsUtf8}
 use Rattle.std.proofs.lemmas.Str.{IsUtf8-string_bytes}
-use Rattle.std.proofs.lemmas.List.{get_or-map}
 use Rattle.std.proofs.lemmas.List.Elements.{All-contains, All-map}
-use Rattle.bp_model.proofs.NameLemmas.{texts}
-use Rattle.bp_model.proofs.names.Names.place_of_bytes.Goals as goal
+use Rattle.name_table.proofs.NameLemmas.{texts}
+use Rattle.name_table.proofs.table.NameTable.place_of_bytes.Goals as goal
 
 texts_are_utf8 : (q : List ℕ) (ks : List (String Global)) → Contains (texts ks) q → IsUtf8 q
 texts_are_utf8 q ks there =

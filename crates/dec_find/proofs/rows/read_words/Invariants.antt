@@ -1,7 +1,7 @@
 use Rattle.std.proofs.Common.{◌≡◌, ◌-◌, length}
 use Rattle.dec_syntax.specs.Scan.{StandsIn, tokens_at}
 use Rattle.dec_write.specs.Listing.{StandsBefore}
-use Rattle.dec_find.proofs.rows.read_rows.Given as goal
+use Rattle.dec_find.proofs.rows.read_words.Given as goal
 
 abbrev pub invariant-loop-word : goal.invariant-loop-word
 invariant-loop-word l = record {

@@ -5,7 +5,7 @@ use Rattle.dec_write.specs.Rows.{words_in, word_fault}
 use Rattle.dec_write.specs.Listing.{Takes}
 use Rattle.dec_write.specs.declared.fault.RowsKind.{RowsKind}
 use Rattle.dec_write.proofs.RowsLemmas.{stands_first, stands_more, stands_fault, stands_last, seen_room}
-use Rattle.dec_find.proofs.rows.read_rows.Goals as goal
+use Rattle.dec_find.proofs.rows.read_words.Goals as goal
 
 pub loop-word-init : goal.loop-word-init
 loop-word-init c =

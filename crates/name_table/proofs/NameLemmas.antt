@@ -1,12 +1,13 @@
 -- Names: the strings of a table and the list of their bytes.
-use Rattle.std.proofs.Common.{◌≡◌, ℕ, ◌+◌, ◌<◌, ◌≤◌, Bool, true, false, cond, ◌||◌, List, [], ◌∷◌, ◌++◌, map, length, slice_get, position, Option, None, Some, Contains, refl, sym, ap, subst, ◌∙◌, true≢false, if◌then◌else◌, arith, string_bytes, String, Global, option_map, get_or, inl, inr, ◌⊎◌}
+use Rattle.std.proofs.Common.{◌≡◌, ℕ, zero, suc, ◌+◌, ◌<◌, ◌≤◌, Bool, true, false, ◌||◌, List, [], ◌∷◌, ◌++◌, map, length, slice_get, get_or, take, position, None, Some, Contains, refl, sym, ap, subst, ◌∙◌, true≢false, if◌then◌else◌, arith, string_bytes, String, Global, option_map, inl, inr, ◌⊎◌}
+use Rattle.std.specs.Prelude.{◌↔◌, IsTrue, MatchBool}
 use Rattle.std.specs.List.{IsDistinct, AllByRecursion, list_any}
 use Rattle.std.specs.String.{string_eq}
 use Rattle.std.specs.Str.{bytes_eq}
 use Rattle.std.proofs.lemmas.Cmp.{nat_list_eq_equiv}
 use Rattle.std.proofs.lemmas.Slice.Eq.{bytes_eq-Decides}
 use Rattle.std.proofs.lemmas.List.Quantifiers.{position-Some}
-use Rattle.std.proofs.lemmas.Option.{slice_get-map, slice_get_cases, none-some}
+use Rattle.std.proofs.lemmas.Option.{slice_get-map, slice_get_cases}
 use Rattle.std.proofs.lemmas.Map.Views.{Contains-from_any, list_any-from_Contains}
 use Rattle.std.proofs.lemmas.List.{map-append, length-map}
 use Rattle.indexmap.specs.IndexSet.{insert_key}
@@ -72,3 +73,46 @@ pushed_at {X} xs x n e = ap (slice_get (xs ++ x ∷ [])) e ∙ last xs
 -- as many strings as lists of bytes
 pub length-texts : (ks : List (String Global)) → length (texts ks) ≡ length ks
 length-texts ks = length-map ks string_bytes
+
+-- what a name is apart from isn't it
+apart_at : (m q : List ℕ) (names : List (List ℕ)) (k : ℕ) → AllByRecursion (λ y. bytes_eq m y ≡ false) names → slice_get names k ≡ Some q → m ≡ q → ⊥
+apart_at m q [] k all e same = let none : ⊥ = cc in none
+apart_at m q (x ∷ names) zero all e same =
+    let here : m ≡ x = cc in true≢false (sym ((bytes_eq-Decides m x).1 here) ∙ all.0)
+apart_at m q (x ∷ names) (suc k) all e same = apart_at m q names k all.1 e same
+
+-- a name of a list that has each once isn't among the earlier ones
+pub apart_earlier : (names : List (List ℕ)) (n : ℕ) (q : List ℕ) → IsDistinct bytes_eq names → slice_get names n ≡ Some q → Contains (take n names) q → ⊥
+unfolding IsDistinct
+apart_earlier [] n q distinct e there = let none : ⊥ = cc in none
+apart_earlier (x ∷ names) zero q distinct e there = omega (arith, there.1)
+apart_earlier (x ∷ names) (suc n) q distinct e there = by there.0 there.1 there.2 (apart_earlier names n q distinct.1 e)
+  where
+    by : (k : ℕ) → k < length (x ∷ take n names) → get_or (x ∷ take n names) k q ≡ q → (Contains (take n names) q → ⊥) → ⊥
+    by zero inside same behind = apart_at x q names n distinct.0 e same
+    by (suc k) inside same behind = behind (k, omega (arith, inside), same)
+
+-- the earlier names and the next
+take_next : (names : List (List ℕ)) (n : ℕ) (q : List ℕ) → slice_get names n ≡ Some q → take n names ++ q ∷ [] ≡ take (suc n) names
+take_next [] n q e = let none : ⊥ = cc in absurd none
+take_next (x ∷ names) zero q e = let same : q ≡ x = cc in ap (λ y. y ∷ []) same
+take_next (x ∷ names) (suc n) q e = ap (λ ys. x ∷ ys) (take_next names n q e)
+
+-- a name that is added to the earlier ones of its list goes last
+pub next_added : (names old new : List (List ℕ)) (n : ℕ) (q : List ℕ) (is_new : Bool) → IsDistinct bytes_eq names → slice_get names n ≡ Some q → old ≡ take n names
+    → (IsTrue is_new ↔ (Contains old q → ⊥)) → MatchBool is_new (new ≡ old ++ q ∷ []) (new ≡ old) → new ≡ take (n + 1) names
+next_added names old new n q is_new distinct e so_far tells made =
+    by is_new made (tells.1 (λ there. apart_earlier names n q distinct e (subst (λ ns. Contains ns q) so_far there)))
+  where
+    by : (b : Bool) → MatchBool b (new ≡ old ++ q ∷ []) (new ≡ old) → b ≡ true → new ≡ take (n + 1) names
+    by true h t =
+        let one : suc n ≡ n + 1 = omega arith in
+        h ∙ ap (λ ns. ns ++ q ∷ []) so_far ∙ take_next names n q e ∙ ap (λ k. take k names) one
+    by false h t = absurd (true≢false (sym t))
+
+-- the first names of a list are all of them where they are as many
+pub take_all : (names : List (List ℕ)) (n : ℕ) → length names ≤ n → take n names ≡ names
+take_all [] zero l = refl
+take_all [] (suc n) l = refl
+take_all (x ∷ names) zero l = let none : ⊥ = omega (arith, l) in absurd none
+take_all (x ∷ names) (suc n) l = ap (λ ys. x ∷ ys) (take_all names n (omega (arith, l)))

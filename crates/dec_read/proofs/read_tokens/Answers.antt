@@ -3,7 +3,7 @@ use Rattle.dec_read.specs.Reading.{HasDecTextFault}
 use Rattle.dec_syntax.specs.Scan.{tokens_at, token_in}
 use Rattle.dec_syntax.proofs.ReadLemmas.{read_none, stands_more}
 use Rattle.dec_read.proofs.EndLemmas.{stands_fault, end_reads, end_has_fault, reads_placed}
-use Rattle.dec_read.proofs.read_dec.Goals as goal
+use Rattle.dec_read.proofs.read_tokens.Goals as goal
 
 pub loop-word-init : goal.loop-word-init
 loop-word-init c = record {
