@@ -47,6 +47,15 @@ struct Parent {
     is_low: bool,
 }
 
+// The optimum of a node's relaxation, from which dives begin.
+#[derive(Clone, Copy)]
+struct Optimum<'a> {
+    // How the relaxation ended, and its value.
+    relaxed: &'a Relaxed,
+    // The basis of the optimum.
+    basis: &'a Basis,
+}
+
 impl LoneLeaves {
     /// Hints for a leaf, where the best cost may be known.
     pub fn hint(
@@ -68,31 +77,29 @@ impl LoneLeaves {
             var,
             at,
         };
-        self.complete(alloc, b, turn, &relaxed, parent, best, &mut hint)?;
+        if relaxed.end == End::Empty {
+            hint.emptying = self.emptying(alloc, b, spans)?;
+            if hint.emptying.is_some() {
+                self.note_emptying(spans);
+            }
+            return Ok(hint);
+        }
+        self.note_gain(parent, relaxed.value);
+        self.complete(alloc, b, turn, &relaxed, best, &mut hint)?;
         Ok(hint)
     }
 
-    // Writes into a leaf's hint what its relaxation tells: what shows that there is no point, or the scale, a point and a
-    // split.
+    // Writes into a node's hint what its relaxation tells where that has points: the scale, a point and a split.
     fn complete(
         &mut self,
         alloc: Global,
         b: &Blocked,
         turn: &Turn,
         relaxed: &Relaxed,
-        parent: Option<Parent>,
         best: Option<i64>,
         hint: &mut LoneHint,
     ) -> Result<(), AllocError> {
         let spans = turn.zone.spans();
-        if relaxed.end == End::Empty {
-            hint.emptying = self.emptying(alloc, b, spans)?;
-            if hint.emptying.is_some() {
-                self.note_emptying(spans);
-            }
-            return Ok(());
-        }
-        self.note_gain(parent, relaxed.value);
         let wanted = self.wanted(relaxed, best);
         hint.scale = self.scale_of(b, hint.mults.as_slice(), spans, wanted);
         if relaxed.is_reached {
@@ -207,29 +214,32 @@ impl LoneLeaves {
             return Ok(());
         }
         let basis = self.lp.basis()?;
-        self.dive_from(alloc, b, turn, relaxed, &basis, many, found)?;
+        let optimum = Optimum {
+            relaxed,
+            basis: &basis,
+        };
+        self.dive_from(alloc, b, turn, optimum, many, found)?;
         self.go_back(turn.zone.spans(), &basis)
     }
 
-    // Dives so many times from a basis, until what is found shuts the leaf.
+    // Dives so many times from an optimum, until what is found shuts the leaf.
     fn dive_from(
         &mut self,
         alloc: Global,
         b: &Blocked,
         turn: &Turn,
-        relaxed: &Relaxed,
-        basis: &Basis,
+        optimum: Optimum,
         many: u32,
         found: &mut Found,
     ) -> Result<(), AllocError> {
         let spans = turn.zone.spans();
         for dive in 0..many {
             if dive > 0 {
-                self.go_back(spans, basis)?;
+                self.go_back(spans, optimum.basis)?;
             }
             let number = if turn.depth == 0 { dive } else { self.leaves };
             self.dive(alloc, b, spans, manner_of(number), found)?;
-            if self.is_shut(relaxed, found.known) {
+            if self.is_shut(optimum.relaxed, found.known) {
                 break;
             }
         }

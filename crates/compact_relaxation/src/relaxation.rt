@@ -68,7 +68,7 @@ impl Drop for LoneLeaves {
 }
 
 /// Whether no block of a program has rows, as where each is a single variable.
-pub fn serves(b: &Blocked) -> bool
+pub fn has_no_block_rows(b: &Blocked) -> bool
     ensures { IsTrue result → AreRowless b.now.blocking }
 {
     for number in 0..b.blocks() {

@@ -5,7 +5,7 @@ ghost use Rattle.round_cut.specs.Several.{AreRowsOfCuts};
 
 use crate::bind::{Front, bound_cuts};
 use crate::columns::{Point, Root, root_of};
-use crate::missed::missed_at;
+use crate::missed::{Optimum, missed_at};
 use crate::numbers::{set, whole_at};
 use crate::state::master_sides;
 use crate::trial::Trial;
@@ -204,16 +204,11 @@ fn found_at(
     let values = point.values.as_slice();
     let sides = master_sides(alloc, b, rows, values)?;
     let most = (most as usize).min(MOST_CUTS);
-    missed_at(
-        alloc,
-        b,
-        rows,
-        &point.relaxation,
+    let optimum = Optimum {
         values,
-        sides.as_slice(),
-        trial,
-        most,
-    )
+        sides: sides.as_slice(),
+    };
+    missed_at(alloc, b, rows, &point.relaxation, optimum, trial, most)
 }
 
 // Of cuts behind those of a program, those with multipliers, and those that these were made of.

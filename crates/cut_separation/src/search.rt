@@ -3,7 +3,7 @@ ghost use Rattle.std.specs.Prelude.{All, OnOk};
 ghost use Rattle.cut_sums.specs.Cutting.{IsEarlierCut};
 
 use crate::bind::{Front, bound_cuts};
-use crate::missed::missed_at;
+use crate::missed::{Optimum, missed_at};
 use crate::relaxation::Relaxation;
 use crate::state::sides_of;
 use crate::trial::Trial;
@@ -96,16 +96,12 @@ impl Rounds {
         let values = self.relaxation.values(alloc)?;
         let values = values.as_slice();
         let sides = sides_of(alloc, b.model().all_rows(), rows, values)?;
-        missed_at(
-            alloc,
-            b,
-            rows,
-            &self.relaxation,
+        let optimum = Optimum {
             values,
-            sides.as_slice(),
-            &mut self.trial,
-            self.most,
-        )
+            sides: sides.as_slice(),
+        };
+        let trial = &mut self.trial;
+        missed_at(alloc, b, rows, &self.relaxation, optimum, trial, self.most)
     }
 
     // Takes a cut with its row.

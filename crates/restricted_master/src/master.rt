@@ -3,12 +3,11 @@
 use crate::lines::{Lines, at_scale, place_of};
 use crate::program::{ColumnProgram, Mark};
 use basis_factor::Entry;
-use block_class::Classes;
 use block_program::{Block, Blocked, Zone};
 use bp_theory::Span;
 use col_pool::Column;
 use indexmap::IndexSet;
-use node_memory::{Place, Pools, is_settled as is_settled_block};
+use node_memory::{NodeContext, Place, Pools, is_settled as is_settled_block};
 use primal_heuristics::{at, product};
 use std::alloc::{AllocError, Global};
 use std::num::{nearest_i64_to_f64, saturating_f64_to_i64};
@@ -84,8 +83,8 @@ impl Drop for RestrictedMaster {
     }
 }
 
-/// Whether columns serve a zone: a block has rows of its own, and there are rows that proofs may name.
-pub fn serves(b: &Blocked) -> bool {
+/// Whether columns serve a program: a block has rows of its own, and there are master rows, links or cuts for proofs to name.
+pub fn has_master_and_block_rows(b: &Blocked) -> bool {
     let mut has_master = false;
     for row in 0..b.named_rows() {
         if b.master_row(row).is_some() {
@@ -135,18 +134,16 @@ impl RestrictedMaster {
     /// without rows or classes.
     pub fn make(
         alloc: Global,
-        b: &Blocked,
-        classes: &Classes,
-        zone: &Zone,
+        node: NodeContext,
         penalty: f64,
     ) -> Result<Option<RestrictedMaster>, AllocError> {
-        let settled = settle_blocks(alloc, b, classes, zone)?;
-        let lines = Lines::of(alloc, b)?;
+        let settled = settle_blocks(alloc, node)?;
+        let lines = Lines::of(alloc, node.program)?;
         if lines.is_empty() || settled.sizes.is_empty() {
             return Ok(None);
         }
         let mut master = RestrictedMaster {
-            program: without_columns(alloc, b, &lines, &settled)?,
+            program: without_columns(alloc, node.program, &lines, &settled)?,
             lines,
             numbers: settled.numbers,
             sizes: settled.sizes,
@@ -166,16 +163,14 @@ impl RestrictedMaster {
     pub fn begin(
         &mut self,
         alloc: Global,
-        b: &Blocked,
-        classes: &Classes,
-        zone: &Zone,
+        node: NodeContext,
         pools: &Pools,
         mults: &[i64],
     ) -> Result<(), AllocError> {
-        for class in 0..classes.len() {
+        for class in 0..node.classes.len() {
             if self.number(class) != NONE {
-                let first = classes.first(class);
-                self.begin_class(alloc, b, zone, pools, mults, class, first)?;
+                let first = node.classes.first(class);
+                self.begin_class(alloc, node, pools, mults, class, first)?;
             }
         }
         self.program.refactor()
@@ -185,8 +180,7 @@ impl RestrictedMaster {
     fn begin_class(
         &mut self,
         alloc: Global,
-        b: &Blocked,
-        zone: &Zone,
+        node: NodeContext,
         pools: &Pools,
         mults: &[i64],
         class: u32,
@@ -200,7 +194,7 @@ impl RestrictedMaster {
         } else {
             FIRST_COLUMNS
         };
-        let ranked = ranked(alloc, b, zone, pools, mults, home, first)?;
+        let ranked = ranked(alloc, node.program, node.zone, pools, mults, home, first)?;
         let before = self.columns.len();
         for rank in ranked.iter().take(many) {
             let place = Place { home, id: rank.1 };
@@ -460,24 +454,19 @@ impl RestrictedMaster {
 }
 
 // What the blocks of one point take, and the classes of the others.
-fn settle_blocks(
-    alloc: Global,
-    b: &Blocked,
-    classes: &Classes,
-    zone: &Zone,
-) -> Result<Settled, AllocError> {
+fn settle_blocks(alloc: Global, node: NodeContext) -> Result<Settled, AllocError> {
     let mut settled = Settled {
-        sums: Vec::from_elem(alloc, 0i128, b.named_rows() as usize)?,
-        cost: i128::from(b.model().constant()),
+        sums: Vec::from_elem(alloc, 0i128, node.program.named_rows() as usize)?,
+        cost: i128::from(node.program.model().constant()),
         numbers: Vec::new(alloc),
         sizes: Vec::new(alloc),
     };
     let mut many: u32 = 0;
-    for class in 0..classes.len() {
-        let first = classes.first(class);
-        let size = classes.size(class);
-        if is_settled(b, first, zone.spans()) {
-            settle(b, first, size, zone.spans(), &mut settled);
+    for class in 0..node.classes.len() {
+        let first = node.classes.first(class);
+        let size = node.classes.size(class);
+        if is_settled(node.program, first, node.zone.spans()) {
+            settle(node.program, first, size, node.zone.spans(), &mut settled);
             settled.numbers.push(NONE)?;
         } else {
             settled.numbers.push(many)?;
