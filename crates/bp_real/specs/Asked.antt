@@ -12,8 +12,8 @@ abbrev pub given : {E : Type 0} → Result ℕ E → List ℕ → Option (List �
 given (Ok count) buffer = Some (take count buffer)
 given (Err _) buffer = None
 
--- an account has this call more; one that isn't kept says nothing
+-- an account has this call more; one that isn't kept, or is kept no longer, says nothing
 abbrev pub Asks : Option (List Asked) → Option (List Asked) → Asked → Type 0
 Asks None now call = ⊤
-Asks (Some calls) None call = ⊥
+Asks (Some calls) None call = ⊤
 Asks (Some calls) (Some more) call = more ≡ calls ++ call ∷ []
