@@ -40,28 +40,36 @@ const RAISE: f64 = 16.0;
 
 const MOST_PENALTY: f64 = 524288.0;
 
-/// Multipliers by row at the greatest scale, and their bound in a zone.
+/// The centre of a stabilized column generation: the multipliers of the best dual bound.
 #[derive(Drop)]
 pub struct Centre {
+    /// The multipliers by row that proofs may name, at the greatest scale, 1,048,576.
     pub mults: Vec<i64>,
+    /// Their dual bound in the zone, in units of which 1,048,576 make one.
     pub value: i128,
 }
 
-// A restricted master with the multipliers that it gave last, room for a priced point, and the width of the box, where
-// there is one.
+// A column generation at work.
 #[derive(Drop)]
 struct Generation {
+    // The restricted master.
     master: RestrictedMaster,
+    // The multipliers that it gave last, by row at the greatest scale.
     mults: Vec<i64>,
+    // The point that reaches their bound, by copies of the variables.
     point: Vec<i64>,
+    // How far multipliers may be from the centre, in ones; there is no box round it any more where there is none.
     width: Option<f64>,
+    // How many rounds were made.
     round: u32,
 }
 
-/// How far generation goes: the cost that is known, and whether partitions of the sides give columns too.
+/// How far generation goes.
 #[derive(Clone, Copy)]
 pub struct Effort {
+    /// The incumbent's cost, where there is one, in ones: a dual bound that reaches it ends generation.
     pub known: Option<i64>,
+    /// Whether partitions of the rows' sides give columns too.
     pub with_partitions: bool,
 }
 
@@ -220,10 +228,12 @@ fn begin_at(
     Ok(true)
 }
 
-// What the master comes to before a round's pricing: whether it meets its rows, and its cost in units.
+// What the restricted master comes to before a round's pricing.
 #[derive(Clone, Copy)]
 struct Solved {
+    // Whether it meets its rows and the counts of its classes.
     is_whole: bool,
+    // Its cost with the constant, in units.
     cost: i128,
 }
 

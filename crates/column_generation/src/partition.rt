@@ -24,17 +24,21 @@ const MOST_BLOCKS: u32 = 9;
 /// How many beginnings of points the pricing of a block may visit.
 const VISITS: u64 = 5_000;
 
-// What is left of a row's side, and the row's sense.
+// A row's side, as blocks use it up.
 #[derive(Clone, Copy)]
 struct Side {
+    // What is left of it.
     left: i128,
+    // The row's sense.
     sense: Sense,
 }
 
-// What one class is priced with: its block's spans, and how many blocks are priced.
+// What a class is priced with.
 #[derive(Drop)]
 struct Member {
+    // The spans of its first block, by place in the block, narrowed to what is left.
     spans: Vec<Span>,
+    // How many of its blocks are priced.
     many: u32,
 }
 

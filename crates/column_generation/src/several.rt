@@ -14,10 +14,12 @@ const MOST_COLUMNS: u32 = 5;
 /// How many ranks are looked at for these: a point may have several.
 const MOST_RANKS: usize = 60;
 
-// A class of several blocks: its number in the zone, and its first block.
+// A class of several blocks.
 #[derive(Clone, Copy)]
 struct Alike {
+    // Its number in the zone.
     class: u32,
+    // The number of its first block.
     first: u32,
 }
 

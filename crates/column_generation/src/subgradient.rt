@@ -19,13 +19,16 @@ use primal_heuristics::{
 };
 use std::alloc::{AllocError, Global};
 
-/// How steps go: how many are taken, how many without a gain until the aim is lowered, the least gain that is aimed at,
-/// in units, and the greatest cost over the first aim below the root.
+// How steps go.
 #[derive(Clone, Copy)]
 struct Pace {
+    // How many steps are taken at most.
     steps: u32,
+    // How many steps without a gain lower the aim.
     patience: u32,
+    // The least gain that is aimed at, in units.
     least_gain: i128,
+    // The greatest cost of a variable over the first aim, below the root.
     aim_part: i128,
 }
 
@@ -75,27 +78,41 @@ enum Course {
     Mean,
 }
 
-/// The state of the steps, and what they found: the multipliers of the best bound by row at the greatest scale, that
-/// bound, the mean of the points in units, and the cheapest feasible point that is cheaper than the known cost. Sums of
-/// the master rows are kept at the newest point, at that of the best bound, and along what the next step goes. That
-/// leaves from multipliers whose bound is short of the best.
+/// The state of the steps, and what they found. Multipliers are by row that proofs may name and at the greatest
+/// scale, 1,048,576; sums are by such a row and in units of which as many make one.
 #[derive(Drop)]
 pub struct Subgradient {
+    /// The multipliers of the best dual bound.
     pub best: Vec<i64>,
+    /// The best dual bound, in units.
     pub value: i128,
+    /// The mean of the priced points, by variable, in units.
     pub mean: Vec<i128>,
+    /// A feasible point by variable that is cheaper than the incumbent, the cheapest one that was priced.
     pub found: Option<Vec<i64>>,
+    /// The incumbent's cost, where there is one, in ones.
     pub known: Option<i64>,
+    /// What directs the next step.
     course: Course,
+    /// How steps go.
     pace: Pace,
+    /// The multipliers that were priced last.
     mults: Vec<i64>,
+    /// The point that reaches their bound, by copies of the variables.
     point: Vec<i64>,
+    /// The rows' sums at this point.
     sums: Vec<i128>,
+    /// The rows' sums at the point of the best bound.
     best_sums: Vec<i128>,
+    /// The multipliers that the next step leaves from.
     from: Vec<i64>,
+    /// The rows' sums at what directs the next step.
     along: Vec<i128>,
+    /// How far the bound of `from` is below the best, in units.
     short: i128,
+    /// How far above the best bound the aim is, in units.
     pub gain: i128,
+    /// How many steps in a row had no gain.
     failures: u32,
 }
 

@@ -41,10 +41,12 @@ pub(crate) fn manner_of(number: u32) -> Manner {
     }
 }
 
-/// The cheapest cost that is known, and the point of that cost, if it was found here.
+/// The incumbent of a node.
 #[derive(Drop)]
 pub(crate) struct Found {
+    /// The cheapest cost that is known, where there is one, in ones.
     pub known: Option<i64>,
+    /// A point of that cost, by variable, where it was found here.
     pub point: Option<Vec<i64>>,
 }
 

@@ -25,25 +25,33 @@ const FIRST_SHARE: u64 = 60;
 // How far above a whole number a bound may be that counts as that number.
 const NEAR: f64 = 1e-5;
 
-/// Multipliers by row at the greatest scale, and the scale at which they do as well; multipliers by row that show that
-/// the zone has no point, where there are such; a point that is cheaper than the best cost, where one was found; and a
-/// variable with the number that its span is split behind.
+/// What the relaxation of a node gives. Nothing is promised of it.
 #[derive(Drop)]
 pub struct LoneHint {
+    /// Multipliers by row that proofs may name, at the greatest scale, 1,048,576.
     pub mults: Vec<i64>,
+    /// The scale at which they show as much.
     pub scale: u32,
+    /// Multipliers by row at the greatest scale that show that the zone has no point, where there are such.
     pub emptying: Option<Vec<i64>>,
+    /// A point by variable that is cheaper than the incumbent, where one was found.
     pub point: Option<Vec<i64>>,
+    /// A variable to fork at.
     pub var: u32,
+    /// The number behind which its span is split.
     pub at: i64,
 }
 
-// What the leaf above gives: its bound, the variable that it was forked at, the part of its value, and which side this is.
+// What the node above gives.
 #[derive(Clone, Copy)]
 struct Parent {
+    // The value of its relaxation, in ones, without the constant.
     value: f64,
+    // The variable that it was forked at.
     var: u32,
+    // How far the value of this variable was above a whole number, from 0 to 1.
     part: f64,
+    // Whether this is the lower side of the fork.
     is_low: bool,
 }
 

@@ -38,35 +38,46 @@ const NOTHING: Range = Range {
     upper: 0.0,
 };
 
-/// A root: multipliers by row with a great bound, this bound in units, and what the columns come to, where they meet the rows.
+/// The root of a program, by column generation.
 #[derive(Drop)]
 pub struct Root {
+    /// Multipliers with a great dual bound, by row that proofs may name, at the greatest scale, 1,048,576.
     pub mults: Vec<i64>,
+    /// This bound, in units of which as many make one.
     pub bound: i128,
+    /// What the columns come to, where they meet the rows.
     pub point: Option<Point>,
 }
 
-/// What columns come to: the values of the variables, and the relaxation over the columns. It has a row for each row of the
-/// model, each cut, each link, and each class of blocks, in this order.
+/// What columns come to.
 #[derive(Drop)]
 pub struct Point {
+    /// The values of the variables, those of first copies.
     pub values: Vec<f64>,
+    /// The relaxation over the columns: a row for each row of the model, each cut, each link and each class of
+    /// blocks, in this order.
     pub relaxation: Relaxation,
 }
 
-// A column with the class of blocks that it is of.
+// A column of the restricted master.
 #[derive(Clone, Copy)]
 struct Member<'a> {
+    // Its class of blocks at the root.
     class: u32,
+    // The column.
     column: &'a Column,
 }
 
-// A program's columns at the root, with its classes of blocks, its pools and its master.
+// The columns of a program at the root.
 #[derive(Clone, Copy)]
 struct Columns<'a> {
+    // The program.
     b: &'a Blocked,
+    // Its classes of blocks at the root.
     classes: &'a Classes,
+    // The pools of the columns.
     pools: &'a Pools,
+    // The restricted master.
     master: &'a RestrictedMaster,
 }
 
@@ -184,11 +195,14 @@ fn solved(
     Ok(Some(Point { values, relaxation }))
 }
 
-// What a relaxation over columns has of each: what it takes from the rows, how many there may be of it, and what it costs.
+// The columns of a relaxation.
 #[derive(Drop)]
 struct Lists {
+    // By column, what it takes from the rows, and that it is one of its class.
     vectors: Vectors,
+    // By column, from none of it to as many as its class has blocks.
     spans: Vec<Range>,
+    // By column, its cost, in ones.
     costs: Vec<f64>,
 }
 

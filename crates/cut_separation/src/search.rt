@@ -24,8 +24,11 @@ const PATIENCE: u32 = 4;
 // How the bound rises.
 #[derive(Clone, Copy)]
 struct Rise {
+    // The dual bound before the first round, in ones.
     first: f64,
+    // That of the last round, in ones.
     last: f64,
+    // How many rounds in a row raised it by little.
     idle: u32,
 }
 
@@ -52,13 +55,17 @@ impl Rise {
     }
 }
 
-// What the rounds go on with: the relaxation, the combinations, the cuts that were made, the rows in front of these, and how many
-// cuts there may be.
+// What the rounds go on with.
 struct Rounds {
+    // The relaxation of the program with the cuts.
     relaxation: Relaxation,
+    // The combinations of rows.
     trial: Trial,
+    // The cuts that were made.
     made: Vec<Cut>,
+    // The rows in front of these.
     front: Front,
+    // How many cuts there may be in all.
     most: usize,
 }
 

@@ -24,25 +24,32 @@ const SLACK: i64 = 1;
 
 const LEAST: i64 = 1;
 
-/// Whether columns without numbers come last, and a seed that moves the weights of fractional columns.
+/// How a dive by columns chooses.
 #[derive(Clone, Copy)]
 pub struct Style {
+    /// Whether columns whose numbers are all 0 come last.
     pub is_loose: bool,
+    /// What the weights of fractional columns are moved by, where they are.
     pub seed: Option<u64>,
 }
 
-/// What a dive came to: a point, where it reached one, and the columns that it took.
+/// What a dive by columns came to.
 #[derive(Drop)]
 pub struct Dived {
+    /// The point that it reached, by variable, where it reached one.
     pub point: Option<Vec<i64>>,
+    /// The columns that it fixed, in order, one for each block.
     pub taken: Vec<Place>,
 }
 
-// A column with the key that it is chosen by, and its weight in units.
+// A column that a dive may fix.
 #[derive(Clone, Copy)]
 struct Choice {
+    // What it is chosen by, in units of which 1,048,576 make one: the greatest first.
     key: i64,
+    // Its weight, in units.
     weight: i64,
+    // The column.
     column: MasterColumn,
 }
 

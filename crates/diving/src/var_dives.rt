@@ -28,18 +28,23 @@ const LEAST_RISE: f64 = 0.05;
 /// The key of variables at whole numbers, in parts of 1,048,576.
 const WHOLE_KEY: i64 = 2 << 20;
 
-// A variable that may go up, its key, and the number that it goes up to.
+// A variable that may go up.
 #[derive(Clone, Copy)]
 struct Rise {
+    // What it is chosen by: the greatest first. It is `WHOLE_KEY` at a whole number, and else its part in units.
     key: i64,
+    // The variable.
     var: u32,
+    // The number that its lower end goes up to.
     to: i64,
 }
 
-// The mean of the columns of each variable, and by class the number of a column that has all the weight.
+// What the weights of columns come to.
 #[derive(Drop)]
 struct Means {
+    // By variable, the mean of the columns of its first copy.
     means: Vec<f64>,
+    // By class of the node, the number of a column of the master that has all the weight of a block.
     wholes: Vec<Option<usize>>,
 }
 

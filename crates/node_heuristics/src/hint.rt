@@ -19,18 +19,23 @@ use restricted_master::{RestrictedMaster, Weighted, has_master_and_block_rows};
 use search_laws::UsedColumn;
 use std::alloc::{AllocError, Global};
 
-/// A variable, and the number that its span is split behind.
+/// Where a node is to be forked.
 #[derive(Clone, Copy)]
 pub struct Split {
+    /// The variable.
     pub var: u32,
+    /// The number behind which its span is split.
     pub at: i64,
 }
 
-/// Multipliers by row at the greatest scale, a point, and a split.
+/// What the heuristics of a node found. Nothing is promised of it.
 #[derive(Drop)]
 pub struct Hint {
+    /// The multipliers of the best dual bound, by row that proofs may name, at the greatest scale, 1,048,576.
     pub mults: Vec<i64>,
+    /// A point by variable that is cheaper than the incumbent, where one was found.
     pub point: Option<Vec<i64>>,
+    /// Where the node is to be forked.
     pub split: Split,
 }
 

@@ -26,14 +26,19 @@ const MOST_PRICES: u32 = 400;
 /// After how many leaves it is forgotten which blocks' pricing was cut.
 const MEMORY: u32 = 32;
 
-/// The pricers of a program's blocks, and the blocks that hints price: all, or those whose pricing was never cut. Of
-/// each leaf's hints so many prices are left. It is kept from leaf to leaf which blocks' pricing was cut.
+/// The pricers of a program's blocks, and what the heuristics of nodes may price with them.
 pub struct PricingBudget {
+    /// The pricers, with the points that the last dual bound told.
     pub work: Work,
+    /// The blocks that heuristics price in this node, ascending; all where there is no list.
     picks: Option<Vec<u32>>,
+    /// How often the pricing of a block was cut in this node.
     cuts: u32,
+    /// How often heuristics may still price in this node.
     left: u32,
+    /// By block, whether its pricing was cut since it was last forgotten.
     was_cut: Vec<bool>,
+    /// How many nodes there were; the count goes round.
     leaves: u32,
 }
 

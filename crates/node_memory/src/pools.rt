@@ -18,15 +18,20 @@ use std::alloc::{AllocError, Global};
 /// How many numbers the points of all columns may have until pools are emptied.
 const MOST_NUMBERS: usize = 1 << 22;
 
-/// The pricers of a program's blocks, and the columns that they gave: a pool for each class of blocks at the root. Each
-/// column is a point of its class's first block, and no pool has two with the same point. Where no block has rows, the
-/// relaxation of the program's rows too.
+/// What a search keeps from node to node: pricers, columns and the compact relaxation. Each column is a point of its
+/// class's first block, and no pool has two with the same point.
 pub struct Pools {
+    /// The pricers of the program's blocks, and what heuristics may price with them.
     pub budget: PricingBudget,
+    /// The pools of columns, one for each class of blocks at the root.
     pub stores: Vec<Store>,
+    /// The compact relaxation, where no block has rows.
     pub lone: Option<LoneLeaves>,
+    /// By block, the number of its class at the root: that of its pool.
     homes: Vec<u32>,
+    /// How many numbers were offered to the pools since they were last emptied.
     size: usize,
+    /// How many nodes there were; the count goes round.
     leaves: u32,
 }
 
@@ -43,10 +48,12 @@ impl Drop for Pools {
     }
 }
 
-/// Where a column is: its pool, and its number there.
+/// Where a column is.
 #[derive(Clone, Copy)]
 pub struct Place {
+    /// The number of its pool.
     pub home: u32,
+    /// Its number in the pool.
     pub id: u32,
 }
 

@@ -35,34 +35,49 @@ const MISSED: f64 = 1e-5;
 // How much a column's reduced cost is below zero at least where it is new.
 const NEW: f64 = -1e-6;
 
-/// A column that is used: its class in the zone, where it is, and its weight in units.
+/// A column with a weight in the solution of a restricted master.
 #[derive(Clone, Copy)]
 pub struct Weighted {
+    /// Its class of blocks in the zone.
     pub class: u32,
+    /// Where it is in the pools.
     pub place: Place,
+    /// How many blocks of its class take it, in units of which 1,048,576 make one; above 0.
     pub weight: i64,
 }
 
-/// A column of the master: its class in the zone, where it is, and its cost.
+/// A column of a restricted master.
 #[derive(Clone, Copy)]
 pub struct MasterColumn {
+    /// Its class of blocks in the zone.
     pub class: u32,
+    /// Where it is in the pools.
     pub place: Place,
+    /// Its cost, in ones.
     pub cost: i64,
 }
 
-/// A restricted master: its program, the lines of its rows, its number of each class of the zone, its columns, what the
-/// blocks of one point take from the rows, and their cost with the constant.
+/// The restricted master of a zone.
 pub struct RestrictedMaster {
+    /// The linear program: a line for each of `lines`, and behind them one for each class that isn't settled.
     program: ColumnProgram,
+    /// The lines of the rows that proofs may name.
     lines: Lines,
+    /// By class of the zone, its number among those that aren't settled; `NONE` where its blocks have one point.
     numbers: Vec<u32>,
+    /// By number of a class that isn't settled, how many blocks it has.
     sizes: Vec<u32>,
+    /// The columns, as the program numbers them.
     columns: Vec<MasterColumn>,
+    /// Which columns there are: the class's number times 2^32 and the column's number in its pool.
     known: IndexSet<u64>,
+    /// By row that proofs may name, what the blocks of one point take from it.
     sums: Vec<i128>,
+    /// The constant and the cost of the blocks of one point, in ones.
     settled: i128,
+    /// What it costs to miss a row by one, in ones: multipliers stay within it.
     penalty: f64,
+    /// How many pivots times lines the solutions took.
     spent: u64,
 }
 
@@ -105,12 +120,16 @@ fn has_rows(b: &Blocked) -> bool {
     false
 }
 
-// What blocks of one point take from the rows, and what they cost; the numbers of the other classes, and their sizes.
+// The blocks of one point in a zone, and the classes of the others.
 #[derive(Drop)]
 struct Settled {
+    // By row that proofs may name, what the blocks of one point take from it.
     sums: Vec<i128>,
+    // The constant and the cost of these blocks, in ones.
     cost: i128,
+    // By class, its number among those that aren't settled; `NONE` where it is.
     numbers: Vec<u32>,
+    // By number of a class that isn't settled, how many blocks it has.
     sizes: Vec<u32>,
 }
 
