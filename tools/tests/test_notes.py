@@ -83,8 +83,8 @@ def test_files(room):
     assert told("solve", "m.lp", "--dec", "none.dec", room=room) == (11, "", "bprice: none.dec: there is no such file\n")
     status, out, err = told("solve", ".", room=room)
     assert (status, out) == (7, "") and err.startswith("bprice: .: it could not be read; ")
-    status, out, err = told("solve", "m.lp", "--cert", "no/c", room=room)
-    assert (status, out) == (8, "") and err.startswith("bprice: no/c: it could not be written; ")
+    status, out, err = told("gen", "1", "2", "no/a", "b", room=room)
+    assert (status, out) == (8, "") and err.startswith("bprice: no/a: it could not be written; ")
     with open("/dev/full", "wb") as full:
         status, _, err = told("solve", "m.lp", room=room, out=full)
     assert status == 8 and err.startswith("bprice: the standard output could not be written; ")

@@ -9,19 +9,30 @@ use std::alloc::{AllocError, Global};
 // The least magnitude of a pivot.
 const LEAST: f64 = 1e-9;
 
-/// What stands while factors are made: the columns of the basis by positions, the same by rows, at which place in the
-/// order of pivots each row and position stands, and how many numbers are left in each.
+/// What stands while the factors of a basis are made. The order of pivots comes to be: each row and each position of
+/// the basis gets its place in it.
 pub struct Builder {
+    /// How many rows the basis has, and as many positions.
     rows: u32,
+    /// The columns of the basis, one for each position, by rows; empty where a logical is basic.
     columns: Vectors,
+    /// The same numbers, one vector for each row, by positions.
     by_rows: Vectors,
+    /// By row, its place in the order of pivots; `NONE` as long as it has none.
     row_places: Vec<u32>,
+    /// By position, its place in the order of pivots; `NONE` as long as it has none.
     position_places: Vec<u32>,
+    /// By row, how many numbers it has at positions without a place.
     row_counts: Vec<u32>,
+    /// By position, how many numbers it has in rows without a place.
     position_counts: Vec<u32>,
+    /// The rows, or positions, that have one such number left, a stack.
     ready: Vec<u32>,
+    /// What is left when no row and no position has one number left.
     nucleus: Nucleus,
+    /// The rows of the upper factor that the nucleus gives, one for each of its pivots, by positions.
     upper: Vectors,
+    /// The same numbers, one vector for each place in the order of pivots.
     upper_columns: Vectors,
 }
 

@@ -9,14 +9,18 @@ const DROP: f64 = 1e-13;
 // A column that stands in the place of another: its position, and its number there.
 #[derive(Clone, Copy)]
 struct Pivot {
+    // The position of the basis at which columns were exchanged.
     position: usize,
+    // The entering column's number there, as `ftran` makes it; never 0.
     value: f64,
 }
 
-/// Exchanged columns in their order.
+/// The exchanges since the factors were made, in their order.
 #[derive(Drop)]
 pub struct Etas {
+    /// The pivot of each exchange.
     pivots: Vec<Pivot>,
+    /// For each exchange the entering column as `ftran` makes it, by positions, without its pivot.
     columns: Vectors,
 }
 

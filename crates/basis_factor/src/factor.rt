@@ -21,15 +21,20 @@ pub enum Basic {
 /// A position of a basis whose member depends on the others, and the row whose logical was taken in its place.
 #[derive(Clone, Copy, Debug, PartialEq, Eq)]
 pub struct Replaced {
+    /// The position of the basis.
     pub position: u32,
+    /// The row whose logical stands there now.
     pub row: u32,
 }
 
 /// A pivot: its row, its position in the basis, and its value.
 #[derive(Clone, Copy)]
 pub struct Pivot {
+    /// The row that is eliminated.
     pub row: u32,
+    /// The position whose column is eliminated.
     pub position: u32,
+    /// The number of that column in that row when it is eliminated; -1 for a logical.
     pub value: f64,
 }
 
@@ -38,14 +43,24 @@ pub struct Pivot {
 /// updates in product form (Dantzig and Orchard-Hays, The product form for the inverse in the simplex method, 1954).
 /// Its memory is that of the factors and of the updates since they were made.
 pub struct Factor {
+    /// How many rows the basis has, and as many positions.
     rows: u32,
+    /// The pivots in the order of elimination, one for each row.
     pivots: Vec<Pivot>,
+    /// The lower factor without its ones: for each pivot from `first_lower` on what it takes from the rows behind it,
+    /// by places in the order of pivots.
     lower: Vectors,
+    /// The place of the first pivot that has a column in `lower`: logicals and column singletons come before.
     first_lower: usize,
+    /// The upper factor without its pivots: for each pivot its column, by places in the order of pivots.
     upper_columns: Vectors,
+    /// The same numbers, one row for each pivot.
     upper_rows: Vectors,
+    /// The exchanges since the factors were made.
     etas: Etas,
+    /// Room for a dense vector, by places in the order of pivots.
     scratch: Vec<f64>,
+    /// What the factors are made with, kept for its memory.
     builder: Builder,
 }
 

@@ -5,9 +5,13 @@ use std::alloc::{AllocError, Global};
 /// Lists by counts of items that are numbers from 0. An item stands in at most one.
 #[derive(Drop)]
 pub struct Lists {
+    /// By count, the first item of its list; `NONE` where the list is empty.
     firsts: Vec<u32>,
+    /// By item, the one behind it in its list; `NONE` at the end.
     nexts: Vec<u32>,
+    /// By item, the one before it in its list; `NONE` at the beginning.
     befores: Vec<u32>,
+    /// By item, the count in whose list it stands; `NONE` where it stands in none.
     counts: Vec<u32>,
 }
 

@@ -18,16 +18,25 @@ const DROP: f64 = 1e-13;
 // How many rows and columns are looked at for a pivot once there is one.
 const LOOKS: u32 = 4;
 
-/// Rows of numbers by positions, the rows in which each position stands, and both by their counts.
+/// What elimination has left: a sparse matrix of rows by positions, with both in lists by how many numbers they have.
 pub struct Nucleus {
+    /// Where memory comes from.
     alloc: Global,
+    /// By row, its numbers at the positions that are left, in no order.
     rows: Vec<Vec<Entry>>,
+    /// By position, the rows that have a number there, in no order.
     patterns: Vec<Vec<u32>>,
+    /// The rows that are left, by how many numbers they have.
     row_lists: Lists,
+    /// The positions that are left, by how many numbers they have.
     position_lists: Lists,
+    /// The row of the pivot that is taken, without the pivot.
     pivot_row: Vec<Entry>,
+    /// The rows from which it is taken.
     targets: Vec<u32>,
+    /// Room for a dense row, by positions; 0 between uses.
     work: Vec<f64>,
+    /// By position, whether the row at hand has a number there; false between uses.
     marks: Vec<bool>,
 }
 
@@ -47,11 +56,14 @@ impl Drop for Nucleus {
     }
 }
 
-// The best pivot so far, what it costs, and how many rows and columns were looked at.
+// The search for a pivot.
 #[derive(Drop)]
 struct Search {
+    // The best pivot so far.
     best: Option<Pivot>,
+    // Markowitz's count of it: how many numbers its elimination may add at most.
     cost: u64,
+    // How many rows and positions were looked at.
     looked: u32,
 }
 

@@ -1,15 +1,18 @@
 // A shelf and a sink that watch a run: every call is handed on to what is inside, and what a note on the run is made of
 // is kept.
 
-ghost use Rattle.std.specs.Prelude.{◌≡◌};
+ghost use Rattle.std.specs.Prelude.{◌≡◌, ◌≤◌, length};
 
 use bp_shelf::{Shelf, ShelfFault, Sink, SinkFault};
 use std::alloc::{AllocError, Global};
 
-/// How much of the report is kept.
-const MOST_TOLD: usize = 4096;
+// What a certificate begins with, and how many of its lines tell the answer: the version, the claim and the point.
+const CERTIFICATE: &[u8] = b"bpcert ";
 
-/// The names that are kept of the files of a run.
+const ANSWER_LINES: usize = 3;
+
+/// What is kept of the files of a run: names, the first lines of the certificate that was written, and why the last call
+/// failed.
 #[derive(Drop)]
 pub struct Files {
     alloc: Global,
@@ -17,6 +20,8 @@ pub struct Files {
     last: Option<String>,
     failed: Option<String>,
     written: bool,
+    full: bool,
+    answer: Option<Vec<u8>>,
 }
 
 impl Files {
@@ -28,6 +33,8 @@ impl Files {
             last: None,
             failed: None,
             written: false,
+            full: false,
+            answer: None,
         }
     }
 
@@ -50,6 +57,18 @@ impl Files {
         self.written = written;
     }
 
+    /// Keeps the first lines of a text that a file was to hold, where that is a certificate.
+    pub fn replace(&mut self, bytes: &[u8]) {
+        if bytes.starts_with(CERTIFICATE) {
+            self.answer = bytes[..front_len(bytes)].to_vec(self.alloc).ok();
+        }
+    }
+
+    /// Keeps that what failed did for want of space.
+    pub fn fill(&mut self) {
+        self.full = true;
+    }
+
     /// The name of the file that was read first, where another was read behind it.
     pub fn first(&self) -> Option<&str> {
         name_in(&self.first)
@@ -69,6 +88,36 @@ impl Files {
     pub fn is_written(&self) -> bool {
         self.written
     }
+
+    /// Whether what failed did for want of space.
+    pub fn is_full(&self) -> bool {
+        self.full
+    }
+
+    /// The first three lines of the certificate that was to be written last, of which the second has the claim, and the third
+    /// the point, where the claim has one.
+    pub fn answer(&self) -> Option<&[u8]> {
+        match &self.answer {
+            Some(lines) => Some(lines.as_slice()),
+            None => None,
+        }
+    }
+}
+
+// How many bytes the lines have that tell a certificate's answer.
+fn front_len(bytes: &[u8]) -> usize
+    ensures { result ≤ length bytes.now }
+{
+    let mut lines = 0usize;
+    for at in 0..bytes.len() {
+        if bytes[at] == b'\n' {
+            lines = lines.saturating_add(1);
+        }
+        if lines == ANSWER_LINES {
+            return at + 1;
+        }
+    }
+    bytes.len()
 }
 
 // The name that is kept, if there is one.
@@ -80,7 +129,8 @@ fn name_in(kept: &Option<String>) -> Option<&str> {
 }
 
 /// A shelf that hands every call on to the shelf inside, and keeps what a note is made of: the names of the files that were
-/// read first and last, and of the file of the last call that failed. It keeps none of their bytes, however many are read.
+/// read first and last, and of the file of the last call that failed, and the first lines of the certificate that was written.
+/// It keeps none of the bytes that are read, however many there are.
 #[derive(Drop)]
 pub struct Watched<F> {
     inside: F,
@@ -131,6 +181,7 @@ impl<F: Shelf> Shelf for Watched<F> {
     }
 
     fn replace(&mut self, name: &str, bytes: &[u8]) -> Result<(), ShelfFault> {
+        self.files.replace(bytes);
         match self.inside.replace(name, bytes) {
             Ok(()) => Ok(()),
             Err(fault) => {
@@ -151,7 +202,7 @@ impl<F: Shelf> Shelf for Watched<F> {
     }
 }
 
-/// A sink that hands every put on to the sink inside, and keeps the first 4,096 bytes that were put.
+/// A sink that hands every put on to the sink inside, and keeps the bytes that were to be put, as far as memory serves.
 #[derive(Drop)]
 pub struct WatchedSink<O> {
     inside: O,
@@ -169,9 +220,11 @@ impl<O: Sink> WatchedSink<O> {
         }
     }
 
-    /// What is kept.
-    pub fn told(&self) -> &[u8] {
-        &self.told
+    /// The sink inside, and the bytes that are kept.
+    pub fn into_parts(self) -> (O, Vec<u8>)
+        ensures { result.0 ≡ self.inside }
+    {
+        (self.inside, self.told)
     }
 }
 
@@ -185,9 +238,7 @@ impl<O: Sink> Sink for WatchedSink<O> {
     ghost puts = { λ w. O.puts w.inside };
 
     fn put(&mut self, bytes: &[u8]) -> Result<(), SinkFault> {
-        let room = MOST_TOLD.saturating_sub(self.told.len());
-        let count = bytes.len().min(room);
-        let _ = self.told.extend_from_slice(&bytes[..count]);
+        let _ = self.told.extend_from_slice(bytes);
         self.inside.put(bytes)
     }
 }

@@ -1,14 +1,23 @@
-//! The program: the top call over the system's files and the standard output; a note on how it ended goes to the standard
-//! error, and nothing rests on that.
+//! The program: the top call over the system's files and the standard output, unless its files stand in its way; a note on how
+//! it ended goes to the standard error, and nothing rests on that.
 #![tactic(auto)]
 
+mod named;
+
 use bp_cli::run;
-use bp_real::{FileShelf, OutSink, Watched, WatchedSink};
-use notes::explain;
+use bp_real::{
+    FileShelf, Files, HostDisk, Obstacle, OutSink, Watched, WatchedSink, find_obstacle,
+};
+use bp_words::read_words;
+use named::files_of;
+use notes::{explain, explain_obstacle};
 use std::io::{ErrorKind, Write};
 use std::process::ExitCode;
 use std::rt::Env;
 use std::{env, io};
+
+// The status of a run that is not begun.
+const NOT_BEGUN: u8 = 125;
 
 // The words that the program was called with, its own name first.
 fn words_of<R: Env + AllocGlobal>(rt: &R) -> io::Result<Vec<String>> {
@@ -21,10 +30,17 @@ fn put_note(
     words: &[String],
     status: u8,
     report: &[u8],
-    watched: Watched<FileShelf<HostRuntime>>,
+    files: &Files,
+    shelf: &mut FileShelf<HostDisk<HostRuntime>>,
 ) {
-    let (mut shelf, files) = watched.into_parts();
-    if let Ok(note) = explain(rt.alloc(), words, status, report, &files, &mut shelf) {
+    if let Ok(note) = explain(rt.alloc(), words, status, report, files, shelf) {
+        let _ = rt.stderr().write_all(&note);
+    }
+}
+
+// Puts the note on what stands in the way of a run, in the same way.
+fn put_obstacle(rt: &HostRuntime, found: &Obstacle) {
+    if let Ok(note) = explain_obstacle(rt.alloc(), found) {
         let _ = rt.stderr().write_all(&note);
     }
 }
@@ -34,13 +50,40 @@ fn run_words(rt: &HostRuntime, words: &[String]) -> u8 {
     let mut shelf = Watched::new(rt.alloc(), FileShelf::new(rt));
     let mut out = WatchedSink::new(rt.alloc(), OutSink::new(rt));
     let ended = run(rt.alloc(), words, &mut shelf, &mut out);
-    put_note(rt, words, ended.status, out.told(), shelf);
+    let (mut shelf, mut files) = shelf.into_parts();
+    let (out, report) = out.into_parts();
+    if shelf.is_full() || out.is_full() {
+        files.fill();
+    }
+    put_note(rt, words, ended.status, &report, &files, &mut shelf);
     ended.status
+}
+
+// Whether files stand in the way of a run on these words, which is told. Words that are no command line name none.
+fn is_stopped(rt: &HostRuntime, words: &[String]) -> bool {
+    let Ok(order) = read_words(rt.alloc(), words) else {
+        return false;
+    };
+    match find_obstacle(rt, &files_of(&order)) {
+        Some(found) => {
+            put_obstacle(rt, &found);
+            true
+        }
+        None => false,
+    }
+}
+
+// Runs on these words, unless files stand in the way.
+fn start(rt: &HostRuntime, words: &[String]) -> u8 {
+    if is_stopped(rt, words) {
+        return NOT_BEGUN;
+    }
+    run_words(rt, words)
 }
 
 fn main(rt: HostRuntime) -> ExitCode {
     let status = match words_of(&rt) {
-        Ok(words) => run_words(&rt, &words),
+        Ok(words) => start(&rt, &words),
         // Words that are no text are no command line.
         Err(fault) if fault.kind() == ErrorKind::InvalidData => run_words(&rt, &[]),
         Err(_) => 9,

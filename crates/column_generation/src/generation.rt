@@ -3,15 +3,13 @@
 // Hogan and Blankenship, The boxstep method for large-scale optimization, 1975; du Merle, Villeneuve, Desrosiers and
 // Hansen, Stabilized column generation, 1999.)
 ghost use Rattle.std.specs.Prelude.{◌≡◌, ◌<◌, length};
-ghost use Rattle.bp_theory.specs.Trees.{IsZone};
-ghost use Rattle.block_class.specs.Classes.{AreSameClasses};
 ghost use Rattle.node_memory.specs.Pools.{AreMadeFor};
 
 use crate::partition::add_partition;
 use crate::several::add_several;
 use block_class::Classes;
-use block_program::{Blocked, Zone};
-use node_memory::Pools;
+use block_program::Blocked;
+use node_memory::{NodeContext, Pools};
 use primal_heuristics::{UNIT, at, is_reached, quotient};
 use restricted_master::{RestrictedMaster, at_scale};
 use std::alloc::{AllocError, Global};
@@ -42,28 +40,36 @@ const RAISE: f64 = 16.0;
 
 const MOST_PENALTY: f64 = 524288.0;
 
-/// Multipliers by row at the greatest scale, and their bound in a zone.
+/// The centre of a stabilized column generation: the multipliers of the best dual bound.
 #[derive(Drop)]
 pub struct Centre {
+    /// The multipliers by row that proofs may name, at the greatest scale, 1,048,576.
     pub mults: Vec<i64>,
+    /// Their dual bound in the zone, in units of which 1,048,576 make one.
     pub value: i128,
 }
 
-// A restricted master with the multipliers that it gave last, room for a priced point, and the width of the box, where
-// there is one.
+// A column generation at work.
 #[derive(Drop)]
 struct Generation {
+    // The restricted master.
     master: RestrictedMaster,
+    // The multipliers that it gave last, by row at the greatest scale.
     mults: Vec<i64>,
+    // The point that reaches their bound, by copies of the variables.
     point: Vec<i64>,
+    // How far multipliers may be from the centre, in ones; there is no box round it any more where there is none.
     width: Option<f64>,
+    // How many rounds were made.
     round: u32,
 }
 
-/// How far generation goes: the cost that is known, and whether partitions of the sides give columns too.
+/// How far generation goes.
 #[derive(Clone, Copy)]
 pub struct Effort {
+    /// The incumbent's cost, where there is one, in ones: a dual bound that reaches it ends generation.
     pub known: Option<i64>,
+    /// Whether partitions of the rows' sides give columns too.
     pub with_partitions: bool,
 }
 
@@ -96,22 +102,18 @@ pub fn mean_mult(b: &Blocked, mults: &[i64]) -> f64 {
 /// made.
 pub fn generate_columns(
     alloc: Global,
-    b: &Blocked,
-    classes: &Classes,
-    zone: &Zone,
+    node: NodeContext,
     pools: &mut Pools,
     centre: &mut Centre,
     effort: Effort,
 ) -> Result<Option<RestrictedMaster>, AllocError>
-    requires made_for { AreMadeFor b.now pools.old }
-    requires classes { AreSameClasses zone.now b.now.blocking classes.now }
-    requires zone { IsZone b.now.named.program.spans zone.now }
-    ensures made_for { AreMadeFor b.now pools.new }
+    requires made_for { AreMadeFor node.program.now pools.old }
+    ensures made_for { AreMadeFor node.entry.program.now pools.new }
 {
-    let Some(mut all) = begin(alloc, b, classes, zone, pools, centre)? else {
+    let Some(mut all) = begin(alloc, node, pools, centre)? else {
         return Ok(None);
     };
-    let step = make_rounds(alloc, b, classes, zone, pools, centre, &mut all, effort)?;
+    let step = make_rounds(alloc, node, pools, centre, &mut all, effort)?;
     if step == Step::On {
         all.master.solve(alloc, ROUND_PIVOTS)?;
     }
@@ -122,21 +124,17 @@ pub fn generate_columns(
 // Makes rounds until one ends generation, or as many as there may be.
 fn make_rounds(
     alloc: Global,
-    b: &Blocked,
-    classes: &Classes,
-    zone: &Zone,
+    node: NodeContext,
     pools: &mut Pools,
     centre: &mut Centre,
     all: &mut Generation,
     effort: Effort,
 ) -> Result<Step, AllocError>
-    requires made_for { AreMadeFor b.now pools.old }
-    requires classes { AreSameClasses zone.now b.now.blocking classes.now }
-    requires zone { IsZone b.now.named.program.spans zone.now }
-    ensures made_for { AreMadeFor b.now pools.new }
+    requires made_for { AreMadeFor node.program.now pools.old }
+    ensures made_for { AreMadeFor node.entry.program.now pools.new }
 {
     for _ in 0..ROUNDS {
-        let step = make_round(alloc, b, classes, zone, pools, centre, all, effort)?;
+        let step = make_round(alloc, node, pools, centre, all, effort)?;
         if step == Step::Ended {
             return Ok(step);
         }
@@ -172,19 +170,15 @@ fn first_penalty(b: &Blocked, mults: &[i64]) -> f64 {
 // The restricted master with the pools' columns and the points of the centre.
 fn begin(
     alloc: Global,
-    b: &Blocked,
-    classes: &Classes,
-    zone: &Zone,
+    node: NodeContext,
     pools: &mut Pools,
     centre: &mut Centre,
 ) -> Result<Option<Generation>, AllocError>
-    requires made_for { AreMadeFor b.now pools.old }
-    requires classes { AreSameClasses zone.now b.now.blocking classes.now }
-    requires zone { IsZone b.now.named.program.spans zone.now }
-    ensures made_for { AreMadeFor b.now pools.new }
+    requires made_for { AreMadeFor node.program.now pools.old }
+    ensures made_for { AreMadeFor node.entry.program.now pools.new }
 {
-    let penalty = first_penalty(b, centre.mults.as_slice());
-    let Some(master) = RestrictedMaster::make(alloc, b, classes, zone, penalty)? else {
+    let penalty = first_penalty(node.program, centre.mults.as_slice());
+    let Some(master) = RestrictedMaster::make(alloc, node, penalty)? else {
         return Ok(None);
     };
     let mut all = Generation {
@@ -194,7 +188,7 @@ fn begin(
         width: None,
         round: 0,
     };
-    if begin_at(alloc, b, classes, zone, pools, centre, &mut all)? {
+    if begin_at(alloc, node, pools, centre, &mut all)? {
         Ok(Some(all))
     } else {
         Ok(None)
@@ -204,30 +198,26 @@ fn begin(
 // Prices the centre, and begins the master with the pools' columns and the centre's points; whether there is a bound.
 fn begin_at(
     alloc: Global,
-    b: &Blocked,
-    classes: &Classes,
-    zone: &Zone,
+    node: NodeContext,
     pools: &mut Pools,
     centre: &mut Centre,
     all: &mut Generation,
 ) -> Result<bool, AllocError>
-    requires made_for { AreMadeFor b.now pools.old }
-    requires classes { AreSameClasses zone.now b.now.blocking classes.now }
-    requires zone { IsZone b.now.named.program.spans zone.now }
-    ensures made_for { AreMadeFor b.now pools.new }
+    requires made_for { AreMadeFor node.program.now pools.old }
+    ensures made_for { AreMadeFor node.entry.program.now pools.new }
 {
     let mults = centre.mults.as_slice();
     all.mults = mults.to_vec(alloc)?;
-    all.point = Vec::from_elem(alloc, 0i64, b.model().vars() as usize)?;
+    all.point = Vec::from_elem(alloc, 0i64, node.program.model().vars() as usize)?;
     let point = all.point.as_mut_slice();
-    let Some(value) = pools.price(alloc, b, classes, zone, mults, point)? else {
+    let Some(value) = pools.price(alloc, node, mults, point)? else {
         return Ok(false);
     };
     centre.value = value;
-    pools.add_all_priced(alloc, b, classes)?;
+    pools.add_all_priced(alloc, node.program, node.classes)?;
     let mults = all.mults.as_slice();
-    all.master.begin(alloc, b, classes, zone, pools, mults)?;
-    let mean = mean_mult(b, mults) / BOX_PART;
+    all.master.begin(alloc, node, pools, mults)?;
+    let mean = mean_mult(node.program, mults) / BOX_PART;
     let width = if mean > LEAST_WIDTH {
         mean
     } else {
@@ -238,10 +228,12 @@ fn begin_at(
     Ok(true)
 }
 
-// What the master comes to before a round's pricing: whether it meets its rows, and its cost in units.
+// What the restricted master comes to before a round's pricing.
 #[derive(Clone, Copy)]
 struct Solved {
+    // Whether it meets its rows and the counts of its classes.
     is_whole: bool,
+    // Its cost with the constant, in units.
     cost: i128,
 }
 
@@ -293,66 +285,49 @@ impl Centre {
 // A round of master and pricing.
 fn make_round(
     alloc: Global,
-    b: &Blocked,
-    classes: &Classes,
-    zone: &Zone,
+    node: NodeContext,
     pools: &mut Pools,
     centre: &mut Centre,
     all: &mut Generation,
     effort: Effort,
 ) -> Result<Step, AllocError>
-    requires made_for { AreMadeFor b.now pools.old }
-    requires classes { AreSameClasses zone.now b.now.blocking classes.now }
-    requires zone { IsZone b.now.named.program.spans zone.now }
-    ensures made_for { AreMadeFor b.now pools.new }
+    requires made_for { AreMadeFor node.program.now pools.old }
+    ensures made_for { AreMadeFor node.entry.program.now pools.new }
 {
-    let Some(solved) = all.solve_master(alloc, b, centre)? else {
+    let Some(solved) = all.solve_master(alloc, node.program, centre)? else {
         return Ok(Step::Ended);
     };
     let mults = all.mults.as_slice();
     let point = all.point.as_mut_slice();
-    let Some(value) = pools.price(alloc, b, classes, zone, mults, point)? else {
+    let Some(value) = pools.price(alloc, node, mults, point)? else {
         return Ok(Step::Ended);
     };
     let is_better = centre.take_if_better(alloc, all.mults.as_slice(), value)?;
-    let added = add_priced(alloc, b, classes, pools, &mut all.master)?;
+    let added = add_priced(alloc, node.program, node.classes, pools, &mut all.master)?;
     let mults = all.mults.as_slice();
-    let more = add_several(alloc, b, classes, zone, pools, &mut all.master, mults)?;
+    let more = add_several(alloc, node, pools, &mut all.master, mults)?;
     let added = added.saturating_add(more);
-    add_partition_if_asked(alloc, b, classes, zone, pools, all, effort)?;
+    add_partition_if_asked(alloc, node, pools, all, effort)?;
     Ok(end_round(centre, all, effort, solved, added, is_better))
 }
 
 // Adds a partition's columns where they are asked for.
 fn add_partition_if_asked(
     alloc: Global,
-    b: &Blocked,
-    classes: &Classes,
-    zone: &Zone,
+    node: NodeContext,
     pools: &mut Pools,
     all: &mut Generation,
     effort: Effort,
 ) -> Result<(), AllocError>
-    requires made_for { AreMadeFor b.now pools.old }
-    requires classes { AreSameClasses zone.now b.now.blocking classes.now }
-    requires zone { IsZone b.now.named.program.spans zone.now }
-    ensures made_for { AreMadeFor b.now pools.new }
+    requires made_for { AreMadeFor node.program.now pools.old }
+    ensures made_for { AreMadeFor node.entry.program.now pools.new }
 {
     if !effort.with_partitions {
         return Ok(());
     }
     let mults = all.mults.as_slice();
     let round = all.round;
-    add_partition(
-        alloc,
-        b,
-        classes,
-        zone,
-        pools,
-        &mut all.master,
-        mults,
-        round,
-    )
+    add_partition(alloc, node, pools, &mut all.master, mults, round)
 }
 
 // Ends a round: generation ends where the known cost is reached, where no column is new and the master meets its rows with no box

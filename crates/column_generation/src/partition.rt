@@ -2,7 +2,6 @@
 // what those before it leave of the rows' sides. One class gives one column a round otherwise. No bound comes from these.
 ghost use Rattle.std.specs.Prelude.{◌<◌, length};
 ghost use Rattle.std.specs.Bool.{OnTrue};
-ghost use Rattle.bp_theory.specs.Trees.{IsZone};
 ghost use Rattle.knap_price.specs.Kept as by_table;
 ghost use Rattle.pricing_problem.specs.Form.{AreOf};
 ghost use Rattle.node_memory.specs.Pools.{AreMadeFor};
@@ -13,7 +12,7 @@ use block_class::Classes;
 use block_program::{Block, Blocked, Zone};
 use bp_theory::{Proof, Sense, Span};
 use knap_price::KnapPricer;
-use node_memory::{Pools, alone};
+use node_memory::{NodeContext, Pools, alone};
 use pricing_problem::{Cap, Priced, Pricer, is_form, is_priceable};
 use primal_heuristics::{at, narrow, product, sum_at};
 use restricted_master::{RestrictedMaster, block_spans};
@@ -25,42 +24,41 @@ const MOST_BLOCKS: u32 = 9;
 /// How many beginnings of points the pricing of a block may visit.
 const VISITS: u64 = 5_000;
 
-// What is left of a row's side, and the row's sense.
+// A row's side, as blocks use it up.
 #[derive(Clone, Copy)]
 struct Side {
+    // What is left of it.
     left: i128,
+    // The row's sense.
     sense: Sense,
 }
 
-// What one class is priced with: its block's spans, and how many blocks are priced.
+// What a class is priced with.
 #[derive(Drop)]
 struct Member {
+    // The spans of its first block, by place in the block, narrowed to what is left.
     spans: Vec<Span>,
+    // How many of its blocks are priced.
     many: u32,
 }
 
 /// Adds columns of partitions at multipliers by row, the classes in turn from one that depends on the round.
 pub fn add_partition(
     alloc: Global,
-    b: &Blocked,
-    classes: &Classes,
-    zone: &Zone,
+    node: NodeContext,
     pools: &mut Pools,
     master: &mut RestrictedMaster,
     mults: &[i64],
     round: u32,
 ) -> Result<(), AllocError>
-    requires made_for { AreMadeFor b.now pools.old }
-    requires zone { IsZone b.now.named.program.spans zone.now }
-    ensures made_for { AreMadeFor b.now pools.new }
+    requires made_for { AreMadeFor node.program.now pools.old }
+    ensures made_for { AreMadeFor node.entry.program.now pools.new }
 {
-    let mut sides = sides_of(alloc, b, master)?;
-    let many = classes.len();
+    let mut sides = sides_of(alloc, node.program, master)?;
+    let many = node.classes.len();
     for offset in 0..many {
         let class = place_after(round, offset, many);
-        add_parted(
-            alloc, b, classes, zone, pools, master, mults, class, &mut sides,
-        )?;
+        add_parted(alloc, node, pools, master, mults, class, &mut sides)?;
     }
     Ok(())
 }
@@ -68,26 +66,23 @@ pub fn add_partition(
 // Adds the columns of a class, where it gets some.
 fn add_parted(
     alloc: Global,
-    b: &Blocked,
-    classes: &Classes,
-    zone: &Zone,
+    node: NodeContext,
     pools: &mut Pools,
     master: &mut RestrictedMaster,
     mults: &[i64],
     class: u32,
     sides: &mut Vec<Side>,
 ) -> Result<(), AllocError>
-    requires made_for { AreMadeFor b.now pools.old }
-    requires zone { IsZone b.now.named.program.spans zone.now }
-    ensures made_for { AreMadeFor b.now pools.new }
+    requires made_for { AreMadeFor node.program.now pools.old }
+    ensures made_for { AreMadeFor node.entry.program.now pools.new }
 {
-    if !is_parted(b, classes, pools, master, class) {
+    if !is_parted(node.program, node.classes, pools, master, class) {
         return Ok(());
     }
-    let first = classes.first(class);
+    let first = node.classes.first(class);
     let size = master.size(class);
-    let found = priced_blocks(alloc, b, zone, pools, mults, first, size, sides)?;
-    add_points(alloc, b, pools, master, class, first, found)
+    let found = priced_blocks(alloc, node, pools, mults, first, size, sides)?;
+    add_points(alloc, node.program, pools, master, class, first, found)
 }
 
 // Whether a class gets columns of partitions: where it has several blocks, which give no points beside the cheapest one.
@@ -141,31 +136,29 @@ fn sides_of(
 // the block, else as their bounds are, by a search that is made already.
 fn priced_blocks(
     alloc: Global,
-    b: &Blocked,
-    zone: &Zone,
+    node: NodeContext,
     pools: &mut Pools,
     mults: &[i64],
     first: u32,
     size: u32,
     sides: &mut Vec<Side>,
 ) -> Result<Vec<Vec<i64>>, AllocError>
-    requires made_for { AreMadeFor b.now pools.old }
-    requires zone { IsZone b.now.named.program.spans zone.now }
-    ensures made_for { AreMadeFor b.now pools.new }
+    requires made_for { AreMadeFor node.program.now pools.old }
+    ensures made_for { AreMadeFor node.entry.program.now pools.new }
 {
-    if first >= b.blocks() {
+    if first >= node.program.blocks() {
         return Ok(Vec::new(alloc));
     }
-    let block = b.block(first);
+    let block = node.program.block(first);
     if !is_form(block.rows(), block.spans()) {
         return Ok(Vec::new(alloc));
     }
     let mut member = Member {
-        spans: block_spans(alloc, block, zone.spans())?,
+        spans: block_spans(alloc, block, node.zone.spans())?,
         many: size.min(MOST_BLOCKS),
     };
     if !KnapPricer::takes(block) {
-        return price_as_bounds(alloc, b, zone, pools, mults, first, &mut member, sides);
+        return price_as_bounds(alloc, node, pools, mults, first, &mut member, sides);
     }
     let costs = reduced_costs(alloc, block, mults)?;
     let mut pricer = KnapPricer::make(alloc, block)?;
@@ -213,24 +206,22 @@ fn price_by_table(
 // left to take.
 fn price_as_bounds(
     alloc: Global,
-    b: &Blocked,
-    zone: &Zone,
+    node: NodeContext,
     pools: &mut Pools,
     mults: &[i64],
     first: u32,
     member: &mut Member,
     sides: &mut Vec<Side>,
 ) -> Result<Vec<Vec<i64>>, AllocError>
-    requires made_for { AreMadeFor b.now pools.old }
-    requires zone { IsZone b.now.named.program.spans zone.now }
-    requires there { first < length b.now.blocking.blocks }
-    ensures made_for { AreMadeFor b.now pools.new }
+    requires made_for { AreMadeFor node.program.now pools.old }
+    requires there { first < length node.program.now.blocking.blocks }
+    ensures made_for { AreMadeFor node.entry.program.now pools.new }
 {
     let proof = alone(alloc, mults, first)?;
     let mut points = Vec::new(alloc);
     for _ in 0..member.many {
         let spans = &mut member.spans;
-        let Some(point) = next_point(alloc, b, zone, pools, &proof, first, spans, sides)? else {
+        let Some(point) = next_point(alloc, node, pools, &proof, first, spans, sides)? else {
             break;
         };
         points.push(point)?;
@@ -242,22 +233,20 @@ fn price_as_bounds(
 // where the block has no point there, its pricing is cut, or the point takes nothing.
 fn next_point(
     alloc: Global,
-    b: &Blocked,
-    zone: &Zone,
+    node: NodeContext,
     pools: &mut Pools,
     proof: &Proof,
     first: u32,
     spans: &mut Vec<Span>,
     sides: &mut Vec<Side>,
 ) -> Result<Option<Vec<i64>>, AllocError>
-    requires made_for { AreMadeFor b.now pools.old }
-    requires zone { IsZone b.now.named.program.spans zone.now }
-    requires there { first < length b.now.blocking.blocks }
-    ensures made_for { AreMadeFor b.now pools.new }
+    requires made_for { AreMadeFor node.program.now pools.old }
+    requires there { first < length node.program.now.blocking.blocks }
+    ensures made_for { AreMadeFor node.entry.program.now pools.new }
 {
-    let block = b.block(first);
+    let block = node.program.block(first);
     narrow_to(block, sides.as_slice(), spans);
-    if !is_priced_within(alloc, b, zone, pools, proof, first, spans.as_slice())? {
+    if !is_priced_within(alloc, node, pools, proof, first, spans.as_slice())? {
         return Ok(None);
     }
     let Some(point) = pools.budget.work.point(first) else {
@@ -272,22 +261,25 @@ fn next_point(
 // Prices a block within spans of its own variables; whether there is a bound.
 fn is_priced_within(
     alloc: Global,
-    b: &Blocked,
-    zone: &Zone,
+    node: NodeContext,
     pools: &mut Pools,
     proof: &Proof,
     first: u32,
     spans: &[Span],
 ) -> Result<bool, AllocError>
-    requires made_for { AreMadeFor b.now pools.old }
-    requires zone { IsZone b.now.named.program.spans zone.now }
-    requires there { first < length b.now.blocking.blocks }
-    ensures made_for { AreMadeFor b.now pools.new }
+    requires made_for { AreMadeFor node.program.now pools.old }
+    requires there { first < length node.program.now.blocking.blocks }
+    ensures made_for { AreMadeFor node.entry.program.now pools.new }
 {
-    let inner = spans_with(alloc, zone, b.block(first), spans)?;
-    let left = narrow(b, zone.copy(alloc)?, inner.as_slice());
-    let classes = Classes::of(alloc, b, &left)?;
-    Ok(pools.has_bound(b, &classes, &left, proof, Cap::At(VISITS)))
+    let all = spans_with(alloc, node.zone, node.program.block(first), spans)?;
+    let left = narrow(node.program, node.zone.copy(alloc)?, all.as_slice());
+    let classes = Classes::of(alloc, node.program, &left)?;
+    let inner = NodeContext {
+        program: node.program,
+        classes: &classes,
+        zone: &left,
+    };
+    Ok(pools.has_bound(inner, proof, Cap::At(VISITS)))
 }
 
 // The spans of a zone, but for a block's own.

@@ -1,13 +1,10 @@
 // Several columns a round, for classes of identical blocks that have a graph of states: points beside the cheapest one. One
 // class gives one column a round otherwise, and a solution has as many as the class has blocks.
 ghost use Rattle.std.specs.Prelude.{◌<◌, length};
-ghost use Rattle.bp_theory.specs.Trees.{IsZone};
-ghost use Rattle.block_class.specs.Classes.{AreSameClasses};
 ghost use Rattle.node_memory.specs.Pools.{AreMadeFor};
 
-use block_class::Classes;
-use block_program::{Blocked, Zone, fits};
-use node_memory::{Place, Pools, alone};
+use block_program::{Blocked, fits};
+use node_memory::{NodeContext, Place, Pools, alone};
 use restricted_master::RestrictedMaster;
 use std::alloc::{AllocError, Global};
 
@@ -17,10 +14,12 @@ const MOST_COLUMNS: u32 = 5;
 /// How many ranks are looked at for these: a point may have several.
 const MOST_RANKS: usize = 60;
 
-// A class of several blocks: its number in the zone, and its first block.
+// A class of several blocks.
 #[derive(Clone, Copy)]
 struct Alike {
+    // Its number in the zone.
     class: u32,
+    // The number of its first block.
     first: u32,
 }
 
@@ -35,24 +34,20 @@ pub fn gives_several(b: &Blocked, pools: &Pools, block: u32) -> bool
 /// how many columns are new.
 pub fn add_several(
     alloc: Global,
-    b: &Blocked,
-    classes: &Classes,
-    zone: &Zone,
+    node: NodeContext,
     pools: &mut Pools,
     master: &mut RestrictedMaster,
     mults: &[i64],
 ) -> Result<u32, AllocError>
-    requires made_for { AreMadeFor b.now pools.old }
-    requires classes { AreSameClasses zone.now b.now.blocking classes.now }
-    requires zone { IsZone b.now.named.program.spans zone.now }
-    ensures made_for { AreMadeFor b.now pools.new }
+    requires made_for { AreMadeFor node.program.now pools.old }
+    ensures made_for { AreMadeFor node.entry.program.now pools.new }
 {
     let mut added: u32 = 0;
-    for class in 0..classes.len() {
-        let first = classes.first(class);
-        if master.size(class) > 1 && gives_several(b, pools, first) {
+    for class in 0..node.classes.len() {
+        let first = node.classes.first(class);
+        if master.size(class) > 1 && gives_several(node.program, pools, first) {
             let alike = Alike { class, first };
-            let more = add_of_class(alloc, b, zone, pools, master, mults, alike)?;
+            let more = add_of_class(alloc, node, pools, master, mults, alike)?;
             added = added.saturating_add(more);
         }
     }
@@ -62,21 +57,19 @@ pub fn add_several(
 // Adds points beside the cheapest one of a class; how many columns are new.
 fn add_of_class(
     alloc: Global,
-    b: &Blocked,
-    zone: &Zone,
+    node: NodeContext,
     pools: &mut Pools,
     master: &mut RestrictedMaster,
     mults: &[i64],
     alike: Alike,
 ) -> Result<u32, AllocError>
-    requires made_for { AreMadeFor b.now pools.old }
-    requires zone { IsZone b.now.named.program.spans zone.now }
-    ensures made_for { AreMadeFor b.now pools.new }
+    requires made_for { AreMadeFor node.program.now pools.old }
+    ensures made_for { AreMadeFor node.entry.program.now pools.new }
 {
-    let ranks = ranked(alloc, b, zone, pools, mults, alike.first)?;
+    let ranks = ranked(alloc, node, pools, mults, alike.first)?;
     let mut added = 0;
     for rank in 0..ranks.min(MOST_RANKS) {
-        added = add_ranked(alloc, b, zone, pools, master, alike, rank, added)?;
+        added = add_ranked(alloc, node, pools, master, alike, rank, added)?;
     }
     Ok(added)
 }
@@ -84,21 +77,22 @@ fn add_of_class(
 // Ranks points beside the cheapest one of a block at multipliers by row; how many there are.
 fn ranked(
     alloc: Global,
-    b: &Blocked,
-    zone: &Zone,
+    node: NodeContext,
     pools: &mut Pools,
     mults: &[i64],
     first: u32,
 ) -> Result<usize, AllocError>
-    requires made_for { AreMadeFor b.now pools.old }
-    requires zone { IsZone b.now.named.program.spans zone.now }
-    ensures made_for { AreMadeFor b.now pools.new }
+    requires made_for { AreMadeFor node.program.now pools.old }
+    ensures made_for { AreMadeFor node.entry.program.now pools.new }
 {
     let proof = alone(alloc, mults, first)?;
-    if first >= b.blocks() || !fits(b, &proof) {
+    if first >= node.program.blocks() || !fits(node.program, &proof) {
         return Ok(0);
     }
-    pools.budget.work.rank(alloc, b, first, zone, &proof)
+    pools
+        .budget
+        .work
+        .rank(alloc, node.program, first, node.zone, &proof)
 }
 
 // Adds the point of a block that is chosen to its pool.
@@ -120,26 +114,28 @@ fn add_chosen(
 // before; how many are added then.
 fn add_ranked(
     alloc: Global,
-    b: &Blocked,
-    zone: &Zone,
+    node: NodeContext,
     pools: &mut Pools,
     master: &mut RestrictedMaster,
     alike: Alike,
     rank: usize,
     added: u32,
 ) -> Result<u32, AllocError>
-    requires made_for { AreMadeFor b.now pools.old }
-    requires zone { IsZone b.now.named.program.spans zone.now }
-    ensures made_for { AreMadeFor b.now pools.new }
+    requires made_for { AreMadeFor node.program.now pools.old }
+    ensures made_for { AreMadeFor node.entry.program.now pools.new }
 {
     let first = alike.first;
-    if added >= MOST_COLUMNS || first >= b.blocks() {
+    if added >= MOST_COLUMNS || first >= node.program.blocks() {
         return Ok(added);
     }
-    if !pools.budget.work.choose(b, first, zone, rank) {
+    if !pools
+        .budget
+        .work
+        .choose(node.program, first, node.zone, rank)
+    {
         return Ok(added);
     }
-    let Some(place) = add_chosen(alloc, b, pools, first)? else {
+    let Some(place) = add_chosen(alloc, node.program, pools, first)? else {
         return Ok(added);
     };
     let Some(column) = pools.column(place) else {

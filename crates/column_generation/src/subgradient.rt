@@ -5,8 +5,6 @@
 // Minimization of unsmooth functionals, 1969; Barahona and Anbil, The volume algorithm: producing primal solutions with
 // a subgradient method, 2000.)
 ghost use Rattle.std.specs.Prelude.{◌≡◌};
-ghost use Rattle.bp_theory.specs.Trees.{IsZone};
-ghost use Rattle.block_class.specs.Classes.{AreSameClasses};
 ghost use Rattle.node_memory.specs.Pools.{AreMadeFor};
 
 use crate::costs::reduced_cost;
@@ -14,20 +12,23 @@ use block_class::Classes;
 use block_program::{Blocked, MAX_SCALE};
 use bp_theory::{MasterRow, Sense, Span};
 use branch_tree::Turn;
-use node_memory::Pools;
+use node_memory::{NodeContext, Pools};
 use primal_heuristics::{
     UNIT, at, clipped, copy_count, copy_place, feasible_cost, is_below, is_reached, meets, product,
     put, quotient, signed, slope, sum_at, write_sums,
 };
 use std::alloc::{AllocError, Global};
 
-/// How steps go: how many are taken, how many without a gain until the aim is lowered, the least gain that is aimed at,
-/// in units, and the greatest cost over the first aim below the root.
+// How steps go.
 #[derive(Clone, Copy)]
 struct Pace {
+    // How many steps are taken at most.
     steps: u32,
+    // How many steps without a gain lower the aim.
     patience: u32,
+    // The least gain that is aimed at, in units.
     least_gain: i128,
+    // The greatest cost of a variable over the first aim, below the root.
     aim_part: i128,
 }
 
@@ -77,77 +78,85 @@ enum Course {
     Mean,
 }
 
-/// The state of the steps, and what they found: the multipliers of the best bound by row at the greatest scale, that
-/// bound, the mean of the points in units, and the cheapest feasible point that is cheaper than the known cost. Sums of
-/// the master rows are kept at the newest point, at that of the best bound, and along what the next step goes. That
-/// leaves from multipliers whose bound is short of the best.
+/// The state of the steps, and what they found. Multipliers are by row that proofs may name and at the greatest
+/// scale, 1,048,576; sums are by such a row and in units of which as many make one.
 #[derive(Drop)]
 pub struct Subgradient {
+    /// The multipliers of the best dual bound.
     pub best: Vec<i64>,
+    /// The best dual bound, in units.
     pub value: i128,
+    /// The mean of the priced points, by variable, in units.
     pub mean: Vec<i128>,
+    /// A feasible point by variable that is cheaper than the incumbent, the cheapest one that was priced.
     pub found: Option<Vec<i64>>,
+    /// The incumbent's cost, where there is one, in ones.
     pub known: Option<i64>,
+    /// What directs the next step.
     course: Course,
+    /// How steps go.
     pace: Pace,
+    /// The multipliers that were priced last.
     mults: Vec<i64>,
+    /// The point that reaches their bound, by copies of the variables.
     point: Vec<i64>,
+    /// The rows' sums at this point.
     sums: Vec<i128>,
+    /// The rows' sums at the point of the best bound.
     best_sums: Vec<i128>,
+    /// The multipliers that the next step leaves from.
     from: Vec<i64>,
+    /// The rows' sums at what directs the next step.
     along: Vec<i128>,
+    /// How far the bound of `from` is below the best, in units.
     short: i128,
+    /// How far above the best bound the aim is, in units.
     pub gain: i128,
+    /// How many steps in a row had no gain.
     failures: u32,
 }
 
 /// Multipliers with a great bound in a leaf's zone, from the leaf's.
 pub fn take_steps(
     alloc: Global,
-    b: &Blocked,
-    classes: &Classes,
+    node: NodeContext,
     pools: &mut Pools,
     turn: &Turn,
     known: Option<i64>,
     with_columns: bool,
 ) -> Result<Subgradient, AllocError>
-    requires made_for { AreMadeFor b.now pools.old }
-    requires classes { AreSameClasses turn.now.zone b.now.blocking classes.now }
-    requires zone { IsZone b.now.named.program.spans turn.now.zone }
-    ensures made_for { AreMadeFor b.now pools.new }
+    requires made_for { AreMadeFor node.program.now pools.old }
+    ensures made_for { AreMadeFor node.entry.program.now pools.new }
 {
     let course = course_of(with_columns);
     let pace = pace_at(turn.depth, with_columns);
-    let mut steps = make(alloc, b, turn, known, course, pace)?;
-    take_all(alloc, b, classes, pools, turn, with_columns, &mut steps)?;
+    let mut steps = make(alloc, node.program, turn, known, course, pace)?;
+    take_all(alloc, node, pools, turn, with_columns, &mut steps)?;
     Ok(steps)
 }
 
 // Takes steps as long as there is one to take. The last ones give columns, where columns follow.
 fn take_all(
     alloc: Global,
-    b: &Blocked,
-    classes: &Classes,
+    node: NodeContext,
     pools: &mut Pools,
     turn: &Turn,
     with_columns: bool,
     steps: &mut Subgradient,
 ) -> Result<(), AllocError>
-    requires made_for { AreMadeFor b.now pools.old }
-    requires classes { AreSameClasses turn.now.zone b.now.blocking classes.now }
-    requires zone { IsZone b.now.named.program.spans turn.now.zone }
-    ensures made_for { AreMadeFor b.now pools.new }
+    requires made_for { AreMadeFor node.program.now pools.old }
+    ensures made_for { AreMadeFor node.entry.program.now pools.new }
 {
-    if !begin(alloc, b, classes, pools, turn, steps)? {
+    if !begin(alloc, node, pools, turn, steps)? {
         return Ok(());
     }
     let many = steps.pace.steps;
     for number in 0..many {
-        if !go_on(alloc, b, classes, pools, turn, steps)? {
+        if !go_on(alloc, node, pools, steps)? {
             break;
         }
         if with_columns && many - number <= COLUMN_STEPS {
-            pools.add_all_priced(alloc, b, classes)?;
+            pools.add_all_priced(alloc, node.program, node.classes)?;
         }
     }
     Ok(())
@@ -183,31 +192,31 @@ fn pace_at(depth: u32, with_columns: bool) -> Pace {
 // Takes a step and prices it; whether there was one to take, and a bound.
 fn go_on(
     alloc: Global,
-    b: &Blocked,
-    classes: &Classes,
+    node: NodeContext,
     pools: &mut Pools,
-    turn: &Turn,
     steps: &mut Subgradient,
 ) -> Result<bool, AllocError>
-    requires made_for { AreMadeFor b.now pools.old }
-    requires classes { AreSameClasses turn.now.zone b.now.blocking classes.now }
-    requires zone { IsZone b.now.named.program.spans turn.now.zone }
-    ensures made_for { AreMadeFor b.now pools.new }
+    requires made_for { AreMadeFor node.program.now pools.old }
+    ensures made_for { AreMadeFor node.entry.program.now pools.new }
 {
-    if reaches(steps) || !step(b, steps) {
+    if reaches(steps) || !step(node.program, steps) {
         return Ok(false);
     }
-    let Some(value) = priced(alloc, b, classes, pools, turn, steps)? else {
+    let Some(value) = priced(alloc, node, pools, steps)? else {
         return Ok(false);
     };
-    write_sums(b, steps.point.as_slice(), steps.sums.as_mut_slice());
-    note(alloc, b, steps)?;
+    write_sums(
+        node.program,
+        steps.point.as_slice(),
+        steps.sums.as_mut_slice(),
+    );
+    note(alloc, node.program, steps)?;
     mix_point(
         steps.mean.as_mut_slice(),
         steps.point.as_slice(),
         MEAN_SHARE,
     );
-    take(b, steps, value);
+    take(node.program, steps, value);
     Ok(true)
 }
 
@@ -292,50 +301,47 @@ fn at_full_scale(mult: &i64, scale: u32) -> i64 {
 // Prices the leaf's multipliers; whether there is a bound.
 fn begin(
     alloc: Global,
-    b: &Blocked,
-    classes: &Classes,
+    node: NodeContext,
     pools: &mut Pools,
     turn: &Turn,
     steps: &mut Subgradient,
 ) -> Result<bool, AllocError>
-    requires made_for { AreMadeFor b.now pools.old }
-    requires classes { AreSameClasses turn.now.zone b.now.blocking classes.now }
-    requires zone { IsZone b.now.named.program.spans turn.now.zone }
-    ensures made_for { AreMadeFor b.now pools.new }
+    requires made_for { AreMadeFor node.program.now pools.old }
+    ensures made_for { AreMadeFor node.entry.program.now pools.new }
 {
-    let Some(value) = priced(alloc, b, classes, pools, turn, steps)? else {
+    let Some(value) = priced(alloc, node, pools, steps)? else {
         return Ok(false);
     };
     steps.value = value;
-    steps.gain = first_gain(b, turn.depth, steps.pace.aim_part, &value);
-    write_sums(b, steps.point.as_slice(), steps.sums.as_mut_slice());
+    steps.gain = first_gain(node.program, turn.depth, steps.pace.aim_part, &value);
+    write_sums(
+        node.program,
+        steps.point.as_slice(),
+        steps.sums.as_mut_slice(),
+    );
     mix_point(steps.mean.as_mut_slice(), steps.point.as_slice(), PARTS);
     keep(steps.best_sums.as_mut_slice(), steps.sums.as_slice());
     keep(steps.along.as_mut_slice(), steps.sums.as_slice());
-    note(alloc, b, steps)?;
+    note(alloc, node.program, steps)?;
     Ok(true)
 }
 
 // The bound of the multipliers, with a point that reaches it.
 fn priced(
     alloc: Global,
-    b: &Blocked,
-    classes: &Classes,
+    node: NodeContext,
     pools: &mut Pools,
-    turn: &Turn,
     steps: &mut Subgradient,
 ) -> Result<Option<i128>, AllocError>
-    requires made_for { AreMadeFor b.now pools.old }
-    requires classes { AreSameClasses turn.now.zone b.now.blocking classes.now }
-    requires zone { IsZone b.now.named.program.spans turn.now.zone }
-    ensures made_for { AreMadeFor b.now pools.new }
+    requires made_for { AreMadeFor node.program.now pools.old }
+    ensures made_for { AreMadeFor node.entry.program.now pools.new }
 {
     if pools.budget.leaves_out() {
-        write_ends(b, turn.zone.spans(), steps);
+        write_ends(node.program, node.zone.spans(), steps);
     }
     let mults = steps.mults.as_slice();
     let point = steps.point.as_mut_slice();
-    pools.price(alloc, b, classes, &turn.zone, mults, point)
+    pools.price(alloc, node, mults, point)
 }
 
 // Writes the cheaper ends of the copies' spans at the multipliers: the upper ones where reduced costs are negative.

@@ -7,21 +7,27 @@ use std::collections::BTreeMap;
 // How many bytes kept bases may take.
 const MOST_BYTES: usize = 1 << 26;
 
-/// A forked leaf: its basis, its bound, the variable that it was forked at with the part of its value, and how many
-/// leaves below it are still to come.
+/// A forked node, for the nodes below it.
 #[derive(Drop)]
 pub struct Forked {
+    /// The basis of its relaxation's optimum.
     pub basis: Basis,
+    /// The value of its relaxation, in ones, without the constant.
     pub value: f64,
+    /// The variable that it was forked at.
     pub var: u32,
+    /// How far the value of this variable was above a whole number, from 0 to 1.
     pub part: f64,
+    /// How many of the two nodes below are still to come.
     pub left: u32,
 }
 
-/// Forked leaves by the keys of their paths.
+/// The forked nodes whose bases are kept.
 #[derive(Drop)]
 pub struct Bases {
+    /// The nodes by the keys of their paths.
     forked: BTreeMap<u64, Forked>,
+    /// How much memory their bases take, in bytes.
     bytes: usize,
 }
 

@@ -18,10 +18,12 @@ const PATIENCE: u32 = 8;
 // How many times the mean gain a side without points counts where no point is known.
 const EMPTY_GAIN: f64 = 10.0;
 
-// How a side went: its gain, and whether nothing cheaper is left there.
+// How a side of a split went.
 #[derive(Clone, Copy)]
 struct Tried {
+    // By how much the relaxation's value rose, in ones.
     gain: f64,
+    // Whether nothing cheaper than the incumbent is left there.
     is_shut: bool,
 }
 

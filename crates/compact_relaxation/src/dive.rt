@@ -41,10 +41,12 @@ pub(crate) fn manner_of(number: u32) -> Manner {
     }
 }
 
-/// The cheapest cost that is known, and the point of that cost, if it was found here.
+/// The incumbent of a node.
 #[derive(Drop)]
 pub(crate) struct Found {
+    /// The cheapest cost that is known, where there is one, in ones.
     pub known: Option<i64>,
+    /// A point of that cost, by variable, where it was found here.
     pub point: Option<Vec<i64>>,
 }
 
@@ -63,6 +65,17 @@ impl Found {
             }
         }
     }
+}
+
+// Where a dive stands.
+#[derive(Drop)]
+struct Dive {
+    // The spans of the variables, narrowed by each rounding.
+    spans: Vec<Span>,
+    // Which variable is rounded next.
+    manner: Manner,
+    // How many roundings left nothing.
+    failures: u32,
 }
 
 impl LoneLeaves {
@@ -92,12 +105,15 @@ impl LoneLeaves {
         found: &mut Found,
     ) -> Result<(), AllocError> {
         let begun = self.lp.iterations();
-        let mut spans = spans.to_vec(alloc)?;
-        let mut failures = 0;
+        let mut dive = Dive {
+            spans: spans.to_vec(alloc)?,
+            manner,
+            failures: 0,
+        };
         for number in 0..MOST_STEPS {
             let rounds = number % ROUND_EACH == 0;
-            if !self.go_on(alloc, b, &mut spans, manner, rounds, found, &mut failures)?
-                || failures > MOST_FAILURES
+            if !self.go_on(alloc, b, &mut dive, rounds, found)?
+                || dive.failures > MOST_FAILURES
                 || self.lp.iterations().saturating_sub(begun) > MOST_ITERATIONS
             {
                 break;
@@ -115,20 +131,18 @@ impl LoneLeaves {
         &mut self,
         alloc: Global,
         b: &Blocked,
-        spans: &mut Vec<Span>,
-        manner: Manner,
+        dive: &mut Dive,
         rounds: bool,
         found: &mut Found,
-        failures: &mut u32,
     ) -> Result<bool, AllocError> {
         let fractions = self.fractions(alloc)?;
         let fractions = fractions.as_slice();
         if rounds || fractions.is_empty() {
-            self.round(alloc, b, spans.as_slice(), found)?;
+            self.round(alloc, b, dive.spans.as_slice(), found)?;
         }
-        match self.pick(fractions, manner) {
+        match self.pick(fractions, dive.manner) {
             None => Ok(false),
-            Some(next) => self.step(alloc, b, spans, fractions, &next, manner, found, failures),
+            Some(next) => self.step(alloc, b, dive, fractions, &next, found.known),
         }
     }
 
@@ -160,34 +174,25 @@ impl LoneLeaves {
         &mut self,
         alloc: Global,
         b: &Blocked,
-        spans: &mut Vec<Span>,
+        dive: &mut Dive,
         fractions: &[Fraction],
         next: &Fraction,
-        manner: Manner,
-        found: &Found,
-        failures: &mut u32,
+        known: Option<i64>,
     ) -> Result<bool, AllocError> {
-        let before = spans.as_slice().to_vec(alloc)?;
+        let before = dive.spans.as_slice().to_vec(alloc)?;
         let basis = self.lp.basis()?;
-        let goes_up = next.part > 0.5 || manner == Manner::Up;
+        let goes_up = next.part > 0.5 || dive.manner == Manner::Up;
         let mut is_open = false;
         for is_second in [false, true] {
-            spans.clear();
-            spans.extend_from_slice(before.as_slice())?;
+            dive.spans.clear();
+            dive.spans.extend_from_slice(before.as_slice())?;
             let is_up = goes_up != is_second;
-            narrow(spans.as_mut_slice(), next, is_up);
-            if is_up && !is_second && manner == Manner::RatherUp {
-                narrow_all(spans.as_mut_slice(), fractions);
+            narrow(dive.spans.as_mut_slice(), next, is_up);
+            if is_up && !is_second && dive.manner == Manner::RatherUp {
+                narrow_all(dive.spans.as_mut_slice(), fractions);
             }
             let basis = if is_second { Some(&basis) } else { None };
-            is_open = self.is_open_behind(
-                b,
-                spans.as_mut_slice(),
-                next.var,
-                basis,
-                found,
-                failures,
-            )?;
+            is_open = self.is_open_behind(b, dive, next.var, basis, known)?;
             if is_open {
                 break;
             }
@@ -200,23 +205,22 @@ impl LoneLeaves {
     fn is_open_behind(
         &mut self,
         b: &Blocked,
-        spans: &mut [Span],
+        dive: &mut Dive,
         var: u32,
         basis: Option<&Basis>,
-        found: &Found,
-        failures: &mut u32,
+        known: Option<i64>,
     ) -> Result<bool, AllocError> {
-        if self.is_empty_behind(b, spans, var)? {
+        if self.is_empty_behind(b, dive.spans.as_mut_slice(), var)? {
             return Ok(false);
         }
-        self.set_spans(spans);
+        self.set_spans(dive.spans.as_slice());
         if let Some(basis) = basis {
             self.lp.load(basis)?;
         }
-        if self.is_solved(found.known)? {
+        if self.is_solved(known)? {
             return Ok(true);
         }
-        *failures = failures.saturating_add(1);
+        dive.failures = dive.failures.saturating_add(1);
         Ok(false)
     }
 

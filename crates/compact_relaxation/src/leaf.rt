@@ -25,26 +25,43 @@ const FIRST_SHARE: u64 = 60;
 // How far above a whole number a bound may be that counts as that number.
 const NEAR: f64 = 1e-5;
 
-/// Multipliers by row at the greatest scale, and the scale at which they do as well; multipliers by row that show that
-/// the zone has no point, where there are such; a point that is cheaper than the best cost, where one was found; and a
-/// variable with the number that its span is split behind.
+/// What the relaxation of a node gives. Nothing is promised of it.
 #[derive(Drop)]
 pub struct LoneHint {
+    /// Multipliers by row that proofs may name, at the greatest scale, 1,048,576.
     pub mults: Vec<i64>,
+    /// The scale at which they show as much.
     pub scale: u32,
+    /// Multipliers by row at the greatest scale that show that the zone has no point, where there are such.
     pub emptying: Option<Vec<i64>>,
+    /// A point by variable that is cheaper than the incumbent, where one was found.
     pub point: Option<Vec<i64>>,
+    /// A variable to fork at.
     pub var: u32,
+    /// The number behind which its span is split.
     pub at: i64,
 }
 
-// What the leaf above gives: its bound, the variable that it was forked at, the part of its value, and which side this is.
+// What the node above gives.
 #[derive(Clone, Copy)]
 struct Parent {
+    // The value of its relaxation, in ones, without the constant.
     value: f64,
+    // The variable that it was forked at.
     var: u32,
+    // How far the value of this variable was above a whole number, from 0 to 1.
     part: f64,
+    // Whether this is the lower side of the fork.
     is_low: bool,
+}
+
+// The optimum of a node's relaxation, from which dives begin.
+#[derive(Clone, Copy)]
+struct Optimum<'a> {
+    // How the relaxation ended, and its value.
+    relaxed: &'a Relaxed,
+    // The basis of the optimum.
+    basis: &'a Basis,
 }
 
 impl LoneLeaves {
@@ -68,31 +85,29 @@ impl LoneLeaves {
             var,
             at,
         };
-        self.complete(alloc, b, turn, &relaxed, parent, best, &mut hint)?;
+        if relaxed.end == End::Empty {
+            hint.emptying = self.emptying(alloc, b, spans)?;
+            if hint.emptying.is_some() {
+                self.note_emptying(spans);
+            }
+            return Ok(hint);
+        }
+        self.note_gain(parent, relaxed.value);
+        self.complete(alloc, b, turn, &relaxed, best, &mut hint)?;
         Ok(hint)
     }
 
-    // Writes into a leaf's hint what its relaxation tells: what shows that there is no point, or the scale, a point and a
-    // split.
+    // Writes into a node's hint what its relaxation tells where that has points: the scale, a point and a split.
     fn complete(
         &mut self,
         alloc: Global,
         b: &Blocked,
         turn: &Turn,
         relaxed: &Relaxed,
-        parent: Option<Parent>,
         best: Option<i64>,
         hint: &mut LoneHint,
     ) -> Result<(), AllocError> {
         let spans = turn.zone.spans();
-        if relaxed.end == End::Empty {
-            hint.emptying = self.emptying(alloc, b, spans)?;
-            if hint.emptying.is_some() {
-                self.note_emptying(spans);
-            }
-            return Ok(());
-        }
-        self.note_gain(parent, relaxed.value);
         let wanted = self.wanted(relaxed, best);
         hint.scale = self.scale_of(b, hint.mults.as_slice(), spans, wanted);
         if relaxed.is_reached {
@@ -207,29 +222,32 @@ impl LoneLeaves {
             return Ok(());
         }
         let basis = self.lp.basis()?;
-        self.dive_from(alloc, b, turn, relaxed, &basis, many, found)?;
+        let optimum = Optimum {
+            relaxed,
+            basis: &basis,
+        };
+        self.dive_from(alloc, b, turn, optimum, many, found)?;
         self.go_back(turn.zone.spans(), &basis)
     }
 
-    // Dives so many times from a basis, until what is found shuts the leaf.
+    // Dives so many times from an optimum, until what is found shuts the leaf.
     fn dive_from(
         &mut self,
         alloc: Global,
         b: &Blocked,
         turn: &Turn,
-        relaxed: &Relaxed,
-        basis: &Basis,
+        optimum: Optimum,
         many: u32,
         found: &mut Found,
     ) -> Result<(), AllocError> {
         let spans = turn.zone.spans();
         for dive in 0..many {
             if dive > 0 {
-                self.go_back(spans, basis)?;
+                self.go_back(spans, optimum.basis)?;
             }
             let number = if turn.depth == 0 { dive } else { self.leaves };
             self.dive(alloc, b, spans, manner_of(number), found)?;
-            if self.is_shut(relaxed, found.known) {
+            if self.is_shut(optimum.relaxed, found.known) {
                 break;
             }
         }

@@ -19,4 +19,4 @@ mod scores;
 pub use compact::relaxation_of;
 pub use empty::at_scale;
 pub use leaf::LoneHint;
-pub use relaxation::{LoneLeaves, serves};
+pub use relaxation::{LoneLeaves, has_no_block_rows};

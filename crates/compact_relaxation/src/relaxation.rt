@@ -24,24 +24,38 @@ const MOST_ITERATIONS: u64 = 100_000;
 /// How far below a whole cost the objective may be that counts as that cost.
 pub const SLACK: f64 = 1e-4;
 
-/// The relaxation of a program's rows and cuts with the basis of the last leaf, the bases of the leaves that were
-/// forked, the scores of variables, and how many iterations dives took. Kept bases take 64 MB at most; the rest grows
-/// with the program alone.
+/// The relaxation of a program's rows and cuts, with what is kept from node to node. Kept bases take 64 MB at most;
+/// the rest grows with the program alone.
 pub struct LoneLeaves {
+    /// The relaxation, at the basis of the last node.
     pub(crate) lp: Lp,
+    /// The bases of the nodes that were forked.
     pub(crate) bases: Bases,
+    /// What is known of the variables as those to fork at.
     pub(crate) scores: Scores,
+    /// A state of the relaxation that trials go back to.
     pub(crate) snapshot: Snapshot,
+    /// The constant of the model's objective, in ones.
     pub(crate) constant: f64,
+    /// By variable, its span in the model.
     pub(crate) root: Vec<Span>,
+    /// The rows of the cuts.
     pub(crate) cuts: Vec<Row>,
+    /// How many iterations a solution may take.
     pub(crate) most: u32,
+    /// How many nodes there were.
     pub(crate) leaves: u32,
+    /// How many iterations dives took.
     pub(crate) dived: u64,
+    /// The key of the node that was forked last, whose basis is at hand.
     pub(crate) last: Option<u64>,
+    /// Room for exact reduced costs of multipliers, by variable, at the scale of these.
     pub(crate) whole: Vec<i128>,
+    /// Room for reduced costs, by variable, in ones.
     pub(crate) rests: Vec<f64>,
+    /// The rows that propagation looks at next.
     pub(crate) queue: Vec<u32>,
+    /// By row of the model, whether it is in the queue.
     pub(crate) is_queued: Vec<bool>,
 }
 
@@ -68,7 +82,7 @@ impl Drop for LoneLeaves {
 }
 
 /// Whether no block of a program has rows, as where each is a single variable.
-pub fn serves(b: &Blocked) -> bool
+pub fn has_no_block_rows(b: &Blocked) -> bool
     ensures { IsTrue result → AreRowless b.now.blocking }
 {
     for number in 0..b.blocks() {
@@ -209,20 +223,27 @@ impl LoneLeaves {
     }
 }
 
-/// How a relaxation ended: its bound without the constant, and whether nothing cheaper than what is known is left.
+/// How the relaxation of a node ended.
 #[derive(Clone, Copy)]
 pub(crate) struct Relaxed {
+    /// How its solution ended.
     pub end: End,
+    /// The dual bound of its multipliers, in ones, without the constant.
     pub value: f64,
+    /// Whether this bound leaves nothing cheaper than the incumbent.
     pub is_reached: bool,
 }
 
-/// A variable with a fractional value: how far it is above a whole number, and its score.
+/// A variable with a fractional value.
 #[derive(Clone, Copy)]
 pub(crate) struct Fraction {
+    /// The variable.
     pub var: u32,
+    /// Its value.
     pub value: f64,
+    /// How far that is above a whole number, from 0 to 1.
     pub part: f64,
+    /// How much it is wanted as the one to fork at: the greater the better.
     pub score: f64,
 }
 

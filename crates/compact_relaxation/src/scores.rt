@@ -13,12 +13,16 @@ const MOST: f64 = 1e100;
 // The least gain.
 const LEAST: f64 = 1e-6;
 
-/// Gains by unit of distance on one side of splits, by variable and in all.
+/// Gains of forks on one side, each by unit of distance of the value from that side.
 #[derive(Drop)]
 pub struct Gains {
+    /// By variable, the sum of its gains.
     sums: Vec<f64>,
+    /// By variable, how many these are.
     counts: Vec<u32>,
+    /// The sum of all gains.
     sum: f64,
+    /// How many these are.
     count: u64,
 }
 
@@ -71,12 +75,17 @@ impl Gains {
     }
 }
 
-/// Gains below and above splits, and activities.
+/// What is known of the variables as those to fork at.
 pub struct Scores {
+    /// The gains on the lower sides of forks.
     pub below: Gains,
+    /// The gains on the upper sides of forks.
     pub above: Gains,
+    /// By variable, how often proofs used its span, the newest uses counting most.
     activities: Vec<f64>,
+    /// What the next use adds to an activity.
     step: f64,
+    /// The greatest activity.
     most: f64,
 }
 

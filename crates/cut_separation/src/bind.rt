@@ -5,12 +5,14 @@ use block_program::Blocked;
 use bp_theory::{Cut, Items};
 use std::alloc::{AllocError, Global};
 
-/// The rows in front of the cuts that were made: how many the program has, the number of its first cut, and how many cuts there
-/// were before.
+/// The rows in front of the cuts that are made.
 #[derive(Clone, Copy)]
 pub struct Front {
+    /// How many rows the model has.
     pub own: u32,
+    /// The number of the first cut as proofs number rows, behind the links.
     pub first: u32,
+    /// How many cuts the program had before.
     pub given: u32,
 }
 

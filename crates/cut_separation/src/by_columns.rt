@@ -5,7 +5,7 @@ ghost use Rattle.round_cut.specs.Several.{AreRowsOfCuts};
 
 use crate::bind::{Front, bound_cuts};
 use crate::columns::{Point, Root, root_of};
-use crate::missed::missed_at;
+use crate::missed::{Optimum, missed_at};
 use crate::numbers::{set, whole_at};
 use crate::state::master_sides;
 use crate::trial::Trial;
@@ -52,17 +52,22 @@ fn are_joined(front: Front, entries: &[(u32, i64)]) -> bool {
     false
 }
 
-// What the rounds have come to: combinations of rows, the program's cuts and those behind them, multipliers to begin the next
-// round from, the cuts that the greatest bound is of, the bound of the first root, the greatest, and how many rounds rose by
-// little.
+// What the rounds have come to.
 #[derive(Drop)]
 struct Rounds {
+    // The combinations of rows.
     trial: Trial,
+    // The program's own cuts, and behind them those that were made.
     cuts: Vec<Cut>,
+    // The multipliers that the next round begins from, by row at the greatest scale; none before the first.
     mults: Vec<i64>,
+    // The cuts that the greatest dual bound is of.
     wanted: Vec<Cut>,
+    // The dual bound of the first root, in units, once there is one.
     first: Option<i128>,
+    // The greatest dual bound of a root, in units.
     greatest: i128,
+    // How many rounds in a row raised it by little.
     idle: u32,
 }
 
@@ -204,16 +209,11 @@ fn found_at(
     let values = point.values.as_slice();
     let sides = master_sides(alloc, b, rows, values)?;
     let most = (most as usize).min(MOST_CUTS);
-    missed_at(
-        alloc,
-        b,
-        rows,
-        &point.relaxation,
+    let optimum = Optimum {
         values,
-        sides.as_slice(),
-        trial,
-        most,
-    )
+        sides: sides.as_slice(),
+    };
+    missed_at(alloc, b, rows, &point.relaxation, optimum, trial, most)
 }
 
 // Of cuts behind those of a program, those with multipliers, and those that these were made of.

@@ -2,8 +2,6 @@
 // the relaxation of the master rows and cuts over these columns, whose tableau has the multipliers of columns that are taken in
 // part.
 ghost use Rattle.std.specs.Prelude.{◌<◌, length};
-ghost use Rattle.bp_theory.specs.Trees.{IsZone};
-ghost use Rattle.block_class.specs.Classes.{AreSameClasses};
 ghost use Rattle.branch_tree.specs.Turns.{IsTurn};
 ghost use Rattle.node_memory.specs.Pools.{AreMadeFor};
 
@@ -12,14 +10,14 @@ use crate::numbers::low_at;
 use crate::relaxation::Relaxation;
 use basis_factor::{Entry, Vectors, at, put};
 use block_class::Classes;
-use block_program::{Blocked, Zone};
+use block_program::Blocked;
 use bp_theory::Span;
 use branch_tree::{Grove, Turn};
 use col_pool::Column;
 use column_generation::{Centre, Effort, generate_columns, round_up, take_steps};
 use compact_relaxation::relaxation_of;
 use dual_simplex::{End, Lp, Range};
-use node_memory::Pools;
+use node_memory::{NodeContext, Pools};
 use primal_heuristics::{is_first_copy, whole};
 use restricted_master::RestrictedMaster;
 use std::alloc::{AllocError, Global};
@@ -40,35 +38,46 @@ const NOTHING: Range = Range {
     upper: 0.0,
 };
 
-/// A root: multipliers by row with a great bound, this bound in units, and what the columns come to, where they meet the rows.
+/// The root of a program, by column generation.
 #[derive(Drop)]
 pub struct Root {
+    /// Multipliers with a great dual bound, by row that proofs may name, at the greatest scale, 1,048,576.
     pub mults: Vec<i64>,
+    /// This bound, in units of which as many make one.
     pub bound: i128,
+    /// What the columns come to, where they meet the rows.
     pub point: Option<Point>,
 }
 
-/// What columns come to: the values of the variables, and the relaxation over the columns. It has a row for each row of the
-/// model, each cut, each link, and each class of blocks, in this order.
+/// What columns come to.
 #[derive(Drop)]
 pub struct Point {
+    /// The values of the variables, those of first copies.
     pub values: Vec<f64>,
+    /// The relaxation over the columns: a row for each row of the model, each cut, each link and each class of
+    /// blocks, in this order.
     pub relaxation: Relaxation,
 }
 
-// A column with the class of blocks that it is of.
+// A column of the restricted master.
 #[derive(Clone, Copy)]
 struct Member<'a> {
+    // Its class of blocks at the root.
     class: u32,
+    // The column.
     column: &'a Column,
 }
 
-// A program's columns at the root, with its classes of blocks, its pools and its master.
+// The columns of a program at the root.
 #[derive(Clone, Copy)]
 struct Columns<'a> {
+    // The program.
     b: &'a Blocked,
+    // Its classes of blocks at the root.
     classes: &'a Classes,
+    // The pools of the columns.
     pools: &'a Pools,
+    // The restricted master.
     master: &'a RestrictedMaster,
 }
 
@@ -92,8 +101,13 @@ fn root_at(
 {
     let classes = Classes::of(alloc, b, &turn.zone)?;
     let mut pools = Pools::make(alloc, b)?;
-    let mut centre = first_centre(alloc, b, &classes, &mut pools, turn, mults)?;
-    let point = generated(alloc, b, &classes, &turn.zone, &mut pools, &mut centre)?;
+    let node = NodeContext {
+        program: b,
+        classes: &classes,
+        zone: &turn.zone,
+    };
+    let mut centre = first_centre(alloc, node, &mut pools, turn, mults)?;
+    let point = generated(alloc, node, &mut pools, &mut centre)?;
     let Centre { mults, value } = centre;
     Ok(Some(Root {
         mults,
@@ -108,27 +122,23 @@ fn root_at(
 // meet the rows.
 fn generated(
     alloc: Global,
-    b: &Blocked,
-    classes: &Classes,
-    zone: &Zone,
+    node: NodeContext,
     pools: &mut Pools,
     centre: &mut Centre,
 ) -> Result<Option<Point>, AllocError>
-    requires made_for { AreMadeFor b.now pools.old }
-    requires classes { AreSameClasses zone.now b.now.blocking classes.now }
-    requires zone { IsZone b.now.named.program.spans zone.now }
+    requires made_for { AreMadeFor node.program.now pools.old }
 {
     let effort = Effort {
         known: None,
         with_partitions: true,
     };
     for generation in 1..GENERATIONS + 1 {
-        let _ = pools.begin(alloc, b)?;
-        let Some(master) = generate_columns(alloc, b, classes, zone, pools, centre, effort)? else {
+        let _ = pools.begin(alloc, node.program)?;
+        let Some(master) = generate_columns(alloc, node, pools, centre, effort)? else {
             return Ok(None);
         };
         if generation == GENERATIONS || is_reached(&master, centre) {
-            return solved(alloc, b, classes, pools, &master);
+            return solved(alloc, node, pools, &master);
         }
     }
     Ok(None)
@@ -143,16 +153,13 @@ fn is_reached(master: &RestrictedMaster, centre: &Centre) -> bool {
 // The centre that column generation begins from: at multipliers, or where there are none at those of subgradient steps.
 fn first_centre(
     alloc: Global,
-    b: &Blocked,
-    classes: &Classes,
+    node: NodeContext,
     pools: &mut Pools,
     turn: &Turn,
     mults: Vec<i64>,
 ) -> Result<Centre, AllocError>
-    requires made_for { AreMadeFor b.now pools.old }
-    requires classes { AreSameClasses turn.now.zone b.now.blocking classes.now }
-    requires zone { IsZone b.now.named.program.spans turn.now.zone }
-    ensures made_for { AreMadeFor b.now pools.new }
+    requires made_for { AreMadeFor node.program.now pools.old }
+    ensures made_for { AreMadeFor node.entry.program.now pools.new }
 {
     if !mults.is_empty() {
         return Ok(Centre {
@@ -160,7 +167,7 @@ fn first_centre(
             value: i128::MIN,
         });
     }
-    let steps = take_steps(alloc, b, classes, pools, turn, None, true)?;
+    let steps = take_steps(alloc, node, pools, turn, None, true)?;
     Ok(Centre {
         mults: steps.best,
         value: steps.value,
@@ -170,14 +177,13 @@ fn first_centre(
 // What the columns of a master come to, where they meet the rows.
 fn solved(
     alloc: Global,
-    b: &Blocked,
-    classes: &Classes,
+    node: NodeContext,
     pools: &Pools,
     master: &RestrictedMaster,
 ) -> Result<Option<Point>, AllocError> {
     let columns = Columns {
-        b,
-        classes,
+        b: node.program,
+        classes: node.classes,
         pools,
         master,
     };
@@ -189,11 +195,14 @@ fn solved(
     Ok(Some(Point { values, relaxation }))
 }
 
-// What a relaxation over columns has of each: what it takes from the rows, how many there may be of it, and what it costs.
+// The columns of a relaxation.
 #[derive(Drop)]
 struct Lists {
+    // By column, what it takes from the rows, and that it is one of its class.
     vectors: Vectors,
+    // By column, from none of it to as many as its class has blocks.
     spans: Vec<Range>,
+    // By column, its cost, in ones.
     costs: Vec<f64>,
 }
 

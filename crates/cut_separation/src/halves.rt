@@ -26,13 +26,17 @@ const UNIT: f64 = 1e9;
 // How many bits a word has.
 const BITS: u32 = 64;
 
-// A sum of rows: by bits, which variables have odd coefficients, and behind these which of the near rows it has; whether its
-// side is odd, how far the values are from it, and whether it is used up.
+// A sum of near rows, over the field of two elements.
 #[derive(Drop)]
 struct Sum {
+    // By bit, which variables have odd coefficients, in the order of elimination, and behind these which of the near
+    // rows it has.
     bits: Vec<u64>,
+    // Whether its side is odd.
     is_odd: bool,
+    // How far the values are from that side.
     slack: f64,
+    // Whether it is used up.
     is_spent: bool,
 }
 

@@ -21,10 +21,12 @@ const NOTHING: f64 = 1e-6;
 // By how much a loss is to be smaller.
 const SMALLER: f64 = 1e-9;
 
-// An equation with coefficients 1 and -1: its place, and its terms whose variables are above the lower ends of their spans.
+// An equation with coefficients 1 and -1.
 #[derive(Drop)]
 struct Equation {
+    // Its place among the rows.
     row: u32,
+    // Its terms whose variables are above the lower ends of their spans.
     terms: Vec<Term>,
 }
 

@@ -16,26 +16,34 @@ const LEAST_CUTS: usize = 8;
 
 const PART: usize = 6;
 
-/// What the values of a relaxation miss, of the rows of a program and of cuts with these rows behind them, whose sides are given:
-/// the most missed first, as many as a round may add where so many may be there in all.
+/// What an optimum of a relaxation comes to, which cuts are to cut off.
+#[derive(Clone, Copy)]
+pub struct Optimum<'a> {
+    /// The values of the variables.
+    pub values: &'a [f64],
+    /// The side that the values reach of each row and, behind the rows, of each cut, where they reach one.
+    pub sides: &'a [Option<Side>],
+}
+
+/// The cuts that an optimum of a relaxation misses, of the rows of a program and of cuts with these rows behind them: the most
+/// missed first, as many as a round may add where so many may be there in all.
 pub fn missed_at(
     alloc: Global,
     b: &Blocked,
     rows: &[Row],
     relaxation: &Relaxation,
-    values: &[f64],
-    sides: &[Option<Side>],
+    optimum: Optimum,
     trial: &mut Trial,
     most: usize,
 ) -> Result<Vec<Cut>, AllocError> {
     let model = b.model();
-    let above = above_of(alloc, model.spans(), values)?;
+    let above = above_of(alloc, model.spans(), optimum.values)?;
     let state = State {
         own: model.all_rows(),
         cuts: rows,
         spans: model.spans(),
         above: above.as_slice(),
-        sides,
+        sides: optimum.sides,
     };
     try_all(alloc, relaxation, &state, trial)?;
     trial.clear();

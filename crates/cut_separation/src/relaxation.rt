@@ -26,8 +26,11 @@ const NOTHING: f64 = 1e-9;
 
 /// A program's relaxation while cuts are added to it.
 pub struct Relaxation {
+    /// The linear program.
     lp: Lp,
+    /// How many iterations the first optimum took.
     first: u64,
+    /// Whether there is no optimum yet.
     is_first: bool,
 }
 

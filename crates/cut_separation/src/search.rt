@@ -3,7 +3,7 @@ ghost use Rattle.std.specs.Prelude.{All, OnOk};
 ghost use Rattle.cut_sums.specs.Cutting.{IsEarlierCut};
 
 use crate::bind::{Front, bound_cuts};
-use crate::missed::missed_at;
+use crate::missed::{Optimum, missed_at};
 use crate::relaxation::Relaxation;
 use crate::state::sides_of;
 use crate::trial::Trial;
@@ -24,8 +24,11 @@ const PATIENCE: u32 = 4;
 // How the bound rises.
 #[derive(Clone, Copy)]
 struct Rise {
+    // The dual bound before the first round, in ones.
     first: f64,
+    // That of the last round, in ones.
     last: f64,
+    // How many rounds in a row raised it by little.
     idle: u32,
 }
 
@@ -52,13 +55,17 @@ impl Rise {
     }
 }
 
-// What the rounds go on with: the relaxation, the combinations, the cuts that were made, the rows in front of these, and how many
-// cuts there may be.
+// What the rounds go on with.
 struct Rounds {
+    // The relaxation of the program with the cuts.
     relaxation: Relaxation,
+    // The combinations of rows.
     trial: Trial,
+    // The cuts that were made.
     made: Vec<Cut>,
+    // The rows in front of these.
     front: Front,
+    // How many cuts there may be in all.
     most: usize,
 }
 
@@ -96,16 +103,12 @@ impl Rounds {
         let values = self.relaxation.values(alloc)?;
         let values = values.as_slice();
         let sides = sides_of(alloc, b.model().all_rows(), rows, values)?;
-        missed_at(
-            alloc,
-            b,
-            rows,
-            &self.relaxation,
+        let optimum = Optimum {
             values,
-            sides.as_slice(),
-            &mut self.trial,
-            self.most,
-        )
+            sides: sides.as_slice(),
+        };
+        let trial = &mut self.trial;
+        missed_at(alloc, b, rows, &self.relaxation, optimum, trial, self.most)
     }
 
     // Takes a cut with its row.

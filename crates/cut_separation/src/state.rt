@@ -14,11 +14,14 @@ pub enum Fit {
     Either,
 }
 
-/// The side of a row that the values are nearest to, which multipliers are for it, and how far the values are from it.
+/// The side of a row that the values are nearest to.
 #[derive(Clone, Copy)]
 pub struct Side {
+    /// Which signs of multipliers are for it.
     pub fit: Fit,
+    /// The side.
     pub number: i64,
+    /// How far the row's sum is from it.
     pub slack: f64,
 }
 
@@ -33,14 +36,18 @@ impl Side {
     }
 }
 
-/// The rows of a program and those of cuts behind them, the variables' spans, how far the values are above the lower ends of
-/// these, and the rows' sides.
+/// The rows that cuts may combine, at the values of a relaxation.
 #[derive(Clone, Copy)]
 pub struct State<'a> {
+    /// The rows of the model.
     pub own: &'a [Row],
+    /// The rows of the cuts, behind these.
     pub cuts: &'a [Row],
+    /// By variable, its span in the model.
     pub spans: &'a [Span],
+    /// By variable, how far its value is above the lower end of its span.
     pub above: &'a [f64],
+    /// By row, the side that the values are nearest to; none where cuts may not combine it.
     pub sides: &'a [Option<Side>],
 }
 

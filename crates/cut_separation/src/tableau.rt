@@ -24,10 +24,12 @@ const NOTHING: f64 = 1e-9;
 // The multiples that are tried.
 const MULTIPLES: [u32; 3] = [1, 2, 3];
 
-// A row by its place, and what its number in the inverse is above a whole number.
+// A row in a row of the inverse.
 #[derive(Clone, Copy)]
 struct Part {
+    // Its place among the rows.
     row: u32,
+    // How far its number in the inverse is above a whole number, from 0 to 1.
     part: f64,
 }
 

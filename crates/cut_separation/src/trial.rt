@@ -19,22 +19,29 @@ const WORK: u64 = 1 << 27;
 // One in units of keys, by which violations are ordered.
 const UNIT: f64 = 1e9;
 
-/// A cut that is missed by the values: its multipliers by the places of rows, divisor, coefficients, the square of their length,
-/// a key that is the greater the more it is missed by, and whether it is taken.
+/// A cut that the values miss.
 #[derive(Drop)]
 pub struct Found {
+    /// The multipliers of the rows that it combines, by their places, ascending.
     pub mults: Vec<(u32, i64)>,
+    /// The divisor.
     pub q: u32,
+    /// Its coefficients that aren't 0, by variable.
     pub coefs: Vec<(u32, i64)>,
+    /// The sum of their squares.
     pub square: f64,
+    /// By how much it is missed for its length, in billionths: the greater the more.
     pub key: i64,
+    /// Whether the round takes it.
     pub is_taken: bool,
 }
 
-// A variable's sum in the combination at hand, and whether a row with the variable was added to it.
+// A variable in the combination at hand.
 #[derive(Clone, Copy)]
 struct Slot {
+    // Its coefficient.
     sum: i64,
+    // Whether a row with it was added.
     is_touched: bool,
 }
 
@@ -47,12 +54,19 @@ const UNTOUCHED: Slot = Slot {
 /// The combination at hand, and what was found. Sums that leave 64 bits stand at an end: the row of what is taken is computed
 /// exactly. Where memory is wanting nothing more is looked at, and what was found can't be taken.
 pub struct Trial {
+    /// By variable, its coefficient in the combination.
     slots: Vec<Slot>,
+    /// The variables of the rows that were added, each once.
     touched: Vec<u32>,
+    /// The multipliers of these rows, by their places.
     mults: Vec<(u32, i64)>,
+    /// The combination of the rows' sides.
     side: i64,
+    /// The cuts that the values miss.
     found: Vec<Found>,
+    /// How many numbers were looked at.
     work: u64,
+    /// Whether memory was wanting.
     is_short: bool,
 }
 
@@ -234,10 +248,13 @@ fn add_to<T: Drop>(list: &mut Vec<T>, item: T, is_short: &mut bool) {
     }
 }
 
-// By how much the values miss a cut for its length, the square of the length, and how many variables it has.
+// How good a cut is.
 #[derive(Clone, Copy)]
 struct Score {
+    // By how much the values miss it for its length.
     violation: f64,
+    // The sum of the squares of its coefficients.
     square: f64,
+    // How many variables it has.
     support: usize,
 }

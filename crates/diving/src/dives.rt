@@ -2,14 +2,13 @@
 // and the master of the rest is settled again with a few rounds of pricing. A hint, which the model judges. (Joncour,
 // Michel, Sadykov, Sverdlov and Vanderbeck, Column generation based primal heuristics, 2010.)
 ghost use Rattle.std.specs.Prelude.{◌≡◌, length};
-ghost use Rattle.bp_theory.specs.Trees.{IsZone};
 ghost use Rattle.node_memory.specs.Pools.{AreMadeFor};
 
 use crate::rest::{is_inside, settle_rest, switch_off_outside};
 use block_class::Classes;
-use block_program::{Block, Blocked, Zone};
+use block_program::Block;
 use bp_theory::Span;
-use node_memory::{Place, Pools};
+use node_memory::{NodeContext, Place, Pools};
 use primal_heuristics::{Spans, forget, is_one_point, set, take_back, tighten};
 use restricted_master::{MasterColumn, RestrictedMaster};
 use std::alloc::{AllocError, Global};
@@ -25,48 +24,56 @@ const SLACK: i64 = 1;
 
 const LEAST: i64 = 1;
 
-/// Whether columns without numbers come last, and a seed that moves the weights of fractional columns.
+/// How a dive by columns chooses.
 #[derive(Clone, Copy)]
 pub struct Style {
+    /// Whether columns whose numbers are all 0 come last.
     pub is_loose: bool,
+    /// What the weights of fractional columns are moved by, where they are.
     pub seed: Option<u64>,
 }
 
-/// What a dive came to: a point, where it reached one, and the columns that it took.
+/// What a dive by columns came to.
 #[derive(Drop)]
 pub struct Dived {
+    /// The point that it reached, by variable, where it reached one.
     pub point: Option<Vec<i64>>,
+    /// The columns that it fixed, in order, one for each block.
     pub taken: Vec<Place>,
 }
 
-// A column with the key that it is chosen by, and its weight in units.
+// A column that a dive may fix.
 #[derive(Clone, Copy)]
 struct Choice {
+    // What it is chosen by, in units of which 1,048,576 make one: the greatest first.
     key: i64,
+    // Its weight, in units.
     weight: i64,
+    // The column.
     column: MasterColumn,
 }
 
-/// The spans of a dive, how many blocks of each class are fixed, and the columns that were taken.
+/// Where a dive stands.
 #[derive(Drop)]
 pub struct Dive {
+    /// The spans of all variables, tightened after each fixing.
     pub spans: Spans,
+    /// By class of the node, how many of its blocks are fixed, in the order of its members.
     pub fixed: Vec<usize>,
+    /// The columns that were fixed, in order, one for each block.
     pub taken: Vec<Place>,
+    /// The incumbent's cost, where there is one: a dive is given up where its bound reaches this.
+    pub known: Option<i64>,
 }
 
 impl Dive {
     /// The spans of a zone, where no block is fixed.
-    pub fn make(
-        alloc: Global,
-        b: &Blocked,
-        classes: &Classes,
-        zone: &Zone,
-    ) -> Result<Dive, AllocError> {
+    pub fn make(alloc: Global, node: NodeContext, known: Option<i64>) -> Result<Dive, AllocError> {
         Ok(Dive {
-            spans: Spans::make(alloc, b, zone.spans())?,
-            fixed: Vec::from_elem(alloc, 0usize, classes.len() as usize)?,
+            spans: Spans::make(alloc, node.program, node.zone.spans())?,
+            fixed: Vec::from_elem(alloc, 0usize, node.classes.len() as usize)?,
             taken: Vec::new(alloc),
+            known,
         })
     }
 
@@ -90,23 +97,18 @@ impl Dive {
 /// as before, but for new columns.
 pub fn dive_by_columns(
     alloc: Global,
-    b: &Blocked,
-    classes: &Classes,
-    zone: &Zone,
+    node: NodeContext,
     pools: &mut Pools,
     master: &mut RestrictedMaster,
     known: Option<i64>,
     style: Style,
 ) -> Result<Dived, AllocError>
-    requires made_for { AreMadeFor b.now pools.old }
-    requires zone { IsZone b.now.named.program.spans zone.now }
-    ensures made_for { AreMadeFor b.now pools.new }
+    requires made_for { AreMadeFor node.program.now pools.old }
+    ensures made_for { AreMadeFor node.entry.program.now pools.new }
 {
     let mark = master.mark(alloc)?;
-    let mut dive = Dive::make(alloc, b, classes, zone)?;
-    let point = take_all(
-        alloc, b, classes, zone, pools, master, known, style, &mut dive,
-    )?;
+    let mut dive = Dive::make(alloc, node, known)?;
+    let point = take_all(alloc, node, pools, master, style, &mut dive)?;
     master.go_back(alloc, &mark)?;
     Ok(Dived {
         point,
@@ -117,31 +119,27 @@ pub fn dive_by_columns(
 // Fixes columns until all blocks have one point, which is told, or nothing can be fixed.
 fn take_all(
     alloc: Global,
-    b: &Blocked,
-    classes: &Classes,
-    zone: &Zone,
+    node: NodeContext,
     pools: &mut Pools,
     master: &mut RestrictedMaster,
-    known: Option<i64>,
     style: Style,
     dive: &mut Dive,
 ) -> Result<Option<Vec<i64>>, AllocError>
-    requires made_for { AreMadeFor b.now pools.old }
-    requires zone { IsZone b.now.named.program.spans zone.now }
-    ensures made_for { AreMadeFor b.now pools.new }
+    requires made_for { AreMadeFor node.program.now pools.old }
+    ensures made_for { AreMadeFor node.entry.program.now pools.new }
 {
-    if !tighten(b, known, &mut dive.spans)? {
+    if !tighten(node.program, dive.known, &mut dive.spans)? {
         return Ok(None);
     }
-    for _ in 0..b.blocks() {
-        if take_columns(alloc, b, classes, pools, master, known, style, dive)? == 0 {
+    for _ in 0..node.program.blocks() {
+        if take_columns(alloc, node, pools, master, style, dive)? == 0 {
             return Ok(None);
         }
         if is_one_point(dive.spans.now.as_slice()) {
             return Ok(Some(lows(alloc, dive.spans.now.as_slice())?));
         }
-        switch_off_outside(alloc, b, classes, pools, master, dive)?;
-        if !settle_rest(alloc, b, classes, zone, pools, master, known, dive, ROUNDS)? {
+        switch_off_outside(alloc, node, pools, master, dive)?;
+        if !settle_rest(alloc, node, pools, master, dive, ROUNDS)? {
             return Ok(None);
         }
     }
@@ -151,11 +149,9 @@ fn take_all(
 // Fixes columns by weight: all whole ones, or else the first that fits; how many.
 fn take_columns(
     alloc: Global,
-    b: &Blocked,
-    classes: &Classes,
+    node: NodeContext,
     pools: &Pools,
     master: &mut RestrictedMaster,
-    known: Option<i64>,
     style: Style,
     dive: &mut Dive,
 ) -> Result<u32, AllocError> {
@@ -163,7 +159,7 @@ fn take_columns(
     let mut many: u32 = 0;
     for choice in choices.as_slice() {
         for _ in 0..times(choice, many) {
-            if !take_column(b, classes, pools, master, &choice.column, known, dive)? {
+            if !take_column(node, pools, master, &choice.column, dive)? {
                 break;
             }
             many = many.saturating_add(1);
@@ -245,15 +241,13 @@ fn is_idle(pools: &Pools, place: Place) -> bool {
 // Takes a column into the next block of its class, and tightens the spans; whether a point may be left. Else all is as
 // before.
 fn take_column(
-    b: &Blocked,
-    classes: &Classes,
+    node: NodeContext,
     pools: &Pools,
     master: &mut RestrictedMaster,
     column: &MasterColumn,
-    known: Option<i64>,
     dive: &mut Dive,
 ) -> Result<bool, AllocError> {
-    let Some(block) = dive.next_block(classes, column.class) else {
+    let Some(block) = dive.next_block(node.classes, column.class) else {
         return Ok(false);
     };
     let Some(found) = pools.column(column.place) else {
@@ -261,10 +255,10 @@ fn take_column(
     };
     let point = found.point.as_slice();
     let changes = dive.spans.before.len();
-    if block >= b.blocks()
-        || !is_inside(b.block(block), point, dive.spans.now.as_slice())
-        || !fix(b.block(block), point, &mut dive.spans)?
-        || !tighten(b, known, &mut dive.spans)?
+    if block >= node.program.blocks()
+        || !is_inside(node.program.block(block), point, dive.spans.now.as_slice())
+        || !fix(node.program.block(block), point, &mut dive.spans)?
+        || !tighten(node.program, dive.known, &mut dive.spans)?
     {
         take_back(&mut dive.spans, changes);
         forget(&mut dive.spans);

@@ -9,13 +9,16 @@ use std::num::{nearest_i64_to_f64, saturating_f64_to_i64};
 /// By how many millionths a mean may be from a whole number and count as whole.
 const WHOLE: i64 = 1;
 
-// A linking variable with an open span, by how many millionths its mean is from the nearest whole number, and this
-// number with the next one on the other side.
+// A linking variable with an open span.
 #[derive(Clone, Copy)]
 struct Fixing {
+    // How far its mean is from the nearest whole number, in millionths.
     far: i64,
+    // The variable.
     var: u32,
+    // The number nearest to its mean, within its span.
     to: i64,
+    // The next one on the other side, within its span.
     other: i64,
 }
 

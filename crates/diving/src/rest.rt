@@ -9,7 +9,7 @@ use block_class::Classes;
 use block_program::{Block, Blocked, Zone};
 use bp_theory::Span;
 use column_generation::add_class;
-use node_memory::{Pools, is_settled};
+use node_memory::{NodeContext, Pools, is_settled};
 use primal_heuristics::{is_reached, narrow};
 use restricted_master::{RestrictedMaster, block_spans};
 use std::alloc::{AllocError, Global};
@@ -31,15 +31,14 @@ pub fn is_inside(block: &Block, point: &[i64], spans: &[Span]) -> bool {
 /// Switches off the columns that fit no block of their class that is left.
 pub fn switch_off_outside(
     alloc: Global,
-    b: &Blocked,
-    classes: &Classes,
+    node: NodeContext,
     pools: &Pools,
     master: &mut RestrictedMaster,
     dive: &Dive,
 ) -> Result<(), AllocError> {
     let mut blocks = Vec::new(alloc);
-    for class in 0..classes.len() {
-        blocks.push(dive.next_block(classes, class))?;
+    for class in 0..node.classes.len() {
+        blocks.push(dive.next_block(node.classes, class))?;
     }
     for number in 0..master.len() {
         if !master.is_off(number) {
@@ -48,7 +47,7 @@ pub fn switch_off_outside(
                     Some(block) => *block,
                     None => None,
                 };
-                if !fits(b, pools, block, number, master, dive) {
+                if !fits(node.program, pools, block, number, master, dive) {
                     master.switch_off(number);
                 }
             }
@@ -79,34 +78,48 @@ fn fits(
     }
 }
 
-/// Settles the master of what is left with a few rounds of pricing; whether the bound stays below the known cost and
-/// each block has a point.
+// What a dive leaves of a node.
+#[derive(Drop)]
+struct Left {
+    // The node's zone, narrowed to the spans of the dive.
+    zone: Zone,
+    // The classes of blocks that are the same in that zone.
+    classes: Classes,
+}
+
+// What the rounds on what is left write again and again.
+#[derive(Drop)]
+struct Room {
+    // The restricted master's multipliers, by row at the greatest scale.
+    mults: Vec<i64>,
+    // The point that reaches their bound, by copies of the variables.
+    point: Vec<i64>,
+}
+
+/// Settles the restricted master of what is left with a few rounds of pricing; whether the bound stays below the incumbent's
+/// cost and each block has a point.
 pub fn settle_rest(
     alloc: Global,
-    b: &Blocked,
-    classes: &Classes,
-    zone: &Zone,
+    node: NodeContext,
     pools: &mut Pools,
     master: &mut RestrictedMaster,
-    known: Option<i64>,
     dive: &Dive,
     rounds: u32,
 ) -> Result<bool, AllocError>
-    requires made_for { AreMadeFor b.now pools.old }
-    requires zone { IsZone b.now.named.program.spans zone.now }
-    ensures made_for { AreMadeFor b.now pools.new }
+    requires made_for { AreMadeFor node.program.now pools.old }
+    ensures made_for { AreMadeFor node.entry.program.now pools.new }
 {
     master.settle(alloc, PIVOTS)?;
-    let left = narrow(b, zone.copy(alloc)?, dive.spans.now.as_slice());
-    let inner = Classes::of(alloc, b, &left)?;
-    let mut mults = Vec::from_elem(alloc, 0i64, b.named_rows() as usize)?;
-    let mut point = Vec::from_elem(alloc, 0i64, b.model().vars() as usize)?;
+    let spans = dive.spans.now.as_slice();
+    let zone = narrow(node.program, node.zone.copy(alloc)?, spans);
+    let classes = Classes::of(alloc, node.program, &zone)?;
+    let left = Left { zone, classes };
+    let mut room = Room {
+        mults: Vec::from_elem(alloc, 0i64, node.program.named_rows() as usize)?,
+        point: Vec::from_elem(alloc, 0i64, node.program.model().vars() as usize)?,
+    };
     for _ in 0..rounds {
-        let mults = mults.as_mut_slice();
-        let point = point.as_mut_slice();
-        match settle_round(
-            alloc, b, classes, &inner, &left, pools, master, known, dive, mults, point,
-        )? {
+        match settle_round(alloc, node, &left, pools, master, dive, &mut room)? {
             Rest::On => {}
             Rest::Settled => return Ok(true),
             Rest::Given => return Ok(false),
@@ -123,36 +136,39 @@ enum Rest {
     On,
 }
 
-// A round of pricing on what is left, and the master solved with the columns that it gives.
+// A round of pricing on what is left, and the restricted master solved with the columns that it gives.
 fn settle_round(
     alloc: Global,
-    b: &Blocked,
-    classes: &Classes,
-    inner: &Classes,
-    left: &Zone,
+    node: NodeContext,
+    left: &Left,
     pools: &mut Pools,
     master: &mut RestrictedMaster,
-    known: Option<i64>,
     dive: &Dive,
-    mults: &mut [i64],
-    point: &mut [i64],
+    room: &mut Room,
 ) -> Result<Rest, AllocError>
-    requires made_for { AreMadeFor b.now pools.old }
-    requires classes { AreSameClasses left.now b.now.blocking inner.now }
-    requires zone { IsZone b.now.named.program.spans left.now }
-    ensures made_for { AreMadeFor b.now pools.new }
+    requires made_for { AreMadeFor node.program.now pools.old }
+    requires classes { AreSameClasses left.now.zone node.program.now.blocking left.now.classes }
+    requires zone { IsZone node.program.now.named.program.spans left.now.zone }
+    ensures made_for { AreMadeFor node.entry.program.now pools.new }
 {
     if master.is_spent() {
         return Ok(Rest::Given);
     }
-    master.write_mults(b, mults);
-    let Some(value) = pools.price(alloc, b, inner, left, mults, point)? else {
+    master.write_mults(node.program, room.mults.as_mut_slice());
+    let inner = NodeContext {
+        program: node.program,
+        classes: &left.classes,
+        zone: &left.zone,
+    };
+    let mults = room.mults.as_slice();
+    let point = room.point.as_mut_slice();
+    let Some(value) = pools.price(alloc, inner, mults, point)? else {
         return Ok(Rest::Given);
     };
-    if is_reached(value, known) {
+    if is_reached(value, dive.known) {
         return Ok(Rest::Given);
     }
-    if add_left(alloc, b, classes, inner, pools, master, dive)? == 0 {
+    if add_left(alloc, node, &left.classes, pools, master, dive)? == 0 {
         return Ok(Rest::Settled);
     }
     master.solve(alloc, PIVOTS)?;
@@ -162,20 +178,19 @@ fn settle_round(
 // Adds the points that the last bound told of the blocks that are left; how many columns are new.
 fn add_left(
     alloc: Global,
-    b: &Blocked,
-    classes: &Classes,
+    node: NodeContext,
     inner: &Classes,
     pools: &mut Pools,
     master: &mut RestrictedMaster,
     dive: &Dive,
 ) -> Result<u32, AllocError>
-    requires made_for { AreMadeFor b.now pools.old }
-    requires each { length inner.now.classes ≡ length b.now.blocking.blocks }
-    ensures made_for { AreMadeFor b.now pools.new }
+    requires made_for { AreMadeFor node.program.now pools.old }
+    requires each { length inner.now.classes ≡ length node.program.now.blocking.blocks }
+    ensures made_for { AreMadeFor node.entry.program.now pools.new }
 {
     let mut added: u32 = 0;
-    for class in 0..classes.len() {
-        if add_left_of(alloc, b, classes, inner, pools, master, dive, class)? {
+    for class in 0..node.classes.len() {
+        if add_left_of(alloc, node, inner, pools, master, dive, class)? {
             added = added.saturating_add(1);
         }
     }
@@ -185,29 +200,28 @@ fn add_left(
 // Adds the point that the last bound told of the next block of a class that is left; whether it is a new column.
 fn add_left_of(
     alloc: Global,
-    b: &Blocked,
-    classes: &Classes,
+    node: NodeContext,
     inner: &Classes,
     pools: &mut Pools,
     master: &mut RestrictedMaster,
     dive: &Dive,
     class: u32,
 ) -> Result<bool, AllocError>
-    requires made_for { AreMadeFor b.now pools.old }
-    requires each { length inner.now.classes ≡ length b.now.blocking.blocks }
-    ensures made_for { AreMadeFor b.now pools.new }
+    requires made_for { AreMadeFor node.program.now pools.old }
+    requires each { length inner.now.classes ≡ length node.program.now.blocking.blocks }
+    ensures made_for { AreMadeFor node.entry.program.now pools.new }
 {
-    let Some(block) = dive.next_block(classes, class) else {
+    let Some(block) = dive.next_block(node.classes, class) else {
         return Ok(false);
     };
-    if master.size(class) == 0 || block >= b.blocks() {
+    if master.size(class) == 0 || block >= node.program.blocks() {
         return Ok(false);
     }
-    if is_settled(b.block(block), dive.spans.now.as_slice()) {
-        return add_settled(alloc, b, pools, master, class, block, dive);
+    if is_settled(node.program.block(block), dive.spans.now.as_slice()) {
+        return add_settled(alloc, node.program, pools, master, class, block, dive);
     }
     let first = first_like(inner, block);
-    add_class(alloc, b, pools, master, class, first)
+    add_class(alloc, node.program, pools, master, class, first)
 }
 
 // Adds the one point of a block that is left, which no bound tells, as a column of a class; whether it is a new column.

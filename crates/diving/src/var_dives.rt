@@ -2,16 +2,14 @@
 // that the master holds at a whole number above their lower end, and the most decided one between, go up, and the
 // master of the rest is settled again. A hint, which the model judges.
 ghost use Rattle.std.specs.Prelude.{◌≡◌, ◌<◌, length};
-ghost use Rattle.bp_theory.specs.Trees.{IsZone};
 ghost use Rattle.node_memory.specs.Pools.{AreMadeFor};
 
 use crate::dives::{Dive, drawn, lows};
 use crate::link_dives::fix_links;
 use crate::rest::{settle_rest, switch_off_outside};
-use block_class::Classes;
-use block_program::{Blocked, Zone};
+use block_program::Blocked;
 use bp_theory::Span;
-use node_memory::Pools;
+use node_memory::{NodeContext, Pools};
 use primal_heuristics::{
     Spans, at, forget, is_first_copy, linking_vars, put, set, take_back, tighten,
 };
@@ -30,18 +28,23 @@ const LEAST_RISE: f64 = 0.05;
 /// The key of variables at whole numbers, in parts of 1,048,576.
 const WHOLE_KEY: i64 = 2 << 20;
 
-// A variable that may go up, its key, and the number that it goes up to.
+// A variable that may go up.
 #[derive(Clone, Copy)]
 struct Rise {
+    // What it is chosen by: the greatest first. It is `WHOLE_KEY` at a whole number, and else its part in units.
     key: i64,
+    // The variable.
     var: u32,
+    // The number that its lower end goes up to.
     to: i64,
 }
 
-// The mean of the columns of each variable, and by class the number of a column that has all the weight.
+// What the weights of columns come to.
 #[derive(Drop)]
 struct Means {
+    // By variable, the mean of the columns of its first copy.
     means: Vec<f64>,
+    // By class of the node, the number of a column of the master that has all the weight of a block.
     wholes: Vec<Option<usize>>,
 }
 
@@ -49,116 +52,98 @@ struct Means {
 /// known cost. A seed moves the order of variables. The master then stands as before, but for new columns.
 pub fn dive_by_variables(
     alloc: Global,
-    b: &Blocked,
-    classes: &Classes,
-    zone: &Zone,
+    node: NodeContext,
     pools: &mut Pools,
     master: &mut RestrictedMaster,
     known: Option<i64>,
     seed: Option<u64>,
 ) -> Result<Option<Vec<i64>>, AllocError>
-    requires made_for { AreMadeFor b.now pools.old }
-    requires zone { IsZone b.now.named.program.spans zone.now }
-    ensures made_for { AreMadeFor b.now pools.new }
+    requires made_for { AreMadeFor node.program.now pools.old }
+    ensures made_for { AreMadeFor node.entry.program.now pools.new }
 {
     let mark = master.mark(alloc)?;
-    let mut dive = Dive::make(alloc, b, classes, zone)?;
-    let point = raise_all(
-        alloc, b, classes, zone, pools, master, known, seed, &mut dive,
-    )?;
+    let mut dive = Dive::make(alloc, node, known)?;
+    let point = raise_all(alloc, node, pools, master, seed, &mut dive)?;
     master.go_back(alloc, &mark)?;
     Ok(point)
+}
+
+// What raising variables once comes to: a point may be left, none is, or this is it.
+#[derive(Drop)]
+enum Raised {
+    On,
+    Stuck,
+    Point(Vec<i64>),
 }
 
 // Raises variables until each class has one column, or nothing can be raised.
 fn raise_all(
     alloc: Global,
-    b: &Blocked,
-    classes: &Classes,
-    zone: &Zone,
+    node: NodeContext,
     pools: &mut Pools,
     master: &mut RestrictedMaster,
-    known: Option<i64>,
     seed: Option<u64>,
     dive: &mut Dive,
 ) -> Result<Option<Vec<i64>>, AllocError>
-    requires made_for { AreMadeFor b.now pools.old }
-    requires zone { IsZone b.now.named.program.spans zone.now }
-    ensures made_for { AreMadeFor b.now pools.new }
+    requires made_for { AreMadeFor node.program.now pools.old }
+    ensures made_for { AreMadeFor node.entry.program.now pools.new }
 {
-    if !tighten(b, known, &mut dive.spans)? {
+    if !tighten(node.program, dive.known, &mut dive.spans)? {
         return Ok(None);
     }
-    let links = linking_vars(alloc, b)?;
+    let links = linking_vars(alloc, node.program)?;
     let mut seed = seed;
-    let mut raised = None;
-    for _ in 0..b.model().vars() {
-        let links = links.as_slice();
-        let is_open = raise_next(
-            alloc,
-            b,
-            classes,
-            pools,
-            master,
-            links,
-            known,
-            seed,
-            dive,
-            &mut raised,
-        )?;
-        if !is_open {
-            return Ok(raised);
+    for _ in 0..node.program.model().vars() {
+        match raise_next(alloc, node, pools, master, links.as_slice(), seed, dive)? {
+            Raised::Point(point) => return Ok(Some(point)),
+            Raised::Stuck => return Ok(None),
+            Raised::On => {}
         }
-        if !settle_rest(alloc, b, classes, zone, pools, master, known, dive, ROUNDS)? {
+        if !settle_rest(alloc, node, pools, master, dive, ROUNDS)? {
             return Ok(None);
         }
         seed = next_seed(seed);
     }
-    Ok(raised)
+    Ok(None)
 }
 
-// Raises variables once, or tells the point that all columns are of; whether a point may be left.
+// Raises variables once, or tells the point that all columns are of.
 fn raise_next(
     alloc: Global,
-    b: &Blocked,
-    classes: &Classes,
+    node: NodeContext,
     pools: &Pools,
     master: &mut RestrictedMaster,
     links: &[u32],
-    known: Option<i64>,
     seed: Option<u64>,
     dive: &mut Dive,
-    raised: &mut Option<Vec<i64>>,
-) -> Result<bool, AllocError> {
-    let found = means_of(alloc, b, classes, pools, master)?;
-    *raised = whole_point(alloc, b, classes, pools, master, &found, dive)?;
-    if raised.is_some() {
-        return Ok(false);
+) -> Result<Raised, AllocError> {
+    let found = means_of(alloc, node, pools, master)?;
+    if let Some(point) = whole_point(alloc, node, pools, master, &found, dive)? {
+        return Ok(Raised::Point(point));
     }
-    if !move_on(alloc, b, classes, &found, links, known, seed, dive)? {
-        return Ok(false);
+    if !move_on(alloc, node, &found, links, seed, dive)? {
+        return Ok(Raised::Stuck);
     }
-    switch_off_outside(alloc, b, classes, pools, master, dive)?;
-    Ok(true)
+    switch_off_outside(alloc, node, pools, master, dive)?;
+    Ok(Raised::On)
 }
 
 // Fixes linking variables, or raises others where no linking one is open; whether a point may be left.
 fn move_on(
     alloc: Global,
-    b: &Blocked,
-    classes: &Classes,
+    node: NodeContext,
     found: &Means,
     links: &[u32],
-    known: Option<i64>,
     seed: Option<u64>,
     dive: &mut Dive,
 ) -> Result<bool, AllocError> {
+    let known = dive.known;
     let means = found.means.as_slice();
-    if let Some(is_left) = fix_links(alloc, b, links, means, known, &mut dive.spans)? {
+    if let Some(is_left) = fix_links(alloc, node.program, links, means, known, &mut dive.spans)? {
         return Ok(is_left);
     }
-    let rises = rises_of(alloc, b, classes, found, &dive.spans, seed)?;
-    raise(b, rises.as_slice(), known, &mut dive.spans)
+    let rises = rises_of(alloc, node, found, &dive.spans, seed)?;
+    raise(node.program, rises.as_slice(), known, &mut dive.spans)
 }
 
 // The seed of the next step.
@@ -172,24 +157,29 @@ fn next_seed(seed: Option<u64>) -> Option<u64> {
 // The mean of the columns of each variable.
 fn means_of(
     alloc: Global,
-    b: &Blocked,
-    classes: &Classes,
+    node: NodeContext,
     pools: &Pools,
     master: &RestrictedMaster,
 ) -> Result<Means, AllocError> {
     let mut found = Means {
-        means: Vec::from_elem(alloc, 0.0, b.model().vars() as usize)?,
-        wholes: Vec::from_elem(alloc, None, classes.len() as usize)?,
+        means: Vec::from_elem(alloc, 0.0, node.program.model().vars() as usize)?,
+        wholes: Vec::from_elem(alloc, None, node.classes.len() as usize)?,
     };
     for number in 0..master.len() {
         let weight = master.weight(number);
         if let Some(column) = master.column(number) {
-            if weight >= WHOLE && column.class < classes.len() {
-                let block = classes.first(column.class);
-                if block < b.blocks() {
+            if weight >= WHOLE && column.class < node.classes.len() {
+                let block = node.classes.first(column.class);
+                if block < node.program.blocks() {
                     if let Some(point) = pools.column(column.place) {
                         let point = point.point.as_slice();
-                        add_weighted(b, block, point, weight, found.means.as_mut_slice());
+                        add_weighted(
+                            node.program,
+                            block,
+                            point,
+                            weight,
+                            found.means.as_mut_slice(),
+                        );
                     }
                 }
                 if weight > 1.0 - WHOLE {
@@ -219,24 +209,23 @@ fn add_weighted(b: &Blocked, number: u32, point: &[i64], weight: f64, means: &mu
 // The point where each class that isn't settled has one column, and these agree.
 fn whole_point(
     alloc: Global,
-    b: &Blocked,
-    classes: &Classes,
+    node: NodeContext,
     pools: &Pools,
     master: &RestrictedMaster,
     found: &Means,
     dive: &Dive,
 ) -> Result<Option<Vec<i64>>, AllocError> {
-    for class in 0..classes.len() {
+    for class in 0..node.classes.len() {
         let whole = found.wholes.get(class as usize);
         if master.size(class) > 0 && !matches!(whole, Some(Some(_))) {
             return Ok(None);
         }
     }
     let mut point = lows(alloc, dive.spans.now.as_slice())?;
-    for class in 0..classes.len() {
+    for class in 0..node.classes.len() {
         if let Some(Some(number)) = found.wholes.get(class as usize) {
             let point = point.as_mut_slice();
-            if !write_column(b, classes, pools, master, class, *number, point) {
+            if !write_column(node, pools, master, class, *number, point) {
                 return Ok(None);
             }
         }
@@ -246,25 +235,30 @@ fn whole_point(
 
 // Writes a column's numbers into the first block of its class; whether they agree with what first copies have already.
 fn write_column(
-    b: &Blocked,
-    classes: &Classes,
+    node: NodeContext,
     pools: &Pools,
     master: &RestrictedMaster,
     class: u32,
     number: usize,
     point: &mut [i64],
 ) -> bool {
-    if class >= classes.len() {
+    if class >= node.classes.len() {
         return true;
     }
-    let block = classes.first(class);
-    if block >= b.blocks() {
+    let block = node.classes.first(class);
+    if block >= node.program.blocks() {
         return true;
     }
     if let Some(column) = master.column(number) {
         if let Some(found) = pools.column(column.place) {
-            for (var, value) in b.block(block).vars().iter().zip(found.point.as_slice()) {
-                if is_first_copy(b, block, *var) {
+            for (var, value) in node
+                .program
+                .block(block)
+                .vars()
+                .iter()
+                .zip(found.point.as_slice())
+            {
+                if is_first_copy(node.program, block, *var) {
                     put(point, *var as usize, *value);
                 } else if at(point, *var as usize) != *value {
                     return false;
@@ -278,21 +272,20 @@ fn write_column(
 // The variables that may go up, those at whole numbers first, and then those with the greatest part.
 fn rises_of(
     alloc: Global,
-    b: &Blocked,
-    classes: &Classes,
+    node: NodeContext,
     found: &Means,
     spans: &Spans,
     seed: Option<u64>,
 ) -> Result<Vec<Rise>, AllocError> {
     let mut rises = Vec::new(alloc);
     let mut seed = seed;
-    for class in 0..classes.len() {
-        let number = classes.first(class);
-        if number < b.blocks() {
-            let block = b.block(number);
+    for class in 0..node.classes.len() {
+        let number = node.classes.first(class);
+        if number < node.program.blocks() {
+            let block = node.program.block(number);
             for place in 0..block.var_count() {
                 let var = block.vars()[place as usize];
-                if !block.master(place).is_empty() && is_first_copy(b, number, var) {
+                if !block.master(place).is_empty() && is_first_copy(node.program, number, var) {
                     if let Some(rise) = rise_of(var, found, spans, &mut seed) {
                         rises.push(rise)?;
                     }

@@ -1,13 +1,16 @@
 // Bases that are kept, to begin another solution with.
 use crate::variable::Status;
 
-/// A basis: which variable is basic at each position, where each variable stands, and the weights of rows. Variables
-/// are columns and, behind them, the logicals of rows.
+/// A basis that is kept. Variables are columns and, behind them, the logicals of rows.
 #[derive(Drop)]
 pub struct Basis {
+    /// How many columns the program had.
     pub(crate) columns: usize,
+    /// By position, the number of the basic variable.
     pub(crate) head: Vec<u32>,
+    /// By variable, whether it is basic or at which end of its range it stands.
     pub(crate) statuses: Vec<Status>,
+    /// By position, the pricing weight of its row, at least 1.
     pub(crate) weights: Vec<f32>,
 }
 

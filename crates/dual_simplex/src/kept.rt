@@ -6,10 +6,15 @@ use std::alloc::{AllocError, Global};
 /// A state to go back to, while the factors are only updated.
 #[derive(Drop)]
 pub struct Snapshot {
+    /// By position, the number of the basic variable.
     head: Vec<u32>,
+    /// By variable, whether it is basic or at which end of its range it stands.
     statuses: Vec<Status>,
+    /// By variable, its range, value, reduced cost and cost.
     variables: Vec<Variable>,
+    /// By position, the pricing weight of its row, at least 1.
     weights: Vec<f64>,
+    /// How many updates the factors had.
     updates: usize,
 }
 

@@ -13,29 +13,54 @@ const PERTURBATION: f64 = 1e-5;
 /// logical is 0. Costs are perturbed once, away from 0; multipliers are by the true ones. Its memory is that of the
 /// numbers, once by columns and once by rows, and of the factors.
 pub struct Lp {
+    /// Where memory comes from.
     pub(crate) alloc: Global,
+    /// How many columns there are; variables of smaller numbers are these.
     pub(crate) columns: usize,
+    /// How many rows there are; the logical of row `i` is the variable `columns + i`.
     pub(crate) rows: usize,
+    /// The matrix, a vector for each column, by rows.
     pub(crate) by_columns: Vectors,
+    /// The same numbers, a vector for each row, by columns.
     pub(crate) by_rows: Vectors,
+    /// By column, its true cost, in ones.
     pub(crate) costs: Vec<f64>,
+    /// By column, its perturbed cost: the true one, moved away from 0.
     pub(crate) moved: Vec<f64>,
+    /// By variable, columns first, its range, value, reduced cost and cost with shifts.
     pub(crate) variables: Vec<Variable>,
+    /// By variable, whether it is basic or at which end of its range it stands.
     pub(crate) statuses: Vec<Status>,
+    /// By position of the basis, the number of the basic variable; `NONE` where a kept basis named none that fits.
     pub(crate) head: Vec<u32>,
+    /// By position, the Devex weight of its row, from 1 to 10^7.
     pub(crate) weights: Vec<f64>,
+    /// The factors of the basis, with updates.
     pub(crate) factor: Factor,
+    /// By position, the member of the basis that the factors are made of.
     pub(crate) basics: Vec<Basic>,
+    /// Whether the factors, reduced costs and values are not those of `head`, and are to be made anew.
     pub(crate) is_stale: bool,
+    /// By row, the multiples of rows that show that no values are within all ranges, where the last solution ended
+    /// so.
     pub(crate) ray: Vec<f64>,
+    /// By row, the row of the inverse at the position that leaves.
     pub(crate) rho: Vec<f64>,
+    /// By position, the entering variable's column by the basis.
     pub(crate) alpha: Vec<f64>,
+    /// Room for a dense vector by rows or positions.
     pub(crate) spare: Vec<f64>,
+    /// By row, the multipliers of the basis by true costs, in ones, as last asked for.
     pub(crate) mults: Vec<f64>,
+    /// By variable, the pivot row: the row of the inverse times the matrix, 0 at basic variables.
     pub(crate) row: Vec<f64>,
+    /// The variables at which the pivot row is not 0.
     pub(crate) nonzeros: Vec<u32>,
+    /// The variables that may enter, in the order of the ratio test.
     pub(crate) candidates: Vec<Candidate>,
+    /// How many iterations there were since the program was made.
     pub(crate) iterations: u64,
+    /// What the next perturbation is drawn from.
     seed: u64,
 }
 

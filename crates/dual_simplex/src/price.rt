@@ -12,10 +12,12 @@ const DROP: f64 = 1e-12;
 // What stands in the pivot row where numbers cancel, so that each place is listed once.
 const TINY: f64 = 1e-300;
 
-/// A row that leaves: its position, and how far its value is above its range, or below 0 where it is below.
+/// A row that leaves.
 #[derive(Clone, Copy)]
 pub struct Leaving {
+    /// Its position in the basis.
     pub position: usize,
+    /// How far its basic variable's value is above its range, or below 0 where it is below.
     pub excess: f64,
 }
 

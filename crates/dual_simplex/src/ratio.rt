@@ -16,11 +16,14 @@ const GOOD_PIVOT: f64 = 1e-5;
 /// What is still tolerated of a slope.
 const SLOPE: f64 = 1e-7;
 
-/// A variable that may enter: its ratio, and its number in the pivot row.
+/// A variable that may enter.
 #[derive(Clone, Copy)]
 pub struct Candidate {
+    /// The length of the dual step that takes its reduced cost to 0, at least 0.
     pub ratio: f64,
+    /// Its number.
     pub variable: u32,
+    /// Its number in the pivot row; never 0.
     pub alpha: f64,
 }
 
@@ -105,19 +108,25 @@ pub fn choose(candidates: &mut [Candidate], slope: f64, variables: &[Variable]) 
     }
 }
 
-// A group: the greatest number in the pivot row, its variable, and by how much the slope falls.
+// Candidates that the ratio test reaches together.
 #[derive(Clone, Copy)]
 struct Group {
+    // The variable with the greatest number in the pivot row.
     variable: u32,
+    // That number.
     alpha: f64,
+    // By how much the slope of the dual objective falls where all go to the other ends of their ranges.
     width: f64,
 }
 
-// The pivot so far, with the number of candidates before its group.
+// The pivot so far.
 #[derive(Clone, Copy)]
 struct Choice {
+    // Its variable.
     variable: u32,
+    // Its number in the pivot row.
     alpha: f64,
+    // How many candidates come before its group: these go to the other ends of their ranges.
     flips: usize,
 }
 

@@ -15,13 +15,15 @@ const AGREES: f64 = 1e-6;
 
 const LEAST_PIVOT: f64 = 1e-9;
 
-/// How much a solution may take: iterations, the objective by true costs at which it ends, where one is given, and
-/// whether it only updates the factors that there are. It then goes on from the reduced costs and values at hand: since
-/// these were made, only spans of basic variables may have changed.
+/// How much a solution may take.
 #[derive(Clone, Copy, Debug)]
 pub struct Effort {
+    /// How many iterations at most.
     pub iterations: u32,
+    /// The objective, by true costs and without a constant, above which the solution ends, where one is given.
     pub cutoff: Option<f64>,
+    /// Whether it only updates the factors that there are. It then goes on from the reduced costs and values at hand:
+    /// since these were made, only spans of basic variables may have changed.
     pub keeps_factors: bool,
 }
 
@@ -46,10 +48,12 @@ enum Progress {
     Troubled,
 }
 
-// What a solution has met: how often factors were made anew, and the positions that can't leave.
+// What a solution has met.
 #[derive(Drop)]
 struct Troubles {
+    // How often factors were made anew because numbers disagreed.
     retries: u32,
+    // The positions that may not leave.
     barred: Vec<u32>,
 }
 

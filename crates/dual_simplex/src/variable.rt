@@ -9,7 +9,9 @@ const PRIMAL: f64 = 1e-7;
 /// The least and the greatest value of a variable or a row.
 #[derive(Clone, Copy, Debug)]
 pub struct Range {
+    /// The least value; -10^30 and below stand for none.
     pub lower: f64,
+    /// The greatest value; 10^30 and above stand for none.
     pub upper: f64,
 }
 
@@ -21,13 +23,18 @@ pub enum Status {
     Upper,
 }
 
-/// A variable's range, value, reduced cost, and cost with what it was shifted by.
+/// A variable: a column, or the logical of a row.
 #[derive(Clone, Copy)]
 pub struct Variable {
+    /// The least value of its range.
     pub lower: f64,
+    /// The greatest value of its range.
     pub upper: f64,
+    /// Its value at the basis.
     pub value: f64,
+    /// Its reduced cost by the costs with shifts; 0 where it is basic.
     pub reduced: f64,
+    /// Its perturbed cost with the shifts of this solution; 0 for a logical that wasn't shifted.
     pub cost: f64,
 }
 

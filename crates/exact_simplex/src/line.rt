@@ -12,18 +12,26 @@ const NUDGE_RANGE: u32 = 1 << 22;
 // The half-width of a box that isn't there.
 pub const NO_BOX: i64 = -1;
 
-// A line: its right side, whether its logicals pay, how its right side is nudged, the box that is wished for its price,
-// what its logicals cost, and the centre of the box that they make, 0 where they make none.
+/// A line: a side of a row, or the count of a class.
 #[derive(Clone, Copy)]
 pub struct Line {
+    /// Its right side.
     pub rhs: i64,
+    /// Whether the logical that adds to it pays the penalty: the line may not lack anything.
     pub plus_pays: bool,
+    /// Whether the logical that takes from it pays the penalty: the line may not have too much.
     pub minus_pays: bool,
+    /// By how much its right side is nudged, in units of 2^-36.
     pub nudge: i64,
+    /// The price that it is to stay near, in units of which 1,048,576 make one.
     wished: i64,
+    /// How far from that, in units; `NO_BOX` where nothing is wished.
     width: i64,
+    /// What the logical that adds to it costs, in units.
     pub plus_cost: i64,
+    /// What the logical that takes from it costs, in units.
     pub minus_cost: i64,
+    /// The centre of the box that these costs make, in units; 0 where they make none.
     pub centre: i64,
 }
 

@@ -44,27 +44,42 @@ enum Variable {
     Minus(usize),
 }
 
-// A column by lines: its cost in units, its class's line, and whether it is basic.
+// A column by lines.
 #[derive(Drop)]
 struct Structural {
+    // Its cost, in units of which 1,048,576 make one.
     cost: i64,
+    // The line of its class.
     class: usize,
+    // Its numbers by lines, with a 1 at that of its class.
     entries: Vec<(usize, i64)>,
+    // Whether it is basic.
     is_basic: bool,
 }
 
 /// The lines, columns and basis of a restricted master, kept between solutions.
 pub struct Simplex {
+    /// The lines of the rows, and behind them one for each class.
     lines: Vec<Line>,
+    /// By row, its first line; behind these the first line of a class.
     firsts: Vec<usize>,
+    /// The columns that were taken in.
     columns: Vec<Structural>,
+    /// What missing a line by one costs, in units.
     penalty: i64,
+    /// The inverse of the basis, a column for each line, by positions, with 36 digits behind the point.
     inverse: Vec<Vec<i64>>,
+    /// By position, the basic variable.
     basis: Vec<Variable>,
+    /// By position, its value, with 36 digits behind the point.
     values: Vec<i64>,
+    /// By line, its price, in units.
     prices: Vec<i64>,
+    /// By position, the entering variable by the basis, with 36 digits behind the point.
     direction: Vec<i64>,
+    /// Room for sums, by line or position.
     sums: Vec<i128>,
+    /// Whether the right sides are nudged.
     is_nudged: bool,
 }
 

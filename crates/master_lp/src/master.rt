@@ -11,12 +11,16 @@ use search_laws::Column;
 use std::alloc::{AllocError, Global};
 use std::marker::Model;
 
-/// A restricted master: rows, how many blocks each class has, and the columns that were added so far.
-/// Contracts see these. It keeps the basis of its last solution, so that the next one begins there.
+/// A restricted master. Contracts see its columns, rows and counts. It keeps the basis of its last solution, so that
+/// the next one begins there.
 pub struct Master {
+    /// The columns that were added, in order.
     cols: Vec<Column>,
+    /// The rows.
     rows: Vec<MasterRow>,
+    /// By class, how many blocks it has.
     counts: Vec<u32>,
+    /// The simplex, with the basis of the last solution.
     simplex: Simplex,
 }
 

@@ -24,17 +24,21 @@ use std::alloc::{AllocError, Global};
 /// The scale of a short proof.
 const SHORT_SCALE: u32 = 1 << 8;
 
-/// A proof with the bound that it shows of a zone.
+/// A dual bound of a zone.
 #[derive(Drop)]
 pub struct Shown {
+    /// The proof that shows it.
     pub proof: Proof,
+    /// The bound, in ones, with the constant; below 2^62 in magnitude.
     pub bound: i64,
 }
 
-/// The proofs of multipliers by row, rounded to a small scale and to the greatest.
+/// The proofs of multipliers by row.
 #[derive(Drop)]
 pub struct Scaled {
+    /// With the multipliers rounded to the scale 256.
     pub short: Proof,
+    /// With the multipliers at the greatest scale, 1,048,576.
     pub full: Proof,
 }
 

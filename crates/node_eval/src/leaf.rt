@@ -13,12 +13,12 @@ use block_class::Classes;
 use block_program::Blocked;
 use bp_theory::Proof;
 use branch_tree::{Next, Turn, Verdict};
-use compact_relaxation::serves;
+use compact_relaxation::has_no_block_rows;
 use node_bound::{
     Opening, Shown, at_both_scales, better_point, cheaper, emptied, emptied_by, first_open,
     one_point, open_or, opened, settled,
 };
-use node_heuristics::{Hint, Pools, hinted, unreached};
+use node_heuristics::{Hint, NodeContext, Pools, hinted, unreached};
 use std::alloc::{AllocError, Global};
 
 /// The verdict on a live leaf: a point that is feasible and cheaper than the best cost, where one was found, and what is
@@ -72,7 +72,7 @@ fn many_points(
             next: Next::Shut(proof),
         });
     }
-    if serves(b) {
+    if has_no_block_rows(b) {
         return lone_points(alloc, b, turn, best, pools, var);
     }
     let classes = Classes::of(alloc, b, &turn.zone)?;
@@ -83,7 +83,8 @@ fn many_points(
             next: Next::Shut(proof),
         }),
         Opening::Open(shown) => {
-            searched(alloc, b, &classes, pools, turn, best, is_even, var, shown)
+            let before = Before { best, is_even, var };
+            searched(alloc, b, &classes, pools, turn, before, shown)
         }
     }
 }
@@ -99,6 +100,17 @@ fn missed(alloc: Global, b: &Blocked, turn: &Turn) -> Result<Option<Proof>, Allo
     }
 }
 
+// What is known of a node before it is searched.
+#[derive(Clone, Copy)]
+struct Before {
+    // The incumbent's cost, where there is one.
+    best: Option<i64>,
+    // Whether an even number of nodes was searched before.
+    is_even: bool,
+    // A variable with an open span: the node is forked at this one where the search names none with an open span.
+    var: u32,
+}
+
 // The verdict on a zone with an open variable whose blocks may have points.
 fn searched(
     alloc: Global,
@@ -106,31 +118,34 @@ fn searched(
     classes: &Classes,
     pools: &mut Pools,
     turn: &Turn,
-    best: Option<i64>,
-    is_even: bool,
-    var: u32,
+    before: Before,
     shown: Shown,
 ) -> Result<Verdict, AllocError>
     requires turn { IsTurn b.now turn.now }
-    requires open { IsOpen turn.now.zone var }
+    requires open { IsOpen turn.now.zone before.var }
     requires made_for { AreMadeFor b.now pools.old }
     requires classes { AreSameClasses turn.now.zone b.now.blocking classes.now }
     requires shown { IsShown b.now.blocking turn.now.zone turn.now.bound shown.proof shown.bound }
     requires strong { IsStrong b.now.blocking turn.now.zone shown.bound }
     ensures verdict { IfOk result (IsVerdict b.now.named.program b.now.blocking turn.now.depth
-        turn.now.zone turn.now.bound best) }
+        turn.now.zone turn.now.bound before.best) }
     ensures thorough { IfOk result (λ verdict. IsThorough b.now.blocking turn.now.zone
         verdict.next) }
     ensures made_for { AreMadeFor b.now pools.new }
 {
+    let node = NodeContext {
+        program: b,
+        classes,
+        zone: &turn.zone,
+    };
     let Hint {
         mults,
         point: found,
         split,
-    } = hinted(alloc, b, classes, pools, turn, best, is_even)?;
-    let point = better_point(b, found, best);
+    } = hinted(alloc, node, pools, turn, before.best, before.is_even)?;
+    let point = better_point(b, found, before.best);
     let mults = mults.as_slice();
-    let known = cheaper(b, &point, best);
+    let known = cheaper(b, &point, before.best);
     if let Some(proof) = left_empty(alloc, b, classes, pools, turn, known, mults)? {
         return Ok(Verdict {
             point,
@@ -146,7 +161,7 @@ fn searched(
         shown,
         proofs,
     );
-    let var = open_or(&turn.zone, split.var, var);
+    let var = open_or(&turn.zone, split.var, before.var);
     let next = settled(b, turn, shown, known, var, split.at);
     Ok(Verdict { point, next })
 }

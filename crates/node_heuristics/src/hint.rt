@@ -1,7 +1,5 @@
 // What is searched for in a leaf's zone: multipliers, a point, and a split. All are hints.
 ghost use Rattle.std.specs.Prelude.{◌≡◌, ◌<◌, IfOk, All, length};
-ghost use Rattle.bp_theory.specs.Trees.{IsZone};
-ghost use Rattle.block_class.specs.Classes.{AreSameClasses};
 ghost use Rattle.node_memory.specs.Pools.{AreMadeFor};
 ghost use Rattle.search_laws.specs.declared.UsedColumn.{UsedColumn as AUsed};
 
@@ -13,27 +11,43 @@ use bp_theory::{Items, Span};
 use branch_tree::Turn;
 use column_generation::{Centre, Effort, generate_columns, leaf_mults, take_steps};
 use disagg::most_mixed;
-use node_memory::Pools;
+use node_memory::{NodeContext, Pools};
 use primal_heuristics::{
     Incumbent, UNIT, guide_of, is_reached, plain_guide, quotient, reach_of, search_point, whole,
 };
-use restricted_master::{RestrictedMaster, Weighted, serves};
+use restricted_master::{RestrictedMaster, Weighted, has_master_and_block_rows};
 use search_laws::UsedColumn;
 use std::alloc::{AllocError, Global};
 
-/// A variable, and the number that its span is split behind.
+/// Where a node is to be forked.
 #[derive(Clone, Copy)]
 pub struct Split {
+    /// The variable.
     pub var: u32,
+    /// The number behind which its span is split.
     pub at: i64,
 }
 
-/// Multipliers by row at the greatest scale, a point, and a split.
+/// What the heuristics of a node found. Nothing is promised of it.
 #[derive(Drop)]
 pub struct Hint {
+    /// The multipliers of the best dual bound, by row that proofs may name, at the greatest scale, 1,048,576.
     pub mults: Vec<i64>,
+    /// A point by variable that is cheaper than the incumbent, where one was found.
     pub point: Option<Vec<i64>>,
+    /// Where the node is to be forked.
     pub split: Split,
+}
+
+/// Where the search in a node stands.
+#[derive(Drop)]
+pub struct Search {
+    /// The multipliers of the best dual bound so far, by row at the greatest scale, with that bound.
+    pub centre: Centre,
+    /// The incumbent's cost, and a point of that cost where the node gave one.
+    pub incumbent: Incumbent,
+    /// Whether an even number of nodes was searched before: by this dives by columns differ.
+    pub is_even: bool,
 }
 
 /// Multipliers with a great bound in a leaf's zone, a point that is cheaper than the best cost, where one was found,
@@ -42,39 +56,35 @@ pub struct Hint {
 /// Dives keep columns without numbers for last at every other leaf.
 pub fn hinted(
     alloc: Global,
-    b: &Blocked,
-    classes: &Classes,
+    node: NodeContext,
     pools: &mut Pools,
     turn: &Turn,
     best: Option<i64>,
     is_even: bool,
 ) -> Result<Hint, AllocError>
-    requires made_for { AreMadeFor b.now pools.old }
-    requires classes { AreSameClasses turn.now.zone b.now.blocking classes.now }
-    requires zone { IsZone b.now.named.program.spans turn.now.zone }
-    ensures made_for { AreMadeFor b.now pools.new }
+    requires made_for { AreMadeFor node.program.now pools.old }
+    ensures made_for { AreMadeFor node.entry.program.now pools.new }
 {
-    let with_columns = serves(b);
-    let mut incumbent = first_incumbent(alloc, b, turn, best)?;
-    let limit = limit_of(b, turn, incumbent.known);
-    let steps = take_steps(alloc, b, classes, pools, turn, limit, with_columns)?;
-    incumbent.take(alloc, b, steps.found)?;
-    let mut centre = Centre {
-        mults: steps.best,
-        value: steps.value,
+    let with_columns = has_master_and_block_rows(node.program);
+    let mut incumbent = first_incumbent(alloc, node.program, turn, best)?;
+    let limit = limit_of(node.program, turn, incumbent.known);
+    let steps = take_steps(alloc, node, pools, turn, limit, with_columns)?;
+    incumbent.take(alloc, node.program, steps.found)?;
+    let mut search = Search {
+        centre: Centre {
+            mults: steps.best,
+            value: steps.value,
+        },
+        incumbent,
+        is_even,
     };
     let mean = steps.mean.as_slice();
-    let split = searched(
-        alloc,
-        b,
-        classes,
-        pools,
-        turn,
-        &mut centre,
-        mean,
-        &mut incumbent,
-        is_even,
-    )?;
+    let split = searched(alloc, node, pools, turn, mean, &mut search)?;
+    let Search {
+        centre,
+        incumbent,
+        is_even: _,
+    } = search;
     Ok(Hint {
         mults: centre.mults,
         point: incumbent.point,
@@ -85,26 +95,22 @@ pub fn hinted(
 // Points that a search and columns give from where steps ended, and the split that the columns want, else that of the mean.
 fn searched(
     alloc: Global,
-    b: &Blocked,
-    classes: &Classes,
+    node: NodeContext,
     pools: &mut Pools,
     turn: &Turn,
-    centre: &mut Centre,
     mean: &[i128],
-    incumbent: &mut Incumbent,
-    is_even: bool,
+    search: &mut Search,
 ) -> Result<Split, AllocError>
-    requires made_for { AreMadeFor b.now pools.old }
-    requires classes { AreSameClasses turn.now.zone b.now.blocking classes.now }
-    requires zone { IsZone b.now.named.program.spans turn.now.zone }
-    ensures made_for { AreMadeFor b.now pools.new }
+    requires made_for { AreMadeFor node.program.now pools.old }
+    ensures made_for { AreMadeFor node.entry.program.now pools.new }
 {
-    if !serves(b) || turn.depth == 0 || incumbent.known.is_none() {
-        let probed = probed_point(alloc, b, turn, centre, mean, incumbent.known)?;
-        incumbent.take(alloc, b, probed)?;
+    let is_unknown = search.incumbent.known.is_none();
+    if !has_master_and_block_rows(node.program) || turn.depth == 0 || is_unknown {
+        let probed = probed_point(alloc, node.program, turn, mean, search)?;
+        search.incumbent.take(alloc, node.program, probed)?;
     }
-    let found = search_columns(alloc, b, classes, pools, turn, centre, incumbent, is_even)?;
-    Ok(found.unwrap_or(split_of_mean(mean, turn.zone.spans())))
+    let found = search_columns(alloc, node, pools, turn, search)?;
+    Ok(found.unwrap_or(split_of_mean(mean, node.zone.spans())))
 }
 
 /// What is known before multipliers are searched for. At the root, and where no point is known, a search by plain costs
@@ -146,14 +152,14 @@ fn probed_point(
     alloc: Global,
     b: &Blocked,
     turn: &Turn,
-    centre: &Centre,
     mean: &[i128],
-    known: Option<i64>,
+    search: &Search,
 ) -> Result<Option<Vec<i64>>, AllocError> {
-    if is_reached(centre.value, limit_of(b, turn, known)) {
+    let known = search.incumbent.known;
+    if is_reached(search.centre.value, limit_of(b, turn, known)) {
         return Ok(None);
     }
-    let guide = guide_of(alloc, b, centre.mults.as_slice(), mean)?;
+    let guide = guide_of(alloc, b, search.centre.mults.as_slice(), mean)?;
     search_point(alloc, b, turn, &guide, known)
 }
 
@@ -161,31 +167,28 @@ fn probed_point(
 // reaches what is known, before or after.
 fn generated(
     alloc: Global,
-    b: &Blocked,
-    classes: &Classes,
+    node: NodeContext,
     pools: &mut Pools,
     turn: &Turn,
-    centre: &mut Centre,
-    known: Option<i64>,
+    search: &mut Search,
 ) -> Result<Option<RestrictedMaster>, AllocError>
-    requires made_for { AreMadeFor b.now pools.old }
-    requires classes { AreSameClasses turn.now.zone b.now.blocking classes.now }
-    requires zone { IsZone b.now.named.program.spans turn.now.zone }
-    ensures made_for { AreMadeFor b.now pools.new }
+    requires made_for { AreMadeFor node.program.now pools.old }
+    ensures made_for { AreMadeFor node.entry.program.now pools.new }
 {
-    if !serves(b) {
+    if !has_master_and_block_rows(node.program) {
         return Ok(None);
     }
-    let limit = limit_of(b, turn, known);
-    if centre.value == i128::MIN || is_reached(centre.value, limit) {
+    let limit = limit_of(node.program, turn, search.incumbent.known);
+    let value = search.centre.value;
+    if value == i128::MIN || is_reached(value, limit) {
         return Ok(None);
     }
     let effort = Effort {
         known: limit,
         with_partitions: turn.depth == 0,
     };
-    let master = generate_columns(alloc, b, classes, &turn.zone, pools, centre, effort)?;
-    if is_reached(centre.value, limit) {
+    let master = generate_columns(alloc, node, pools, &mut search.centre, effort)?;
+    if is_reached(search.centre.value, limit) {
         return Ok(None);
     }
     Ok(master)
@@ -194,61 +197,45 @@ fn generated(
 // Points from the columns that are generated from a centre, where there are such, and the split that they want.
 fn search_columns(
     alloc: Global,
-    b: &Blocked,
-    classes: &Classes,
+    node: NodeContext,
     pools: &mut Pools,
     turn: &Turn,
-    centre: &mut Centre,
-    incumbent: &mut Incumbent,
-    is_even: bool,
+    search: &mut Search,
 ) -> Result<Option<Split>, AllocError>
-    requires made_for { AreMadeFor b.now pools.old }
-    requires classes { AreSameClasses turn.now.zone b.now.blocking classes.now }
-    requires zone { IsZone b.now.named.program.spans turn.now.zone }
-    ensures made_for { AreMadeFor b.now pools.new }
+    requires made_for { AreMadeFor node.program.now pools.old }
+    ensures made_for { AreMadeFor node.entry.program.now pools.new }
 {
-    let known = incumbent.known;
-    let Some(mut master) = generated(alloc, b, classes, pools, turn, centre, known)? else {
+    let Some(mut master) = generated(alloc, node, pools, turn, search)? else {
         return Ok(None);
     };
     let used = master.used(alloc)?;
     let used = used.as_slice();
     let master = &mut master;
-    points_and_split(
-        alloc, b, classes, pools, turn, centre, master, used, incumbent, is_even,
-    )
+    points_and_split(alloc, node, pools, turn, master, used, search)
 }
 
 // Points from a master whose columns these are that are used, and the split that they want.
 fn points_and_split(
     alloc: Global,
-    b: &Blocked,
-    classes: &Classes,
+    node: NodeContext,
     pools: &mut Pools,
     turn: &Turn,
-    centre: &mut Centre,
     master: &mut RestrictedMaster,
     used: &[Weighted],
-    incumbent: &mut Incumbent,
-    is_even: bool,
+    search: &mut Search,
 ) -> Result<Option<Split>, AllocError>
-    requires made_for { AreMadeFor b.now pools.old }
-    requires classes { AreSameClasses turn.now.zone b.now.blocking classes.now }
-    requires zone { IsZone b.now.named.program.spans turn.now.zone }
-    ensures made_for { AreMadeFor b.now pools.new }
+    requires made_for { AreMadeFor node.program.now pools.old }
+    ensures made_for { AreMadeFor node.entry.program.now pools.new }
 {
-    if turn.depth == 0 || incumbent.known.is_none() {
-        let known = incumbent.known;
-        let point = point_by_mean(alloc, b, classes, pools, turn, centre, used, known)?;
-        incumbent.take(alloc, b, point)?;
+    if turn.depth == 0 || search.incumbent.known.is_none() {
+        let point = point_by_mean(alloc, node, pools, turn, used, search)?;
+        search.incumbent.take(alloc, node.program, point)?;
     }
-    find_points(
-        alloc, b, classes, pools, turn, centre, master, incumbent, is_even,
-    )?;
-    if let Some(split) = split_of_links(alloc, b, classes, pools, used)? {
+    find_points(alloc, node, pools, turn, master, search)?;
+    if let Some(split) = split_of_links(alloc, node.program, node.classes, pools, used)? {
         return Ok(Some(split));
     }
-    split_of_used(alloc, b, classes, pools, used)
+    split_of_used(alloc, node.program, node.classes, pools, used)
 }
 
 // The split of the variable that is farthest from whole where weighted columns are dealt out to blocks.

@@ -11,5 +11,5 @@ mod points;
 
 pub use hint::{Hint, Split, hinted};
 pub use lone::lone_hinted;
-pub use node_memory::{MOST_VISITS, Pools, PricingBudget};
+pub use node_memory::{MOST_VISITS, NodeContext, Pools, PricingBudget};
 pub use primal_heuristics::unreached;

@@ -11,14 +11,18 @@ use std::alloc::{AllocError, Global};
 /// The least mean distance from the mean that counts, in units.
 const LEAST_FAR: i128 = 1 << 6;
 
-// What weighted columns come to in the copies of a variable: whether it has several, the sum of the weights, the sum of
-// the weighted numbers and their mean in units, and the sum of the weighted distances from this mean.
+// What weighted columns come to in the copies of a variable.
 #[derive(Clone, Copy)]
 struct Share {
+    // Whether the variable has copies in several blocks.
     is_linking: bool,
+    // The sum of the columns' weights, in units of which 1,048,576 make one.
     weight: i128,
+    // The sum of their numbers, each times its weight.
     sum: i128,
+    // The mean of their numbers, in units.
     mean: i128,
+    // The sum of their distances from this mean, in units, each times its weight.
     far: i128,
 }
 

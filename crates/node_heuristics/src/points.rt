@@ -1,19 +1,17 @@
 // Points from the columns of a leaf's master: exchanges between identical blocks, dives by columns, each mended by
 // exchanges where it fails, dives by variables where each block differs, and a search that the mean of the columns
 // guides.
-ghost use Rattle.std.specs.Prelude.{◌≡◌};
-ghost use Rattle.bp_theory.specs.Trees.{IsZone};
 ghost use Rattle.node_memory.specs.Pools.{AreMadeFor};
 
+use crate::hint::Search;
 use block_class::Classes;
 use block_program::{Block, Blocked};
 use branch_tree::Turn;
-use column_generation::{Centre, are_alike, mean_mult, round_up};
+use column_generation::{are_alike, mean_mult, round_up};
 use diving::{Style, dive_by_columns, dive_by_variables, drawn};
-use node_memory::{Place, Pools};
+use node_memory::{NodeContext, Place, Pools};
 use primal_heuristics::{
-    Alike, Incumbent, Moves, guide_of, is_first_copy, is_reached, pack, product, search_point,
-    whole,
+    Alike, Moves, guide_of, is_first_copy, is_reached, pack, product, search_point, whole,
 };
 use restricted_master::{RestrictedMaster, Weighted};
 use std::alloc::{AllocError, Global};
@@ -36,20 +34,19 @@ const DIVE_BOX: f64 = 0.5;
 /// guides finds one.
 pub fn point_by_mean(
     alloc: Global,
-    b: &Blocked,
-    classes: &Classes,
+    node: NodeContext,
     pools: &Pools,
     turn: &Turn,
-    centre: &Centre,
     used: &[Weighted],
-    known: Option<i64>,
+    search: &Search,
 ) -> Result<Option<Vec<i64>>, AllocError> {
-    if are_alike(b, classes) {
+    if are_alike(node.program, node.classes) {
         return Ok(None);
     }
-    let mean = mean_of(alloc, b, classes, pools, used)?;
-    let guide = guide_of(alloc, b, centre.mults.as_slice(), mean.as_slice())?;
-    search_point(alloc, b, turn, &guide, known)
+    let mean = mean_of(alloc, node.program, node.classes, pools, used)?;
+    let mults = search.centre.mults.as_slice();
+    let guide = guide_of(alloc, node.program, mults, mean.as_slice())?;
+    search_point(alloc, node.program, turn, &guide, search.incumbent.known)
 }
 
 // The mean of weighted columns in units, with the columns of a class dealt out evenly to its blocks.
@@ -104,34 +101,27 @@ fn deal(b: &Blocked, home: u32, block: &Block, point: &[i64], part: i64, mean: &
 /// Takes points from a master's columns while the bound doesn't reach what is known.
 pub fn find_points(
     alloc: Global,
-    b: &Blocked,
-    classes: &Classes,
+    node: NodeContext,
     pools: &mut Pools,
     turn: &Turn,
-    centre: &Centre,
     master: &mut RestrictedMaster,
-    incumbent: &mut Incumbent,
-    is_even: bool,
+    search: &mut Search,
 ) -> Result<(), AllocError>
-    requires made_for { AreMadeFor b.now pools.old }
-    requires zone { IsZone b.now.named.program.spans turn.now.zone }
-    ensures made_for { AreMadeFor b.now pools.new }
+    requires made_for { AreMadeFor node.program.now pools.old }
+    ensures made_for { AreMadeFor node.entry.program.now pools.new }
 {
-    if has_alike(classes, master) {
+    if has_alike(node.classes, master) {
         if turn.depth == 0 {
-            exchange_items(alloc, b, classes, pools, turn, centre, master, incumbent)?;
+            exchange_items(alloc, node, pools, master, search)?;
         }
         let dives = if turn.depth == 0 { ROOT_DIVES } else { 1 };
-        dive_alike(
-            alloc, b, classes, pools, turn, centre, master, incumbent, is_even, dives,
-        )
+        dive_alike(alloc, node, pools, master, search, dives)
     } else {
-        let width = mean_mult(b, centre.mults.as_slice()) * DIVE_BOX;
-        master.stay_near(centre.mults.as_slice(), width);
+        let mults = search.centre.mults.as_slice();
+        let width = mean_mult(node.program, mults) * DIVE_BOX;
+        master.stay_near(mults, width);
         let dives = if turn.depth == 0 { ROOT_VAR_DIVES } else { 1 };
-        dive_single(
-            alloc, b, classes, pools, turn, centre, master, incumbent, dives,
-        )
+        dive_single(alloc, node, pools, master, search, dives)
     }
 }
 
@@ -148,28 +138,23 @@ fn has_alike(classes: &Classes, master: &RestrictedMaster) -> bool {
 // Dives by variables.
 fn dive_single(
     alloc: Global,
-    b: &Blocked,
-    classes: &Classes,
+    node: NodeContext,
     pools: &mut Pools,
-    turn: &Turn,
-    centre: &Centre,
     master: &mut RestrictedMaster,
-    incumbent: &mut Incumbent,
+    search: &mut Search,
     dives: u32,
 ) -> Result<(), AllocError>
-    requires made_for { AreMadeFor b.now pools.old }
-    requires zone { IsZone b.now.named.program.spans turn.now.zone }
-    ensures made_for { AreMadeFor b.now pools.new }
+    requires made_for { AreMadeFor node.program.now pools.old }
+    ensures made_for { AreMadeFor node.entry.program.now pools.new }
 {
     let mut seed = None;
     for dive in 0..dives {
-        if pools.budget.is_spent() || is_reached(centre.value, incumbent.known) {
+        let known = search.incumbent.known;
+        if pools.budget.is_spent() || is_reached(search.centre.value, known) {
             break;
         }
-        let known = incumbent.known;
-        let zone = &turn.zone;
-        let point = dive_by_variables(alloc, b, classes, zone, pools, master, known, seed)?;
-        incumbent.take(alloc, b, point)?;
+        let point = dive_by_variables(alloc, node, pools, master, known, seed)?;
+        search.incumbent.take(alloc, node.program, point)?;
         seed = Some(drawn(u64::from(dive)));
     }
     Ok(())
@@ -178,39 +163,33 @@ fn dive_single(
 // Dives by columns: with the master's weights, and then with others. Where one fails, its columns seed exchanges.
 fn dive_alike(
     alloc: Global,
-    b: &Blocked,
-    classes: &Classes,
+    node: NodeContext,
     pools: &mut Pools,
-    turn: &Turn,
-    centre: &Centre,
     master: &mut RestrictedMaster,
-    incumbent: &mut Incumbent,
-    is_even: bool,
+    search: &mut Search,
     dives: u32,
 ) -> Result<(), AllocError>
-    requires made_for { AreMadeFor b.now pools.old }
-    requires zone { IsZone b.now.named.program.spans turn.now.zone }
-    ensures made_for { AreMadeFor b.now pools.new }
+    requires made_for { AreMadeFor node.program.now pools.old }
+    ensures made_for { AreMadeFor node.entry.program.now pools.new }
 {
     let mut style = Style {
-        is_loose: is_even,
+        is_loose: search.is_even,
         seed: None,
     };
     for dive in 0..dives {
-        if pools.budget.is_spent() || is_reached(centre.value, incumbent.known) {
+        let known = search.incumbent.known;
+        let value = search.centre.value;
+        if pools.budget.is_spent() || is_reached(value, known) {
             break;
         }
-        let known = incumbent.known;
         style.is_loose = known.is_none() || style.is_loose;
-        let zone = &turn.zone;
-        let dived = dive_by_columns(alloc, b, classes, zone, pools, master, known, style)?;
+        let dived = dive_by_columns(alloc, node, pools, master, known, style)?;
         let is_failed = dived.point.is_none();
-        incumbent.take(alloc, b, dived.point)?;
+        search.incumbent.take(alloc, node.program, dived.point)?;
         if is_failed {
             let taken = dived.taken.as_slice();
-            let moves = moves_of(dive);
-            let point = mended(alloc, b, classes, pools, turn, centre, master, taken, moves)?;
-            incumbent.take(alloc, b, point)?;
+            let point = mended(alloc, node, pools, master, value, taken, moves_of(dive))?;
+            search.incumbent.take(alloc, node.program, point)?;
         }
         style.is_loose = dive % 2 == 0;
         style.seed = Some(drawn(u64::from(dive)));
@@ -236,17 +215,15 @@ fn moves_of(number: u32) -> Moves {
 // Exchanges items between identical blocks, from nothing and from the columns of whole weight.
 fn exchange_items(
     alloc: Global,
-    b: &Blocked,
-    classes: &Classes,
+    node: NodeContext,
     pools: &Pools,
-    turn: &Turn,
-    centre: &Centre,
     master: &RestrictedMaster,
-    incumbent: &mut Incumbent,
+    search: &mut Search,
 ) -> Result<(), AllocError> {
     let wholes = wholes_of(alloc, master)?;
+    let value = search.centre.value;
     for number in 0..PACKINGS {
-        if is_reached(centre.value, incumbent.known) {
+        if is_reached(value, search.incumbent.known) {
             break;
         }
         let seeds = if number % 2 == 1 {
@@ -255,8 +232,8 @@ fn exchange_items(
             &[]
         };
         let moves = moves_of(number / 2);
-        let point = mended(alloc, b, classes, pools, turn, centre, master, seeds, moves)?;
-        incumbent.take(alloc, b, point)?;
+        let point = mended(alloc, node, pools, master, value, seeds, moves)?;
+        search.incumbent.take(alloc, node.program, point)?;
     }
     Ok(())
 }
@@ -275,22 +252,21 @@ fn wholes_of(alloc: Global, master: &RestrictedMaster) -> Result<Vec<Place>, All
     Ok(wholes)
 }
 
-// A point by exchanges between the blocks of the one class that isn't settled, which begin with columns.
+// A point by exchanges between the blocks of the one class that isn't settled, which begin with columns. The dual bound in
+// units, rounded up, ends them.
 fn mended(
     alloc: Global,
-    b: &Blocked,
-    classes: &Classes,
+    node: NodeContext,
     pools: &Pools,
-    turn: &Turn,
-    centre: &Centre,
     master: &RestrictedMaster,
+    value: i128,
     taken: &[Place],
     moves: Moves,
 ) -> Result<Option<Vec<i64>>, AllocError> {
-    let Some(class) = open_class(classes, master) else {
+    let Some(class) = open_class(node.classes, master) else {
         return Ok(None);
     };
-    if class >= classes.len() {
+    if class >= node.classes.len() {
         return Ok(None);
     }
     let mut seeds = Vec::new(alloc);
@@ -300,11 +276,11 @@ fn mended(
         }
     }
     let alike = Alike {
-        members: classes.members(class),
-        spans: turn.zone.spans(),
-        bound: whole(round_up(centre.value)),
+        members: node.classes.members(class),
+        spans: node.zone.spans(),
+        bound: whole(round_up(value)),
     };
-    pack(alloc, b, alike, seeds.as_slice(), moves)
+    pack(alloc, node.program, alike, seeds.as_slice(), moves)
 }
 
 // The one class that isn't settled, where it has several blocks.

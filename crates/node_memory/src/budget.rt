@@ -1,6 +1,7 @@
 // Pricing for hints: the pricers of a program's blocks, and which blocks hints price.
 ghost use Rattle.std.specs.Prelude.{◌≡◌, ◌<◌, length};
 
+use crate::node::NodeContext;
 use crate::wide::has_many_beginnings;
 use block_class::Classes;
 use block_program::{Block, Blocked, MAX_SCALE, Zone, fits};
@@ -25,14 +26,19 @@ const MOST_PRICES: u32 = 400;
 /// After how many leaves it is forgotten which blocks' pricing was cut.
 const MEMORY: u32 = 32;
 
-/// The pricers of a program's blocks, and the blocks that hints price: all, or those whose pricing was never cut. Of
-/// each leaf's hints so many prices are left. It is kept from leaf to leaf which blocks' pricing was cut.
+/// The pricers of a program's blocks, and what the heuristics of nodes may price with them.
 pub struct PricingBudget {
+    /// The pricers, with the points that the last dual bound told.
     pub work: Work,
+    /// The blocks that heuristics price in this node, ascending; all where there is no list.
     picks: Option<Vec<u32>>,
+    /// How often the pricing of a block was cut in this node.
     cuts: u32,
+    /// How often heuristics may still price in this node.
     left: u32,
+    /// By block, whether its pricing was cut since it was last forgotten.
     was_cut: Vec<bool>,
+    /// How many nodes there were; the count goes round.
     leaves: u32,
 }
 
@@ -53,7 +59,6 @@ impl PricingBudget {
     ghost use Rattle.std.specs.Prelude.{◌≡◌, ◌<◌, IfOk, IfSome, IsTrue, length};
     ghost use Rattle.node_memory.specs.Wide.{IsWide};
     ghost use Rattle.bp_theory.specs.Trees.{IsZone};
-    ghost use Rattle.block_class.specs.Classes.{AreSameClasses};
     ghost use Rattle.block_pricers.specs.Forms.{forms_in};
     ghost use Rattle.block_pricers.specs.Works.{forms_of};
 
@@ -95,15 +100,11 @@ impl PricingBudget {
     pub fn round(
         &mut self,
         alloc: Global,
-        b: &Blocked,
-        classes: &Classes,
-        zone: &Zone,
+        node: NodeContext,
         mults: &[i64],
         point: &mut [i64],
     ) -> Result<Option<i128>, AllocError>
-        requires made_for { forms_of self.old.work ≡ forms_in b.now }
-        requires classes { AreSameClasses zone.now b.now.blocking classes.now }
-        requires zone { IsZone b.now.named.program.spans zone.now }
+        requires made_for { forms_of self.old.work ≡ forms_in node.program.now }
         ensures made_for { forms_of self.new.work ≡ forms_of self.old.work }
     {
         if self.left == 0 {
@@ -111,19 +112,26 @@ impl PricingBudget {
         }
         self.left -= 1;
         for _ in 0..MOST_ROUNDS {
-            let proof = self.open_proof(alloc, b, zone, mults)?;
-            if !fits(b, &proof) {
+            let proof = self.open_proof(alloc, node.program, node.zone, mults)?;
+            if !fits(node.program, &proof) {
                 return Ok(None);
             }
             let cap = Cap::At(MOST_VISITS);
-            match bound(&mut self.work, b, classes, zone, &proof, cap) {
+            match bound(
+                &mut self.work,
+                node.program,
+                node.classes,
+                node.zone,
+                &proof,
+                cap,
+            ) {
                 Bounded::Whole(value) => {
-                    self.write_point(b, classes, point);
-                    write_settled(b, zone, point);
+                    self.write_point(node.program, node.classes, point);
+                    write_settled(node.program, node.zone, point);
                     return Ok(Some(value));
                 }
                 Bounded::Endless => return Ok(None),
-                Bounded::Cut(block) => self.leave_out(alloc, b, classes, block)?,
+                Bounded::Cut(block) => self.leave_out(alloc, node.program, node.classes, block)?,
             }
         }
         Ok(None)
@@ -131,23 +139,21 @@ impl PricingBudget {
 
     /// Whether a proof has a bound in a zone, within a cap for each block. The points that reach it are told then. No price
     /// of the leaf's is spent.
-    pub(crate) fn has_bound(
-        &mut self,
-        b: &Blocked,
-        classes: &Classes,
-        zone: &Zone,
-        proof: &Proof,
-        cap: Cap,
-    ) -> bool
-        requires made_for { forms_of self.old.work ≡ forms_in b.now }
-        requires classes { AreSameClasses zone.now b.now.blocking classes.now }
-        requires zone { IsZone b.now.named.program.spans zone.now }
+    pub(crate) fn has_bound(&mut self, node: NodeContext, proof: &Proof, cap: Cap) -> bool
+        requires made_for { forms_of self.old.work ≡ forms_in node.program.now }
         ensures made_for { forms_of self.new.work ≡ forms_of self.old.work }
     {
-        if !fits(b, proof) {
+        if !fits(node.program, proof) {
             return false;
         }
-        match bound(&mut self.work, b, classes, zone, proof, cap) {
+        match bound(
+            &mut self.work,
+            node.program,
+            node.classes,
+            node.zone,
+            proof,
+            cap,
+        ) {
             Bounded::Whole(_) => true,
             _ => false,
         }

@@ -3,8 +3,10 @@
 #![tactic(auto)]
 
 mod budget;
+mod node;
 mod pools;
 mod wide;
 
 pub use budget::{MOST_VISITS, PricingBudget, alone, is_settled};
+pub use node::NodeContext;
 pub use pools::{Place, Pools};

@@ -6,26 +6,32 @@ ghost use Rattle.col_pool.specs.Stores.{IsStoreOf};
 ghost use Rattle.node_memory.specs.Pools.{AreMadeFor};
 
 use crate::budget::PricingBudget;
+use crate::node::NodeContext;
 use block_class::Classes;
 use block_program::{Blocked, Zone};
 use bp_theory::Proof;
 use col_pool::{Column, Pool, Store};
-use compact_relaxation::{LoneLeaves, serves};
+use compact_relaxation::{LoneLeaves, has_no_block_rows};
 use pricing_problem::Cap;
 use std::alloc::{AllocError, Global};
 
 /// How many numbers the points of all columns may have until pools are emptied.
 const MOST_NUMBERS: usize = 1 << 22;
 
-/// The pricers of a program's blocks, and the columns that they gave: a pool for each class of blocks at the root. Each
-/// column is a point of its class's first block, and no pool has two with the same point. Where no block has rows, the
-/// relaxation of the program's rows too.
+/// What a search keeps from node to node: pricers, columns and the compact relaxation. Each column is a point of its
+/// class's first block, and no pool has two with the same point.
 pub struct Pools {
+    /// The pricers of the program's blocks, and what heuristics may price with them.
     pub budget: PricingBudget,
+    /// The pools of columns, one for each class of blocks at the root.
     pub stores: Vec<Store>,
+    /// The compact relaxation, where no block has rows.
     pub lone: Option<LoneLeaves>,
+    /// By block, the number of its class at the root: that of its pool.
     homes: Vec<u32>,
+    /// How many numbers were offered to the pools since they were last emptied.
     size: usize,
+    /// How many nodes there were; the count goes round.
     leaves: u32,
 }
 
@@ -42,17 +48,17 @@ impl Drop for Pools {
     }
 }
 
-/// Where a column is: its pool, and its number there.
+/// Where a column is.
 #[derive(Clone, Copy)]
 pub struct Place {
+    /// The number of its pool.
     pub home: u32,
+    /// Its number in the pool.
     pub id: u32,
 }
 
 impl Pools {
     ghost use Rattle.std.specs.Prelude.{◌≡◌, ◌<◌, IfOk, length};
-    ghost use Rattle.bp_theory.specs.Trees.{IsZone};
-    ghost use Rattle.block_class.specs.Classes.{AreSameClasses};
     ghost use Rattle.node_memory.specs.Pools.{AreMadeFor};
 
     /// The pricers of a program's blocks, and no columns yet.
@@ -93,36 +99,23 @@ impl Pools {
     pub fn price(
         &mut self,
         alloc: Global,
-        b: &Blocked,
-        classes: &Classes,
-        zone: &Zone,
+        node: NodeContext,
         mults: &[i64],
         point: &mut [i64],
     ) -> Result<Option<i128>, AllocError>
-        requires made_for { AreMadeFor b.now self.old }
-        requires classes { AreSameClasses zone.now b.now.blocking classes.now }
-        requires zone { IsZone b.now.named.program.spans zone.now }
-        ensures made_for { AreMadeFor b.now self.new }
+        requires made_for { AreMadeFor node.program.now self.old }
+        ensures made_for { AreMadeFor node.entry.program.now self.new }
     {
-        self.budget.round(alloc, b, classes, zone, mults, point)
+        self.budget.round(alloc, node, mults, point)
     }
 
     /// Whether a proof has a bound in a zone, within a cap for each block. The points that reach it are told then. No price
     /// of the leaf's is spent.
-    pub fn has_bound(
-        &mut self,
-        b: &Blocked,
-        classes: &Classes,
-        zone: &Zone,
-        proof: &Proof,
-        cap: Cap,
-    ) -> bool
-        requires made_for { AreMadeFor b.now self.old }
-        requires classes { AreSameClasses zone.now b.now.blocking classes.now }
-        requires zone { IsZone b.now.named.program.spans zone.now }
-        ensures made_for { AreMadeFor b.now self.new }
+    pub fn has_bound(&mut self, node: NodeContext, proof: &Proof, cap: Cap) -> bool
+        requires made_for { AreMadeFor node.program.now self.old }
+        ensures made_for { AreMadeFor node.entry.program.now self.new }
     {
-        self.budget.has_bound(b, classes, zone, proof, cap)
+        self.budget.has_bound(node, proof, cap)
     }
 
     /// Adds the points that the last bound told.
@@ -226,7 +219,7 @@ impl Pools {
 
 // The relaxation of a program's rows, where its blocks have none.
 fn lone_leaves(alloc: Global, b: &Blocked) -> Result<Option<LoneLeaves>, AllocError> {
-    if serves(b) {
+    if has_no_block_rows(b) {
         Ok(Some(LoneLeaves::make(alloc, b)?))
     } else {
         Ok(None)

@@ -1,4 +1,4 @@
-// Texts of files, read again for a note.
+// Texts of files, read again for a note. No file is changed.
 ghost use Rattle.std.specs.Prelude.{◌≡◌, ◌<◌, ◌≤◌, length, vec_len, IfOk, IfSome};
 
 use bp_shelf::Shelf;
@@ -15,7 +15,11 @@ pub fn text_of<F: Shelf>(
     alloc: Global,
     shelf: &mut F,
     name: &str,
-) -> Result<Option<Vec<u8>>, AllocError> {
+) -> Result<Option<Vec<u8>>, AllocError>
+    ensures files { F.file shelf.new ≡ F.file shelf.old }
+    ensures told { F.tells shelf.new ≡ F.tells shelf.old }
+    ensures writes { F.write_faults shelf.new ≡ F.write_faults shelf.old }
+{
     let mut buffer = zeros(alloc, BUFFER)?;
     let mut text = Vec::new(alloc);
     let is_whole = read_whole(shelf, name, &mut buffer, &mut text)?;
@@ -30,8 +34,11 @@ fn read_whole<F: Shelf>(
     text: &mut Vec<u8>,
 ) -> Result<bool, AllocError>
     requires { 0 < length buffer.old }
+    ensures files { F.file shelf.new ≡ F.file shelf.old }
+    ensures told { F.tells shelf.new ≡ F.tells shelf.old }
+    ensures writes { F.write_faults shelf.new ≡ F.write_faults shelf.old }
 {
-    for _ in 0..u64::MAX {
+    'reads: for _ in 0..u64::MAX {
         let Some(count) = read_on(shelf, name, text.len() as u64, buffer) else {
             return Ok(false);
         };
@@ -54,7 +61,11 @@ pub fn line_of<F: Shelf>(
     name: &str,
     number: u64,
     most: usize,
-) -> Result<Option<Vec<u8>>, AllocError> {
+) -> Result<Option<Vec<u8>>, AllocError>
+    ensures files { F.file shelf.new ≡ F.file shelf.old }
+    ensures told { F.tells shelf.new ≡ F.tells shelf.old }
+    ensures writes { F.write_faults shelf.new ≡ F.write_faults shelf.old }
+{
     let mut buffer = zeros(alloc, BUFFER)?;
     let mut line = Line {
         number,
@@ -74,9 +85,12 @@ fn find_line<F: Shelf>(
     line: &mut Line,
 ) -> Result<bool, AllocError>
     requires { 0 < length buffer.old }
+    ensures files { F.file shelf.new ≡ F.file shelf.old }
+    ensures told { F.tells shelf.new ≡ F.tells shelf.old }
+    ensures writes { F.write_faults shelf.new ≡ F.write_faults shelf.old }
 {
     let mut at = 0u64;
-    for _ in 0..u64::MAX {
+    'reads: for _ in 0..u64::MAX {
         let Some(count) = read_on(shelf, name, at, buffer) else {
             return Ok(false);
         };
@@ -98,7 +112,10 @@ fn zeros(alloc: Global, count: usize) -> Result<Vec<u8>, AllocError>
 // Reads a file from a place on; how many bytes there are, none at its end, or nothing where it can't be read.
 fn read_on<F: Shelf>(shelf: &mut F, name: &str, at: u64, into: &mut [u8]) -> Option<usize>
     requires { 0 < length into.old }
-    ensures { IfSome result (λ count. count ≤ length into.old) }
+    ensures count { IfSome result (λ count. count ≤ length into.old) }
+    ensures files { F.file shelf.new ≡ F.file shelf.old }
+    ensures told { F.tells shelf.new ≡ F.tells shelf.old }
+    ensures writes { F.write_faults shelf.new ≡ F.write_faults shelf.old }
 {
     shelf.read_at(name, at, into).ok()
 }

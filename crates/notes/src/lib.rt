@@ -3,14 +3,17 @@
 #![tactic(auto)]
 
 mod again;
+mod answer;
 mod blocks;
 mod grammar;
 mod kinds;
 mod note;
 mod number;
+mod obstacle;
 mod place;
 mod reading;
 mod text;
 mod usage;
 
 pub use note::explain;
+pub use obstacle::explain_obstacle;

@@ -1,5 +1,8 @@
 // The note on how a run ended.
+ghost use Rattle.std.specs.Prelude.{◌≡◌};
+
 use crate::again::{line_of, text_of};
+use crate::answer::put_answer;
 use crate::kinds::{AFTER_REJECTED, CERT, DEC, FROM, LP, REJECTED, ROWS};
 use crate::place::{Spot, lp_spot, names_spot};
 use crate::text::{MOST_QUOTED, Note, sentence_of, word_at};
@@ -19,8 +22,8 @@ struct Refusal<'a> {
 
 /// The note on a run that ended with this status: why it was refused or stopped, in words, and what to do. It is empty for
 /// the other statuses. The words are those of the run, the program's name first; the report is what the run printed, of
-/// which the first line is read. The shelf has the files of the run: the place of a fault is looked up in the one at fault,
-/// and where that can't be read any more, the note does without.
+/// which the first line is read; where it could not be printed, the whole report. The shelf has the files of the run: the place
+/// of a fault is looked up in the one at fault, and where that can't be read any more, the note does without. No file is changed.
 pub fn explain<F: Shelf>(
     alloc: Global,
     words: &[String],
@@ -28,42 +31,61 @@ pub fn explain<F: Shelf>(
     report: &[u8],
     files: &Files,
     shelf: &mut F,
-) -> Result<Vec<u8>, AllocError> {
+) -> Result<Vec<u8>, AllocError>
+    ensures files { F.file shelf.new ≡ F.file shelf.old }
+    ensures told { F.tells shelf.new ≡ F.tells shelf.old }
+    ensures writes { F.write_faults shelf.new ≡ F.write_faults shelf.old }
+{
     let mut note = Note::new(alloc);
     match status {
         2 => put_words_note(&mut note, words),
         3 | 6 | 10 => put_refusal(alloc, &mut note, report, files, shelf),
-        7 | 8 | 11 => put_file_note(&mut note, status, files),
+        7 | 11 => put_file_note(&mut note, status, files),
+        8 if files.is_written() => {
+            put_file_note(&mut note, status, files);
+            put_answer(alloc, &mut note, words, files, shelf);
+        }
+        8 => put_output_note(&mut note, report, files),
         9 => note.put("bprice: want of memory; give the process more, or solve a smaller model\n"),
         _ => {}
     }
     note.finished()
 }
 
-// The note on a file, or the output, that could not be read or written.
+// The note on a file that could not be read or written.
 fn put_file_note(note: &mut Note, status: u8, files: &Files) {
     note.put("bprice: ");
-    if status == 8 && !files.is_written() {
-        note.put(
-            "the standard output could not be written; is its reader gone, or its disk full?\n",
-        );
-        return;
-    }
     match files.failed() {
         Some(name) => note.put_name(name),
         None => note.put("a file"),
     }
-    note.put(file_fault(status));
+    note.put(file_fault(status, files.is_full()));
 }
 
 // What failed of a file.
-fn file_fault(status: u8) -> &'static str {
+fn file_fault(status: u8, is_full: bool) -> &'static str {
     match status {
         7 =>
             ": it could not be read; it has to be a plain file (no folder, no pipe) that may be read\n",
+        8 if is_full => ": it could not be written; no space left\n",
         8 =>
             ": it could not be written; its folder has to be there, and the file to be one that may be written\n",
         _ => ": there is no such file\n",
+    }
+}
+
+// The note on the output that could not be written, with the report.
+fn put_output_note(note: &mut Note, report: &[u8], files: &Files) {
+    note.put("bprice: the standard output could not be written; ");
+    note.put(if files.is_full() {
+        "no space left"
+    } else {
+        "is its reader gone?"
+    });
+    note.put("\n");
+    if report.len() > 0 {
+        note.put("bprice: the report would have been\n");
+        note.put_bytes(report);
     }
 }
 
@@ -87,7 +109,11 @@ fn put_refusal<F: Shelf>(
     report: &[u8],
     files: &Files,
     shelf: &mut F,
-) {
+)
+    ensures files { F.file shelf.new ≡ F.file shelf.old }
+    ensures told { F.tells shelf.new ≡ F.tells shelf.old }
+    ensures writes { F.write_faults shelf.new ≡ F.write_faults shelf.old }
+{
     let line = first_line(report);
     let Some(name) = files.last() else {
         return;
@@ -138,7 +164,11 @@ fn put_refused<F: Shelf>(
     shelf: &mut F,
     name: &str,
     line: &str,
-) {
+)
+    ensures files { F.file shelf.new ≡ F.file shelf.old }
+    ensures told { F.tells shelf.new ≡ F.tells shelf.old }
+    ensures writes { F.write_faults shelf.new ≡ F.write_faults shelf.old }
+{
     let refusal = refusal_of(name, line, 2);
     match word_at(line, 1) {
         "lp" => put_model(alloc, note, shelf, &refusal),
@@ -153,7 +183,11 @@ fn put_refused<F: Shelf>(
 }
 
 // The note on a model.
-fn put_model<F: Shelf>(alloc: Global, note: &mut Note, shelf: &mut F, refusal: &Refusal) {
+fn put_model<F: Shelf>(alloc: Global, note: &mut Note, shelf: &mut F, refusal: &Refusal)
+    ensures files { F.file shelf.new ≡ F.file shelf.old }
+    ensures told { F.tells shelf.new ≡ F.tells shelf.old }
+    ensures writes { F.write_faults shelf.new ≡ F.write_faults shelf.old }
+{
     let text = note.known(text_of(alloc, shelf, refusal.name));
     let text = bytes_of(&text);
     let spot = note.known(lp_spot(alloc, text, refusal.line, refusal.kind));
@@ -176,7 +210,11 @@ fn put_names<F: Shelf>(
     shelf: &mut F,
     refusal: &Refusal,
     list: bool,
-) {
+)
+    ensures files { F.file shelf.new ≡ F.file shelf.old }
+    ensures told { F.tells shelf.new ≡ F.tells shelf.old }
+    ensures writes { F.write_faults shelf.new ≡ F.write_faults shelf.old }
+{
     let model = match files.first() {
         Some(name) => note.known(text_of(alloc, shelf, name)),
         None => None,
@@ -275,7 +313,11 @@ fn token_of<'a>(text: &'a [u8], spot: &Spot) -> Option<&'a [u8]> {
 
 // The note on a certificate that can't be read, with the line at fault: a byte more of it than is quoted tells that it goes
 // on.
-fn put_cert<F: Shelf>(alloc: Global, note: &mut Note, shelf: &mut F, refusal: &Refusal) {
+fn put_cert<F: Shelf>(alloc: Global, note: &mut Note, shelf: &mut F, refusal: &Refusal)
+    ensures files { F.file shelf.new ≡ F.file shelf.old }
+    ensures told { F.tells shelf.new ≡ F.tells shelf.old }
+    ensures writes { F.write_faults shelf.new ≡ F.write_faults shelf.old }
+{
     put_head(note, refusal, None);
     let line = match refusal.line.parse::<u64>() {
         Ok(number) => note.known(line_of(alloc, shelf, refusal.name, number, MOST_QUOTED + 1)),

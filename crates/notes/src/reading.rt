@@ -217,6 +217,11 @@ impl Reading {
         self.tokens.get(at).copied()
     }
 
+    /// The variables, in the order in which they occur.
+    pub fn variables(&self) -> &[Variable] {
+        &self.variables
+    }
+
     /// The state before the token at fault.
     pub fn state(&self) -> State {
         self.state

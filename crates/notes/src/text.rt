@@ -47,7 +47,8 @@ impl Note {
         self.text.len()
     }
 
-    fn put_bytes(&mut self, bytes: &[u8]) {
+    /// Adds bytes as they are.
+    pub fn put_bytes(&mut self, bytes: &[u8]) {
         if self.text.extend_from_slice(bytes).is_err() {
             self.lacks = true;
         }

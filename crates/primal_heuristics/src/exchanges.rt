@@ -19,32 +19,44 @@ const PASSES: u32 = 100;
 /// How many entries of rows are looked at in all.
 const EFFORT: u64 = 2_000_000;
 
-// A variable, and by how much it changes.
+// A change of a variable.
 #[derive(Clone, Copy)]
 struct Change {
+    // The variable.
     var: u32,
+    // By how much it changes.
     by: i64,
 }
 
-// A row that a chain broke, whether its sum is to be more, and how many of its terms were tried.
+// A row that a chain broke.
 #[derive(Clone, Copy)]
 struct Break {
+    // The row.
     row: u32,
+    // Whether its sum is to be more.
     more: bool,
+    // How many of its terms were tried.
     tried: usize,
 }
 
-// A point with the sums of its rows; the costs and the entries of the variables; a chain with what it broke and costs
-// more; and how many entries were looked at.
+// A point that chains of changes make cheaper.
 #[derive(Drop)]
 struct Exchange {
+    // The point, by variable.
     point: Vec<i64>,
+    // By row of the model, its sum at the point.
     sums: Vec<i128>,
+    // By variable, its cost.
     costs: Vec<i64>,
+    // By variable, the rows that it stands in.
     entries: Entries,
+    // The changes of the chain at hand.
     chain: Vec<Change>,
+    // The rows that this chain broke, the last one to be mended first.
     breaks: Vec<Break>,
+    // How much more the point costs with this chain, in ones.
     more: i128,
+    // How many entries were looked at.
     effort: u64,
 }
 

@@ -11,12 +11,16 @@ const WEIGHT: i128 = 1024;
 /// How many units of a row's multiplier count like one of what is wanted.
 const PRICE_PARTS: i128 = 1024;
 
-/// The cost of each variable, how much more of it is wanted, and by row how much its multiplier counts where rows are alike.
+/// What a search for a point goes by.
 #[derive(Drop)]
 pub struct Guide {
+    /// By variable, its cost, in ones.
     pub costs: Vec<i64>,
+    /// By variable, how much more of it is wanted: the greater the more.
     pub wants: Vec<i128>,
+    /// By row that proofs may name, how much its multiplier counts among rows that are alike.
     pub prices: Vec<i128>,
+    /// Which row that is missed comes first.
     pub order: Order,
 }
 

@@ -28,10 +28,12 @@ pub fn is_reached(value: i128, known: Option<i64>) -> bool {
     }
 }
 
-/// The cheapest cost that is known, and the point of that cost if it was found here.
+/// The incumbent, as a node knows it.
 #[derive(Drop)]
 pub struct Incumbent {
+    /// Its cost, where there is one, in ones.
     pub known: Option<i64>,
+    /// A feasible point of that cost, by variable, where it was found in this node.
     pub point: Option<Vec<i64>>,
 }
 

@@ -8,29 +8,38 @@ use block_program::{Block, Blocked};
 use bp_theory::{Row, Sense, Span};
 use std::alloc::{AllocError, Global};
 
-/// Identical blocks in spans of all variables: their numbers in the program, and a bound of the program's cost.
+/// Identical blocks of a node.
 #[derive(Clone, Copy)]
 pub struct Alike<'a> {
+    /// Their numbers in the program.
     pub members: &'a [u32],
+    /// The spans of all variables.
     pub spans: &'a [Span],
+    /// A dual bound of the program's cost in the node, in ones, with the constant.
     pub bound: i64,
 }
 
-/// How an exchange goes: how many moves are made, how much moves are drawn at random, in parts of 1,000 of a block's
-/// room, and the seed.
+/// How an exchange of items goes.
 #[derive(Clone, Copy)]
 pub struct Moves {
+    /// How many moves are made.
     pub most: u32,
+    /// How much the worth of a move is drawn at random, in parts of 1,000 of a block's room.
     pub noise: u32,
+    /// What the first number is drawn from.
     pub seed: u64,
 }
 
 // A block with one variable that opens it, at a cost and for a room, and items that take room, each in one row of its own.
 #[derive(Drop)]
 struct Kind {
+    // The place in the block of the variable that opens it.
     opener: u32,
+    // What opening costs, in ones.
     cost: i64,
+    // How much room an open block has.
     room: i64,
+    // What takes room.
     items: Vec<Item>,
 }
 

@@ -17,31 +17,42 @@ const VISITS: u32 = 200;
 /// How many terms are looked at in all.
 const EFFORT: u64 = 20_000_000;
 
-// A variable whose span was narrowed, the other part of its span, and how many changes there were before.
+// A variable whose span was narrowed in a search.
 #[derive(Clone, Copy)]
 struct Choice {
+    // The variable.
     var: u32,
+    // The other part of its span, which is still to be tried.
     other: Span,
+    // How many changes of spans came before.
     changes: usize,
 }
 
-// A variable whose span is narrowed, the part of it that is tried first, and the other.
+// A variable whose span is to be narrowed.
 #[derive(Clone, Copy)]
 struct Split {
+    // The variable.
     var: u32,
+    // The part of its span that is tried first.
     first: Span,
+    // The other part.
     other: Span,
 }
 
-// The spans, the choices that led to them, the cheapest cost that is known, the point of that cost if it was found
-// here, how many terms all rows have, and how many were looked at.
+// A depth-first search for a point.
 #[derive(Drop)]
 struct Search {
+    // The spans of the node at hand, tightened.
     spans: Spans,
+    // The choices that lead to it, from the root on.
     choices: Vec<Choice>,
+    // The cheapest cost that is known, where there is one, in ones.
     known: Option<i64>,
+    // A feasible point of that cost, by variable, where it was found here.
     found: Option<Vec<i64>>,
+    // How many terms all rows have.
     terms: u64,
+    // How many terms were looked at.
     effort: u64,
 }
 
@@ -198,10 +209,12 @@ fn missed(row: &Row, sum: i128) -> Option<bool> {
     }
 }
 
-// A split that helps a row, and how urgent it is: how much more it is wanted than the next one.
+// A split that helps a row.
 #[derive(Clone, Copy)]
 struct Need {
+    // The split.
     split: Split,
+    // How much more it is wanted than the next one of the row: the greater the more urgent.
     urgency: i128,
 }
 

@@ -5,7 +5,9 @@ use bp_theory::{Row, Sense, Span, Term};
 /// The least and the greatest sum of a row's terms over spans.
 #[derive(Clone, Copy)]
 pub struct Reach {
+    /// The least sum.
     pub least: i128,
+    /// The greatest sum.
     pub most: i128,
 }
 

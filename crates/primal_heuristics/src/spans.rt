@@ -15,17 +15,25 @@ const PASSES: u32 = 8;
 /// How many rows are looked at between, for each row.
 const LOOKS: u32 = 8;
 
-/// Spans that shrink, what they were before, in the order of the changes, what is kept of each row and of the costs, the
-/// rows that wait to be looked at since a side of theirs came nearer, and how many terms were looked at.
+/// Spans that shrink, with what tightening keeps of each row.
 pub struct Spans {
+    /// By variable, its span.
     pub now: Vec<Span>,
+    /// What spans were before, in the order of the changes: a change is taken back from the end.
     pub before: Vec<(u32, Span)>,
+    /// How many terms were looked at.
     pub looked: u64,
+    /// By variable, the rows that it stands in.
     entries: Entries,
+    /// By variable, its cost, in ones.
     costs: Vec<i64>,
+    /// What is kept of the objective, as of a row.
     cost: Line,
+    /// By row of the model, what is kept of it.
     lines: Vec<Line>,
+    /// The rows that are to be looked at, since a side of theirs came nearer.
     waiting: Vec<u32>,
+    /// By row of the model, whether it waits.
     is_waiting: Vec<bool>,
 }
 
@@ -89,23 +97,29 @@ impl Spans {
     }
 }
 
-// What is kept of a row over spans: what it can reach, its sum at the ends of the spans that cost least, which of its
-// sides count, and the most that one of its terms could reach over at first: no term reaches over more in spans that
-// shrank.
+// What is kept of a row over spans.
 #[derive(Clone, Copy)]
 struct Line {
+    // The least and the greatest sum of its terms.
     reach: Reach,
+    // Its sum where each variable is at the end of its span that costs least.
     cheap: i128,
+    // The most that one of its terms could reach over at first; no term reaches over more in spans that shrank.
     widest: i128,
+    // Whether it has a right side to keep.
     has_upper: bool,
+    // Whether it has a left side to keep.
     has_lower: bool,
 }
 
-// By how much the ends of a span move, and the end that costs least.
+// How a span moves.
 #[derive(Clone, Copy)]
 struct Move {
+    // By how much its lower end moves.
     lo: i64,
+    // By how much its upper end moves.
     hi: i64,
+    // By how much the end that costs least moves.
     cheap: i64,
 }
 

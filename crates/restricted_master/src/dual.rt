@@ -13,11 +13,14 @@ const LEAST_PIVOT: f64 = 1e-9;
 // How often a step may fail before the solution stands as it is.
 const MOST_FAILURES: u32 = 3;
 
-// What enters by the dual ratio test: the least ratio so far, the greatest pivot that has it, and the member.
+// What enters by the dual ratio test.
 #[derive(Clone, Copy)]
 struct Candidate {
+    // The least ratio so far: the length of the dual step.
     ratio: f64,
+    // The greatest magnitude of a pivot with this ratio.
     pivot: f64,
+    // The variable that has it, where there is one.
     entering: Option<Entering>,
 }
 

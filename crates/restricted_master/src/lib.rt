@@ -12,5 +12,7 @@ mod primal;
 mod program;
 
 pub use lines::at_scale;
-pub use master::{MasterColumn, RestrictedMaster, Weighted, block_spans, serves};
+pub use master::{
+    MasterColumn, RestrictedMaster, Weighted, block_spans, has_master_and_block_rows,
+};
 pub use program::{ColumnProgram, Mark};

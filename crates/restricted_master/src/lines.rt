@@ -16,17 +16,21 @@ enum Side {
     Equal,
 }
 
-// A line: its row, and the side that it stands for.
+// A line of the restricted master.
 #[derive(Clone, Copy)]
 struct Line {
+    // The row that it is of, as proofs number rows.
     row: u32,
+    // The side of the row that it stands for.
     side: Side,
 }
 
-/// The lines in order of their rows, and by row the first of its lines and how many it has.
+/// The lines of the rows that proofs may name: one for each side that a row has to keep, two for a row with both.
 #[derive(Drop)]
 pub struct Lines {
+    /// The lines, in the order of their rows.
     lines: Vec<Line>,
+    /// By row, the number of its first line, and how many it has.
     by_row: Vec<(u32, u32)>,
 }
 

@@ -3,12 +3,11 @@
 use crate::lines::{Lines, at_scale, place_of};
 use crate::program::{ColumnProgram, Mark};
 use basis_factor::Entry;
-use block_class::Classes;
 use block_program::{Block, Blocked, Zone};
 use bp_theory::Span;
 use col_pool::Column;
 use indexmap::IndexSet;
-use node_memory::{Place, Pools, is_settled as is_settled_block};
+use node_memory::{NodeContext, Place, Pools, is_settled as is_settled_block};
 use primal_heuristics::{at, product};
 use std::alloc::{AllocError, Global};
 use std::num::{nearest_i64_to_f64, saturating_f64_to_i64};
@@ -36,34 +35,49 @@ const MISSED: f64 = 1e-5;
 // How much a column's reduced cost is below zero at least where it is new.
 const NEW: f64 = -1e-6;
 
-/// A column that is used: its class in the zone, where it is, and its weight in units.
+/// A column with a weight in the solution of a restricted master.
 #[derive(Clone, Copy)]
 pub struct Weighted {
+    /// Its class of blocks in the zone.
     pub class: u32,
+    /// Where it is in the pools.
     pub place: Place,
+    /// How many blocks of its class take it, in units of which 1,048,576 make one; above 0.
     pub weight: i64,
 }
 
-/// A column of the master: its class in the zone, where it is, and its cost.
+/// A column of a restricted master.
 #[derive(Clone, Copy)]
 pub struct MasterColumn {
+    /// Its class of blocks in the zone.
     pub class: u32,
+    /// Where it is in the pools.
     pub place: Place,
+    /// Its cost, in ones.
     pub cost: i64,
 }
 
-/// A restricted master: its program, the lines of its rows, its number of each class of the zone, its columns, what the
-/// blocks of one point take from the rows, and their cost with the constant.
+/// The restricted master of a zone.
 pub struct RestrictedMaster {
+    /// The linear program: a line for each of `lines`, and behind them one for each class that isn't settled.
     program: ColumnProgram,
+    /// The lines of the rows that proofs may name.
     lines: Lines,
+    /// By class of the zone, its number among those that aren't settled; `NONE` where its blocks have one point.
     numbers: Vec<u32>,
+    /// By number of a class that isn't settled, how many blocks it has.
     sizes: Vec<u32>,
+    /// The columns, as the program numbers them.
     columns: Vec<MasterColumn>,
+    /// Which columns there are: the class's number times 2^32 and the column's number in its pool.
     known: IndexSet<u64>,
+    /// By row that proofs may name, what the blocks of one point take from it.
     sums: Vec<i128>,
+    /// The constant and the cost of the blocks of one point, in ones.
     settled: i128,
+    /// What it costs to miss a row by one, in ones: multipliers stay within it.
     penalty: f64,
+    /// How many pivots times lines the solutions took.
     spent: u64,
 }
 
@@ -84,8 +98,8 @@ impl Drop for RestrictedMaster {
     }
 }
 
-/// Whether columns serve a zone: a block has rows of its own, and there are rows that proofs may name.
-pub fn serves(b: &Blocked) -> bool {
+/// Whether columns serve a program: a block has rows of its own, and there are master rows, links or cuts for proofs to name.
+pub fn has_master_and_block_rows(b: &Blocked) -> bool {
     let mut has_master = false;
     for row in 0..b.named_rows() {
         if b.master_row(row).is_some() {
@@ -106,12 +120,16 @@ fn has_rows(b: &Blocked) -> bool {
     false
 }
 
-// What blocks of one point take from the rows, and what they cost; the numbers of the other classes, and their sizes.
+// The blocks of one point in a zone, and the classes of the others.
 #[derive(Drop)]
 struct Settled {
+    // By row that proofs may name, what the blocks of one point take from it.
     sums: Vec<i128>,
+    // The constant and the cost of these blocks, in ones.
     cost: i128,
+    // By class, its number among those that aren't settled; `NONE` where it is.
     numbers: Vec<u32>,
+    // By number of a class that isn't settled, how many blocks it has.
     sizes: Vec<u32>,
 }
 
@@ -135,18 +153,16 @@ impl RestrictedMaster {
     /// without rows or classes.
     pub fn make(
         alloc: Global,
-        b: &Blocked,
-        classes: &Classes,
-        zone: &Zone,
+        node: NodeContext,
         penalty: f64,
     ) -> Result<Option<RestrictedMaster>, AllocError> {
-        let settled = settle_blocks(alloc, b, classes, zone)?;
-        let lines = Lines::of(alloc, b)?;
+        let settled = settle_blocks(alloc, node)?;
+        let lines = Lines::of(alloc, node.program)?;
         if lines.is_empty() || settled.sizes.is_empty() {
             return Ok(None);
         }
         let mut master = RestrictedMaster {
-            program: without_columns(alloc, b, &lines, &settled)?,
+            program: without_columns(alloc, node.program, &lines, &settled)?,
             lines,
             numbers: settled.numbers,
             sizes: settled.sizes,
@@ -166,16 +182,14 @@ impl RestrictedMaster {
     pub fn begin(
         &mut self,
         alloc: Global,
-        b: &Blocked,
-        classes: &Classes,
-        zone: &Zone,
+        node: NodeContext,
         pools: &Pools,
         mults: &[i64],
     ) -> Result<(), AllocError> {
-        for class in 0..classes.len() {
+        for class in 0..node.classes.len() {
             if self.number(class) != NONE {
-                let first = classes.first(class);
-                self.begin_class(alloc, b, zone, pools, mults, class, first)?;
+                let first = node.classes.first(class);
+                self.begin_class(alloc, node, pools, mults, class, first)?;
             }
         }
         self.program.refactor()
@@ -185,8 +199,7 @@ impl RestrictedMaster {
     fn begin_class(
         &mut self,
         alloc: Global,
-        b: &Blocked,
-        zone: &Zone,
+        node: NodeContext,
         pools: &Pools,
         mults: &[i64],
         class: u32,
@@ -200,7 +213,7 @@ impl RestrictedMaster {
         } else {
             FIRST_COLUMNS
         };
-        let ranked = ranked(alloc, b, zone, pools, mults, home, first)?;
+        let ranked = ranked(alloc, node.program, node.zone, pools, mults, home, first)?;
         let before = self.columns.len();
         for rank in ranked.iter().take(many) {
             let place = Place { home, id: rank.1 };
@@ -460,24 +473,19 @@ impl RestrictedMaster {
 }
 
 // What the blocks of one point take, and the classes of the others.
-fn settle_blocks(
-    alloc: Global,
-    b: &Blocked,
-    classes: &Classes,
-    zone: &Zone,
-) -> Result<Settled, AllocError> {
+fn settle_blocks(alloc: Global, node: NodeContext) -> Result<Settled, AllocError> {
     let mut settled = Settled {
-        sums: Vec::from_elem(alloc, 0i128, b.named_rows() as usize)?,
-        cost: i128::from(b.model().constant()),
+        sums: Vec::from_elem(alloc, 0i128, node.program.named_rows() as usize)?,
+        cost: i128::from(node.program.model().constant()),
         numbers: Vec::new(alloc),
         sizes: Vec::new(alloc),
     };
     let mut many: u32 = 0;
-    for class in 0..classes.len() {
-        let first = classes.first(class);
-        let size = classes.size(class);
-        if is_settled(b, first, zone.spans()) {
-            settle(b, first, size, zone.spans(), &mut settled);
+    for class in 0..node.classes.len() {
+        let first = node.classes.first(class);
+        let size = node.classes.size(class);
+        if is_settled(node.program, first, node.zone.spans()) {
+            settle(node.program, first, size, node.zone.spans(), &mut settled);
             settled.numbers.push(NONE)?;
         } else {
             settled.numbers.push(many)?;

@@ -11,22 +11,39 @@ pub const NOISE: f64 = 1e-7;
 /// penalty keeps a multiplier in a range. So there is always a solution. The basis has a member for each row, a column
 /// or what a row lacks or has too much, which is the factors' logical taken with a sign: -1 where it lacks.
 pub struct ColumnProgram {
+    /// The matrix, a vector for each column, by rows.
     pub(crate) columns: Vectors,
+    /// By column, its cost, in ones.
     pub(crate) costs: Vec<f64>,
+    /// By column, its position in the basis; `NONE` where it isn't basic.
     pub(crate) positions: Vec<u32>,
+    /// By column, whether it is to have no weight.
     pub(crate) is_off: Vec<bool>,
+    /// By row, its right side.
     sides: Vec<f64>,
+    /// By row, what it costs that it lacks one, in ones.
     lacks: Vec<f64>,
+    /// By row, what it costs that it has one too much, in ones.
     excesses: Vec<f64>,
+    /// By position, the member of the basis.
     basis: Vec<Basic>,
+    /// By position, 1 or -1: the sign with which a logical is taken, -1 where its row lacks; 1 for a column.
     pub(crate) signs: Vec<f64>,
+    /// By row, the position of its logical in the basis; `NONE` where it isn't basic.
     pub(crate) logicals: Vec<u32>,
+    /// By position, the weight of the member, in ones.
     pub(crate) weights: Vec<f64>,
+    /// By row, the multiplier of the basis, in ones.
     pub(crate) mults: Vec<f64>,
+    /// The factors of the basis, with updates.
     pub(crate) factor: Factor,
+    /// The columns that pricing looks at between two looks at all.
     pub(crate) listed: Vec<u32>,
+    /// By position, the entering column by the basis.
     pub(crate) alpha: Vec<f64>,
+    /// By row, a row of the inverse.
     pub(crate) rho: Vec<f64>,
+    /// How many pivots were made since the program was made.
     pub(crate) pivots: u64,
 }
 
@@ -54,11 +71,14 @@ impl Drop for ColumnProgram {
     }
 }
 
-/// What stood at a moment: the basis, its signs, and the sides of the rows.
+/// What stood at a moment.
 #[derive(Drop)]
 pub struct Mark {
+    /// By position, the member of the basis.
     basis: Vec<Basic>,
+    /// By position, the sign with which a logical is taken.
     signs: Vec<f64>,
+    /// By row, its right side.
     sides: Vec<f64>,
 }
 

@@ -12,8 +12,8 @@ use std::test::Fail;
 const LIMIT: usize = 1 << 40;
 
 /// Cases: the words behind the program's name, or a dash; the status and the first line of the report; the text that
-/// was read first, and the one behind it, or dashes; the note. Bars end the lines of texts and notes; a star stands for
-/// the rest of a note.
+/// was read first, and the one behind it, or dashes, which under 8 is one that could not be written for want of space; the
+/// note. Bars end the lines of texts and notes; a star stands for the rest of a note.
 const CASES: &str = "\
 - @ 2 refused words @ - @ - @ usage: bprice COMMAND ..|  solve LP [..]             a best point, and a certificate of it|  check LP CERT [..]        whether*
 --help @ 2 refused words @ - @ - @ usage: bprice COMMAND ..|*
@@ -36,7 +36,16 @@ solve m.lp --cuts 257 @ 2 refused words @ - @ - @ bprice: C is a whole number fr
 solve m.lp --workers 65 @ 2 refused words @ - @ - @ bprice: W is a whole number from 1 to 64, and not '65'|*
 solve m.lp @ 7 @ - @ - @ bprice: m.lp: it could not be read; it has to be a plain file (no folder, no pipe) that may be read|
 solve m.lp @ 11 @ - @ - @ bprice: m.lp: there is no such file|
-solve m.lp @ 8 @ Max| @ - @ bprice: the standard output could not be written; is its reader gone, or its disk full?|
+solve m.lp @ 8 optimal 8 @ Max| @ - @ bprice: the standard output could not be written; is its reader gone?|bprice: the report would have been|optimal 8
+solve m.lp @ 8 @ Max| @ - @ bprice: the standard output could not be written; is its reader gone?|
+solve m.lp --cert c @ 8 @ Max| obj: x + 2 y|st| x + z <= 4|End @ bpcert 2|claim optimal 8|point 1 -2 3| @ bprice: c: it could not be written; no space left|bprice: the report would have been|optimal 8|x 1|y -2|z 3|
+solve --cert=c m.lp @ 8 @ Max| x|End @ bpcert 2|claim infeasible| @ bprice: c: it could not be written; no space left|bprice: the report would have been|infeasible|
+solve m.lp --steps 7 --cert c @ 8 @ Max| x|End @ bpcert 2|claim bound -9| @ bprice: c: it could not be written; no space left|bprice: the report would have been|budget 7|bound -9|
+solve m.lp --steps=7 --cert c @ 8 @ Max| x|End @ bpcert 3|claim bound -9 value -11|point 5|cuts 1| @ bprice: c: it could not be written; no space left|bprice: the report would have been|budget 7|bound -9|value -11|x 5|
+solve m.lp --steps 07 --cert c --from f --leaf 2 @ 8 @ Max| x|End @ bpcert 2|claim bound -9| @ bprice: c: it could not be written; no space left|bprice: the report would have been|budget at most 7|bound -9|
+solve --cert c -- m.lp @ 8 @ Max| x|End @ bpcert 2|claim bound -9 value -11|point 5 6| @ bprice: c: it could not be written; no space left|bprice: the report would have been|budget 1152921504606846976|bound -9|value -11|point 5 6|
+merge m.lp a b c @ 8 @ Max| x|End @ bpcert 2|claim optimal 5|point 5| @ bprice: c: it could not be written; no space left|
+gen 1 2 a c @ 8 @ Max| x|End @ Max| x|End @ bprice: c: it could not be written; no space left|
 solve m.lp @ 9 @ - @ - @ bprice: want of memory; give the process more, or solve a smaller model|
 solve m.lp @ 0 optimal 8 @ Max| @ - @ 
 solve m.lp @ 4 infeasible @ Max| @ - @ 
@@ -138,10 +147,23 @@ fn read_texts(
     put_text(alloc, shelf, "m.lp", case.first)?;
     files.read("m.lp", 0);
     files.read("m.lp", 7);
-    if case.other != "-" {
-        put_text(alloc, shelf, "o", case.other)?;
-        files.read("o", 0);
+    if case.other == "-" {
+        return Ok(());
     }
+    if case.ended.starts_with("8") {
+        return keep_unwritten(alloc, files, case.other);
+    }
+    put_text(alloc, shelf, "o", case.other)?;
+    files.read("o", 0);
+    Ok(())
+}
+
+// Keeps a text that could not be written for want of space.
+fn keep_unwritten(alloc: Global, files: &mut Files, line: &str) -> Result<(), AllocError> {
+    let text = text_of(alloc, line)?;
+    files.replace(text.as_slice());
+    files.fail("c", true);
+    files.fill();
     Ok(())
 }
 
@@ -211,5 +233,5 @@ pub fn add_wrong(alloc: Global, all: &mut String, line: &str) -> Result<bool, Al
 
 #[test]
 fn notes_are_as_written(rt: HostRuntime) -> Result<(), Fail> {
-    check(&rt, told(rt.alloc(), Table::Notes, CASES), "59 lines")
+    check(&rt, told(rt.alloc(), Table::Notes, CASES), "68 lines")
 }

@@ -15,15 +15,15 @@ settled-next-requires-clause-strong c =
 
 pub returns-clause-verdict : goal.returns-clause-verdict
 returns-clause-verdict c =
-    verdict_is c.args.b.now.named.program c.args.b.now.blocking c.args.turn.now.depth c.args.turn.now.zone c.args.turn.now.bound c.args.best
+    verdict_is c.args.b.now.named.program c.args.b.now.blocking c.args.turn.now.depth c.args.turn.now.zone c.args.turn.now.bound c.args.before.best
     c.better_point-point.result c.settled-next.result c.better_point-point.ensures
     (subst (λ (known : Option ℤ). IsNext c.args.b.now.blocking c.args.turn.now.depth c.args.turn.now.zone c.args.turn.now.bound known c.settled-next.result)
     c.cheaper-known.ensures c.settled-next.ensures.next)
 
 pub returns-in-Some-clause-verdict : goal.returns-in-Some-clause-verdict
 returns-in-Some-clause-verdict c =
-    let known : Option ℤ = cheaper_cost (best_cost c.args.b.now.named.program c.better_point-point.result) c.args.best in
-    verdict_is c.args.b.now.named.program c.args.b.now.blocking c.args.turn.now.depth c.args.turn.now.zone c.args.turn.now.bound c.args.best
+    let known : Option ℤ = cheaper_cost (best_cost c.args.b.now.named.program c.better_point-point.result) c.args.before.best in
+    verdict_is c.args.b.now.named.program c.args.b.now.blocking c.args.turn.now.depth c.args.turn.now.zone c.args.turn.now.bound c.args.before.best
     c.better_point-point.result (Shut c.in-Some.proof) c.better_point-point.ensures
     (off_settles c.args.b.now.blocking c.args.turn.now.depth c.args.turn.now.zone c.args.turn.now.bound known c.in-Some.proof
     (subst (λ (found : Option Proof). IfSome found (ShutsOff c.args.b.now.blocking c.args.turn.now.zone)) c.in-Some.is c.in_ok-proof.ensures.off))

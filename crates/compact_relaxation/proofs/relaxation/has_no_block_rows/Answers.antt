@@ -1,7 +1,7 @@
 use Rattle.std.proofs.Common.{rules, arith, subst, ◌≡◌, length, [], slice_index_or, ⊎_elim}
 use Rattle.std.proofs.lemmas.Bool.{cases_lt}
 use Rattle.std.proofs.lemmas.List.{nil_from_length}
-use Rattle.compact_relaxation.proofs.relaxation.serves.Goals as goal
+use Rattle.compact_relaxation.proofs.relaxation.has_no_block_rows.Goals as goal
 
 -- src/relaxation.rt:52:5
 pub loop-number-preserved : goal.loop-number-preserved
