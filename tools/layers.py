@@ -2,10 +2,11 @@
 """Draws the crates as crates.txt has them, each above what it stands on: docs/pictures/layers.svg.
 
     tools/layers.py            draws it anew (needs graphviz)
-    tools/layers.py --check    fails where the picture is not that of crates.txt
+    tools/layers.py --check    fails where the picture is not that of crates.txt, or a crate names one that few may name
 
 A line goes from a crate to each crate that it names and that it does not reach by another one already. ROOMS says in which part of the
-house a crate stands: a new crate is put into one of them.
+house a crate stands: a new crate is put into one of them. FEW has what each crate above would load whole, where a public type or
+function speaks of it, and the crates that may name it.
 """
 import hashlib
 import pathlib
@@ -21,20 +22,33 @@ ROOMS = {  # a room's title: its colour, and its crates
     "pricing problems and dual bounds": (
         "#d0e0e3", "pricing_problem enumeration search_price knapsack_table knap_price layer_graph state_graph shortest_path variable_order state_price reduced_costs block_pricers lagr_bound"),
     "heuristics: nothing proved rests on how good they are": (
-        "#eeeeee", "col_pool exact_simplex master_gap master_lp basis_factor dual_simplex restricted_master compact_relaxation primal_heuristics node_memory column_generation diving cut_separation node_heuristics"),
+        "#eeeeee", "hash_index col_pool exact_simplex master_gap master_lp basis_factor dual_simplex restricted_master compact_relaxation primal_heuristics node_memory column_generation diving cut_separation node_heuristics"),
     "branch and bound": ("#f4cccc", "open_nodes branch_tree node_bound node_eval bp_search crew_steps bp_crew tree_merge"),
     "certificates": ("#ead1dc", "cert_format cert_parser cert_write cert_text cert_line_check cert_check tree_load cert_load cert_walk cert_file cert_stream"),
     "files, words and reports": ("#fce5cd", "bp_shelf bp_real notes cli_orders bp_words report_lines bp_report cert_report frontend"),
     "commands": ("#d9d2e9", "search_start search_outcome cmd_solve cmd_check cmd_decompose cmd_certificates cmd_gen cmd_demo bp_cli bprice"),
 }
+FEW = {  # a crate, of the kit or of this repository, and those that may name it in crates.txt
+    "indexmap": "name_table block_class",
+    "name_table": "lp_semantics lp_read dec_syntax dec_read dec_write dec_find test_texts test_pricing",
+}
 TESTS = "test_texts test_io test_pricing test_simplex test_cli test_scripts".split()  # not drawn
 
 
-def crates():
-    """Each crate with those that it stands on, as far as they are of this repository."""
+def named():
+    """Each crate with those that it names, of the kit too."""
     lines = [line.split(":") for line in (TOP / "crates.txt").read_text().splitlines() if line.strip()]
-    names = {name for name, _ in lines}
-    return {name: [it for it in below.split() if it in names] for name, below in lines}
+    return {name: below.split() for name, below in lines}
+
+
+def crates(names):
+    """Each crate with those that it stands on, as far as they are of this repository."""
+    return {name: [it for it in below if it in names] for name, below in names.items()}
+
+
+def strays(names):
+    """A line for each crate that names one that only few may name."""
+    return [f"{name} names {it}, and only these may: {few}" for it, few in FEW.items() for name, below in names.items() if it in below and name not in few.split()]
 
 
 def reach(stands_on):
@@ -71,9 +85,12 @@ def dot(stands_on):
 
 
 def main(words):
-    text = dot(crates())
+    names = named()
+    text = dot(crates(names))
     mark = f"<!-- of crates.txt: {hashlib.sha256(text.encode()).hexdigest()} -->"
     if words == ["--check"]:
+        if strays(names):
+            sys.exit("\n".join(f"tools/layers.py: {it}" for it in strays(names)))
         if not PICTURE.exists() or mark not in PICTURE.read_text():
             sys.exit("tools/layers.py: docs/pictures/layers.svg is not that of crates.txt: run tools/layers.py, which needs graphviz")
         return

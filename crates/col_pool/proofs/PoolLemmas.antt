@@ -1,25 +1,20 @@
--- Sums over points of a block, and what a table of columns tells of their points.
-use Rattle.std.proofs.Common.{◌≡◌, ◌≢◌, refl, sym, ap, subst, ◌∙◌, ℕ, zero, suc, ◌+◌, ◌*◌, ◌<◌, ◌≤◌, ◌^◌, Bool, true, false, cond, List, [], ◌∷◌, ◌++◌, map, length, take, get_or, arith, ⊎_elim, Option, Some, position, true≢false, All, if◌then◌else◌, Result, Ok, Err, IfOk, OnErr}
+-- Sums over points of a block, and columns of a block.
+use Rattle.std.proofs.Common.{◌≡◌, ◌≢◌, refl, sym, ap, subst, ◌∙◌, ℕ, zero, suc, ◌+◌, ◌*◌, ◌<◌, ◌≤◌, ◌^◌, Bool, true, false, cond, List, [], ◌∷◌, ◌++◌, map, length, take, get_or, arith, ⊎_elim, Option, Some, All, if◌then◌else◌, Result, Ok, Err, IfOk, OnErr}
 use Rattle.std.proofs.Math.IntN.{ℤ, pos, ◌+ℤ◌, ◌*ℤ◌, zero-*ℤ}
 use Rattle.std.specs.Prelude.{◌==◌, unsigned_abs, unwrap_or}
 use Rattle.std.specs.Int.{w128, int_wrap}
-use Rattle.std.specs.List.{AllByRecursion, IsDistinct, list_any}
+use Rattle.std.specs.List.{AllByRecursion}
 use Rattle.std.specs.List.Sorted.{IsStrictlyIncreasing, IsStrictlySortedBy}
 use Rattle.std.specs.Map.{lookup, keys_of}
 use Rattle.std.specs.BTreeMap.{is_at}
-use Rattle.std.specs.Ordering.{nat_cmp, is_eq, int_eq}
+use Rattle.std.specs.Ordering.{nat_cmp, is_eq}
 use Rattle.std.specs.declared.cmp.Ordering.TheVariants.{Less, Equal, Greater}
 use Rattle.std.specs.Cmp.{nat_cmp_is}
-use Rattle.std.specs.Cmp.Lexicographic.{pointwise}
-use Rattle.std.specs.Cmp.Rules.{signed_items}
 use Rattle.std.proofs.lemmas.Int.{ints, int_wrap-add_left, int_wrap_fits, fits_signed_from_abs, to_z-of_z}
 use Rattle.std.proofs.lemmas.Bool.{cases_lt}
 use Rattle.std.proofs.lemmas.Bool.Decides.{eqb_tells}
 use Rattle.std.proofs.lemmas.List.{get_or-map, length-map}
-use Rattle.std.proofs.lemmas.List.Folds.{list_any_at}
-use Rattle.std.proofs.lemmas.List.Quantifiers.{position-Some}
 use Rattle.std.proofs.lemmas.List.Elements.{All-from_recursion, All-push}
-use Rattle.std.proofs.lemmas.Map.Keys.{apart_from_distinct}
 use lib.Signed.{mag}
 use mir.Val.{SFits, of_z, to_z}
 use Rattle.bp_theory.specs.Sums.{sum_of, sum_at, dot}
@@ -42,7 +37,7 @@ use Rattle.col_pool.specs.declared.column.Column.{Column}
 use Rattle.col_pool.specs.declared.fault.Added.{Added}
 use Rattle.col_pool.specs.declared.fault.Added.TheVariants.{New, Known}
 use Rattle.col_pool.specs.declared.fault.PoolFault.{PoolFault}
-use Rattle.col_pool.specs.Pools.{HasSmallSums, HasActivities, IsPoolOf, IsPooled, HasKept, HasPointAt, IsAbsent, AreApart, coefs_of}
+use Rattle.col_pool.specs.Pools.{HasSmallSums, HasActivities, IsPoolOf, IsPooled, HasKept, coefs_of}
 
 -- ---- numbers by their bits
 
@@ -257,29 +252,7 @@ activities_are k y es small inside sorted sums =
           subst (λ z. unsigned_abs z < 2 ^ 62) (sym (at e.0) ∙ value) (each e.0),
     )
 
--- ---- tables of columns
-
--- whether columns have the same point
-abbrev pub same_point : Column → Column → Bool
-same_point a b = pointwise int_eq a.point b.point
-
--- a column that is found has the point
-pub found_at : (c : Column) (cs : List Column) (i : ℕ) → position (same_point c) cs ≡ Some i → HasPointAt cs i c.point
-found_at c cs i e = record {
-  there = (position-Some (same_point c) cs i c e).0;
-  is = λ d. sym ((signed_items c.point (get_or cs i d).point).0 (position-Some (same_point c) cs i d e).1);
-}
-
--- where none is found none has the point
-pub found_none : (c : Column) (cs : List Column) → list_any (same_point c) cs ≡ false → IsAbsent cs c.point
-found_none c cs e = λ i d l same.
-    let hit : same_point c (get_or cs i d) ≡ true = (signed_items c.point (get_or cs i d).point).1 (sym same) in
-    true≢false (sym (list_any_at (same_point c) cs i d l hit) ∙ e)
-
--- distinct columns have different points
-pub distinct_apart : (cs : List Column) → IsDistinct same_point cs → AreApart cs
-distinct_apart cs h = λ i j d l m same.
-    true≢false (sym ((signed_items (get_or cs i d).point (get_or cs j d).point).1 same) ∙ apart_from_distinct same_point cs i j d h l m)
+-- ---- pools
 
 -- a pool of a block stays one where a column of the block is put last, or nothing is
 pub pool_kept : (k : RootBlock) (old new : List Column) (c : Column) (r : Result Added PoolFault) → IsPoolOf k old → IsPooled k c

@@ -2,3 +2,4 @@
 pub mod Pools
 pub mod Stores
 pub mod Inside
+pub mod Indexed

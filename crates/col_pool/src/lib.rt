@@ -6,6 +6,7 @@
 mod activities;
 mod column;
 mod fault;
+mod index;
 mod numbers;
 mod pool;
 mod store;

@@ -1,40 +1,50 @@
 // The columns of a block.
-ghost use Rattle.std.specs.Prelude.{◌≡◌, ℕ, ◌<◌, ◌≤◌, [], length, drop, slice_get, Some, IsTrue, ◌↔◌, IfOk, IfErr, OnErr};
+ghost use Rattle.std.specs.Prelude.{◌≡◌, ℕ, ◌<◌, ◌≤◌, ◌++◌, ◌∷◌, [], length, drop, slice_get, Some, IsTrue, ◌↔◌, IfOk, IfErr, OnOk, OnErr};
 ghost use Rattle.bp_theory.specs.Bound.{IsPoint};
 ghost use Rattle.block_program.specs.Blocked.{RootBlock};
-ghost use Rattle.col_pool.specs.Pools.{AreApart, HasSmallSums, IsPoolOf, IsPooled, HasAdded, HasKept, HasPoolFault, HasKeepFault, root_block};
+ghost use Rattle.col_pool.specs.Indexed.{hash_of};
+ghost use Rattle.col_pool.specs.Pools.{AreApart, HasSmallSums, IsAbsent, IsPoolOf, IsPooled, HasAdded, HasKept, HasPoolFault, HasKeepFault, root_block};
 
 use crate::activities::{activities, cost_of};
 use crate::column::Column;
 use crate::fault::{Added, PoolFault};
+use crate::index::{grow, hash_of, place_of};
 use crate::within::Within;
 use block_program::{Block, Blocked};
 use bp_model::{first_missed, first_outside};
 use bp_theory::{Items, Span};
-use indexmap::IndexSet;
+use hash_index::HashIndex;
 use std::alloc::{AllocError, Global};
 use std::marker::Model;
 
 /// How many columns a pool may hold.
 pub const MAX_COLUMNS: usize = 65_536;
 
+// How many slots the index of an empty pool has.
+const FIRST_SLOTS: usize = 16;
+
 /// Columns of a block, numbered from 0 in the order in which they came, at most 65,536. No two have the same point.
 /// Contracts see the list of the columns.
 #[derive(Drop)]
 pub struct Pool {
-    columns: IndexSet<Column>,
+    // The columns, by number.
+    columns: Vec<Column>,
+    // The hashes of their points.
+    index: HashIndex,
 }
 
 impl Model for Pool {
     ghost use Rattle.std.specs.Prelude.{List, length, ◌≤◌};
     ghost use Rattle.col_pool.specs.declared.column.Column.{Column};
     ghost use Rattle.col_pool.specs.Pools.{AreApart};
+    ghost use Rattle.col_pool.specs.Indexed.{Indexes};
 
     ghost Value = { List Column };
 
-    ghost view = { λ p. p.columns.keys };
+    ghost view = { λ p. p.columns.items };
 
-    ghost invariant = { λ p. AreApart p.columns.keys × (length p.columns.keys ≤ 65536) };
+    ghost invariant = { λ p. AreApart p.columns.items × (length p.columns.items ≤ 65536) ×
+        Indexes p.index p.columns.items };
 }
 
 impl Pool {
@@ -47,7 +57,8 @@ impl Pool {
         // For the proof alone: `b` is formed.
         let _ = b.blocks();
         Ok(Pool {
-            columns: IndexSet::new(alloc),
+            columns: Vec::new(alloc),
+            index: HashIndex::new(alloc, FIRST_SLOTS)?,
         })
     }
 
@@ -94,27 +105,45 @@ impl Pool {
             return Err(PoolFault::Row(row));
         }
         match made(alloc, block, point) {
-            Ok(column) => self.keep(column),
+            Ok(column) => self.keep(alloc, column),
             Err(_) => Err(PoolFault::NoMemory),
         }
     }
 
     // Puts a column last, if there is none with its point.
-    fn keep(&mut self, column: Column) -> Result<Added, PoolFault>
+    fn keep(&mut self, alloc: Global, column: Column) -> Result<Added, PoolFault>
         ensures kept { IfOk result (HasKept self.old self.new column) }
         ensures fault { IfErr result (HasKeepFault self.old column) }
         ensures same { OnErr result (self.new ≡ self.old) }
     {
-        if let Some(place) = self.columns.get_index_of(&column) {
-            return Ok(Added::Known(place as u32));
+        let hash = hash_of(&column);
+        if let Some(place) = place_of(&self.columns, &self.index, hash, &column) {
+            return Ok(Added::Known(place));
         }
         let number = self.columns.len();
         if number >= MAX_COLUMNS {
             return Err(PoolFault::Full);
         }
-        match self.columns.insert(column) {
-            Ok(_) => Ok(Added::New(number as u32)),
+        match self.put(alloc, hash, column) {
+            Ok(()) => Ok(Added::New(number as u32)),
             Err(_) => Err(PoolFault::NoMemory),
+        }
+    }
+
+    // Puts a column last whose point no other one has, with its hash.
+    fn put(&mut self, alloc: Global, hash: u64, column: Column) -> Result<(), AllocError>
+        requires hash { hash ≡ hash_of column }
+        requires new { IsAbsent self.old column.point }
+        requires room { length self.old < 65536 }
+        ensures put { OnOk result (self.new ≡ self.old ++ column ∷ []) }
+        ensures same { OnErr result (self.new ≡ self.old) }
+    {
+        grow(alloc, &self.columns, &mut self.index)?;
+        self.columns.reserve(1)?;
+        self.index.push(hash)?;
+        match self.columns.push(column) {
+            Ok(()) => Ok(()),
+            Err(_) => unreachable!(),
         }
     }
 
@@ -122,7 +151,11 @@ impl Pool {
     pub fn drop_oldest(&mut self)
         ensures { self.new ≡ drop 1 self.old }
     {
-        let _ = self.columns.shift_remove_index(0);
+        if self.columns.is_empty() {
+            return;
+        }
+        let _ = self.columns.remove(0);
+        self.index.drop_first();
     }
 
     /// The numbers of the columns inside a zone of the block, ascending. It takes no memory.

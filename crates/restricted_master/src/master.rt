@@ -6,7 +6,7 @@ use basis_factor::Entry;
 use block_program::{Block, Blocked, Zone};
 use bp_theory::Span;
 use col_pool::Column;
-use indexmap::IndexSet;
+use hash_index::NumberSet;
 use node_memory::{NodeContext, Place, Pools, is_settled as is_settled_block};
 use primal_heuristics::{at, product};
 use std::alloc::{AllocError, Global};
@@ -70,7 +70,7 @@ pub struct RestrictedMaster {
     /// The columns, as the program numbers them.
     columns: Vec<MasterColumn>,
     /// Which columns there are: the class's number times 2^32 and the column's number in its pool.
-    known: IndexSet<u64>,
+    known: NumberSet,
     /// By row that proofs may name, what the blocks of one point take from it.
     sums: Vec<i128>,
     /// The constant and the cost of the blocks of one point, in ones.
@@ -161,13 +161,14 @@ impl RestrictedMaster {
         if lines.is_empty() || settled.sizes.is_empty() {
             return Ok(None);
         }
+        let known = NumberSet::new(alloc)?;
         let mut master = RestrictedMaster {
             program: without_columns(alloc, node.program, &lines, &settled)?,
             lines,
             numbers: settled.numbers,
             sizes: settled.sizes,
             columns: Vec::new(alloc),
-            known: IndexSet::new(alloc),
+            known,
             sums: settled.sums,
             settled: settled.cost,
             penalty,
@@ -241,7 +242,7 @@ impl RestrictedMaster {
             return Ok(false);
         }
         let key = u64::from(number) * 4_294_967_296 + u64::from(place.id);
-        if !self.known.insert(key)? {
+        if !self.known.insert(alloc, key)? {
             return Ok(false);
         }
         let mut entries = self.lines.entries(alloc, column.acts.as_slice())?;

@@ -1,0 +1,3 @@
+pub mod IndexLemmas
+pub mod WalkLemmas
+pub mod NumberLemmas
