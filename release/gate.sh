@@ -36,7 +36,11 @@ hold_to_history() {
         fail "release/SOURCES names another program of the same sources and kit than it does in commit $rival"
     commit=$(commit_of_sources "$brought" "$sum") ||
         fail "neither commit $brought, which has this release, nor one before it in the history has the sources of release/SOURCES$(tell_cut)"
-    echo "release: it is that of commit $brought, of the sources of commit $commit and not of these; release/make.sh renews it"
+    if [ "$commit" = "$brought" ]; then
+        echo "release: commit $brought has it and its sources, which are not these; release/make.sh renews it"
+    else
+        echo "release: commit $brought has it, and commit $commit has its sources, which are not these; release/make.sh renews it"
+    fi
 }
 
 sum=$(sum_of_sources) || fail "the sources cannot be read"

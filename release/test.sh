@@ -421,7 +421,7 @@ gate
 expect 'the gate, the release given back' 0 "$whole" 0
 commit
 given_back=$head
-found="release: it is that of commit $given_back, of the sources of commit $given_back and not of these; release/make.sh renews it"
+found="release: commit $given_back has it and its sources, which are not these; release/make.sh renews it"
 printf 'x' >>"$clone/crates/low/src/lib.rt"
 gate
 expect 'the gate, older sources' 0 "$found" 0
@@ -465,7 +465,7 @@ commit
 build
 gate
 expect 'the gate, sources before the release' 0 \
-    "release: it is that of commit $brought, of the sources of commit $older and not of these; release/make.sh renews it" 0
+    "release: commit $brought has it, and commit $older has its sources, which are not these; release/make.sh renews it" 0
 git clone -q --depth 1 "file://$clone" "$room/shallow"
 clone=$room/shallow
 build
