@@ -72,19 +72,22 @@ remember() { # NAME WORDS
 
 # Sets `looked_at` to the folders and files whose files' state is remembered together with the checksum over the sources.
 list_looked_at() {
-    local it
+    local it folder
     read_crates
     looked_at=(crates.txt HANDLES release/common.sh)
     for it in "${crates[@]}"; do
-        looked_at+=("crates/$it"/{src,specs,proofs}/)
+        for folder in "crates/$it"/{src,specs,proofs}/; do
+            [ -d "$folder" ] && looked_at+=("$folder")
+        done
     done
 }
 
 # Prints a checksum over what the system knows of these files without reading them: name, inode, mode, size, time of change.
 # The system itself sets the time of change, to now: a copy that keeps size and time of the old file has a new one.
-state_of() { # FILES AND FOLDERS
+state_of() ( # FILES AND FOLDERS
+    set -o pipefail
     LC_ALL=C ls -LRUinc --time-style=+%s.%N -- "$@" 2>/dev/null | sha256sum
-}
+)
 
 # Returns whether none of these files was changed in that second or later, so that each change from then on gives a new time.
 stand_since() { # SECOND FILES AND FOLDERS
@@ -99,7 +102,7 @@ sum_at_hand() (
     cd "$top" || exit
     list_looked_at
     printf -v now '%(%s)T' -1
-    state=$(state_of "${looked_at[@]}")
+    state=$(state_of "${looked_at[@]}") || { sum_of_sources; return; }
     { read -r then && read -r sum; } 2>/dev/null <"$memory/sum" && [ "$then" = "$state" ] && echo "$sum" && return
     sum=$(sum_of_sources) && stand_since "$now" "${looked_at[@]}" && remember sum "$state"$'\n'"$sum"
     echo "$sum"

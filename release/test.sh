@@ -248,6 +248,15 @@ holds 'a file that was changed within the second is remembered' [ ! -e "$clone/r
 holds 'a change within the second is taken for older' bash -c '. "$1/release/common.sh"; ! stand_since "$2" "$3"' - "$clone" "$second" "$file"
 holds 'a change before the second is not' bash -c '. "$1/release/common.sh"; stand_since "$2" "$3"' - "$clone" $((second + 9)) "$file"
 
+# Files of which the system tells nothing are read.
+ln -s missing "$clone/crates/low/src/broken.rt"
+settle
+rm -f "$clone/release/out/sum"
+first
+expect 'a link to nowhere' 0 "$report" 1 "$other"
+holds 'files of which nothing is told are remembered' [ ! -e "$clone/release/out/sum" ]
+rm "$clone/crates/low/src/broken.rt"
+
 # The version is told from the sources, not from what is remembered of them.
 (cd "$clone" && . release/common.sh && list_looked_at && remember sum "$(state_of "${looked_at[@]}")"$'\n'"$(told release/SOURCES sources)")
 first
@@ -352,7 +361,7 @@ commit() {
     [ -d "$clone/.git" ] || git -C "$clone" init -q
     printf '%s\n' out/ >"$clone/.gitignore"
     git -C "$clone" add -A &&
-        git -C "$clone" -c user.name=test -c user.email=test@example.com commit -q --allow-empty -m state &&
+        git -C "$clone" -c user.name=test -c user.email=test@example.com -c commit.gpgsign=false commit -q --allow-empty -m state &&
         head=$(git -C "$clone" rev-parse HEAD)
 }
 
