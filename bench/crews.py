@@ -5,7 +5,7 @@ certificate must be accepted by `check` and by tools/check_certificate.py. It pr
 counts, and ends with status 1 where one is wrong.
 
     bench/crews.py [MODELS]              so many models (1,000 where no number is given)
-    bench/crews.py --script [MODELS]     a script for crates/worked with so many of them (48): crates/worked/data/crews.txt
+    bench/crews.py --script [MODELS]     a script for crates/test_scripts with so many of them (48): crates/test_scripts/data/crews.txt
     bench/crews.py --expected [MODELS]   what this script must answer, found by going over all points: no program is run
     BPRICE=program bench/crews.py        another program than ./bprice
 """

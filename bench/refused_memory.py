@@ -3,8 +3,8 @@
 
     bench/refused_memory.py [PROGRAM [WORKED]]
 
-PROGRAM is the program to run, or else release/bprice; WORKED is the program of crates/worked, as the gate leaves it in
-crates/worked/out/worked. The script wants a C compiler, `cc`.
+PROGRAM is the program to run, or else release/bprice; WORKED is the program of crates/test_scripts, as the gate leaves it in
+crates/test_scripts/out/worked. The script wants a C compiler, `cc`.
 
 A run whose Nth request is refused must either end as it ends with ample memory, with the same status, output and files, or with status 9,
 nothing printed, and its files as they were before; of `gen` the LP file may hold its whole text, and of `solve` and
@@ -14,7 +14,7 @@ script ends with status 1 where a run did anything else.
 
 WORKED is run with the word `calls`: it calls the libraries, and tries a call of a pool, of a tree, of a crew or of a search a second time
 where memory was short. So where the refused request is one of these calls', it must print what it prints with ample memory, which
-is the end of crates/worked/stdout; where it is another, it may end with an error and nothing printed, or say of one text that it is
+is the end of crates/test_scripts/stdout; where it is another, it may end with an error and nothing printed, or say of one text that it is
 not tried, in place of what it tells of it, and print all else. It fills a pool by many thousand calls: its first and last requests are refused, and of those between one in so many.
 """
 
@@ -294,7 +294,7 @@ def main():
         for text, whole, begun in RUNS:
             sums = [a + b for a, b in zip(sums, try_all(program, refuser, text, whole, begun))]
         if worked:
-            well = try_calls(worked, refuser, os.path.join(here, "../crates/worked"))
+            well = try_calls(worked, refuser, os.path.join(here, "../crates/test_scripts"))
     print(f"{len(RUNS)} runs, {sums[0]} requests, refused: {sums[1]} want of memory, {sums[2]} the answer, {sums[3]} anything else")
     sys.exit(1 if sums[3] or not well else 0)
 

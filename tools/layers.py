@@ -16,17 +16,18 @@ TOP = pathlib.Path(__file__).resolve().parent.parent
 PICTURE = TOP / "docs/pictures/layers.svg"
 ROOMS = {  # a room's title: its colour, and its crates
     "theory: definitions and laws": ("#fff3c4", "bp_theory search_laws"),
-    "texts and models": ("#d9ead3", "lp_token lp_tree lp_grammar bp_model lp_meaning lp_read dec_tokens dec_read row_blocks dec_words dec_find dec_beside dec_guess bp_gen"),
-    "blocks": ("#cfe2f3", "block_program proof_fit block_parts block_form round_sums round_cut cut_list block_class column_deals disagg"),
-    "pricing and bounds": ("#d0e0e3", "pricing depth_search search_price load_table knap_price layer_graph state_graph graph_pass var_order state_price proof_costs block_forms block_pricers lagr_bound"),
-    "hints: nothing proved rests on how good they are": (
-        "#eeeeee", "col_pool master_simplex master_measure master_lp lp_factor lp_core row_lp cut_hint column_lp lone_leaf point_hint hint_pools column_hint node_hint"),
-    "search": ("#f4cccc", "grove_parts branch_tree node_bound node_eval bp_search crew_turns bp_crew tree_merge"),
-    "certificates": ("#ead1dc", "cert_form cert_lines cert_write cert_read cert_text line_check cert_check tree_load cert_load cert_walk cert_file cert_stream"),
-    "files, words and reports": ("#fce5cd", "bp_shelf bp_real bp_watch bp_reason word_orders bp_words report_lines block_lines search_lines bp_report cert_report bp_front"),
-    "commands": ("#d9d2e9", "cmd_show search_start search_outcome cmd_solve cmd_check cmd_gen cmd_detect cmd_propose cmd_merge cmd_migrate cmd_demo bp_cli bprice"),
+    "texts and models": ("#d9ead3", "lp_token lp_syntax lp_parser bp_model name_table lp_semantics lp_read dec_syntax dec_read dec_components dec_write dec_find dec_propose bp_gen"),
+    "blocks and cuts": ("#cfe2f3", "block_program block_build block_form cut_sums round_cut block_class column_assignment disagg"),
+    "pricing problems and dual bounds": (
+        "#d0e0e3", "pricing_problem enumeration search_price knapsack_table knap_price layer_graph state_graph shortest_path variable_order state_price reduced_costs block_pricers lagr_bound"),
+    "heuristics: nothing proved rests on how good they are": (
+        "#eeeeee", "col_pool exact_simplex master_gap master_lp basis_factor dual_simplex restricted_master compact_relaxation primal_heuristics node_memory column_generation diving cut_separation node_heuristics"),
+    "branch and bound": ("#f4cccc", "open_nodes branch_tree node_bound node_eval bp_search crew_steps bp_crew tree_merge"),
+    "certificates": ("#ead1dc", "cert_format cert_parser cert_write cert_text cert_line_check cert_check tree_load cert_load cert_walk cert_file cert_stream"),
+    "files, words and reports": ("#fce5cd", "bp_shelf bp_real notes cli_orders bp_words report_lines bp_report cert_report frontend"),
+    "commands": ("#d9d2e9", "search_start search_outcome cmd_solve cmd_check cmd_decompose cmd_certificates cmd_gen cmd_demo bp_cli bprice"),
 }
-TESTS = "readings streamings reckonings engines wordings worked".split()  # not drawn
+TESTS = "test_texts test_io test_pricing test_simplex test_cli test_scripts".split()  # not drawn
 
 
 def crates():

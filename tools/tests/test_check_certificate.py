@@ -59,7 +59,7 @@ def text_of(name):
 
 def worked():
     """The texts of each `check`, `solve` or `show` of the worked scripts, as (script, LP, certificate or None, DEC or None)."""
-    for script in sorted((TOP / "crates/worked/data").glob("*.txt")):
+    for script in sorted((TOP / "crates/test_scripts/data").glob("*.txt")):
         files, lines = {}, iter(script.read_text(encoding="latin-1").split("\n"))
         for line in lines:
             if line.startswith("file "):

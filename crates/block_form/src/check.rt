@@ -9,7 +9,7 @@ ghost use Rattle.block_form.specs.Checks.{HasBlockFault};
 ghost use Rattle.block_program.specs.Cuts.{AreCutRows, KeepsCuts};
 
 use crate::fault::{BlockFault, Unblocked};
-use block_parts::{are_large, first_elsewhere, made_parts, source_of, var_places};
+use block_build::{are_large, first_elsewhere, made_parts, source_of, var_places};
 use block_program::{Base, Block, Blocked};
 use bp_model::{Dec, Model};
 use bp_theory::{Cut, Items, MasterRow, Row};

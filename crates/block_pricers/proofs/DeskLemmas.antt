@@ -7,13 +7,13 @@ use Rattle.block_pricers.specs.Desks.{form_of}
 use Rattle.block_pricers.specs.declared.desk.Desk.{Desk}
 use Rattle.bp_theory.specs.Bound.{spans_of}
 use Rattle.block_program.specs.Blocked.{BlockedProgram}
-use Rattle.block_forms.specs.Forms.{BlockForm, no_form, form_at, form_with, forms_in}
-use Rattle.load_table.specs.Taken.{IsTaken}
+use Rattle.block_pricers.specs.Forms.{BlockForm, no_form, form_at, form_with, forms_in}
+use Rattle.knapsack_table.specs.Taken.{IsTaken}
 use Rattle.search_laws.specs.Spread.{block_at}
 use Rattle.block_pricers.specs.Pricers.{IsEnough, AreEnough, IsFitting, is_table, rows_of as pricer_rows, spans_of as pricer_spans}
 use Rattle.block_pricers.specs.declared.pricers.BlockPricer.{BlockPricer}
 use Rattle.block_pricers.specs.declared.pricers.BlockPricer.TheVariants.{Table, States, Search}
-use Rattle.block_forms.proofs.FormLemmas.{all_more}
+use Rattle.block_pricers.proofs.FormLemmas.{all_more}
 
 -- one desk more
 pub one_desk_more : (forms : List BlockForm) (blocks : List ℕ) (n : ℕ) (desks all : List Desk) (desk : Desk) → n < length blocks → all ≡ desks ++ desk ∷ []

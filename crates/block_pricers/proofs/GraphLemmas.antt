@@ -7,7 +7,7 @@ use Rattle.std.proofs.lemmas.List.Sums.{sum_by-cons, sum_by-append}
 use Rattle.state_graph.specs.Limits.{IsBeyond}
 use Rattle.block_pricers.specs.Pricers.{is_search, most_graph_arcs, IsUngraphed, HasSpent}
 use Rattle.block_pricers.specs.Desks.{form_of, begun_at, IsNear, IsGraphed, HaveGraphs}
-use Rattle.block_forms.proofs.FormLemmas.{all_more}
+use Rattle.block_pricers.proofs.FormLemmas.{all_more}
 use Rattle.block_pricers.specs.declared.pricers.GraphRoom.{GraphRoom}
 use Rattle.block_pricers.specs.declared.desk.Desk.{Desk}
 

@@ -1,15 +1,15 @@
 -- The desks of all blocks, and what is kept for each block.
 use Rattle.std.proofs.Common.{◌≡◌, sym, ap, subst, ◌∙◌, ℕ, ◌<◌, List, [], map, length, get_or, All, arith}
 use Rattle.std.proofs.lemmas.List.{get_or_default, get_or-map, length-map}
-use Rattle.block_forms.specs.Forms.{BlockForm, form_at, span_count, forms_in}
+use Rattle.block_pricers.specs.Forms.{BlockForm, form_at, span_count, forms_in}
 use Rattle.block_pricers.specs.Desks.{form_of, priced_point}
-use Rattle.block_forms.specs.Told.{room_of, told_point}
+use Rattle.block_pricers.specs.Told.{room_of, told_point}
 use Rattle.block_pricers.specs.declared.desk.Desk.{Desk}
-use Rattle.block_forms.specs.Seats.{AreSeated}
+use Rattle.block_pricers.specs.Seats.{AreSeated}
 use Rattle.block_program.specs.Blocked.{BlockedProgram}
 use Rattle.block_pricers.specs.Works.{forms_of}
 use Rattle.block_pricers.specs.declared.work.Work.{Work}
-use Rattle.block_forms.proofs.SeatLemmas.{seated_forms, seats_there}
+use Rattle.block_pricers.proofs.SeatLemmas.{seated_forms, seats_there}
 use Rattle.block_pricers.proofs.DeskLemmas.{seats_many}
 
 -- the forms of the desks that blocks sit at

@@ -1,7 +1,7 @@
 -- What desks show.
 use Rattle.std.specs.Prelude.{◌≡◌, ℕ, ◌<◌, List, [], sum_by, All, IsTrue, ℤ}
 use Rattle.state_graph.specs.Limits.{beginnings, IsBeyond}
-use Rattle.block_forms.specs.Forms.{BlockForm}
+use Rattle.block_pricers.specs.Forms.{BlockForm}
 use Rattle.block_pricers.specs.Pricers.{rows_of, spans_of, kept_point, is_search, most_graph_arcs}
 use Rattle.block_pricers.specs.declared.desk.Desk.{Desk}
 

@@ -3,12 +3,12 @@ use Rattle.std.specs.Prelude.{◌≡◌, ℕ, ◌+◌, ◌^◌, ◌≤◌, ◌�
 use Rattle.bp_theory.specs.declared.Span.{Span}
 use Rattle.bp_theory.specs.declared.Row.{Row}
 use Rattle.knap_price.specs.Kept as by_table
-use Rattle.load_table.specs.Rooms.{cells_of}
-use Rattle.load_table.specs.Taken.{IsTaken}
+use Rattle.knapsack_table.specs.Rooms.{cells_of}
+use Rattle.knapsack_table.specs.Taken.{IsTaken}
 use Rattle.state_price.specs.Kept as by_states
 use Rattle.state_graph.specs.Limits.{beginnings, IsBeyond}
 use Rattle.search_price.specs.Kept as by_search
-use Rattle.block_forms.specs.Forms.{BlockForm}
+use Rattle.block_pricers.specs.Forms.{BlockForm}
 use Rattle.block_pricers.specs.declared.pricers.GraphRoom.{GraphRoom}
 use Rattle.block_pricers.specs.declared.pricers.BlockPricer.{BlockPricer}
 use Rattle.block_pricers.specs.declared.pricers.BlockPricer.TheVariants.{Table, States, Search}

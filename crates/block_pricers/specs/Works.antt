@@ -3,11 +3,11 @@ use Rattle.std.specs.Prelude.{◌≡◌, ◌↔◌, ℕ, ◌<◌, List, [], leng
 use Rattle.bp_theory.specs.Bound.{spans_of}
 use Rattle.search_laws.specs.Spread.{block_at}
 use Rattle.block_program.specs.Blocked.{BlockedProgram}
-use Rattle.load_table.specs.Taken.{IsTaken}
-use Rattle.block_forms.specs.Forms.{BlockForm, form_at}
+use Rattle.knapsack_table.specs.Taken.{IsTaken}
+use Rattle.block_pricers.specs.Forms.{BlockForm, form_at}
 use Rattle.block_pricers.specs.Pricers.{is_table}
 use Rattle.block_pricers.specs.Desks.{form_of, priced_point}
-use Rattle.block_forms.specs.Told.{told_point}
+use Rattle.block_pricers.specs.Told.{told_point}
 use Rattle.block_pricers.specs.declared.desk.Desk.{Desk}
 use Rattle.block_pricers.specs.declared.work.Work.{Work}
 

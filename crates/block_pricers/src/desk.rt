@@ -5,8 +5,8 @@ use crate::pricers::{BlockPricer, GraphRoom};
 use block_program::{Block, Zone};
 use bp_theory::{Proof, Span};
 use knap_price::Cells;
-use pricing::{Cap, Priced};
-use proof_costs::{fill_costs, fill_spans};
+use pricing_problem::{Cap, Priced};
+use reduced_costs::{fill_costs, fill_spans};
 use std::alloc::{AllocError, Global};
 
 /// The pricer of a block and of all that have its form, with room for reduced costs and for spans in a zone.
@@ -22,14 +22,14 @@ impl Desk {
     ghost use Rattle.std.specs.Prelude.{◌≡◌, ◌<◌, IfOk, IsTrue, All, length};
     ghost use Rattle.std.specs.Bool.{OnTrue};
     ghost use Rattle.bp_theory.specs.Bound.{IsPoint};
-    ghost use Rattle.load_table.specs.Rooms.{count_of};
+    ghost use Rattle.knapsack_table.specs.Rooms.{count_of};
     ghost use Rattle.block_pricers.specs.Pricers.{is_search, IsEnough, IsFitting, IsUngraphed, HasSpent};
     ghost use Rattle.bp_theory.specs.Bound.{spans_of};
     ghost use Rattle.bp_theory.specs.Trees.{IsZone};
-    ghost use Rattle.pricing.specs.Form.{IsForm};
-    ghost use Rattle.pricing.specs.Priced.{IsPriced};
-    ghost use Rattle.proof_costs.specs.Sizes.{IsSmallBlock, IsSmallProof, reduced_costs};
-    ghost use Rattle.block_forms.specs.Forms.{form_in};
+    ghost use Rattle.pricing_problem.specs.Form.{IsForm};
+    ghost use Rattle.pricing_problem.specs.Priced.{IsPriced};
+    ghost use Rattle.reduced_costs.specs.Sizes.{IsSmallBlock, IsSmallProof, reduced_costs};
+    ghost use Rattle.block_pricers.specs.Forms.{form_in};
     ghost use Rattle.block_pricers.specs.Desks.{form_of, priced_point};
 
     /// Made of a block's rows and of its spans at the root: it prices all blocks that have these, whatever their costs.

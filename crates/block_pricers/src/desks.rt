@@ -3,7 +3,7 @@ ghost use Rattle.std.specs.Prelude.{◌≡◌, ◌<◌, ◌≤◌, ℕ, None, If
 ghost use Rattle.block_program.specs.Blocked.{IsFormed};
 ghost use Rattle.block_pricers.specs.declared.desk.Desk.{Desk};
 ghost use Rattle.block_pricers.specs.Desks.{form_of, HaveGraphs};
-ghost use Rattle.block_forms.specs.Forms.{form_at, forms_in};
+ghost use Rattle.block_pricers.specs.Forms.{form_at, forms_in};
 ghost use Rattle.block_pricers.specs.Pricers.{AreEnough, IsFitting};
 
 use crate::desk::Desk;

@@ -1,13 +1,13 @@
 // Whichever pricer suits a block.
 ghost use Rattle.std.specs.Prelude.{◌≡◌, IfOk, IfSome, IfNone};
-ghost use Rattle.pricing.specs.Form.{IsForm, AreOf};
+ghost use Rattle.pricing_problem.specs.Form.{IsForm, AreOf};
 ghost use Rattle.state_price.specs.Kept.{rows_of as states_rows, spans_of as states_spans};
 ghost use Rattle.block_pricers.specs.Pricers.{IsUngraphed, HasSpent};
 
 use block_program::Block;
 use bp_theory::Span;
 use knap_price::{Cells, KnapPlan, KnapPricer};
-use pricing::{Cap, Priced, Pricer};
+use pricing_problem::{Cap, Priced, Pricer};
 use search_price::SearchPricer;
 use state_price::StatePricer;
 use std::alloc::{AllocError, Global};
@@ -77,9 +77,9 @@ impl BlockPricer {
     ghost use Rattle.std.specs.Prelude.{◌≡◌, IfOk, IsTrue, length};
     ghost use Rattle.std.specs.Bool.{OnTrue};
     ghost use Rattle.bp_theory.specs.Bound.{IsPoint};
-    ghost use Rattle.pricing.specs.Form.{IsForm, IsPriceable, AreOf};
-    ghost use Rattle.pricing.specs.Priced.{IsPriced};
-    ghost use Rattle.load_table.specs.Rooms.{count_of};
+    ghost use Rattle.pricing_problem.specs.Form.{IsForm, IsPriceable, AreOf};
+    ghost use Rattle.pricing_problem.specs.Priced.{IsPriced};
+    ghost use Rattle.knapsack_table.specs.Rooms.{count_of};
     ghost use Rattle.block_pricers.specs.Pricers.{rows_of, spans_of, kept_point, is_search, IsEnough, IsFitting, IsUngraphed, HasSpent};
 
     /// Made of a block's rows and of its spans at the root. A graph that is tried takes from what may be spent, whether it

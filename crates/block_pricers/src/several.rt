@@ -4,8 +4,8 @@ ghost use Rattle.std.specs.Bool.{OnTrue};
 ghost use Rattle.bp_theory.specs.Bound.{IsPoint, spans_of};
 ghost use Rattle.bp_theory.specs.Trees.{IsZone};
 ghost use Rattle.block_pricers.specs.Desks.{form_of, priced_point};
-ghost use Rattle.block_forms.specs.Forms.{form_at, form_in};
-ghost use Rattle.proof_costs.specs.Sizes.{IsSmallBlock, IsSmallProof};
+ghost use Rattle.block_pricers.specs.Forms.{form_at, form_in};
+ghost use Rattle.reduced_costs.specs.Sizes.{IsSmallBlock, IsSmallProof};
 
 use crate::desk::Desk;
 use crate::work::Work;
@@ -54,7 +54,7 @@ impl Work {
     ghost use Rattle.bp_theory.specs.Trees.{IsZone};
     ghost use Rattle.block_program.specs.Blocked.{IsFormed};
     ghost use Rattle.search_laws.specs.Spread.{block_at};
-    ghost use Rattle.block_forms.specs.Forms.{forms_in};
+    ghost use Rattle.block_pricers.specs.Forms.{forms_in};
     ghost use Rattle.block_pricers.specs.Works.{forms_of, priced_at};
 
     /// Whether a block's pricer ranks points beside the cheapest one: where it has a graph of states.

@@ -2,21 +2,21 @@
 ghost use Rattle.std.specs.Prelude.{◌≡◌, ◌<◌, [], All, length, map, vec_len, slice_index_or};
 ghost use Rattle.bp_theory.specs.Bound.{spans_of};
 ghost use Rattle.bp_theory.specs.Trees.{IsZone};
-ghost use Rattle.load_table.specs.Rooms.{count_of};
-ghost use Rattle.pricing.specs.Priced.{IsPriced};
-ghost use Rattle.proof_costs.specs.Sizes.{IsSmallBlock, IsSmallProof, reduced_costs};
-ghost use Rattle.block_forms.specs.Forms.{form_at, form_in, span_count};
+ghost use Rattle.knapsack_table.specs.Rooms.{count_of};
+ghost use Rattle.pricing_problem.specs.Priced.{IsPriced};
+ghost use Rattle.reduced_costs.specs.Sizes.{IsSmallBlock, IsSmallProof, reduced_costs};
+ghost use Rattle.block_pricers.specs.Forms.{form_at, form_in, span_count};
 ghost use Rattle.block_pricers.specs.Desks.{form_of, priced_point};
 ghost use Rattle.block_pricers.specs.Pricers.{AreEnough};
-ghost use Rattle.block_forms.specs.Told.{room_of};
+ghost use Rattle.block_pricers.specs.Told.{room_of};
 
 use crate::desk::Desk;
 use crate::desks::{clear, desks_of};
-use block_forms::{Told, rooms_of, seated, silence};
+use crate::{Told, rooms_of, seated, silence};
 use block_program::{Block, Blocked, Zone};
 use bp_theory::Proof;
 use knap_price::Cells;
-use pricing::{Cap, Priced};
+use pricing_problem::{Cap, Priced};
 use std::alloc::{AllocError, Global};
 
 /// Pricers for the blocks of a program in blocks, with all memory that pricing needs; and the points that the last bound
@@ -54,10 +54,10 @@ impl Work {
     ghost use Rattle.bp_theory.specs.Trees.{IsZone};
     ghost use Rattle.search_laws.specs.Spread.{block_at};
     ghost use Rattle.block_program.specs.Blocked.{IsFormed};
-    ghost use Rattle.pricing.specs.Priced.{IsPriced};
-    ghost use Rattle.block_forms.specs.Forms.{forms_in, form_at, span_count};
-    ghost use Rattle.proof_costs.specs.Sizes.{reduced_costs};
-    ghost use Rattle.block_forms.specs.Told.{told_point};
+    ghost use Rattle.pricing_problem.specs.Priced.{IsPriced};
+    ghost use Rattle.block_pricers.specs.Forms.{forms_in, form_at, span_count};
+    ghost use Rattle.reduced_costs.specs.Sizes.{reduced_costs};
+    ghost use Rattle.block_pricers.specs.Told.{told_point};
     ghost use Rattle.block_pricers.specs.Desks.{HaveGraphs};
     ghost use Rattle.block_pricers.specs.Works.{forms_of, point_at, priced_at, IsSilent, HasTables};
 

@@ -3,12 +3,12 @@ use Rattle.std.proofs.Common.{◌≡◌, ◌≢◌, subst, inl, inr, ◌⊎◌, 
 use Rattle.bp_theory.specs.declared.Claim.{Claim}
 use Rattle.bp_shelf.specs.Shelf.{Files}
 use Rattle.branch_tree.specs.declared.outcome.Outcome.{Outcome}
-use Rattle.word_orders.specs.Orders.{IsOrderOf}
-use Rattle.word_orders.specs.declared.order.Order.{Order}
-use Rattle.word_orders.specs.declared.order.SolveOrder.{SolveOrder}
-use Rattle.word_orders.specs.declared.order.Order.TheVariants.{Solve, Check, Show, Gen, Demo, Detect, Propose, Merge, Migrate}
+use Rattle.cli_orders.specs.Orders.{IsOrderOf}
+use Rattle.cli_orders.specs.declared.order.Order.{Order}
+use Rattle.cli_orders.specs.declared.order.SolveOrder.{SolveOrder}
+use Rattle.cli_orders.specs.declared.order.Order.TheVariants.{Solve, Check, Show, Gen, Demo, Detect, Propose, Merge, Migrate}
 use Rattle.cert_report.specs.Certificates.{accepted_report}
-use Rattle.bp_front.specs.Answers.{AnswersBy, FilesStand, IsStatus}
+use Rattle.frontend.specs.Answers.{AnswersBy, FilesStand, IsStatus}
 use Rattle.cmd_check.specs.Checks.{AnswersCheck}
 use Rattle.cmd_solve.specs.Solves.{AnswersSolve}
 use Rattle.cmd_solve.specs.Saves.{HasCertificate}

@@ -4,13 +4,13 @@ use Rattle.std.specs.Prelude.{codes}
 use Rattle.std.specs.Str.{bytes_eq}
 use Rattle.std.specs.Str.Parse.{digits_value, without_leading_plus}
 use Rattle.clap.specs.Words.{Row, Text, first_of}
-use Rattle.word_orders.specs.CommandLine.{most_steps, most_leaf, most_visits, most_seed, most_size, most_workers, most_cuts}
-use Rattle.word_orders.specs.Orders.{HasNumber, MayHaveNumber, HasCount, IsLeafPlaced, HasValues, IsOrderOf, AreRefused}
-use Rattle.word_orders.specs.declared.order.Order.{Order}
-use Rattle.word_orders.specs.declared.order.SolveOrder.{SolveOrder}
-use Rattle.word_orders.specs.declared.order.CheckOrder.{CheckOrder}
-use Rattle.word_orders.specs.declared.order.MergeOrder.{MergeOrder}
-use Rattle.word_orders.specs.declared.order.Order.TheVariants.{Solve, Check, Show, Gen, Demo, Detect, Propose, Merge, Migrate}
+use Rattle.cli_orders.specs.CommandLine.{most_steps, most_leaf, most_visits, most_seed, most_size, most_workers, most_cuts}
+use Rattle.cli_orders.specs.Orders.{HasNumber, MayHaveNumber, HasCount, IsLeafPlaced, HasValues, IsOrderOf, AreRefused}
+use Rattle.cli_orders.specs.declared.order.Order.{Order}
+use Rattle.cli_orders.specs.declared.order.SolveOrder.{SolveOrder}
+use Rattle.cli_orders.specs.declared.order.CheckOrder.{CheckOrder}
+use Rattle.cli_orders.specs.declared.order.MergeOrder.{MergeOrder}
+use Rattle.cli_orders.specs.declared.order.Order.TheVariants.{Solve, Check, Show, Gen, Demo, Detect, Propose, Merge, Migrate}
 
 -- a value that is there is one
 one_value : (given : Option Text) (t u : Text) → given ≡ Some t → given ≡ Some u → t ≡ u

@@ -7,12 +7,12 @@ use Rattle.bp_theory.proofs.ZipLaws.{AllZip-length}
 use Rattle.bp_theory.specs.Decomposition.{ProofRow, links_of, link_count, HasLargeLinks}
 use Rattle.bp_model.specs.Named.{NamedProgram}
 use Rattle.bp_model.specs.Dec.{plain_of}
-use Rattle.lp_tree.specs.Tree.{SyntaxTree}
-use Rattle.lp_tree.specs.Roles.{row_names, variables}
-use Rattle.lp_meaning.specs.Meaning.{TextModel, model_of, model_row, row_meaning, tokens_of}
-use Rattle.lp_meaning.specs.Model.{Means, IsRowOf}
-use Rattle.lp_meaning.proofs.FineProof.{within_limits}
-use Rattle.lp_meaning.proofs.RowLemmas.{length-row_names}
+use Rattle.lp_syntax.specs.Tree.{SyntaxTree}
+use Rattle.lp_syntax.specs.Roles.{row_names, variables}
+use Rattle.lp_semantics.specs.Meaning.{TextModel, model_of, model_row, row_meaning, tokens_of}
+use Rattle.lp_semantics.specs.Model.{Means, IsRowOf}
+use Rattle.lp_semantics.proofs.FineProof.{within_limits}
+use Rattle.lp_semantics.proofs.RowLemmas.{length-row_names}
 use Rattle.block_form.specs.Checks.{HasBlockFault}
 use Rattle.block_form.specs.declared.fault.BlockFault.{BlockFault}
 use Rattle.block_form.specs.declared.fault.BlockFault.TheVariants.{VarPlace, Links, NoMemory}

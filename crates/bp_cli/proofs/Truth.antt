@@ -14,16 +14,16 @@ use Rattle.bp_theory.specs.Decomposition.{Decomposition}
 use Rattle.bp_model.specs.Named.{NamedProgram}
 use Rattle.bp_model.specs.Dec.{plain_of}
 use Rattle.bp_shelf.specs.Shelf.{Files, OthersAsBefore}
-use Rattle.lp_meaning.specs.Model.{Means}
+use Rattle.lp_semantics.specs.Model.{Means}
 use Rattle.bp_theory.specs.Trees.{Tree}
 use Rattle.search_laws.specs.declared.Side.{Side}
 use Rattle.search_laws.specs.Grove.{GrowingTree}
-use Rattle.lp_meaning.specs.Reading as lp_text
+use Rattle.lp_semantics.specs.Reading as lp_text
 use Rattle.lp_read.proofs.Readings as lp_laws
 use Rattle.block_program.specs.Blocked.{BlockedProgram, IsFormed}
-use Rattle.cert_form.specs.Cert.{Frame}
-use Rattle.cert_form.specs.Fault.{IsCertText}
-use Rattle.cert_form.specs.Written.{cert_of}
+use Rattle.cert_format.specs.Cert.{Frame}
+use Rattle.cert_format.specs.Fault.{IsCertText}
+use Rattle.cert_format.specs.Written.{cert_of}
 use Rattle.cert_text.specs.Programs.{frame_for}
 use Rattle.cert_load.specs.Recut.{with_cuts}
 use Rattle.cert_load.proofs.Frames.{same_frame}
@@ -33,9 +33,9 @@ use Rattle.bp_search.specs.Ends.{EndsWithin, given_steps, last_step}
 use Rattle.bp_search.specs.Below.{steps_in}
 use Rattle.bp_report.specs.Report.{solve_report}
 use Rattle.cert_report.specs.Certificates.{accepted_report}
-use Rattle.bp_front.specs.Front.{Front, blocked, ends, BlocksCome, formed, refused, DecComes, plain, missing, faulty, read, FilesCome, missing_lp, faulty_lp, read_lp}
-use Rattle.bp_front.specs.Answers.{AnswersBy, stopped, went_on, IsStatus}
-use Rattle.bp_front.proofs.OneFront.{one_front, plain_front}
+use Rattle.frontend.specs.Front.{Front, blocked, ends, BlocksCome, formed, refused, DecComes, plain, missing, faulty, read, FilesCome, missing_lp, faulty_lp, read_lp}
+use Rattle.frontend.specs.Answers.{AnswersBy, stopped, went_on, IsStatus}
+use Rattle.frontend.proofs.OneFront.{one_front, plain_front}
 use Rattle.cmd_check.specs.Checks as checks
 use Rattle.cmd_check.specs.Checks.{ChecksBlocked, ChecksWithin, ChecksVisiting, AnswersCheck}
 use Rattle.search_start.specs.Cuttings.{HasCuts}

@@ -2,17 +2,17 @@
 use Rattle.std.proofs.Common.{◌≡◌, ◌≢◌, ◌⊎◌, refl, subst, inl, inr, ℕ, Bool, List, Option, Some, None}
 use Rattle.bp_shelf.specs.Shelf.{Files}
 use Rattle.branch_tree.specs.declared.outcome.Outcome.{Outcome}
-use Rattle.word_orders.specs.Orders.{IsOrderOf, AreRefused}
-use Rattle.word_orders.specs.declared.order.Order.{Order}
-use Rattle.word_orders.specs.declared.order.Order.TheVariants.{Solve, Check, Show, Gen, Demo, Detect, Propose, Merge, Migrate}
-use Rattle.bp_front.specs.Answers.{AnswersBy, IsOnly, CutsOff, FilesStand}
+use Rattle.cli_orders.specs.Orders.{IsOrderOf, AreRefused}
+use Rattle.cli_orders.specs.declared.order.Order.{Order}
+use Rattle.cli_orders.specs.declared.order.Order.TheVariants.{Solve, Check, Show, Gen, Demo, Detect, Propose, Merge, Migrate}
+use Rattle.frontend.specs.Answers.{AnswersBy, IsOnly, CutsOff, FilesStand}
 use Rattle.bp_cli.specs.Promises.{Demonstrates}
 use Rattle.bp_cli.specs.Running.{Answers, refused, ordered, AnswersOrder, OfOrder, HasWritten}
 use Rattle.cmd_gen.specs.Generates.{untouched}
-use Rattle.cmd_detect.specs.Files as detected
-use Rattle.cmd_propose.specs.Files as proposed
-use Rattle.cmd_merge.specs.Files as merged
-use Rattle.cmd_migrate.specs.Files as migrated
+use Rattle.cmd_decompose.specs.DetectFiles as detected
+use Rattle.cmd_decompose.specs.ProposeFiles as proposed
+use Rattle.cmd_certificates.specs.MergeFiles as merged
+use Rattle.cmd_certificates.specs.MigrateFiles as migrated
 use Rattle.cmd_solve.proofs.Parts.{untouched_part}
 use Rattle.bp_cli.proofs.OneOrder.{one_order, not_both}
 

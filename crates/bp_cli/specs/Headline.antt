@@ -7,16 +7,16 @@ use Rattle.bp_theory.specs.Claims.{NoneBetter, IsTrueClaim}
 use Rattle.bp_theory.specs.declared.Claim.{Claim}
 use Rattle.bp_model.specs.Named.{NamedProgram}
 use Rattle.bp_shelf.specs.Shelf.{Files}
-use Rattle.lp_meaning.specs.Model.{Means}
+use Rattle.lp_semantics.specs.Model.{Means}
 use Rattle.search_laws.specs.Grove.{certificate_tree}
 use Rattle.branch_tree.specs.Groves.{GroveState}
 use Rattle.branch_tree.specs.declared.outcome.Outcome.{Outcome}
 use Rattle.branch_tree.specs.declared.outcome.Outcome.TheVariants.{Budget}
 use Rattle.bp_search.specs.Ends.{given_steps}
-use Rattle.word_orders.specs.declared.order.Order.{Order}
-use Rattle.word_orders.specs.declared.order.Order.TheVariants.{Solve, Check, Show, Gen, Demo, Detect, Propose, Merge, Migrate}
+use Rattle.cli_orders.specs.declared.order.Order.{Order}
+use Rattle.cli_orders.specs.declared.order.Order.TheVariants.{Solve, Check, Show, Gen, Demo, Detect, Propose, Merge, Migrate}
 use Rattle.report_lines.specs.Lines.{count_line, value_line}
-use Rattle.search_lines.specs.Searches.{variable_lines, known_line, known_lines}
+use Rattle.report_lines.specs.Searches.{variable_lines, known_line, known_lines}
 use Rattle.cert_report.specs.Certificates.{accepted_report}
 
 -- A report of `solve` is true of a program: `optimal V`, and behind it a point that meets every row and bound, that has the

@@ -5,11 +5,11 @@ use Rattle.bp_theory.specs.declared.Claim.{Claim}
 use Rattle.bp_shelf.specs.Shelf.{Files}
 use Rattle.block_program.specs.Blocked.{BlockedProgram}
 use Rattle.branch_tree.specs.declared.outcome.Outcome.{Outcome}
-use Rattle.word_orders.specs.declared.order.Order.{Order}
-use Rattle.word_orders.specs.declared.order.Order.TheVariants.{Solve, Check, Show, Gen, Demo, Detect, Propose, Merge, Migrate}
+use Rattle.cli_orders.specs.declared.order.Order.{Order}
+use Rattle.cli_orders.specs.declared.order.Order.TheVariants.{Solve, Check, Show, Gen, Demo, Detect, Propose, Merge, Migrate}
 use Rattle.cert_report.specs.Certificates.{accepted_report}
-use Rattle.bp_front.specs.Front.{FilesCome, blocked}
-use Rattle.bp_front.specs.Answers.{AnswersBy, IsOnly, CutsOff}
+use Rattle.frontend.specs.Front.{FilesCome, blocked}
+use Rattle.frontend.specs.Answers.{AnswersBy, IsOnly, CutsOff}
 use Rattle.cmd_check.specs.Checks.{AnswersCheck}
 use Rattle.cmd_demo.specs.Demos.{AnswersDemo}
 use Rattle.bp_cli.specs.Headline.{IsOutcomeStatus, WasStopped}

@@ -3,26 +3,26 @@ use Rattle.std.specs.Prelude.{◌≡◌, ℕ, List, [], Option, None}
 use Rattle.bp_shelf.specs.Shelf.{Files}
 use Rattle.search_laws.specs.declared.Event.{Event}
 use Rattle.branch_tree.specs.declared.outcome.Outcome.{Outcome}
-use Rattle.word_orders.specs.Orders.{IsOrderOf, AreRefused}
-use Rattle.word_orders.specs.declared.order.Order.{Order}
-use Rattle.word_orders.specs.declared.order.Order.TheVariants.{Solve, Check, Show, Gen, Demo, Detect, Propose, Merge, Migrate}
+use Rattle.cli_orders.specs.Orders.{IsOrderOf, AreRefused}
+use Rattle.cli_orders.specs.declared.order.Order.{Order}
+use Rattle.cli_orders.specs.declared.order.Order.TheVariants.{Solve, Check, Show, Gen, Demo, Detect, Propose, Merge, Migrate}
 use Rattle.bp_report.specs.Refusals.{words_refusal}
-use Rattle.bp_front.specs.Answers.{FilesStand}
+use Rattle.frontend.specs.Answers.{FilesStand}
 use Rattle.cmd_solve.specs.Solves.{AnswersSolve}
 use Rattle.cmd_solve.specs.Saves.{HasCertificate, LeavesCertificate, IsUntouched, LeavesPart}
 use Rattle.cmd_solve.specs.Crews.{HasEvents}
 use Rattle.cmd_check.specs.Checks.{AnswersCheck}
-use Rattle.cmd_show.specs.Shows.{AnswersShow}
+use Rattle.cmd_decompose.specs.Shows.{AnswersShow}
 use Rattle.cmd_gen.specs.Generates.{AnswersGen, GenLeaves, GenWrites}
 use Rattle.cmd_demo.specs.Demos.{AnswersDemo}
-use Rattle.cmd_detect.specs.Detects.{AnswersDetect}
-use Rattle.cmd_detect.specs.Files.{DetectLeaves, DetectWrites}
-use Rattle.cmd_propose.specs.Proposes.{AnswersPropose}
-use Rattle.cmd_propose.specs.Files.{ProposeLeaves, ProposeWrites}
-use Rattle.cmd_merge.specs.Merges.{AnswersMerge}
-use Rattle.cmd_merge.specs.Files.{MergeLeaves, MergeWrites}
-use Rattle.cmd_migrate.specs.Migrates.{AnswersMigrate}
-use Rattle.cmd_migrate.specs.Files.{MigrateLeaves, MigrateWrites}
+use Rattle.cmd_decompose.specs.Detects.{AnswersDetect}
+use Rattle.cmd_decompose.specs.DetectFiles.{DetectLeaves, DetectWrites}
+use Rattle.cmd_decompose.specs.Proposes.{AnswersPropose}
+use Rattle.cmd_decompose.specs.ProposeFiles.{ProposeLeaves, ProposeWrites}
+use Rattle.cmd_certificates.specs.Merges.{AnswersMerge}
+use Rattle.cmd_certificates.specs.MergeFiles.{MergeLeaves, MergeWrites}
+use Rattle.cmd_certificates.specs.Migrates.{AnswersMigrate}
+use Rattle.cmd_certificates.specs.MigrateFiles.{MigrateLeaves, MigrateWrites}
 
 -- what an order is answered by the files, with what is kept
 abbrev pub AnswersOrder : Order → Files → Option Outcome → (status : ℕ) → (report : List ℕ) → Type 0
@@ -71,8 +71,9 @@ HasPutLast (Propose lp dec) before now = ProposeWrites lp dec before now
 HasPutLast (Merge given) before now = MergeWrites given.lp given.first given.second given.dec given.new before now
 HasPutLast (Migrate lp cert new dec) before now = MigrateWrites lp cert dec new before now
 
--- The events of an order, beside what is kept: those of the crew that solved, where one was ordered and its outcome is kept; and
--- else none.
+-- How an order's search went, beside what is kept: an outcome that is kept goes on from the certificate of the file that is named for
+-- it, where one is named (its tree extends that tree, its point is no dearer, its dual bound no less), and the events are those of the
+-- crew that solved, where one was ordered, and else none.
 abbrev pub ListsEvents : Order → (before : Files) → Option Outcome → List Event → Type 0
 ListsEvents (Solve given) before kept events = HasEvents before given.lp given.dec given.steps given.from given.workers given.order given.cuts kept events
 ListsEvents (Check given) before kept events = events ≡ []

@@ -3,5 +3,5 @@
 
 mod top;
 
-pub use bp_front::Ended;
+pub use frontend::Ended;
 pub use top::run;

@@ -2,26 +2,23 @@
 ghost use Rattle.std.specs.Prelude.{◌≡◌, ◌≢◌, ◌<◌, ◌⊎◌, ◌++◌, ℕ, [], map, string_bytes, IsTrue, None, take};
 ghost use Rattle.std.specs.Option.{option_map};
 ghost use Rattle.bp_shelf.specs.Shelf.{Rose, next_count};
-ghost use Rattle.word_orders.specs.Orders.{IsInRange, AreRefused};
+ghost use Rattle.cli_orders.specs.Orders.{IsInRange, AreRefused};
 ghost use Rattle.bp_report.specs.Refusals.{words_refusal};
-ghost use Rattle.bp_front.specs.Answers.{AnswersBy, IsOnly, CutsOff, HasCauses, PutsReport, FailsToWrite};
+ghost use Rattle.frontend.specs.Answers.{AnswersBy, IsOnly, CutsOff, HasCauses, PutsReport, FailsToWrite};
 ghost use Rattle.bp_cli.specs.Headline.{SolvesTruly, SolvesAccepted, ChecksTruly};
 ghost use Rattle.bp_cli.specs.Promises.{Demonstrates, SolvesDecomposed, WritesCertificate};
 ghost use Rattle.bp_cli.specs.Running.{Answers, AnswersOrder, HasWritten, HasPutLast, ListsEvents, OfOrder};
 
-use bp_front::{Ended, Reply, print, stopped};
 use bp_report::words_text;
 use bp_shelf::{Shelf, Sink};
 use bp_words::{Order, Text, WordFault, read_words};
+use cmd_certificates::{merge, migrate};
 use cmd_check::check;
+use cmd_decompose::{detect, propose, show};
 use cmd_demo::demonstrate;
-use cmd_detect::detect;
 use cmd_gen::generate;
-use cmd_merge::merge;
-use cmd_migrate::migrate;
-use cmd_propose::propose;
-use cmd_show::show;
 use cmd_solve::solve;
+use frontend::{Ended, Reply, print, stopped};
 use std::alloc::Global;
 
 /// Does all that the program does. The words begin with the program's name and a command.

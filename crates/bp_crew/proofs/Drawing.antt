@@ -19,16 +19,16 @@ use Rattle.search_laws.specs.Verdicts.{grown}
 use Rattle.search_laws.specs.Crew.{Crew, CrewEvent, takes, reports, drops as drops', Leads, IsRun, listed, kind_of_next, free_count}
 use Rattle.search_laws.proofs.GroveProof.{counts_change_by_one_lem}
 use Rattle.search_laws.proofs.CrewProof.{verdicts_keep_lem}
-use Rattle.crew_turns.specs.declared.hand.Hand.{Hand}
-use Rattle.crew_turns.specs.declared.choice.Task.{Task}
-use Rattle.crew_turns.specs.declared.choice.Task.TheVariants.{Take as TakeTask, Report as ReportTask, Drop as DropTask}
-use Rattle.crew_turns.specs.declared.choice.Choice.{Choice}
-use Rattle.crew_turns.specs.Hands.{holding_of}
-use Rattle.crew_turns.specs.States.{CrewState, crew_of, hand_of, IsEvent, IsSomeCrew}
-use Rattle.crew_turns.specs.Draws.{choices_in, Moment, holder_count, choices_from, next_state, draw_of, IsOf, IsPicked, GoesOn, moment_of, moment_after, AreDrawn, drops_after}
+use Rattle.crew_steps.specs.declared.hand.Hand.{Hand}
+use Rattle.crew_steps.specs.declared.choice.Task.{Task}
+use Rattle.crew_steps.specs.declared.choice.Task.TheVariants.{Take as TakeTask, Report as ReportTask, Drop as DropTask}
+use Rattle.crew_steps.specs.declared.choice.Choice.{Choice}
+use Rattle.crew_steps.specs.Hands.{holding_of}
+use Rattle.crew_steps.specs.States.{CrewState, crew_of, hand_of, IsEvent, IsSomeCrew}
+use Rattle.crew_steps.specs.Draws.{choices_in, Moment, holder_count, choices_from, next_state, draw_of, IsOf, IsPicked, GoesOn, moment_of, moment_after, AreDrawn, drops_after}
 use Rattle.bp_crew.specs.Runs.{IsFor, IsPossible, IsAllowed, IsAllowedFor, IsDone, IsDrawnTo}
-use Rattle.crew_turns.proofs.Events.{held_and_free}
-use Rattle.crew_turns.proofs.Choosing.{count_holders, holds_same, less_by_test, all_there, drawn_some}
+use Rattle.crew_steps.proofs.Events.{held_and_free}
+use Rattle.crew_steps.proofs.Choosing.{count_holders, holds_same, less_by_test, all_there, drawn_some}
 
 -- ---- what is possible
 

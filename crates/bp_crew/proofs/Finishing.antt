@@ -18,12 +18,12 @@ use Rattle.branch_tree.specs.declared.outcome.Outcome.{Outcome}
 use Rattle.bp_search.specs.declared.kept.Kept.{Kept}
 use Rattle.bp_search.specs.Searches.{kept_point, as_pair}
 use Rattle.bp_search.specs.Ends.{grove_in, point_of}
-use Rattle.crew_turns.specs.declared.hand.Hand.{Hand}
-use Rattle.crew_turns.specs.Hands.{holding_of}
-use Rattle.crew_turns.specs.States.{CrewState, crew_of, hand_of, IsMade, IsCrewOf}
-use Rattle.crew_turns.specs.Draws.{moment_of, AreDrawn, drops_from}
+use Rattle.crew_steps.specs.declared.hand.Hand.{Hand}
+use Rattle.crew_steps.specs.Hands.{holding_of}
+use Rattle.crew_steps.specs.States.{CrewState, crew_of, hand_of, IsMade, IsCrewOf}
+use Rattle.crew_steps.specs.Draws.{moment_of, AreDrawn, drops_from}
 use Rattle.bp_crew.specs.Runs.{IsLetGo, IsLetGoOf, IsDrawnTo, IsCrewRun}
-use Rattle.crew_turns.proofs.Choosing.{holds_same}
+use Rattle.crew_steps.proofs.Choosing.{holds_same}
 use Rattle.bp_crew.proofs.Drawing.{more_listed, run_more, hands_long}
 
 -- ---- what is still held is dropped

@@ -7,12 +7,12 @@ use Rattle.branch_tree.specs.Adopted.{point_in}
 use Rattle.branch_tree.specs.declared.loaded.Loaded.{Loaded}
 use Rattle.branch_tree.specs.declared.outcome.Outcome.{Outcome}
 use Rattle.bp_search.specs.Ends.{grove_in, point_of}
-use Rattle.crew_turns.specs.declared.hand.Hand.{Hand}
-use Rattle.crew_turns.specs.declared.choice.Task.{Task}
-use Rattle.crew_turns.specs.declared.choice.Task.TheVariants.{Take as TakeTask, Report as ReportTask, Drop as DropTask}
-use Rattle.crew_turns.specs.declared.choice.Choice.{Choice}
-use Rattle.crew_turns.specs.States.{CrewState, crew_of, hand_of, IsEvent, dropped}
-use Rattle.crew_turns.specs.Draws.{IsOf, moment_of, AreDrawn, IsDrawn, drops_from}
+use Rattle.crew_steps.specs.declared.hand.Hand.{Hand}
+use Rattle.crew_steps.specs.declared.choice.Task.{Task}
+use Rattle.crew_steps.specs.declared.choice.Task.TheVariants.{Take as TakeTask, Report as ReportTask, Drop as DropTask}
+use Rattle.crew_steps.specs.declared.choice.Choice.{Choice}
+use Rattle.crew_steps.specs.States.{CrewState, crew_of, hand_of, IsEvent, dropped}
+use Rattle.crew_steps.specs.Draws.{IsOf, moment_of, AreDrawn, IsDrawn, drops_from}
 
 -- a worker that holds a leaf or not may do a task, where leaves may be taken, or dropped, or not
 abbrev pub IsFor : (holds may_take may_drop : Bool) → Task → Type 0

@@ -6,6 +6,6 @@
 
 mod run;
 
-pub use crew_turns::Crew;
+pub use crew_steps::Crew;
 pub use run::run_crew;
 pub use search_laws::{Event, Kind};

@@ -2,20 +2,21 @@
 ghost use Rattle.std.specs.Prelude.{◌≡◌, ◌↔◌, ◌-◌, ◌<◌, ◌≤◌, ◌^◌, ℕ, length, Some, IfOk, OnOk, IfSome, IsTrue};
 ghost use Rattle.bp_theory.specs.Trees.{steps};
 ghost use Rattle.search_laws.specs.Grove.{live_count, certificate_tree};
-ghost use Rattle.hint_pools.specs.Pools.{AreMadeFor};
+ghost use Rattle.node_memory.specs.Pools.{AreMadeFor};
 ghost use Rattle.branch_tree.specs.Loads.{IsLoaded};
 ghost use Rattle.cert_text.specs.Outcomes.{IsWritable};
 ghost use Rattle.bp_search.specs.Ends.{EndsWithin, last_step};
-ghost use Rattle.crew_turns.specs.declared.hand.Hand.{Hand};
-ghost use Rattle.crew_turns.specs.States.{IsCrewOf, IsRight, hand_of};
+ghost use Rattle.bp_search.specs.Resumed.{GoesOn};
+ghost use Rattle.crew_steps.specs.declared.hand.Hand.{Hand};
+ghost use Rattle.crew_steps.specs.States.{IsCrewOf, IsRight, hand_of};
 ghost use Rattle.bp_crew.specs.Runs.{IsAllowed, IsDone, IsDrawnTo, IsLetGo, IsLetGoAt, IsCrewRun};
 
 use block_program::Blocked;
 use bp_search::MAX_STEPS;
 use branch_tree::{Loaded, Outcome, Verdict};
-use crew_turns::{Choice, Crew, Task, drops_after, next_state};
+use crew_steps::{Choice, Crew, Task, drops_after, next_state};
 use node_eval::evaluate;
-use node_hint::Pools;
+use node_heuristics::Pools;
 use search_laws::Event;
 use std::alloc::{AllocError, Global};
 
@@ -34,10 +35,13 @@ pub fn run_crew(
     requires some { 1 ≤ workers }
     requires few { IfSome steps (λ n. n ≤ 2 ^ 60) }
     ensures ends { IfOk result (λ r. EndsWithin b.now (last_step from.grove steps) r.0) }
+    ensures goes_on { IfOk result (λ r. GoesOn b.now from.grove from.best r.0) }
     ensures writable { IfOk result (λ r. IsWritable b.now r.0) }
     ensures run { IfOk result (λ r. IsCrewRun b.now from workers order (last_step from.grove steps)
         r.0 r.1.items) }
 {
+    // For the proof alone: `b` is formed.
+    let _ = b.blocks();
     let most = from.grove.count() + steps.unwrap_or(MAX_STEPS);
     let mut crew = Crew::make(alloc, b, from, workers)?;
     draw_events(alloc, b, &mut crew, order, most)?;

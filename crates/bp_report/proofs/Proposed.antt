@@ -3,7 +3,7 @@ use Rattle.std.proofs.Common.{◌≡◌, ℕ, List, [], ◌++◌, ap, ◌∙◌}
 use Rattle.std.specs.Prelude.{count_by, is_none}
 use Rattle.block_program.specs.Blocked.{BlockedProgram}
 use Rattle.block_class.specs.Classes.{Grouping}
-use Rattle.block_lines.specs.Blocks.{first_classes, proposed_line}
+use Rattle.report_lines.specs.Blocks.{first_classes, proposed_line}
 use Rattle.bp_report.specs.Report.{proposed_report}
 
 -- the line of a proposed decomposition by its program in blocks

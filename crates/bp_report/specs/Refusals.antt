@@ -3,14 +3,14 @@ use Rattle.std.specs.Prelude.{ℕ, ◌<◌, List, [], ◌++◌, length, get_or, 
 use Rattle.bp_model.specs.Named.{NamedProgram}
 use Rattle.lp_token.specs.declared.LpKind.{LpKind}
 use Rattle.lp_token.specs.declared.fault.LpFault.TheVariants as lp_fault
-use Rattle.dec_tokens.specs.declared.kind.DecKind.{DecKind}
+use Rattle.dec_syntax.specs.declared.kind.DecKind.{DecKind}
 use Rattle.dec_read.specs.declared.fault.DecFault.TheVariants as dec_fault
-use Rattle.cert_form.specs.declared.fault.CertKind.{CertKind}
-use Rattle.cert_form.specs.declared.fault.CertFault.TheVariants as cert_fault
+use Rattle.cert_format.specs.declared.fault.CertKind.{CertKind}
+use Rattle.cert_format.specs.declared.fault.CertFault.TheVariants as cert_fault
 use Rattle.block_form.specs.declared.fault.BlockFault.{BlockFault}
 use Rattle.block_form.specs.declared.fault.BlockFault.TheVariants as block
-use Rattle.dec_words.specs.declared.fault.RowsKind.{RowsKind}
-use Rattle.dec_words.specs.declared.fault.RowsFault.TheVariants as rows_fault
+use Rattle.dec_write.specs.declared.fault.RowsKind.{RowsKind}
+use Rattle.dec_write.specs.declared.fault.RowsFault.TheVariants as rows_fault
 use Rattle.report_lines.specs.Lines.{count_line, fault_line}
 use Rattle.report_lines.specs.Kinds.{lp_kind_name, dec_kind_name, cert_kind_name, rows_kind_name}
 use Rattle.bp_report.specs.declared.refused.Refusal.{Refusal}

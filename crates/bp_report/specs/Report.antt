@@ -5,8 +5,8 @@ use Rattle.block_program.specs.Blocked.{BlockedProgram}
 use Rattle.block_class.specs.Classes.{Grouping}
 use Rattle.branch_tree.specs.declared.outcome.Outcome.{Outcome}
 use Rattle.report_lines.specs.Lines.{count_line}
-use Rattle.search_lines.specs.Searches.{ended_line, known_lines, budget_lines, outcome_lines, outcome_point}
-use Rattle.block_lines.specs.Blocks.{size_lines, class_lines, shown_blocks, first_classes, proposed_line}
+use Rattle.report_lines.specs.Searches.{ended_line, known_lines, budget_lines, outcome_lines, outcome_point}
+use Rattle.report_lines.specs.Blocks.{size_lines, class_lines, shown_blocks, first_classes, proposed_line}
 
 -- ---- ended searches
 

@@ -2,13 +2,13 @@
 ghost use Rattle.std.specs.Prelude.{◌≡◌, IfOk};
 ghost use Rattle.std.specs.Option.{ForSome, option_map};
 ghost use Rattle.bp_theory.specs.Program.{IsInside};
-ghost use Rattle.search_lines.specs.Searches.{CanTell};
+ghost use Rattle.report_lines.specs.Searches.{CanTell};
 ghost use Rattle.bp_report.specs.Report.{ended_report, budget_report, solve_report};
 
 use block_program::Blocked;
 use bp_model::Model;
 use branch_tree::Outcome;
-use search_lines::{point_of, push_budget, push_ended, push_known, push_outcome};
+use report_lines::{point_of, push_budget, push_ended, push_known, push_outcome};
 use std::alloc::{AllocError, Global};
 
 /// The report of a search that ended with this best point, or that found that no point is feasible.

@@ -5,9 +5,9 @@ ghost use Rattle.bp_report.specs.Refusals.{words_refusal, lp_refusal, dec_refusa
 
 use block_form::BlockFault;
 use bp_model::Model;
-use cert_form::{CertFault, CertKind};
+use cert_format::{CertFault, CertKind};
 use dec_read::{DecFault, DecKind};
-use dec_words::{RowsFault, RowsKind};
+use dec_write::{RowsFault, RowsKind};
 use lp_token::{LpFault, LpKind};
 use report_lines::{
     cert_kind_name, dec_kind_name, fault_text, lp_kind_name, push_count_line, rows_kind_name,

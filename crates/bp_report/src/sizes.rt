@@ -4,11 +4,11 @@ ghost use Rattle.block_class.specs.Classes.{AreSameClasses};
 ghost use Rattle.bp_report.specs.Report.{show_report, show_report_with, made_report, detected_report, proposed_report};
 
 use block_class::Classes;
-use block_lines::{
-    first_classes, master_rows, push_blocks, push_classes, push_proposed, push_sizes,
-};
 use block_program::Blocked;
-use report_lines::{push_count_line, push_named};
+use report_lines::{
+    first_classes, master_rows, push_blocks, push_classes, push_count_line, push_named,
+    push_proposed, push_sizes,
+};
 use std::alloc::{AllocError, Global};
 
 /// The report on an LP text of so many variables and rows that was made with its decomposition.

@@ -9,9 +9,9 @@ use Rattle.search_laws.specs.declared.Next.{Next}
 use Rattle.search_laws.specs.declared.Next.TheVariants.{Shut, Fork}
 use Rattle.search_laws.specs.Grove.{GrowingTree, live, shut, fork, put_at, certificate_tree}
 use Rattle.search_laws.specs.Verdicts.{grown}
-use Rattle.grove_parts.specs.Queues.{LiesBelow}
+use Rattle.open_nodes.specs.Queues.{LiesBelow}
 use Rattle.branch_tree.specs.Groves.{GroveState, NoneLiveBelow, IsTurnBelow}
-use Rattle.grove_parts.specs.declared.turn.Turn.{Turn}
+use Rattle.open_nodes.specs.declared.turn.Turn.{Turn}
 use Rattle.branch_tree.specs.declared.outcome.Outcome.{Outcome}
 use Rattle.bp_search.specs.Ends.{EndsWithin, HasStopped, given_steps, grove_in}
 use Rattle.bp_search.specs.Below.{IsAsBeside, steps_in, EndsBelow}

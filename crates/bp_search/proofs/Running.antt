@@ -17,7 +17,7 @@ use Rattle.search_laws.proofs.DepthProof.{stays_shallow_lem}
 use Rattle.search_laws.proofs.CrewProof.{verdicts_keep_lem}
 use Rattle.branch_tree.specs.Groves.{GroveState, IsStanding, IsGroveOf, IsLiveTurn}
 use Rattle.branch_tree.specs.Turns.{IsTurn}
-use Rattle.grove_parts.specs.declared.turn.Turn.{Turn}
+use Rattle.open_nodes.specs.declared.turn.Turn.{Turn}
 use Rattle.branch_tree.proofs.Standing.{kept_turn, depth_fork, leaf_of_turn}
 use Rattle.bp_search.specs.declared.kept.Kept.{Kept}
 use Rattle.branch_tree.specs.Adopted.{IsSearchState, point_in}

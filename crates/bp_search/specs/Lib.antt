@@ -2,3 +2,4 @@
 pub mod Searches
 pub mod Ends
 pub mod Below
+pub mod Resumed

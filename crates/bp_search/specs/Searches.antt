@@ -8,7 +8,7 @@ use Rattle.block_program.specs.Blocked.{BlockedProgram}
 use Rattle.search_laws.specs.GroveFacts.{IsSearch, IsSoundProof, KeepsBound}
 use Rattle.search_laws.specs.declared.Next.{Next}
 use Rattle.search_laws.specs.declared.Next.TheVariants.{Shut, Fork}
-use Rattle.grove_parts.specs.declared.turn.Turn.{Turn}
+use Rattle.open_nodes.specs.declared.turn.Turn.{Turn}
 use Rattle.branch_tree.specs.Groves.{GroveState, IsStanding}
 use Rattle.bp_search.specs.declared.kept.Kept.{Kept}
 

@@ -5,7 +5,9 @@ ghost use Rattle.search_laws.specs.Grove.{certificate_tree};
 ghost use Rattle.branch_tree.specs.Loads.{IsLoaded};
 ghost use Rattle.branch_tree.specs.Groves.{NoneLiveBelow};
 ghost use Rattle.cert_text.specs.Outcomes.{IsWritable};
-ghost use Rattle.bp_search.specs.Searches.{IsRunning};
+ghost use Rattle.search_laws.specs.GroveFacts.{IsNoDearer};
+ghost use Rattle.bp_search.specs.Searches.{IsRunning, kept_cost};
+ghost use Rattle.bp_search.specs.Resumed.{Extends, GoesOn};
 ghost use Rattle.bp_search.specs.Below.{EndsBelow, IsAsBeside};
 
 use crate::MAX_STEPS;
@@ -14,7 +16,7 @@ use crate::kept::{Kept, kept_from};
 use crate::steps::step;
 use block_program::Blocked;
 use branch_tree::{Grove, Loaded, Outcome};
-use node_hint::Pools;
+use node_heuristics::Pools;
 use search_laws::Side;
 use std::alloc::{AllocError, Global};
 
@@ -32,8 +34,11 @@ pub fn resume_below(
     requires loaded { IsLoaded b.now from }
     requires few { IfSome steps (λ n. n ≤ 2 ^ 60) }
     ensures ends { IfOk result (EndsBelow b.now from.grove.tree below.now steps) }
+    ensures goes_on { IfOk result (GoesOn b.now from.grove from.best) }
     ensures writable { IfOk result (IsWritable b.now) }
 {
+    // For the proof alone: `b` is formed.
+    let _ = b.blocks();
     let Loaded { mut grove, best } = from;
     let mut best = kept_from(best);
     let last = grove.count() + steps.unwrap_or(MAX_STEPS);
@@ -60,6 +65,8 @@ fn take_steps_below(
     ensures done { OnOk result (NoneLiveBelow grove.new.tree below.now ⊎
         (steps (certificate_tree grove.new.tree) ≡ last)) }
     ensures beside { OnOk result (IsAsBeside below.now grove.old.tree grove.new.tree) }
+    ensures extends { OnOk result (Extends grove.old.tree grove.new.tree) }
+    ensures cheaper { OnOk result (IsNoDearer (kept_cost best.new) (kept_cost best.old)) }
 {
     let mut pools = Pools::make(alloc, b)?;
     while grove.count() < last {

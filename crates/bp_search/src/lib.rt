@@ -14,6 +14,7 @@ ghost use Rattle.std.specs.Prelude.{◌≤◌, ◌^◌, IfOk, IfSome};
 ghost use Rattle.branch_tree.specs.Loads.{IsLoaded};
 ghost use Rattle.cert_text.specs.Outcomes.{IsWritable};
 ghost use Rattle.bp_search.specs.Ends.{EndsWithin, IsOutcome, last_step};
+ghost use Rattle.bp_search.specs.Resumed.{GoesOn};
 
 use crate::steps::take_steps;
 pub use below::resume_below;
@@ -44,8 +45,10 @@ pub fn search(alloc: Global, b: &Blocked, steps: Option<u64>) -> Result<Outcome,
     resume(alloc, b, start, steps)
 }
 
-/// Goes on with a search from a tree and its best point. The given steps are taken beside those of the tree; else it is as
-/// `search`. What a search learns beside its tree, as columns and pricers, is made anew.
+/// Goes on with a search from a tree and its incumbent. The tree that it ends with extends that tree: splits and shut leaves
+/// stand as they were, and only live leaves grow. Its point is no dearer than the incumbent, and its dual bound is no less. The given steps
+/// are taken beside those of the tree; else it is as `search`. What a search learns beside its tree, as columns and pricers, is
+/// made anew.
 pub fn resume(
     alloc: Global,
     b: &Blocked,
@@ -55,8 +58,11 @@ pub fn resume(
     requires loaded { IsLoaded b.now from }
     requires few { IfSome steps (λ n. n ≤ 2 ^ 60) }
     ensures ends { IfOk result (EndsWithin b.now (last_step from.grove steps)) }
+    ensures goes_on { IfOk result (GoesOn b.now from.grove from.best) }
     ensures writable { IfOk result (IsWritable b.now) }
 {
+    // For the proof alone: `b` is formed.
+    let _ = b.blocks();
     let Loaded { mut grove, best } = from;
     let mut best = kept_from(best);
     let most = grove.count() + steps.unwrap_or(MAX_STEPS);

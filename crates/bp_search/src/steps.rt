@@ -3,8 +3,10 @@ ghost use Rattle.std.specs.Prelude.{◌≡◌, ◌+◌, ◌-◌, ◌<◌, ◌≤
 ghost use Rattle.bp_theory.specs.Trees.{steps};
 ghost use Rattle.search_laws.specs.Grove.{live_count, certificate_tree};
 ghost use Rattle.branch_tree.specs.Groves.{IsLiveTurn};
-ghost use Rattle.hint_pools.specs.Pools.{AreMadeFor};
-ghost use Rattle.bp_search.specs.Searches.{IsRunning};
+ghost use Rattle.node_memory.specs.Pools.{AreMadeFor};
+ghost use Rattle.search_laws.specs.GroveFacts.{IsNoDearer};
+ghost use Rattle.bp_search.specs.Searches.{IsRunning, kept_cost};
+ghost use Rattle.bp_search.specs.Resumed.{Extends};
 ghost use Rattle.bp_search.specs.Below.{IsAsBeside};
 
 use crate::growth::grow;
@@ -12,7 +14,7 @@ use crate::kept::{Kept, cost_of, keep};
 use block_program::Blocked;
 use branch_tree::{Grove, Turn, Verdict};
 use node_eval::evaluate;
-use node_hint::Pools;
+use node_heuristics::Pools;
 use std::alloc::{AllocError, Global};
 
 /// Takes steps until so many are taken or no leaf is live.
@@ -30,6 +32,8 @@ pub fn take_steps(
     ensures few { OnOk result (steps (certificate_tree grove.new.tree) ≤ most) }
     ensures spent { OnOk result (0 < live_count grove.new.tree →
         steps (certificate_tree grove.new.tree) ≡ most) }
+    ensures extends { OnOk result (Extends grove.old.tree grove.new.tree) }
+    ensures cheaper { OnOk result (IsNoDearer (kept_cost best.new) (kept_cost best.old)) }
 {
     let mut pools = Pools::make(alloc, b)?;
     while grove.count() < most {
@@ -59,6 +63,8 @@ pub fn step(
     ensures one { OnOk result (steps (certificate_tree grove.new.tree) ≡
         steps (certificate_tree grove.old.tree) + 1) }
     ensures beside { OnOk result (IsAsBeside turn.now.path grove.old.tree grove.new.tree) }
+    ensures extends { OnOk result (Extends grove.old.tree grove.new.tree) }
+    ensures cheaper { OnOk result (IsNoDearer (kept_cost best.new) (kept_cost best.old)) }
 {
     // For the proof alone: `b` is formed.
     let _ = b.blocks();

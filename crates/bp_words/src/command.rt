@@ -1,14 +1,14 @@
 // The command of the program, for the crate that reads words.
 ghost use Rattle.std.specs.Prelude.{◌≡◌, IfOk};
 ghost use Rattle.clap.specs.Words.{app_of};
-ghost use Rattle.word_orders.specs.CommandLine.{command_line};
+ghost use Rattle.cli_orders.specs.CommandLine.{command_line};
 
 use clap::Command;
-use std::alloc::{AllocError, Global};
-use word_orders::{
+use cli_orders::{
     Argument, MOST_CUTS, MOST_LEAF, MOST_SIZE, MOST_STEPS, MOST_VISITS, MOST_WORKERS, Subcommand,
     joined_command,
 };
+use std::alloc::{AllocError, Global};
 
 // The subcommands.
 static SUBCOMMANDS: [Subcommand; 9] = [

@@ -1,18 +1,18 @@
 // Reading the words.
 ghost use Rattle.std.specs.Prelude.{◌≡◌, ◌≢◌, map, string_bytes, Err, codes, IfOk};
 ghost use Rattle.clap.specs.Words.{found_of, rows_of, subcommand_rows_of};
-ghost use Rattle.word_orders.specs.Orders.{HasValues, IsInRange, IsStated, IsOrderOf, AreRefused};
-ghost use Rattle.word_orders.specs.declared.order.Order.{Order};
+ghost use Rattle.cli_orders.specs.Orders.{HasValues, IsInRange, IsStated, IsOrderOf, AreRefused};
+ghost use Rattle.cli_orders.specs.declared.order.Order.{Order};
 
 use crate::command::make_command;
 use clap::ArgMatches;
 use clap::error::ErrorKind;
-use std::alloc::Global;
-use word_orders::{
+use cli_orders::{
     Order, Problem, SolveOrder, WordFault, check_order, demo_order, detect_order, ends_of,
     gen_order, is_leaf_placed, merge_order, migrate_order, problem_of, propose_order, show_order,
     solve_numbers,
 };
+use std::alloc::Global;
 
 /// The order that words give, the program's name first. They are refused exactly where the command finds a fault in
 /// them, as the crate that reads words states for such a command, or where they name a leaf without a certificate to go

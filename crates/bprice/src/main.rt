@@ -3,9 +3,8 @@
 #![tactic(auto)]
 
 use bp_cli::run;
-use bp_real::{FileShelf, OutSink};
-use bp_reason::explain;
-use bp_watch::{Watched, WatchedSink};
+use bp_real::{FileShelf, OutSink, Watched, WatchedSink};
+use notes::explain;
 use std::io::{ErrorKind, Write};
 use std::process::ExitCode;
 use std::rt::Env;

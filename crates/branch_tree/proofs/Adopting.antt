@@ -8,9 +8,9 @@ use Rattle.search_laws.specs.GroveFacts.{IsGrove, IsSearch, IsSized}
 use Rattle.search_laws.specs.Queue.{Queue, IsQueue}
 use Rattle.search_laws.specs.declared.Side.{Side}
 use Rattle.search_laws.proofs.SearchProof.{search_keeps_lem}
-use Rattle.grove_parts.specs.Queues.{Entries, queue_of}
-use Rattle.grove_parts.specs.Filled.{place_of, IsFilled}
-use Rattle.grove_parts.proofs.Preorder.{place_below}
+use Rattle.open_nodes.specs.Queues.{Entries, queue_of}
+use Rattle.open_nodes.specs.Filled.{place_of, IsFilled}
+use Rattle.open_nodes.proofs.Preorder.{place_below}
 use Rattle.branch_tree.specs.Groves.{GroveState, IsStanding, AreCounts, IsGroveOf, IsPlanted, made}
 use Rattle.branch_tree.specs.Adopted.{IsSearchState}
 

@@ -3,9 +3,9 @@ use Rattle.std.proofs.Common.{◌≡◌, ℕ, List, length, ◌<◌, ◌^◌, Op
 use Rattle.search_laws.specs.declared.Side.{Side}
 use Rattle.bp_theory.specs.declared.Span.{Span}
 use Rattle.search_laws.specs.Grove.{GrowingTree, LiveLeaf, live_at, zone_at}
-use Rattle.grove_parts.specs.Queues.{Entries, queue_of, LiesBelow, IsFirstBelow}
+use Rattle.open_nodes.specs.Queues.{Entries, queue_of, LiesBelow, IsFirstBelow}
 use Rattle.branch_tree.specs.Groves.{GroveState, IsStanding, IsTurnBelow, NoneLiveBelow, made}
-use Rattle.grove_parts.specs.declared.turn.Turn.{Turn}
+use Rattle.open_nodes.specs.declared.turn.Turn.{Turn}
 use Rattle.branch_tree.proofs.Standing.{key_bound, leaf_of_turn, path_within_depth}
 
 -- where no entry lies below, no leaf there is live

@@ -19,11 +19,11 @@ use Rattle.search_laws.specs.declared.Side.TheVariants.{Low, High}
 use Rattle.search_laws.proofs.Places.{leaf_at_path, splits_put}
 use Rattle.search_laws.proofs.GroveProof.{plant_keeps_lem, shut_keeps_lem, fork_keeps_lem, counts_change_by_one_lem}
 use Rattle.search_laws.proofs.QueueProof.{queue_keeps_lem}
-use Rattle.grove_parts.specs.Queues.{Entries, queue_of, key_cmp, IsDivided, IsParted}
+use Rattle.open_nodes.specs.Queues.{Entries, queue_of, key_cmp, IsDivided, IsParted}
 use Rattle.branch_tree.specs.Groves.{GroveState, IsStanding, AreCounts, IsGroveOf, IsPlanted, IsLiveTurn, IsNextTurn, IsShutQueue, IsForkedQueue, made}
 use Rattle.branch_tree.specs.Turns.{IsTurn}
-use Rattle.grove_parts.specs.declared.turn.Turn.{Turn}
-use Rattle.grove_parts.proofs.Keys.{at_itself, at_other, same_key_of, apart_of}
+use Rattle.open_nodes.specs.declared.turn.Turn.{Turn}
+use Rattle.open_nodes.proofs.Keys.{at_itself, at_other, same_key_of, apart_of}
 
 -- the depth of a tree is that of its nodes: where a live leaf is shut it stays, where it is forked the parts are one deeper
 depth_shut : (t : GrowingTree) (path : List Side) (leaf : LiveLeaf) (proof : Proof) → live_at t path ≡ Some leaf

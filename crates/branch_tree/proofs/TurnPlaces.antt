@@ -4,11 +4,11 @@ use Rattle.bp_theory.specs.declared.Span.{Span}
 use Rattle.search_laws.specs.Grove.{GrowingTree, LiveLeaf, live_at, zone_at, live_count}
 use Rattle.search_laws.specs.Queue.{ComesFirst}
 use Rattle.search_laws.specs.declared.Side.{Side}
-use Rattle.grove_parts.specs.Queues.{Entries, queue_of, IsEntryAt}
+use Rattle.open_nodes.specs.Queues.{Entries, queue_of, IsEntryAt}
 use Rattle.branch_tree.specs.Groves.{GroveState, IsStanding, IsNextTurn, IsTurnAt, made}
-use Rattle.grove_parts.specs.declared.turn.Turn.{Turn}
-use Rattle.grove_parts.proofs.Held.{each_is_held}
-use Rattle.grove_parts.proofs.Places.{live_within, first_not_held, none_before_first}
+use Rattle.open_nodes.specs.declared.turn.Turn.{Turn}
+use Rattle.open_nodes.proofs.Held.{each_is_held}
+use Rattle.open_nodes.proofs.Places.{live_within, first_not_held, none_before_first}
 use Rattle.branch_tree.proofs.Standing.{key_bound, leaf_of_turn, path_within_depth}
 
 -- where a queue ends, no more leaves are live

@@ -5,8 +5,8 @@ use Rattle.block_program.specs.Blocked.{BlockedProgram}
 use Rattle.search_laws.specs.declared.Side.{Side}
 use Rattle.search_laws.specs.Grove.{GrowingTree, LiveLeaf, live_at}
 use Rattle.search_laws.specs.GroveFacts.{IsSearch}
-use Rattle.grove_parts.specs.Queues.{queue_of}
-use Rattle.grove_parts.specs.Filled.{place_of}
+use Rattle.open_nodes.specs.Queues.{queue_of}
+use Rattle.open_nodes.specs.Filled.{place_of}
 use Rattle.branch_tree.specs.Groves.{GroveState, IsStanding}
 
 -- a tree as a grove of a program: it begins with the program's spans, and the live leaves count as made in preorder, from 0

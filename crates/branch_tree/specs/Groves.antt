@@ -15,8 +15,8 @@ use Rattle.search_laws.specs.Grove.{GrowingTree, live_at, zone_at, live_count, l
 use Rattle.search_laws.specs.GroveFacts.{IsGrove, IsLeastOf}
 use Rattle.search_laws.specs.Queue.{Queue, IsQueue, IsFirstEntry, IsWith, IsWithout, SameKey}
 use Rattle.search_laws.specs.TreeCodes.{coded_growing}
-use Rattle.grove_parts.specs.Queues.{Entries, queue_of, IsEntryAt, LiesBelow, IsFirstBelow}
-use Rattle.grove_parts.specs.declared.turn.Turn.{Turn}
+use Rattle.open_nodes.specs.Queues.{Entries, queue_of, IsEntryAt, LiesBelow, IsFirstBelow}
+use Rattle.open_nodes.specs.declared.turn.Turn.{Turn}
 
 -- a grove: its tree, the zone of the root, and the queue of its live leaves
 pub record GroveState : Type 0 where

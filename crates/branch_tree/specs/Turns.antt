@@ -4,7 +4,7 @@ use Rattle.bp_theory.specs.Limits.{greatest_depth}
 use Rattle.bp_theory.specs.Trees.{IsZone}
 use Rattle.block_program.specs.Blocked.{BlockedProgram}
 use Rattle.search_laws.specs.GroveFacts.{IsSoundProof, KeepsBound}
-use Rattle.grove_parts.specs.declared.turn.Turn.{Turn}
+use Rattle.open_nodes.specs.declared.turn.Turn.{Turn}
 
 -- a turn of a program in blocks: its zone lies in the program's spans, its proof is sound and has its bound in the zone, and
 -- its depth is the length of its path, no more than the greatest

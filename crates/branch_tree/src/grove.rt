@@ -1,7 +1,7 @@
 // The tree of a search with the queue of its live leaves.
 use block_program::{Blocked, Zone};
 use bp_theory::{Items, Proof};
-use grove_parts::{
+use open_nodes::{
     LeafQueue, Tree, Turn, bound_of, depth_in, filled_queue, fork_leaf, key_at, plain_bound,
     plain_proof, put, steps_in, turn_at,
 };
@@ -43,7 +43,7 @@ impl std::marker::Model for Grove {
 
     ghost coded = { coded_grove };
 
-    ghost use Rattle.grove_parts.specs.Trees.{tree_of};
+    ghost use Rattle.open_nodes.specs.Trees.{tree_of};
 
     ghost view = { λ g. record { tree = tree_of g.tree; root = g.root; queue = g.queue } };
 
@@ -58,8 +58,8 @@ impl Grove {
     ghost use Rattle.search_laws.specs.GroveFacts.{IsGrove, IsSoundProof, KeepsBound, IsLeastOf};
     ghost use Rattle.block_program.specs.Blocked.{BlockedProgram};
     ghost use Rattle.branch_tree.specs.Turns.{IsTurn};
-    ghost use Rattle.grove_parts.specs.Trees.{tree_of};
-    ghost use Rattle.grove_parts.specs.Queues.{queue_of};
+    ghost use Rattle.open_nodes.specs.Trees.{tree_of};
+    ghost use Rattle.open_nodes.specs.Queues.{queue_of};
     ghost use Rattle.branch_tree.specs.Groves.{IsStanding, IsGroveOf, IsPlanted, IsLiveTurn, IsNextTurn, IsTurnAt, IsTurnBelow, NoneLiveBelow, IsShutQueue, IsForkedQueue, made};
     ghost use Rattle.branch_tree.specs.Adopted.{IsAdopted};
 

@@ -17,20 +17,20 @@ use Rattle.bp_theory.specs.declared.Cut.{Cut}
 use Rattle.bp_theory.proofs.JudgeProof.{judged_lem}
 use Rattle.block_program.specs.Blocked.{BlockedProgram, IsFormed}
 use Rattle.block_program.specs.Cuts.{KeepsCuts}
-use Rattle.cert_form.specs.Written.{certificate}
+use Rattle.cert_format.specs.Written.{certificate}
 use Rattle.cert_check.specs.declared.judge.Judged.{Judged}
 use Rattle.cert_check.specs.declared.judge.Judged.TheVariants.{Accepted, Rejected, Unknown}
-use Rattle.line_check.specs.Visits.{AreZoneVisits, AreLineVisits}
-use Rattle.line_check.specs.Judging.{IsFirstBad, IsLeft, IsAfforded, Exceeds, IsEnd, JudgesLines, JudgesPoint}
+use Rattle.cert_line_check.specs.Visits.{AreZoneVisits, AreLineVisits}
+use Rattle.cert_line_check.specs.Judging.{IsFirstBad, IsLeft, IsAfforded, Exceeds, IsEnd, JudgesLines, JudgesPoint}
 use Rattle.cert_check.specs.Judging.{IsJudged, NoneUnpriced, IsJudgedWithin, IsTrueIfAccepted, stopped_at, verdict_of}
-use Rattle.line_check.specs.Cutting.{JudgesCuts, blocking_over}
-use Rattle.line_check.specs.declared.place.NodePlace.{NodePlace}
-use Rattle.line_check.specs.declared.place.Rejection.{Rejection}
-use Rattle.line_check.specs.declared.place.Stop.{Stop}
-use Rattle.line_check.proofs.Lines.{both_all, second_all}
-use Rattle.line_check.proofs.CutLines.{kept_pass}
-use Rattle.line_check.proofs.Heads.{points_of, heads_of, lines_are, heads_pass, heads_left, bad_points, bad_cuts, behind_heads, head_ends, fault_fails, all_pass, accepted_true, heads_end}
-use Rattle.line_check.proofs.LineVisits.{zone_once, lines_once, split_visits, both_left, two_parts}
+use Rattle.cert_line_check.specs.Cutting.{JudgesCuts, blocking_over}
+use Rattle.cert_line_check.specs.declared.place.NodePlace.{NodePlace}
+use Rattle.cert_line_check.specs.declared.place.Rejection.{Rejection}
+use Rattle.cert_line_check.specs.declared.place.Stop.{Stop}
+use Rattle.cert_line_check.proofs.Lines.{both_all, second_all}
+use Rattle.cert_line_check.proofs.CutLines.{kept_pass}
+use Rattle.cert_line_check.proofs.Heads.{points_of, heads_of, lines_are, heads_pass, heads_left, bad_points, bad_cuts, behind_heads, head_ends, fault_fails, all_pass, accepted_true, heads_end}
+use Rattle.cert_line_check.proofs.LineVisits.{zone_once, lines_once, split_visits, both_left, two_parts}
 
 -- ---- what the line that ends the walk says of a certificate
 

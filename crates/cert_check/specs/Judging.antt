@@ -6,11 +6,11 @@ use Rattle.bp_theory.specs.Judgement.{IsFirstFault}
 use Rattle.bp_theory.specs.declared.Claim.{Claim}
 use Rattle.bp_theory.specs.declared.CheckKind.{CheckKind}
 use Rattle.block_program.specs.Blocked.{BlockedProgram}
-use Rattle.line_check.specs.declared.place.NodePlace.{NodePlace}
-use Rattle.line_check.specs.declared.place.Stop.{Stop}
+use Rattle.cert_line_check.specs.declared.place.NodePlace.{NodePlace}
+use Rattle.cert_line_check.specs.declared.place.Stop.{Stop}
 use Rattle.cert_check.specs.declared.judge.Judged.{Judged}
 use Rattle.cert_check.specs.declared.judge.Judged.TheVariants.{Accepted, Rejected, Unknown}
-use Rattle.line_check.specs.Visits.{IsFirstUnpriced}
+use Rattle.cert_line_check.specs.Visits.{IsFirstUnpriced}
 
 -- what a certificate is judged to be where visits aren't counted: accepted with its claim, exactly where it is valid, or else
 -- rejected for its first line at fault

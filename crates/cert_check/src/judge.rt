@@ -1,17 +1,17 @@
 // The judgement of a whole certificate.
 ghost use Rattle.std.specs.Prelude.{◌≡◌, [], ◌+◌, ◌<◌, ◌^◌, length, IfOk, None, Ok};
 ghost use Rattle.bp_theory.specs.Judgement.{named_value, point_lines, tree_lines, blocking_with};
-ghost use Rattle.cert_form.specs.Kept.{certificate_of};
+ghost use Rattle.cert_format.specs.Kept.{certificate_of};
 ghost use Rattle.cert_text.specs.Programs.{GoesWith, IsSmallClaim};
 ghost use Rattle.round_cut.specs.Several.{AreRowsOfCuts};
-ghost use Rattle.line_check.specs.Judging.{JudgesLines, JudgesPoint, ProofsFit};
+ghost use Rattle.cert_line_check.specs.Judging.{JudgesLines, JudgesPoint, ProofsFit};
 ghost use Rattle.cert_check.specs.Judging.{stopped_at, verdict_of, IsJudgedWithin, IsTrueIfAccepted};
 ghost use Rattle.cert_check.specs.declared.judge.Judged.TheVariants.{Rejected};
 
 use block_program::{Blocked, Zone};
 use bp_theory::{CheckKind, Claim, Row};
+use cert_line_check::{NodePlace, Rejection, Stop, judge_cuts, judge_point, judge_tree};
 use cert_text::Cert;
-use line_check::{NodePlace, Rejection, Stop, judge_cuts, judge_point, judge_tree};
 use round_cut::with_cuts;
 use std::alloc::{AllocError, Global};
 

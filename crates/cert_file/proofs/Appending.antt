@@ -3,8 +3,8 @@ use Rattle.std.proofs.Common.{◌≡◌, ◌+◌, sym, ap, subst, ◌∙◌, ℕ
 use Rattle.std.specs.Prelude.{codes}
 use Rattle.std.proofs.Math.IntN.{ℤ}
 use Rattle.bp_theory.specs.Trees.{Tree, split}
-use Rattle.cert_form.specs.Text.{Two, numeral, signed_numeral}
-use Rattle.cert_form.specs.Plain.{tree_text}
+use Rattle.cert_format.specs.Text.{Two, numeral, signed_numeral}
+use Rattle.cert_format.specs.Plain.{tree_text}
 use Rattle.cert_write.specs.Changes.{changing_nodes, last_mults}
 use Rattle.bp_shelf.specs.Shelf.{Files, OthersAsBefore}
 use Rattle.cert_file.specs.Appends.{Adds, Appends}

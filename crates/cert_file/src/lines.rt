@@ -1,10 +1,10 @@
 // The lines of a certificate, written into a file one by one.
 ghost use Rattle.std.specs.Prelude.{◌≡◌, ◌+◌, ◌++◌, codes, IsTrue, IfOk};
 ghost use Rattle.search_laws.specs.Grove.{certificate_tree};
-ghost use Rattle.grove_parts.specs.Trees.{tree_of};
-ghost use Rattle.cert_form.specs.Sketch.{tree_of as sketched};
-ghost use Rattle.cert_form.specs.Text.{Two, numeral, signed_numeral};
-ghost use Rattle.cert_form.specs.Plain.{version_with, head_text, proof_text, tree_text};
+ghost use Rattle.open_nodes.specs.Trees.{tree_of};
+ghost use Rattle.cert_format.specs.Sketch.{tree_of as sketched};
+ghost use Rattle.cert_format.specs.Text.{Two, numeral, signed_numeral};
+ghost use Rattle.cert_format.specs.Plain.{version_with, head_text, proof_text, tree_text};
 ghost use Rattle.cert_write.specs.Changes.{changing_proof, changing_nodes, last_mults};
 ghost use Rattle.cert_file.specs.Appends.{Appends, CountsStop, Heads};
 
@@ -12,7 +12,7 @@ use crate::stop::{StreamStop, stream_stop};
 use bp_shelf::Shelf;
 use bp_theory::{Claim, Cut, Proof};
 use branch_tree::Tree;
-use cert_form::Sketch;
+use cert_format::Sketch;
 use cert_write::{put_changed_leaf, put_head, put_split};
 use std::alloc::{AllocError, Global};
 

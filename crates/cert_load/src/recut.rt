@@ -1,7 +1,7 @@
 // The program in blocks that a certificate is judged over.
 ghost use Rattle.std.specs.Prelude.{◌≡◌, [], IfOk};
 ghost use Rattle.bp_theory.specs.Claims.{IsCertified};
-ghost use Rattle.cert_form.specs.Kept.{certificate_of};
+ghost use Rattle.cert_format.specs.Kept.{certificate_of};
 ghost use Rattle.cert_text.specs.Programs.{GoesWith};
 ghost use Rattle.cert_load.specs.Recut.{with_cuts};
 

@@ -13,7 +13,7 @@ use Rattle.cert_check.specs.declared.judge.Judged.{Judged}
 use Rattle.cert_check.specs.declared.judge.Judged.TheVariants.{Accepted, Rejected, Unknown}
 use Rattle.report_lines.specs.Lines.{count_line, fault_line}
 use Rattle.report_lines.specs.Kinds.{check_kind_name}
-use Rattle.search_lines.specs.Searches.{outcome_lines}
+use Rattle.report_lines.specs.Searches.{outcome_lines}
 
 -- ---- checked certificates
 

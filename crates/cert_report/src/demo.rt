@@ -1,14 +1,13 @@
 // The report on made programs that are solved and checked.
 ghost use Rattle.std.specs.Prelude.{◌≡◌, ◌++◌, IfOk, OnOk};
-ghost use Rattle.search_lines.specs.Searches.{CanTell};
+ghost use Rattle.report_lines.specs.Searches.{CanTell};
 ghost use Rattle.cert_report.specs.Certificates.{demo_line, demo_report};
 
 use crate::checked::push_judged;
 use block_program::Blocked;
 use branch_tree::Outcome;
 use cert_check::Judged;
-use report_lines::push_count;
-use search_lines::push_outcome;
+use report_lines::{push_count, push_outcome};
 use std::alloc::{AllocError, Global};
 
 /// The steps that the search for a made program is given.

@@ -12,8 +12,7 @@ use block_program::Blocked;
 use bp_theory::Items;
 use branch_tree::{Grove, Outcome};
 use itoa::Buffer;
-use report_lines::push_count_line;
-use search_lines::in_sense;
+use report_lines::{in_sense, push_count_line};
 use std::alloc::{AllocError, Global};
 
 /// The report on a certificate that two were merged into, by the outcome that it is of.

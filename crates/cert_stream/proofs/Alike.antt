@@ -12,12 +12,12 @@ use Rattle.bp_theory.specs.declared.Cut.{Cut}
 use Rattle.bp_theory.specs.declared.Picked.{Picked}
 use Rattle.bp_theory.specs.declared.Picked.TheVariants.{Every, These}
 use Rattle.bp_theory.specs.declared.Proof.{Proof}
-use Rattle.cert_form.specs.Cert as texts
-use Rattle.cert_form.specs.Kept.{kept_cert}
-use Rattle.cert_form.specs.Sketch.{tree_of}
+use Rattle.cert_format.specs.Cert as texts
+use Rattle.cert_format.specs.Kept.{kept_cert}
+use Rattle.cert_format.specs.Sketch.{tree_of}
 use Rattle.cert_text.specs.Programs.{frame_for}
-use Rattle.cert_form.specs.Written.{in_text, written_pair, written_picked, written_proof, written_cut, written_tree, written_claim, cert_of, certificate}
-use Rattle.cert_form.proofs.LawProofs.{certificates_are_one, certificates_are_faultless, texts_have_one_fault}
+use Rattle.cert_format.specs.Written.{in_text, written_pair, written_picked, written_proof, written_cut, written_tree, written_claim, cert_of, certificate}
+use Rattle.cert_format.proofs.LawProofs.{certificates_are_one, certificates_are_faultless, texts_have_one_fault}
 use Rattle.cert_check.specs.Judging.{IsJudgedWithin}
 use Rattle.cert_stream.specs.Wholes.{JudgedAsWhole, FaultyAsWhole, NotFaultyToo, NotJudgedToo}
 

@@ -9,31 +9,31 @@ use Rattle.bp_theory.specs.declared.Span.{Span}
 use Rattle.bp_theory.specs.declared.Claim.{Claim}
 use Rattle.bp_theory.specs.declared.Cut.{Cut}
 use Rattle.block_program.specs.Blocked.{BlockedProgram, IsFormed}
-use Rattle.cert_form.specs.Cert as texts
-use Rattle.cert_form.specs.Fault.{IsCertText, IsFirstCertFault}
-use Rattle.cert_form.specs.Frames.{frame_of}
+use Rattle.cert_format.specs.Cert as texts
+use Rattle.cert_format.specs.Fault.{IsCertText, IsFirstCertFault}
+use Rattle.cert_format.specs.Frames.{frame_of}
 use Rattle.cert_text.specs.Programs.{frame_for, GoesWith}
-use Rattle.cert_form.specs.Stages.{Wait}
-use Rattle.cert_lines.specs.Standing.{StandsFor, EndsWell}
-use Rattle.cert_lines.specs.Telling.{past, phase_at, phase_of}
-use Rattle.cert_form.specs.Written.{written_cut, written_tree, cert_of, certificate}
-use Rattle.cert_form.specs.declared.fault.CertFault.{CertFault}
-use Rattle.cert_form.specs.declared.fault.CertFault.TheVariants as c
-use Rattle.cert_form.specs.declared.frame.Frame.{Frame}
-use Rattle.cert_lines.specs.declared.lines.Lines.{Lines}
-use Rattle.cert_lines.proofs.Finishing.{read_whole}
+use Rattle.cert_format.specs.Stages.{Wait}
+use Rattle.cert_parser.specs.Standing.{StandsFor, EndsWell}
+use Rattle.cert_parser.specs.Telling.{past, phase_at, phase_of}
+use Rattle.cert_format.specs.Written.{written_cut, written_tree, cert_of, certificate}
+use Rattle.cert_format.specs.declared.fault.CertFault.{CertFault}
+use Rattle.cert_format.specs.declared.fault.CertFault.TheVariants as c
+use Rattle.cert_format.specs.declared.frame.Frame.{Frame}
+use Rattle.cert_parser.specs.declared.lines.Lines.{Lines}
+use Rattle.cert_parser.proofs.Finishing.{read_whole}
 use Rattle.cert_text.proofs.GoesWithProof.{text_goes_with}
-use Rattle.cert_form.proofs.LawProofs.{seen_faults_are_first}
-use Rattle.line_check.specs.Cutting.{blocking_over}
-use Rattle.line_check.specs.Judging.{IsLeft}
+use Rattle.cert_format.proofs.LawProofs.{seen_faults_are_first}
+use Rattle.cert_line_check.specs.Cutting.{blocking_over}
+use Rattle.cert_line_check.specs.Judging.{IsLeft}
 use Rattle.cert_check.specs.Judging.{stopped_at}
 use Rattle.cert_check.specs.declared.judge.Judged.{Judged}
 use Rattle.cert_check.specs.declared.judge.Judged.TheVariants.{Accepted}
-use Rattle.line_check.specs.declared.place.NodePlace.{NodePlace}
-use Rattle.line_check.specs.declared.place.Stop.{Stop}
-use Rattle.line_check.proofs.Lines.{second_all}
-use Rattle.line_check.proofs.LineVisits.{split_visits, lines_once}
-use Rattle.line_check.proofs.Heads.{heads_of, heads_left, cuts_over, goes_fit}
+use Rattle.cert_line_check.specs.declared.place.NodePlace.{NodePlace}
+use Rattle.cert_line_check.specs.declared.place.Stop.{Stop}
+use Rattle.cert_line_check.proofs.Lines.{second_all}
+use Rattle.cert_line_check.proofs.LineVisits.{split_visits, lines_once}
+use Rattle.cert_line_check.proofs.Heads.{heads_of, heads_left, cuts_over, goes_fit}
 use Rattle.cert_check.proofs.Wholes.{judged_by, ended, never_accepted}
 use Rattle.cert_walk.specs.Turns.{Turn, wait_of}
 use Rattle.cert_walk.specs.Walks.{whole, Judges}

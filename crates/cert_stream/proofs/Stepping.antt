@@ -12,29 +12,29 @@ use Rattle.bp_theory.specs.declared.Cut.{Cut}
 use Rattle.bp_theory.specs.declared.Proof.{Proof}
 use Rattle.bp_theory.specs.declared.Picked.TheVariants.{Every}
 use Rattle.block_program.specs.Blocked.{BlockedProgram, IsFormed}
-use Rattle.cert_form.specs.Cert as texts
-use Rattle.cert_form.specs.Fault.{IsSeenFault}
-use Rattle.cert_form.specs.Frames.{frame_of}
+use Rattle.cert_format.specs.Cert as texts
+use Rattle.cert_format.specs.Fault.{IsSeenFault}
+use Rattle.cert_format.specs.Frames.{frame_of}
 use Rattle.cert_text.specs.Programs.{frame_for}
-use Rattle.cert_lines.specs.Readers as readers
-use Rattle.cert_lines.specs.Readers.{kept_depth, highs_of}
-use Rattle.cert_form.specs.Stages.{Wait, leaf_of}
-use Rattle.cert_lines.specs.Standing.{StandsFor, Steps}
-use Rattle.cert_lines.specs.Telling.{Phase, ahead, cutting, within, past, phase_of, phase_behind, HasSameClaim, StaysFrom, IsShallow, GoesOn, Passes, Tells}
-use Rattle.cert_form.specs.Text.{is_deep}
-use Rattle.cert_form.specs.Written.{written_cut, written_tree, written_proof}
-use Rattle.cert_form.specs.declared.fault.CertFault.{CertFault}
-use Rattle.cert_form.specs.declared.fault.CertFault.TheVariants as c
-use Rattle.cert_form.specs.declared.frame.Frame.{Frame}
-use Rattle.cert_lines.specs.declared.lines.Event.{Event}
-use Rattle.cert_lines.specs.declared.lines.Event.TheVariants as e
-use Rattle.cert_lines.specs.declared.lines.Lines.{Lines}
-use Rattle.cert_lines.specs.declared.lines.SplitPlace.{SplitPlace}
-use Rattle.cert_read.proofs.Feeding.{joined}
-use Rattle.cert_form.proofs.LawProofs.{seen_faults_stay}
+use Rattle.cert_parser.specs.Readers as readers
+use Rattle.cert_parser.specs.Readers.{kept_depth, highs_of}
+use Rattle.cert_format.specs.Stages.{Wait, leaf_of}
+use Rattle.cert_parser.specs.Standing.{StandsFor, Steps}
+use Rattle.cert_parser.specs.Telling.{Phase, ahead, cutting, within, past, phase_of, phase_behind, HasSameClaim, StaysFrom, IsShallow, GoesOn, Passes, Tells}
+use Rattle.cert_format.specs.Text.{is_deep}
+use Rattle.cert_format.specs.Written.{written_cut, written_tree, written_proof}
+use Rattle.cert_format.specs.declared.fault.CertFault.{CertFault}
+use Rattle.cert_format.specs.declared.fault.CertFault.TheVariants as c
+use Rattle.cert_format.specs.declared.frame.Frame.{Frame}
+use Rattle.cert_parser.specs.declared.lines.Event.{Event}
+use Rattle.cert_parser.specs.declared.lines.Event.TheVariants as e
+use Rattle.cert_parser.specs.declared.lines.Lines.{Lines}
+use Rattle.cert_parser.specs.declared.lines.SplitPlace.{SplitPlace}
+use Rattle.cert_parser.proofs.Feeding.{joined}
+use Rattle.cert_format.proofs.LawProofs.{seen_faults_stay}
 use Rattle.cert_walk.specs.Turns.{Turn, to_low, to_high, turns_behind, root_behind, wait_of}
 use Rattle.block_pricers.specs.declared.work.Work.{Work}
-use Rattle.line_check.specs.Cutting.{blocking_over}
+use Rattle.cert_line_check.specs.Cutting.{blocking_over}
 use Rattle.cert_walk.specs.Cuttings.{program_by, cuts_by, cuts_in, IsCutting, HoldsCuts, IsClosed}
 use Rattle.cert_walk.specs.Walks.{whole, Front, Judges, WalksBelow, WalksBehind, IsFresh, IsOn, GoesOver, IsWalkIn, IsWithin, leaf_with}
 use Rattle.cert_stream.specs.Checks.{Keeps, IsMadeFor, highs, front_of, IsUnbegun, IsInFront, IsInTree, IsBehind, IsJudgedTo, HasJudged, TakesEvent, held_after, StandsBy, ChecksFor, answer_by}

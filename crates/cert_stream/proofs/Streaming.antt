@@ -12,14 +12,14 @@ use Rattle.cert_text.specs.Outcomes.{grove_of, claim_of, point_of, IsWritable}
 use Rattle.cert_text.proofs.OutcomeText.{outcome_text}
 use Rattle.cert_write.proofs.ChangeText.{rewritten}
 use Rattle.cert_write.proofs.CutTexts.{whole_text, written_text}
-use Rattle.cert_form.specs.Cert.{Frame}
-use Rattle.cert_form.specs.Fault.{IsText}
-use Rattle.cert_form.specs.Kept.{certificate_of, kept_cert}
-use Rattle.cert_form.specs.Sketch.{tree_of as sketched}
-use Rattle.cert_form.specs.Text.{Version, Two}
-use Rattle.cert_form.specs.Written.{certificate}
-use Rattle.cert_form.specs.declared.cert.Cert.{Cert}
-use Rattle.cert_form.specs.Plain.{version_with, head_text, tree_text, plain_text}
+use Rattle.cert_format.specs.Cert.{Frame}
+use Rattle.cert_format.specs.Fault.{IsText}
+use Rattle.cert_format.specs.Kept.{certificate_of, kept_cert}
+use Rattle.cert_format.specs.Sketch.{tree_of as sketched}
+use Rattle.cert_format.specs.Text.{Version, Two}
+use Rattle.cert_format.specs.Written.{certificate}
+use Rattle.cert_format.specs.declared.cert.Cert.{Cert}
+use Rattle.cert_format.specs.Plain.{version_with, head_text, tree_text, plain_text}
 use Rattle.cert_write.specs.Changes.{changing_nodes}
 use Rattle.bp_shelf.specs.Shelf.{Files}
 use Rattle.branch_tree.specs.declared.outcome.Outcome.{Outcome}

@@ -3,34 +3,34 @@ use Rattle.std.proofs.Common.{◌≡◌, ◌⊎◌, ℕ, Bool, true, false, List
 use Rattle.std.proofs.lemmas.Grind.{flat_map-append}
 use Rattle.std.proofs.lemmas.List.{append_cancel_left}
 use Rattle.block_program.specs.Blocked.{BlockedProgram}
-use Rattle.cert_form.specs.Cert as texts
-use Rattle.cert_form.specs.Cert.{Cert}
-use Rattle.cert_form.specs.Text.{Kind, Token, Words, Figure, LineEnd, meant, signed_numeral, token_text, text_of, tokens_of}
-use Rattle.cert_form.specs.Fault.{AreClean, Begins, EndIsSeen, HasFaultyToken, HasNoFaultyToken, HasDeepNumber, HasNoDeepNumber, Leaves, IsFollowed, IsSeenFault, line_behind}
-use Rattle.cert_form.specs.Frames.{frame_of}
+use Rattle.cert_format.specs.Cert as texts
+use Rattle.cert_format.specs.Cert.{Cert}
+use Rattle.cert_format.specs.Text.{Kind, Token, Words, Figure, LineEnd, meant, signed_numeral, token_text, text_of, tokens_of}
+use Rattle.cert_format.specs.Fault.{AreClean, Begins, EndIsSeen, HasFaultyToken, HasNoFaultyToken, HasDeepNumber, HasNoDeepNumber, Leaves, IsFollowed, IsSeenFault, line_behind}
+use Rattle.cert_format.specs.Frames.{frame_of}
 use Rattle.cert_text.specs.Programs.{frame_for}
-use Rattle.cert_form.specs.Words.{word_text}
-use Rattle.cert_form.specs.Stages.{Wait, whole_of, at_bpcert, at_version, at_first_end, at_claim, at_kind, at_optimal, infeasible_end, at_bound, after_bound, at_value, claim_end, at_point, at_values, at_coordinate, at_first_cut, at_cuts, at_node, at_scale, at_rows, at_count, at_pairs, at_row, row_gap, at_multiplier, at_priced, at_blocks, at_block, leaf_end, at_variable, variable_gap, at_place, split_end, at_end, last_end, over}
-use Rattle.cert_form.specs.Stages.{Stage, sort, IsOfSort, is_deep_stage, number_fault, deep_kind, behind_number, IsOf, Follows}
-use Rattle.cert_form.specs.Reached.{MayStand, Reached, IsInWord, IsInNumber, IsBehindMinus, IsBehindDeepMinus}
-use Rattle.cert_lines.specs.Standing.{IsPart, StandsFor}
-use Rattle.cert_lines.specs.Readers.{stage_of}
-use Rattle.cert_form.specs.Signed.{signed}
-use Rattle.cert_form.specs.Written.{written_cut, written_tree}
-use Rattle.cert_form.specs.declared.frame.Frame.{Frame}
-use Rattle.cert_lines.specs.declared.lines.Lines.{Lines}
-use Rattle.cert_lines.specs.declared.lines.Part.{Part}
-use Rattle.cert_lines.specs.declared.lines.Part.TheVariants.{Fresh, InWord, Minus, DeepMinus, Digits}
-use Rattle.cert_form.specs.declared.spots.Sort.{Sort}
-use Rattle.cert_form.specs.declared.words.Word.{Word}
-use Rattle.cert_form.proofs.Deep.{deep_faulty}
-use Rattle.cert_form.proofs.DeepStages.{number_deep}
-use Rattle.cert_form.proofs.LawProofs.{certificates_have_no_fault, faulty_same, seen_faults_are_first}
-use Rattle.cert_lines.proofs.Leaving.{leaves_fresh, leaves_word, leaves_minus}
-use Rattle.cert_lines.proofs.Reaching.{LeavesAt, deep_there, number_reached}
-use Rattle.cert_lines.proofs.ReaderSteps.{deep_minus_leaves}
-use Rattle.cert_form.proofs.StageMoves.{IsOver, goes_on_from, number_leads}
-use Rattle.cert_lines.proofs.WordSteps.{stands_part}
+use Rattle.cert_format.specs.Words.{word_text}
+use Rattle.cert_format.specs.Stages.{Wait, whole_of, at_bpcert, at_version, at_first_end, at_claim, at_kind, at_optimal, infeasible_end, at_bound, after_bound, at_value, claim_end, at_point, at_values, at_coordinate, at_first_cut, at_cuts, at_node, at_scale, at_rows, at_count, at_pairs, at_row, row_gap, at_multiplier, at_priced, at_blocks, at_block, leaf_end, at_variable, variable_gap, at_place, split_end, at_end, last_end, over}
+use Rattle.cert_format.specs.Stages.{Stage, sort, IsOfSort, is_deep_stage, number_fault, deep_kind, behind_number, IsOf, Follows}
+use Rattle.cert_format.specs.Reached.{MayStand, Reached, IsInWord, IsInNumber, IsBehindMinus, IsBehindDeepMinus}
+use Rattle.cert_parser.specs.Standing.{IsPart, StandsFor}
+use Rattle.cert_parser.specs.Readers.{stage_of}
+use Rattle.cert_format.specs.Signed.{signed}
+use Rattle.cert_format.specs.Written.{written_cut, written_tree}
+use Rattle.cert_format.specs.declared.frame.Frame.{Frame}
+use Rattle.cert_parser.specs.declared.lines.Lines.{Lines}
+use Rattle.cert_parser.specs.declared.lines.Part.{Part}
+use Rattle.cert_parser.specs.declared.lines.Part.TheVariants.{Fresh, InWord, Minus, DeepMinus, Digits}
+use Rattle.cert_format.specs.declared.spots.Sort.{Sort}
+use Rattle.cert_format.specs.declared.words.Word.{Word}
+use Rattle.cert_format.proofs.Deep.{deep_faulty}
+use Rattle.cert_format.proofs.DeepStages.{number_deep}
+use Rattle.cert_format.proofs.LawProofs.{certificates_have_no_fault, faulty_same, seen_faults_are_first}
+use Rattle.cert_parser.proofs.Leaving.{leaves_fresh, leaves_word, leaves_minus}
+use Rattle.cert_parser.proofs.Reaching.{LeavesAt, deep_there, number_reached}
+use Rattle.cert_parser.proofs.ReaderSteps.{deep_minus_leaves}
+use Rattle.cert_format.proofs.StageMoves.{IsOver, goes_on_from, number_leads}
+use Rattle.cert_parser.proofs.WordSteps.{stands_part}
 use Rattle.cert_walk.specs.Turns.{wait_of}
 use Rattle.cert_stream.specs.Checks.{IsMadeFor, StandsBy, ChecksFor, answer_by}
 use Rattle.cert_stream.specs.Seen.{TellsSeen}

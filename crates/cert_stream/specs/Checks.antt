@@ -6,21 +6,21 @@ use Rattle.bp_theory.specs.Trees.{Tree}
 use Rattle.bp_theory.specs.declared.Claim.{Claim}
 use Rattle.bp_theory.specs.declared.Cut.{Cut}
 use Rattle.block_program.specs.Blocked.{BlockedProgram, IsFormed}
-use Rattle.cert_form.specs.Fault.{IsCertText, IsFirstCertFault, IsSeenFault}
-use Rattle.cert_form.specs.Frames.{frame_of}
+use Rattle.cert_format.specs.Fault.{IsCertText, IsFirstCertFault, IsSeenFault}
+use Rattle.cert_format.specs.Frames.{frame_of}
 use Rattle.cert_text.specs.Programs.{frame_for, GoesWith}
-use Rattle.cert_lines.specs.Standing.{StandsFor}
-use Rattle.cert_lines.specs.Telling.{Phase, ahead, cutting, within, past, phase_of, IsShallow}
-use Rattle.cert_form.specs.Written.{written_cut, written_tree, cert_of, certificate}
-use Rattle.block_forms.specs.Forms.{forms_in}
+use Rattle.cert_parser.specs.Standing.{StandsFor}
+use Rattle.cert_parser.specs.Telling.{Phase, ahead, cutting, within, past, phase_of, IsShallow}
+use Rattle.cert_format.specs.Written.{written_cut, written_tree, cert_of, certificate}
+use Rattle.block_pricers.specs.Forms.{forms_in}
 use Rattle.block_pricers.specs.Works.{forms_of}
 use Rattle.block_pricers.specs.declared.work.Work.{Work}
-use Rattle.line_check.specs.Cutting.{blocking_over}
+use Rattle.cert_line_check.specs.Cutting.{blocking_over}
 use Rattle.cert_check.specs.Judging.{IsJudgedWithin, IsTrueIfAccepted}
 use Rattle.cert_check.specs.declared.judge.Judged.{Judged}
 use Rattle.cert_walk.specs.Turns.{Turn, to_low, to_high, wait_of}
-use Rattle.cert_lines.specs.declared.lines.Event.{Event}
-use Rattle.cert_lines.specs.declared.lines.Event.TheVariants as e
+use Rattle.cert_parser.specs.declared.lines.Event.{Event}
+use Rattle.cert_parser.specs.declared.lines.Event.TheVariants as e
 use Rattle.cert_walk.specs.Cuttings.{program_by, IsCutting, HoldsCuts}
 use Rattle.cert_walk.specs.Walks.{whole, Front, Judges, WalksBelow, WalksBehind, IsFresh, IsWalkIn, IsWithin, leaf_with}
 use Rattle.cert_walk.specs.declared.cutting.Cutting.{Cutting}

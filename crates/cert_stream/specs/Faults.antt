@@ -1,6 +1,6 @@
 -- A fault of reading, as feeding answers it.
-use Rattle.cert_form.specs.declared.fault.CertFault.{CertFault}
-use Rattle.cert_form.specs.declared.fault.CertFault.TheVariants as c
+use Rattle.cert_format.specs.declared.fault.CertFault.{CertFault}
+use Rattle.cert_format.specs.declared.fault.CertFault.TheVariants as c
 use Rattle.cert_stream.specs.declared.fault.FeedFault.{FeedFault}
 use Rattle.cert_stream.specs.declared.fault.FeedFault.TheVariants as f
 

@@ -1,9 +1,9 @@
 -- When feeding a checker answers a fault.
 use Rattle.std.specs.Prelude.{ℕ, List, Result, Ok, Err}
 use Rattle.block_program.specs.Blocked.{BlockedProgram}
-use Rattle.cert_form.specs.Fault.{IsSeenFault}
+use Rattle.cert_format.specs.Fault.{IsSeenFault}
 use Rattle.cert_text.specs.Programs.{frame_for}
-use Rattle.cert_form.specs.declared.fault.CertKind.{CertKind}
+use Rattle.cert_format.specs.declared.fault.CertKind.{CertKind}
 use Rattle.cert_stream.specs.declared.fault.FeedFault.{FeedFault}
 use Rattle.cert_stream.specs.declared.fault.FeedFault.TheVariants.{At, NoMemory}
 

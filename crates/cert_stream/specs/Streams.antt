@@ -4,14 +4,14 @@ use Rattle.bp_shelf.specs.Shelf.{Files, OthersAsBefore}
 use Rattle.search_laws.specs.Outcomes.{read_off}
 use Rattle.block_program.specs.Blocked.{BlockedProgram}
 use Rattle.branch_tree.specs.declared.outcome.Outcome.{Outcome}
-use Rattle.cert_form.specs.Cert.{Frame}
-use Rattle.cert_form.specs.Fault.{IsText}
+use Rattle.cert_format.specs.Cert.{Frame}
+use Rattle.cert_format.specs.Fault.{IsText}
 use Rattle.cert_text.specs.Outcomes.{grove_of, claim_of, point_of}
 use Rattle.cert_text.specs.Programs.{frame_for}
-use Rattle.cert_form.specs.Kept.{kept_cert}
-use Rattle.cert_form.specs.Plain.{version_with}
-use Rattle.cert_form.specs.declared.cert.Cert.{Cert}
-use Rattle.cert_form.specs.Written.{cert_of}
+use Rattle.cert_format.specs.Kept.{kept_cert}
+use Rattle.cert_format.specs.Plain.{version_with}
+use Rattle.cert_format.specs.declared.cert.Cert.{Cert}
+use Rattle.cert_format.specs.Written.{cert_of}
 use Rattle.cert_file.specs.declared.stop.StreamStop.{StreamStop}
 use Rattle.cert_file.specs.declared.stop.StreamStop.TheVariants.{Failed, NoMemory}
 

@@ -1,11 +1,11 @@
 -- What is answered of a text in pieces is what reading the whole text and judging it answers.
 use Rattle.std.specs.Prelude.{◌≡◌, ℕ, List, Option, Ok, Err}
 use Rattle.block_program.specs.Blocked.{BlockedProgram}
-use Rattle.cert_form.specs.Kept.{certificate_of}
+use Rattle.cert_format.specs.Kept.{certificate_of}
 use Rattle.cert_text.specs.Programs.{ReadsFor}
-use Rattle.cert_form.specs.Text.{Kind}
-use Rattle.cert_form.specs.declared.cert.Cert.{Cert}
-use Rattle.cert_form.specs.declared.fault.CertFault.TheVariants as c
+use Rattle.cert_format.specs.Text.{Kind}
+use Rattle.cert_format.specs.declared.cert.Cert.{Cert}
+use Rattle.cert_format.specs.declared.fault.CertFault.TheVariants as c
 use Rattle.cert_check.specs.Judging.{IsJudgedWithin}
 use Rattle.cert_check.specs.declared.judge.Judged.{Judged}
 use Rattle.cert_stream.specs.Checks.{Finishes}

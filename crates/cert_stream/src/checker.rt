@@ -3,8 +3,8 @@ ghost use Rattle.std.specs.Prelude.{◌≡◌, ℕ, ◌+◌, ◌≤◌, ◌<◌,
 ghost use Rattle.bp_theory.specs.Limits.{greatest_depth};
 ghost use Rattle.bp_theory.specs.declared.Span.{Span};
 ghost use Rattle.block_program.specs.Blocked.{BlockedProgram, IsFormed};
-ghost use Rattle.cert_lines.specs.declared.lines.Event.TheVariants as e;
-ghost use Rattle.block_forms.specs.Forms.{forms_in};
+ghost use Rattle.cert_parser.specs.declared.lines.Event.TheVariants as e;
+ghost use Rattle.block_pricers.specs.Forms.{forms_in};
 ghost use Rattle.block_pricers.specs.Works.{forms_of};
 ghost use Rattle.cert_check.specs.Judging.{stopped_at};
 ghost use Rattle.cert_walk.specs.Cuttings.{IsCutting, IsClosed, cuts_in, program_by};
@@ -17,10 +17,10 @@ use crate::fault::{FeedFault, feed_fault};
 use block_program::{Blocked, Zone};
 use bp_theory::{Cut, Proof};
 use cert_check::Judged;
+use cert_line_check::{NodePlace, Stop};
 use cert_text::{Event, Frame, Lines, SplitPlace, program_frame};
 use cert_walk::{Cutting, Path, Walk, begin, enter, goes_on, leave};
 use lagr_bound::Work;
-use line_check::{NodePlace, Stop};
 use std::alloc::{AllocError, Global};
 use std::mem;
 

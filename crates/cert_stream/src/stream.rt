@@ -1,7 +1,7 @@
 // A certificate that is written line by line.
 ghost use Rattle.std.specs.Prelude.{◌≡◌, ℕ, List, [], codes, unwrap_or, IsTrue, Some};
-ghost use Rattle.cert_form.specs.Fault.{IsCertText};
-ghost use Rattle.cert_form.specs.Kept.{certificate_of, kept_cert};
+ghost use Rattle.cert_format.specs.Fault.{IsCertText};
+ghost use Rattle.cert_format.specs.Kept.{certificate_of, kept_cert};
 ghost use Rattle.cert_text.specs.Outcomes.{IsWritable};
 ghost use Rattle.cert_text.specs.Programs.{frame_for};
 ghost use Rattle.cert_file.specs.Appends.{Appends, CountsStop};

@@ -10,7 +10,7 @@ use Rattle.bp_theory.specs.declared.Row.{Row}
 use Rattle.bp_theory.specs.declared.MasterRow.{MasterRow}
 use Rattle.block_program.specs.Blocked.{BlockedProgram, IsFormed}
 use Rattle.block_program.proofs.NamedRows.{own_rows, own_long}
-use Rattle.cert_form.specs.Text.{may_combine}
+use Rattle.cert_format.specs.Text.{may_combine}
 use Rattle.cert_text.specs.Programs.{IsWhole, masters_of, links_behind, frame_for}
 use Rattle.cert_text.proofs.NamedRows.{sides, masters_long, master_at, own_side, links, links_long}
 

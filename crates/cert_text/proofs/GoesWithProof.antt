@@ -24,25 +24,25 @@ use Rattle.bp_theory.specs.declared.Picked.TheVariants.{Every, These}
 use Rattle.bp_theory.specs.declared.Claim.{Claim}
 use Rattle.bp_theory.specs.declared.Claim.TheVariants.{Optimal, Infeasible, Bound}
 use Rattle.block_program.specs.Blocked.{BlockedProgram, IsFormed}
-use Rattle.cert_form.specs.Cert as texts
-use Rattle.cert_form.specs.Text.{Version, first_kind, is_past, may_name, blocks_behind, picked_words, value_fault, claim_lines, meant_tree}
-use Rattle.cert_form.specs.Fault.{AreClean, IsCertText, IsFirstCertFault}
-use Rattle.cert_form.specs.Nodes.{nodes}
-use Rattle.cert_form.specs.Frames.{frame_of}
-use Rattle.cert_form.specs.Written.{cert_of, in_text, written_pair, written_picked, written_proof, written_cut, written_tree, written_claim, certificate}
-use Rattle.cert_form.specs.Sketch.{tree_of}
-use Rattle.cert_form.specs.Kept.{certificate_of, kept_cert}
+use Rattle.cert_format.specs.Cert as texts
+use Rattle.cert_format.specs.Text.{Version, first_kind, is_past, may_name, blocks_behind, picked_words, value_fault, claim_lines, meant_tree}
+use Rattle.cert_format.specs.Fault.{AreClean, IsCertText, IsFirstCertFault}
+use Rattle.cert_format.specs.Nodes.{nodes}
+use Rattle.cert_format.specs.Frames.{frame_of}
+use Rattle.cert_format.specs.Written.{cert_of, in_text, written_pair, written_picked, written_proof, written_cut, written_tree, written_claim, certificate}
+use Rattle.cert_format.specs.Sketch.{tree_of}
+use Rattle.cert_format.specs.Kept.{certificate_of, kept_cert}
 use Rattle.cert_text.specs.Programs.{frame_by, frame_for, IsWhole, IsOver, AreOver, ReadsFor, IsSmall, IsSmallClaim, GoesWith}
-use Rattle.cert_form.specs.Kept.{ReadsCertificate}
-use Rattle.cert_form.specs.declared.cert.Cert.{Cert as Kept}
-use Rattle.cert_form.specs.declared.frame.Frame.{Frame}
-use Rattle.cert_form.specs.declared.fault.CertFault.{CertFault}
-use Rattle.cert_form.specs.declared.fault.CertFault.TheVariants.{At, NoMemory}
-use Rattle.cert_form.specs.declared.fault.CertKind.TheVariants.{TooLarge}
-use Rattle.cert_form.proofs.Meaning.{tree_clean}
-use Rattle.cert_form.proofs.Putting.{Rises, rises_increasing, above_rises}
-use Rattle.cert_form.proofs.Fine.{scale_small, block_tested, IsKept, none_kept, IsFineLeaf, IsFine, fine_tree, text_nodes, IsCombined, IsFineCut, AreFineCuts, fine_cuts, cuts_few, cuts_clean}
-use Rattle.cert_form.proofs.Clean.{claim_clean}
+use Rattle.cert_format.specs.Kept.{ReadsCertificate}
+use Rattle.cert_format.specs.declared.cert.Cert.{Cert as Kept}
+use Rattle.cert_format.specs.declared.frame.Frame.{Frame}
+use Rattle.cert_format.specs.declared.fault.CertFault.{CertFault}
+use Rattle.cert_format.specs.declared.fault.CertFault.TheVariants.{At, NoMemory}
+use Rattle.cert_format.specs.declared.fault.CertKind.TheVariants.{TooLarge}
+use Rattle.cert_format.proofs.Meaning.{tree_clean}
+use Rattle.cert_format.proofs.Putting.{Rises, rises_increasing, above_rises}
+use Rattle.cert_format.proofs.Fine.{scale_small, block_tested, IsKept, none_kept, IsFineLeaf, IsFine, fine_tree, text_nodes, IsCombined, IsFineCut, AreFineCuts, fine_cuts, cuts_few, cuts_clean}
+use Rattle.cert_format.proofs.Clean.{claim_clean}
 use Rattle.cert_text.proofs.CombinedRows.{combined_of_text}
 use Rattle.cert_text.proofs.NamedRows.{named_of_text, blocks_same, blocking_over}
 

@@ -14,7 +14,7 @@ use Rattle.bp_theory.specs.declared.Cut.{Cut}
 use Rattle.bp_theory.specs.declared.MasterRow.{MasterRow}
 use Rattle.block_program.specs.Blocked.{BlockedProgram, IsFormed}
 use Rattle.block_program.proofs.NamedRows.{own_rows, own_long}
-use Rattle.cert_form.specs.Text.{may_name}
+use Rattle.cert_format.specs.Text.{may_name}
 use Rattle.cert_text.specs.Programs.{masters_of, links_behind, frame_for}
 
 -- ---- lists

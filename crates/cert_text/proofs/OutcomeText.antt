@@ -26,14 +26,14 @@ use Rattle.search_laws.proofs.OutcomeProof.{of_leaves}
 use Rattle.branch_tree.specs.Groves.{IsStanding}
 use Rattle.branch_tree.specs.declared.outcome.Outcome.{Outcome}
 use Rattle.branch_tree.specs.declared.outcome.Outcome.TheVariants.{Optimal, Infeasible, Budget}
-use Rattle.cert_form.specs.Cert as texts
-use Rattle.cert_form.specs.Text.{Version}
-use Rattle.cert_form.specs.Fault.{IsText}
-use Rattle.cert_form.specs.Written.{written_cut, written_tree, cert_of, certificate}
-use Rattle.cert_form.specs.Plain.{version_with, plain_text}
+use Rattle.cert_format.specs.Cert as texts
+use Rattle.cert_format.specs.Text.{Version}
+use Rattle.cert_format.specs.Fault.{IsText}
+use Rattle.cert_format.specs.Written.{written_cut, written_tree, cert_of, certificate}
+use Rattle.cert_format.specs.Plain.{version_with, plain_text}
 use Rattle.cert_text.specs.Programs.{frame_for, IsWhole, AreOver, IsSmall, IsSmallClaim, IsSmallPoint, CanWrite}
 use Rattle.cert_text.specs.Outcomes.{grove_of, claim_of, point_of, HasSmallNumbers, IsWritable}
-use Rattle.cert_form.proofs.PlainProof.{same_claim}
+use Rattle.cert_format.proofs.PlainProof.{same_claim}
 use Rattle.cert_write.specs.Changes.{changing_nodes}
 use Rattle.cert_text.proofs.WritesProof.{has_text, has_changed_text}
 

@@ -29,24 +29,24 @@ use Rattle.bp_theory.specs.declared.Claim.{Claim}
 use Rattle.bp_theory.specs.declared.Claim.TheVariants.{Optimal, Infeasible, Bound}
 use Rattle.bp_model.specs.Named.{HasSmallEnds}
 use Rattle.block_program.specs.Blocked.{BlockedProgram, IsFormed}
-use Rattle.cert_form.specs.Cert as texts
-use Rattle.cert_form.specs.Text.{Kind, Token, LineEnd, first_kind, is_past, divisor_fault, multiplier_fault, may_combine, point_values, claim_lines, cut_lines, pairs_behind, blocks_behind, picked_words, One, Three}
-use Rattle.cert_form.specs.Fault.{AreClean, IsText}
-use Rattle.cert_form.specs.Written.{in_text, written_pair, written_picked, written_proof, written_cut, written_tree, written_claim, cert_of, certificate}
-use Rattle.cert_form.specs.Plain.{version_with, plain_text}
+use Rattle.cert_format.specs.Cert as texts
+use Rattle.cert_format.specs.Text.{Kind, Token, LineEnd, first_kind, is_past, divisor_fault, multiplier_fault, may_combine, point_values, claim_lines, cut_lines, pairs_behind, blocks_behind, picked_words, One, Three}
+use Rattle.cert_format.specs.Fault.{AreClean, IsText}
+use Rattle.cert_format.specs.Written.{in_text, written_pair, written_picked, written_proof, written_cut, written_tree, written_claim, cert_of, certificate}
+use Rattle.cert_format.specs.Plain.{version_with, plain_text}
 use Rattle.cert_write.specs.Changes.{changing_nodes}
 use Rattle.cert_text.specs.Programs.{frame_for, IsWhole, AreOver, IsSmall, IsSmallClaim, IsSmallPoint, CanWrite, HasItsText}
-use Rattle.cert_form.specs.declared.fault.CertKind.TheVariants.{TooLarge, Number, Length, Limit}
-use Rattle.cert_form.proofs.PlainProof.{plain_lem, same_claim}
-use Rattle.cert_form.proofs.Changes.{AscendAbove}
-use Rattle.cert_form.proofs.Clean.{two_none, one_none, is_small_value, small_value, small_scale, named_row, known_block, known_variable, clean_both}
-use Rattle.cert_form.proofs.Fine.{IsKept, IsFineLeaf, IsFine}
+use Rattle.cert_format.specs.declared.fault.CertKind.TheVariants.{TooLarge, Number, Length, Limit}
+use Rattle.cert_format.proofs.PlainProof.{plain_lem, same_claim}
+use Rattle.cert_format.proofs.Changes.{AscendAbove}
+use Rattle.cert_format.proofs.Clean.{two_none, one_none, is_small_value, small_value, small_scale, named_row, known_block, known_variable, clean_both}
+use Rattle.cert_format.proofs.Fine.{IsKept, IsFineLeaf, IsFine}
 use Rattle.cert_text.proofs.NamedRows.{text_of_named, blocks_same, blocking_over}
 use Rattle.cert_text.proofs.CombinedRows.{text_of_combined}
 use Rattle.cert_write.proofs.BothTexts.{HasParts, wholes_text, changes_text, three_keeps}
 use Rattle.cert_write.proofs.ChangeText.{changed_bytes, rewritten}
 use Rattle.cert_text.proofs.GoesWithProof.{first_all, second_all}
-use Rattle.cert_form.proofs.Putting.{Rises}
+use Rattle.cert_format.proofs.Putting.{Rises}
 
 -- ---- lists
 

@@ -15,17 +15,17 @@ use Rattle.bp_theory.specs.declared.Claim.{Claim}
 use Rattle.bp_theory.specs.declared.Claim.TheVariants.{Optimal, Infeasible, Bound}
 use Rattle.block_program.specs.Blocked.{BlockedProgram, IsFormed}
 use Rattle.block_program.specs.Cuts.{IsSmallCut}
-use Rattle.cert_form.specs.Cert as texts
+use Rattle.cert_format.specs.Cert as texts
 use Rattle.bp_theory.specs.Limits.{greatest_depth, most_cuts, number_limit}
-use Rattle.cert_form.specs.Text.{One, Three}
-use Rattle.cert_form.specs.Fault.{IsText, IsCertText, IsFirstCertFault}
-use Rattle.cert_form.specs.Kept.{kept_cert}
-use Rattle.cert_form.specs.Plain.{plain_text}
+use Rattle.cert_format.specs.Text.{One, Three}
+use Rattle.cert_format.specs.Fault.{IsText, IsCertText, IsFirstCertFault}
+use Rattle.cert_format.specs.Kept.{kept_cert}
+use Rattle.cert_format.specs.Plain.{plain_text}
 use Rattle.cert_write.specs.Changes.{changing_nodes}
-use Rattle.cert_form.specs.Written.{cert_of, certificate}
-use Rattle.cert_form.specs.declared.cert.Cert.{Cert as Kept}
-use Rattle.cert_form.specs.declared.fault.CertFault.{CertFault}
-use Rattle.cert_form.specs.declared.fault.CertFault.TheVariants.{At, NoMemory}
+use Rattle.cert_format.specs.Written.{cert_of, certificate}
+use Rattle.cert_format.specs.declared.cert.Cert.{Cert as Kept}
+use Rattle.cert_format.specs.declared.fault.CertFault.{CertFault}
+use Rattle.cert_format.specs.declared.fault.CertFault.TheVariants.{At, NoMemory}
 
 -- so many variables, link rows and blocks, and for each row of the model whether it is a master row, by the numbers in texts
 abbrev pub frame_by : ℕ → List Bool → ℕ → ℕ → texts.Frame

@@ -1,14 +1,14 @@
 // Certificates read and written for a program in blocks.
 ghost use Rattle.std.specs.Prelude.{◌≡◌, IfOk, OnOk};
 ghost use Rattle.block_program.specs.Blocked.{IsFormed};
-ghost use Rattle.cert_form.specs.Kept.{certificate_of};
-ghost use Rattle.cert_form.specs.Frames.{frame_of};
+ghost use Rattle.cert_format.specs.Kept.{certificate_of};
+ghost use Rattle.cert_format.specs.Frames.{frame_of};
 ghost use Rattle.cert_text.specs.Programs.{masters_of, links_behind, frame_for, ReadsFor, GoesWith};
 
 use block_program::Blocked;
 use bp_theory::Items;
-use cert_form::{Cert, CertFault, Frame};
-use cert_read::read;
+use cert_format::{Cert, CertFault, Frame};
+use cert_parser::read;
 use std::alloc::{AllocError, Global};
 
 /// Reads the text of a certificate for a program in blocks: gives the certificate, or the first fault of the text by

@@ -3,9 +3,9 @@ use Rattle.std.proofs.Common.{◌≡◌, List, [], ◌∷◌, ◌++◌, map, Som
 use Rattle.bp_theory.specs.Trees.{Tree, split, low_part, high_part}
 use Rattle.bp_theory.specs.Judgement.{split_line, tree_lines}
 use Rattle.bp_theory.specs.declared.Span.{Span}
-use Rattle.cert_form.specs.Cert as texts
-use Rattle.cert_form.specs.Written.{written_tree}
-use Rattle.cert_lines.specs.Readers as readers
+use Rattle.cert_format.specs.Cert as texts
+use Rattle.cert_format.specs.Written.{written_tree}
+use Rattle.cert_parser.specs.Readers as readers
 use Rattle.cert_walk.specs.Turns.{Turn, to_low, to_high, zone_of, lines_before, turns_behind, root_behind, wait_of}
 
 pub lines_come : (spans : List Span) (ts : List Turn) (t : Tree) → root_behind ts t ≡ None → lines_before spans (turns_behind ts t) ≡ lines_before spans ts ++ tree_lines t (zone_of spans ts)

@@ -7,11 +7,11 @@ use Rattle.bp_theory.specs.declared.Row.{Row}
 use Rattle.bp_model.specs.Named.{NamedProgram}
 use Rattle.block_program.specs.Blocked.{BlockedProgram, IsFormed}
 use Rattle.round_cut.specs.Several.{AreRowsOfCuts}
-use Rattle.round_sums.specs.Cutting.{IsCutOver}
+use Rattle.cut_sums.specs.Cutting.{IsCutOver}
 use Rattle.round_cut.proofs.SeveralLemmas.{no_rows, one_row_more}
-use Rattle.line_check.specs.Cutting.{JudgesCut, blocking_over, HasCuts}
-use Rattle.line_check.proofs.CutLines.{rows_many}
-use Rattle.line_check.proofs.Heads.{without_cuts, same_blocking}
+use Rattle.cert_line_check.specs.Cutting.{JudgesCut, blocking_over, HasCuts}
+use Rattle.cert_line_check.proofs.CutLines.{rows_many}
+use Rattle.cert_line_check.proofs.Heads.{without_cuts, same_blocking}
 use Rattle.cert_walk.specs.Cuttings.{program_by, cuts_by, cuts_in, IsCutting, HoldsCuts, IsClosed}
 use Rattle.cert_walk.specs.Walks.{IsOn, GoesOver}
 use Rattle.cert_walk.specs.declared.cutting.Cutting.{Cutting}

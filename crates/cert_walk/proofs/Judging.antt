@@ -11,9 +11,9 @@ use Rattle.bp_theory.specs.declared.Span.{Span}
 use Rattle.bp_theory.specs.declared.Proof.{Proof}
 use Rattle.bp_theory.specs.declared.Claim.{Claim}
 use Rattle.bp_theory.specs.declared.CheckKind.{CheckKind}
-use Rattle.line_check.specs.Judging.{ProofsFit, IsLeft, IsEnd}
-use Rattle.line_check.proofs.Lines.{both_all}
-use Rattle.line_check.proofs.LineVisits.{both_left}
+use Rattle.cert_line_check.specs.Judging.{ProofsFit, IsLeft, IsEnd}
+use Rattle.cert_line_check.proofs.Lines.{both_all}
+use Rattle.cert_line_check.proofs.LineVisits.{both_left}
 use Rattle.cert_walk.specs.Turns.{Turn, to_low, to_high, zone_of, lines_before, turns_behind, root_behind}
 use Rattle.cert_walk.specs.Walks.{below, whole, Front, heads_of, lines_to, TurnsFit, leaf_with}
 use Rattle.cert_walk.proofs.Coming.{lines_come, roots_come}

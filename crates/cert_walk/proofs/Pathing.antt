@@ -8,7 +8,7 @@ use Rattle.std.specs.Prelude.{◌≤ℤ◌, All}
 use Rattle.bp_theory.specs.Program.{span_at}
 use Rattle.bp_theory.specs.Trees.{Tree, split, IsSubspan, IsSubzone, IsZone}
 use Rattle.bp_theory.specs.declared.Span.{Span}
-use Rattle.line_check.proofs.Lines.{high_is, back_is}
+use Rattle.cert_line_check.proofs.Lines.{high_is, back_is}
 use Rattle.cert_walk.specs.Turns.{Turn, to_low, to_high, zone_of, turns_behind}
 use Rattle.cert_walk.specs.Paths.{IsForkOf, AreForksOf, IsForkIn, GoesOn}
 use Rattle.cert_walk.specs.declared.path.Path.{Path}

@@ -24,17 +24,17 @@ use Rattle.bp_theory.specs.declared.CheckKind.{CheckKind}
 use Rattle.bp_theory.specs.declared.CheckKind.TheVariants.{Split}
 use Rattle.block_program.specs.Blocked.{BlockedProgram}
 use Rattle.cert_text.specs.Programs.{IsSmallClaim}
-use Rattle.round_sums.specs.Cutting.{IsCutOver}
+use Rattle.cut_sums.specs.Cutting.{IsCutOver}
 use Rattle.round_cut.specs.Several.{AreRowsOfCuts}
-use Rattle.line_check.specs.Cutting.{JudgesCut}
-use Rattle.line_check.specs.Judging.{IsFirstBad, IsLeft, IsEnd, JudgesLines, JudgesPoint}
-use Rattle.line_check.specs.declared.place.NodePlace.{NodePlace}
-use Rattle.line_check.specs.declared.place.Rejection.{Rejection}
-use Rattle.line_check.specs.declared.place.Stop.{Stop}
-use Rattle.line_check.proofs.Lines.{low_zone}
-use Rattle.line_check.proofs.CutLines.{line_more, over_last, over_less, rows_many, cut_left}
-use Rattle.line_check.proofs.LineVisits.{nothing_spent, split_left, points_left}
-use Rattle.line_check.proofs.Heads.{line_fails}
+use Rattle.cert_line_check.specs.Cutting.{JudgesCut}
+use Rattle.cert_line_check.specs.Judging.{IsFirstBad, IsLeft, IsEnd, JudgesLines, JudgesPoint}
+use Rattle.cert_line_check.specs.declared.place.NodePlace.{NodePlace}
+use Rattle.cert_line_check.specs.declared.place.Rejection.{Rejection}
+use Rattle.cert_line_check.specs.declared.place.Stop.{Stop}
+use Rattle.cert_line_check.proofs.Lines.{low_zone}
+use Rattle.cert_line_check.proofs.CutLines.{line_more, over_last, over_less, rows_many, cut_left}
+use Rattle.cert_line_check.proofs.LineVisits.{nothing_spent, split_left, points_left}
+use Rattle.cert_line_check.proofs.Heads.{line_fails}
 use Rattle.cert_walk.specs.Turns.{Turn, to_low, zone_of, turns_behind}
 use Rattle.cert_walk.specs.Paths.{AreForksOf, IsForkIn, IsPathIn, GoesOn}
 use Rattle.cert_walk.specs.Walks.{below, whole, Front, points_of, lines_to, IsBelow, WalksBelow, WalksBehind, IsFresh, GoesOver, leaf_with}

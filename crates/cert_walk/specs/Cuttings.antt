@@ -3,7 +3,7 @@ use Rattle.std.specs.Prelude.{◌≡◌, List, [], Option, Some, None, IfSome}
 use Rattle.bp_theory.specs.declared.Cut.{Cut}
 use Rattle.block_program.specs.Blocked.{BlockedProgram}
 use Rattle.round_cut.specs.Several.{AreRowsOfCuts}
-use Rattle.line_check.specs.Cutting.{HasCuts}
+use Rattle.cert_line_check.specs.Cutting.{HasCuts}
 use Rattle.cert_walk.specs.declared.cutting.Cutting.{Cutting}
 use Rattle.cert_walk.specs.declared.walk.Walk.{Walk}
 use Rattle.cert_walk.specs.declared.walk.Walk.TheVariants.{At, Ended, Misfit}

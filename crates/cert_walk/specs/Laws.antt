@@ -3,9 +3,9 @@ use Rattle.std.specs.Prelude.{◌≡◌, List, ◌++◌, map, Some, None}
 use Rattle.bp_theory.specs.Trees.{Tree}
 use Rattle.bp_theory.specs.Judgement.{tree_lines}
 use Rattle.bp_theory.specs.declared.Span.{Span}
-use Rattle.cert_form.specs.Cert as texts
-use Rattle.cert_form.specs.Written.{written_tree}
-use Rattle.cert_lines.specs.Readers as readers
+use Rattle.cert_format.specs.Cert as texts
+use Rattle.cert_format.specs.Written.{written_tree}
+use Rattle.cert_parser.specs.Readers as readers
 use Rattle.cert_walk.specs.Turns.{Turn, zone_of, lines_before, turns_behind, root_behind, wait_of}
 
 -- behind a whole tree its lines have come

@@ -3,8 +3,8 @@ use Rattle.std.specs.Prelude.{ℕ, ℤ, List, [], ◌∷◌, ◌++◌, Option, S
 use Rattle.bp_theory.specs.Trees.{Tree, split, low_part, high_part}
 use Rattle.bp_theory.specs.Judgement.{Line, split_line, tree_lines}
 use Rattle.bp_theory.specs.declared.Span.{Span}
-use Rattle.cert_form.specs.Written.{in_text, written_tree}
-use Rattle.cert_form.specs.Stages.{Wait, low_of, high_of}
+use Rattle.cert_format.specs.Written.{in_text, written_tree}
+use Rattle.cert_format.specs.Stages.{Wait, low_of, high_of}
 
 -- a split above the next node, which is in its low part, or in its high part behind this low one
 pub data Turn : Type 0 where

@@ -14,7 +14,7 @@ use Rattle.bp_theory.specs.declared.Proof.{Proof}
 use Rattle.cert_text.specs.Programs.{IsSmallClaim}
 use Rattle.block_program.specs.Blocked.{BlockedProgram}
 use Rattle.round_cut.specs.Several.{AreCutsOver}
-use Rattle.line_check.specs.Judging.{ProofsFit, IsLeft, IsEnd}
+use Rattle.cert_line_check.specs.Judging.{ProofsFit, IsLeft, IsEnd}
 use Rattle.cert_walk.specs.Turns.{Turn, to_low, to_high, zone_of, lines_before, turns_behind, root_behind}
 use Rattle.cert_walk.specs.Paths.{AreForksOf, IsPathIn}
 use Rattle.cert_walk.specs.declared.walk.Walk.{Walk}

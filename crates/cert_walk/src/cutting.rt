@@ -5,7 +5,7 @@ ghost use Rattle.bp_theory.specs.declared.Claim as claims;
 ghost use Rattle.bp_theory.specs.declared.Cut as theory;
 ghost use Rattle.bp_theory.specs.declared.Span.{Span};
 ghost use Rattle.block_program.specs.Blocked.{BlockedProgram};
-ghost use Rattle.line_check.specs.Cutting.{HasCuts};
+ghost use Rattle.cert_line_check.specs.Cutting.{HasCuts};
 ghost use Rattle.cert_walk.specs.Cuttings.{IsCutting, IsClosed, HoldsCuts, cuts_in, program_by};
 ghost use Rattle.cert_walk.specs.Paths.{IsPathIn};
 ghost use Rattle.cert_walk.specs.Walks.{WalksBelow, IsWalkIn, IsWithin};
@@ -16,7 +16,7 @@ use crate::walk::Walk;
 use block_form::recut;
 use block_program::Blocked;
 use bp_theory::{Cut, Items, Row};
-use line_check::{NodePlace, Stop, judge_cut};
+use cert_line_check::{NodePlace, Stop, judge_cut};
 use round_cut::keeps_rules;
 use std::alloc::{AllocError, Global};
 

@@ -6,8 +6,8 @@ ghost use Rattle.cert_walk.specs.Paths.{AreForksOf, IsPathIn, GoesOn};
 
 use block_program::Blocked;
 use bp_theory::Span;
+use cert_line_check::{NodePlace, back, to_high};
 use cert_text::SplitPlace;
-use line_check::{NodePlace, back, to_high};
 use std::alloc::AllocError;
 
 // A split above the node that comes next, with the span that its variable had: the node is in its low or its high part.

@@ -6,7 +6,7 @@ ghost use Rattle.bp_theory.specs.Bound.{Fits};
 ghost use Rattle.bp_theory.specs.declared.Span.{Span};
 ghost use Rattle.bp_theory.specs.declared.Claim as claims;
 ghost use Rattle.cert_text.specs.Programs.{IsSmall, IsSmallClaim};
-ghost use Rattle.block_forms.specs.Forms.{forms_in};
+ghost use Rattle.block_pricers.specs.Forms.{forms_in};
 ghost use Rattle.block_pricers.specs.Works.{forms_of};
 ghost use Rattle.cert_walk.specs.Turns.{Turn, to_low};
 ghost use Rattle.cert_walk.specs.Paths.{IsPathIn};
@@ -14,13 +14,12 @@ ghost use Rattle.cert_walk.specs.Walks.{Front, WalksBelow, WalksBehind, IsFresh,
 ghost use Rattle.cert_walk.specs.declared.walk.Walk.TheVariants.{At};
 
 use crate::path::{Fork, Path, go_on};
-use block_program::Blocked;
+use block_program::{Blocked, fits};
 use bp_model::MAX_NUMBER;
 use bp_theory::{CheckKind, Claim, Proof};
+use cert_line_check::{NodePlace, Stop, judge_claim, judge_leaf, sound_span, to_low};
 use cert_text::SplitPlace;
 use lagr_bound::Work;
-use line_check::{NodePlace, Stop, judge_claim, judge_leaf, sound_span, to_low};
-use proof_fit::fits;
 use std::alloc::{AllocError, Global};
 
 // What has been judged of the lines that came: all of them pass, and the next one stands here; or one ended the judgement; or

@@ -5,21 +5,21 @@ use Rattle.std.specs.List.{AllByRecursion}
 use Rattle.std.specs.Cmp.{signed_Decides}
 use Rattle.std.specs.Ordering.{int_eq}
 use Rattle.std.proofs.lemmas.Bool.{le-ltb}
-use Rattle.cert_form.specs.Cert.{Proof, Tree, Shut, Open, Split, Claim, Cut, Cert, Frame, multiplier, changed}
-use Rattle.cert_form.specs.Text.{Token, Words, LineEnd, text_of, is_past, multiplier_fault, may_name, pairs_behind, picked_words, claim_lines, cut_lines, leaf_line, tree_lines, tokens_of, Version, One, Two, Three, HasForm, kept, kept_behind, meant, meant_proof, meant_tree}
-use Rattle.cert_form.specs.Fault.{AreClean, IsText}
-use Rattle.cert_form.specs.Laws.{CertificatesHaveBothTexts}
-use Rattle.cert_form.specs.Stages.{plain_of}
+use Rattle.cert_format.specs.Cert.{Proof, Tree, Shut, Open, Split, Claim, Cut, Cert, Frame, multiplier, changed}
+use Rattle.cert_format.specs.Text.{Token, Words, LineEnd, text_of, is_past, multiplier_fault, may_name, pairs_behind, picked_words, claim_lines, cut_lines, leaf_line, tree_lines, tokens_of, Version, One, Two, Three, HasForm, kept, kept_behind, meant, meant_proof, meant_tree}
+use Rattle.cert_format.specs.Fault.{AreClean, IsText}
+use Rattle.cert_format.specs.Laws.{CertificatesHaveBothTexts}
+use Rattle.cert_format.specs.Stages.{plain_of}
 use Rattle.cert_write.specs.Differences.{difference, changing, last_pairs, changing_tree, changing_cert}
-use Rattle.cert_form.specs.declared.fault.CertKind.TheVariants.{TooLarge, Number}
-use Rattle.cert_form.proofs.Changes.{AscendAbove, Differ}
-use Rattle.cert_form.proofs.Coherent.{proof_one, cert_one}
-use Rattle.cert_form.proofs.Meaning.{kept_none, tree_clean}
-use Rattle.cert_form.proofs.Fine.{AreKept, none_kept, IsFineLeaf, IsFine, fine_tree, cuts_clean}
+use Rattle.cert_format.specs.declared.fault.CertKind.TheVariants.{TooLarge, Number}
+use Rattle.cert_format.proofs.Changes.{AscendAbove, Differ}
+use Rattle.cert_format.proofs.Coherent.{proof_one, cert_one}
+use Rattle.cert_format.proofs.Meaning.{kept_none, tree_clean}
+use Rattle.cert_format.proofs.Fine.{AreKept, none_kept, IsFineLeaf, IsFine, fine_tree, cuts_clean}
 use Rattle.cert_write.proofs.DifferProof.{IsChange, Makes, difference_makes}
-use Rattle.cert_form.proofs.Clean.{claim_clean}
-use Rattle.cert_form.proofs.Clean.{two_none, named_row, clean_both}
-use Rattle.cert_form.proofs.Unchanged.{cert_means}
+use Rattle.cert_format.proofs.Clean.{claim_clean}
+use Rattle.cert_format.proofs.Clean.{two_none, named_row, clean_both}
+use Rattle.cert_format.proofs.Unchanged.{cert_means}
 
 -- a multiplier within its limit that the row didn't have
 other_multiplier : (had : List (ℕ × ℤ)) (row : ℕ) (p : ℤ) → unsigned_abs p ≤ 2 ^ 40 → p ≢ multiplier had row → multiplier_fault (2 ^ 40) had row p ≡ None

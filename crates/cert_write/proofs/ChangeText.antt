@@ -10,15 +10,15 @@ use Rattle.bp_theory.specs.Judgement.{named_value}
 use Rattle.bp_theory.specs.declared.Cut.{Cut}
 use Rattle.bp_theory.specs.declared.Claim.{Claim}
 use Rattle.bp_theory.specs.declared.Proof as given
-use Rattle.cert_form.specs.Cert as texts
-use Rattle.cert_form.specs.Cert.{Proof, Tree, Shut, Open, Split, Frame}
-use Rattle.cert_form.specs.Text.{Version, Two, Three, text_of, tokens_of}
-use Rattle.cert_form.specs.Fault.{IsText}
+use Rattle.cert_format.specs.Cert as texts
+use Rattle.cert_format.specs.Cert.{Proof, Tree, Shut, Open, Split, Frame}
+use Rattle.cert_format.specs.Text.{Version, Two, Three, text_of, tokens_of}
+use Rattle.cert_format.specs.Fault.{IsText}
 use Rattle.cert_write.specs.Differences.{against, difference, changing, last_pairs, changing_tree, changing_cert}
 use Rattle.cert_write.specs.Changes.{changing_proof, last_mults, changing_nodes}
-use Rattle.cert_form.specs.Written.{written_pair, written_proof, written_picked, written_cut, written_tree, written_claim, cert_of, certificate}
-use Rattle.cert_form.specs.Plain.{version_with, plain_text}
-use Rattle.cert_form.proofs.PlainProof.{plain_lem}
+use Rattle.cert_format.specs.Written.{written_pair, written_proof, written_picked, written_cut, written_tree, written_claim, cert_of, certificate}
+use Rattle.cert_format.specs.Plain.{version_with, plain_text}
+use Rattle.cert_format.proofs.PlainProof.{plain_lem}
 use Rattle.cert_write.proofs.BothTexts.{text_of_changes, third_of_changes}
 
 -- one of two lists

@@ -3,8 +3,8 @@ use Rattle.std.proofs.Common.{◌≡◌, refl, sym, ap, ◌∙◌, ℕ, ◌+◌,
 use Rattle.bp_theory.specs.declared.Claim.{Claim}
 use Rattle.bp_theory.specs.declared.Cut.{Cut}
 use Rattle.bp_theory.specs.Trees.{Tree, shut_leaf, open_leaf, split}
-use Rattle.cert_form.specs.Text.{Two, Three, numeral, signed_numeral}
-use Rattle.cert_form.specs.Plain.{head_text, plain_text, tree_text, version_with}
+use Rattle.cert_format.specs.Text.{Two, Three, numeral, signed_numeral}
+use Rattle.cert_format.specs.Plain.{head_text, plain_text, tree_text, version_with}
 
 -- the lines of a tree are those of version 2
 tree_alike : (t : Tree) → tree_text Two t ≡ tree_text Three t

@@ -6,7 +6,7 @@ use Rattle.std.specs.Int.{w64}
 use Rattle.std.proofs.lemmas.Bool.{ltb-true, ltb-false}
 use Rattle.std.proofs.lemmas.Fmt.{decimal_from_prepends, length-decimal-le_succ}
 use Rattle.std.proofs.lemmas.Int.{ints}
-use Rattle.cert_form.specs.Text.{digits_before, numeral, signed_numeral}
+use Rattle.cert_format.specs.Text.{digits_before, numeral, signed_numeral}
 
 -- a choice by a test, as `digits_before` makes it
 abbrev choice : Bool → List ℕ → List ℕ → List ℕ

@@ -5,12 +5,12 @@ use Rattle.std.specs.List.{AllByRecursion}
 use Rattle.std.specs.Cmp.{signed_Decides}
 use Rattle.std.specs.Ordering.{int_eq}
 use Rattle.std.proofs.lemmas.Bool.{lt-ltb, le-ltb, eq-eqb, ne_eqb, ltb-true, ltb-false, eqb-true, true≢false}
-use Rattle.cert_form.specs.Cert.{Frame, multiplier, with_pair, put, changed}
-use Rattle.cert_form.specs.Text.{may_name}
+use Rattle.cert_format.specs.Cert.{Frame, multiplier, with_pair, put, changed}
+use Rattle.cert_format.specs.Text.{may_name}
 use Rattle.cert_write.specs.Differences.{against, difference}
-use Rattle.cert_form.proofs.Changes.{AscendAbove, Differ, multiplier-below}
-use Rattle.cert_form.proofs.Fine.{IsKept}
-use Rattle.cert_form.proofs.Putting.{some_false}
+use Rattle.cert_format.proofs.Changes.{AscendAbove, Differ, multiplier-below}
+use Rattle.cert_format.proofs.Fine.{IsKept}
+use Rattle.cert_format.proofs.Putting.{some_false}
 
 -- what holds of each change
 abbrev pub IsChange : Frame → ℕ → ℕ × ℤ → Type 0

@@ -1,7 +1,7 @@
 -- How one leaf's multipliers differ from those of another: the changes that make them of those.
 use Rattle.std.specs.Prelude.{ℕ, List, [], ◌∷◌, ℤ, pos, if◌then◌else◌, nat_eq, nat_lt}
 use Rattle.std.specs.Ordering.{int_eq}
-use Rattle.cert_form.specs.Cert.{Proof, Tree, Shut, Open, Split, Cert}
+use Rattle.cert_format.specs.Cert.{Proof, Tree, Shut, Open, Split, Cert}
 
 -- the changes behind a pair, where others differ from the pairs behind it by these changes
 abbrev pub against : ℕ × ℤ → (List (ℕ × ℤ) → List (ℕ × ℤ)) → List (ℕ × ℤ) → List (ℕ × ℤ)

@@ -1,18 +1,18 @@
 // The text of a certificate, written in one spelling.
 ghost use Rattle.std.specs.Prelude.{◌≡◌, ℕ, ◌+◌, ◌++◌, List, [], codes, length, IfOk, OnOk};
 ghost use Rattle.std.specs.List.{flat_map};
-ghost use Rattle.cert_form.specs.Cert.{Frame};
-ghost use Rattle.cert_form.specs.Text.{numeral, signed_numeral, text_of, tokens_of, One, Two};
-ghost use Rattle.cert_form.specs.Plain.{pair_text, block_text, coordinate_text, picked_text, tail_text, proof_text, tree_text, point_text, bound_text, claim_text, cut_text, version_text, version_with, head_text, plain_text};
+ghost use Rattle.cert_format.specs.Cert.{Frame};
+ghost use Rattle.cert_format.specs.Text.{numeral, signed_numeral, text_of, tokens_of, One, Two};
+ghost use Rattle.cert_format.specs.Plain.{pair_text, block_text, coordinate_text, picked_text, tail_text, proof_text, tree_text, point_text, bound_text, claim_text, cut_text, version_text, version_with, head_text, plain_text};
 ghost use Rattle.cert_write.specs.Changes.{changing_proof, changing_nodes, last_mults};
-ghost use Rattle.cert_form.specs.Fault.{IsText, IsCertText};
-ghost use Rattle.cert_form.specs.Kept.{kept_cert};
-ghost use Rattle.cert_form.specs.Sketch.{tree_of};
-ghost use Rattle.cert_form.specs.Written.{cert_of, certificate};
+ghost use Rattle.cert_format.specs.Fault.{IsText, IsCertText};
+ghost use Rattle.cert_format.specs.Kept.{kept_cert};
+ghost use Rattle.cert_format.specs.Sketch.{tree_of};
+ghost use Rattle.cert_format.specs.Written.{cert_of, certificate};
 
 use crate::differences::differences;
 use bp_theory::{Claim, Cut, Picked, Proof};
-use cert_form::{Cert, Sketch};
+use cert_format::{Cert, Sketch};
 use itoa::Buffer;
 use std::alloc::{AllocError, Global};
 

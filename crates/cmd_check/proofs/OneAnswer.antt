@@ -7,17 +7,17 @@ use Rattle.bp_theory.proofs.JudgeProof.{judged_lem}
 use Rattle.bp_shelf.specs.Shelf.{Files}
 use Rattle.bp_shelf.specs.declared.shelf.ShelfFault.{ShelfFault}
 use Rattle.bp_shelf.specs.declared.shelf.ShelfFault.TheVariants.{Missing, Failed, NoMemory}
-use Rattle.bp_front.specs.Endings.{IsRightReply}
-use Rattle.bp_front.specs.declared.front.Halt.TheVariants.{Stopped}
-use Rattle.bp_front.proofs.Finishing.{HasOneReply}
-use Rattle.bp_front.proofs.Lifts.{one_reply}
+use Rattle.frontend.specs.Endings.{IsRightReply}
+use Rattle.frontend.specs.declared.front.Halt.TheVariants.{Stopped}
+use Rattle.frontend.proofs.Finishing.{HasOneReply}
+use Rattle.frontend.proofs.Lifts.{one_reply}
 use Rattle.block_program.specs.Blocked.{BlockedProgram}
-use Rattle.cert_form.specs.Fault.{IsCertText}
-use Rattle.cert_form.specs.Fault as texts
-use Rattle.cert_form.specs.Written.{cert_of}
+use Rattle.cert_format.specs.Fault.{IsCertText}
+use Rattle.cert_format.specs.Fault as texts
+use Rattle.cert_format.specs.Written.{cert_of}
 use Rattle.cert_text.specs.Programs.{frame_for}
-use Rattle.cert_form.specs.declared.fault.CertKind.{CertKind}
-use Rattle.cert_form.proofs.LawProofs.{certificates_are_one, certificates_are_faultless}
+use Rattle.cert_format.specs.declared.fault.CertKind.{CertKind}
+use Rattle.cert_format.proofs.LawProofs.{certificates_are_one, certificates_are_faultless}
 use Rattle.cmd_check.specs.Checks.{ChecksBlocked, ChecksWithin, ChecksVisiting, AnswersCheck, missing, faulty, accepted, rejected, unknown, known}
 use Rattle.cmd_check.proofs.Certificates.{one_written, fitting_point}
 

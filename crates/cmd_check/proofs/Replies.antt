@@ -5,19 +5,19 @@ use Rattle.bp_theory.specs.Judgement.{HasItsPoint, named_value}
 use Rattle.bp_theory.specs.declared.Claim.{Claim}
 use Rattle.bp_shelf.specs.Shelf.{Files}
 use Rattle.block_program.specs.Blocked.{BlockedProgram}
-use Rattle.cert_form.specs.Fault.{IsCertText, IsFirstCertFault}
-use Rattle.cert_form.specs.Written.{cert_of}
+use Rattle.cert_format.specs.Fault.{IsCertText, IsFirstCertFault}
+use Rattle.cert_format.specs.Written.{cert_of}
 use Rattle.cert_text.specs.Programs.{frame_for}
-use Rattle.cert_form.specs.declared.fault.CertKind.{CertKind}
-use Rattle.cert_form.proofs.LawProofs.{certificates_are_one}
+use Rattle.cert_format.specs.declared.fault.CertKind.{CertKind}
+use Rattle.cert_format.proofs.LawProofs.{certificates_are_one}
 use Rattle.cert_check.specs.Judging.{IsJudged, NoneUnpriced, IsJudgedWithin, IsTrueIfAccepted}
-use Rattle.line_check.specs.Visits.{IsFirstUnpriced}
+use Rattle.cert_line_check.specs.Visits.{IsFirstUnpriced}
 use Rattle.cert_check.specs.declared.judge.Judged.{Judged}
 use Rattle.cert_check.specs.declared.judge.Judged.TheVariants.{Accepted, Rejected, Unknown}
 use Rattle.cert_stream.specs.declared.checker.Checker.{Checker}
 use Rattle.cert_report.specs.Certificates.{accepted_report}
 use Rattle.bp_report.specs.Refusals.{cert_refusal}
-use Rattle.bp_front.specs.declared.ending.Reply.{Reply}
+use Rattle.frontend.specs.declared.ending.Reply.{Reply}
 use Rattle.cmd_check.specs.Checks.{ChecksBlocked, IsUnknownAt, faulty, accepted, rejected, unknown, known}
 use Rattle.cmd_check.specs.Replies.{IsReplyTo, TellsJudged, RepliesFrom, StandsForFile}
 use Rattle.cmd_check.proofs.Certificates.{one_written}

@@ -5,15 +5,15 @@ use Rattle.bp_theory.specs.Judgement.{IsFirstFault, HasItsPoint, named_value}
 use Rattle.bp_theory.specs.declared.CheckKind.{CheckKind}
 use Rattle.bp_shelf.specs.Shelf.{Files}
 use Rattle.block_program.specs.Blocked.{BlockedProgram}
-use Rattle.cert_form.specs.Fault.{IsCertText}
-use Rattle.cert_form.specs.Fault as texts
-use Rattle.cert_form.specs.Written.{cert_of}
+use Rattle.cert_format.specs.Fault.{IsCertText}
+use Rattle.cert_format.specs.Fault as texts
+use Rattle.cert_format.specs.Written.{cert_of}
 use Rattle.cert_text.specs.Programs.{frame_for}
-use Rattle.cert_form.specs.declared.fault.CertKind.{CertKind}
+use Rattle.cert_format.specs.declared.fault.CertKind.{CertKind}
 use Rattle.cert_report.specs.Certificates.{accepted_report, rejected_report, unknown_report}
 use Rattle.bp_report.specs.Refusals.{cert_refusal}
-use Rattle.bp_front.specs.Answers.{AnswersFront}
-use Rattle.line_check.specs.Visits.{IsFirstUnpriced}
+use Rattle.frontend.specs.Answers.{AnswersFront}
+use Rattle.cert_line_check.specs.Visits.{IsFirstUnpriced}
 
 -- what a program in blocks is answered by `check` without a number of visits: the judgement of the certificate that the file
 -- spells; what is accepted is true

@@ -7,7 +7,7 @@ use Rattle.cert_check.specs.declared.judge.Judged.TheVariants.{Accepted, Rejecte
 use Rattle.cert_stream.specs.Checks.{ChecksFor}
 use Rattle.cert_stream.specs.declared.checker.Checker.{Checker}
 use Rattle.cert_report.specs.Certificates.{check_report}
-use Rattle.bp_front.specs.declared.ending.Reply.{Reply}
+use Rattle.frontend.specs.declared.ending.Reply.{Reply}
 use Rattle.cmd_check.specs.Checks.{ChecksVisiting}
 
 -- the reply to a certificate's file

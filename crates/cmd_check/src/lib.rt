@@ -6,21 +6,21 @@ ghost use Rattle.std.specs.Prelude.{◌≡◌, ◌≢◌, ◌⊎◌, ◌+◌, �
 ghost use Rattle.std.specs.Option.{option_map};
 ghost use Rattle.bp_shelf.specs.Shelf.{CountsFailed, file_limit};
 ghost use Rattle.bp_shelf.specs.declared.shelf.ShelfFault.TheVariants.{Missing};
-ghost use Rattle.bp_front.specs.Answers.{AnswersBy, IsOnly, CutsOff, HasCauses, PutsReport, IsUnput};
-ghost use Rattle.bp_front.specs.Endings.{IsReplyStatus, IsRightReply};
-ghost use Rattle.bp_front.specs.Halts.{CountsHalted};
+ghost use Rattle.frontend.specs.Answers.{AnswersBy, IsOnly, CutsOff, HasCauses, PutsReport, IsUnput};
+ghost use Rattle.frontend.specs.Endings.{IsReplyStatus, IsRightReply};
+ghost use Rattle.frontend.specs.Halts.{CountsHalted};
 ghost use Rattle.cmd_check.specs.Checks.{AnswersCheck, ChecksVisiting};
 ghost use Rattle.block_program.specs.Blocked.{BlockedProgram};
 ghost use Rattle.cert_stream.specs.Checks.{IsMadeFor, ChecksFor};
 ghost use Rattle.cmd_check.specs.Replies.{IsReplyTo, StandsForFile, StandsForFront, TellsJudged};
 
 use block_program::Blocked;
-use bp_front::{Ended, Halt, Reply, finish, load, reply_or_status};
 use bp_report::cert_text;
 use bp_shelf::{Shelf, ShelfFault, Sink};
 use cert_check::Judged;
 use cert_report::check_text;
 use cert_stream::{Checker, FeedFault};
+use frontend::{Ended, Halt, Reply, finish, load, reply_or_status};
 use std::alloc::{AllocError, Global};
 
 // How many bytes a read asks for.

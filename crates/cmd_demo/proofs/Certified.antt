@@ -3,11 +3,11 @@ use Rattle.std.proofs.Common.{◌≡◌, sym, ap, subst, ℕ, List, None, Ok}
 use Rattle.bp_theory.specs.Claims.{Certificate, IsCertified}
 use Rattle.bp_theory.specs.declared.Claim.{Claim}
 use Rattle.block_program.specs.Blocked.{BlockedProgram}
-use Rattle.cert_form.specs.Text.{Version}
-use Rattle.cert_form.specs.Fault.{IsText}
-use Rattle.cert_form.specs.Written.{cert_of, certificate}
+use Rattle.cert_format.specs.Text.{Version}
+use Rattle.cert_format.specs.Fault.{IsText}
+use Rattle.cert_format.specs.Written.{cert_of, certificate}
 use Rattle.cert_text.specs.Programs.{frame_for}
-use Rattle.cert_form.proofs.LawProofs.{certificates_are_one}
+use Rattle.cert_format.proofs.LawProofs.{certificates_are_one}
 use Rattle.cert_check.specs.Judging.{IsJudged}
 use Rattle.cert_check.specs.declared.judge.Judged.{Judged}
 use Rattle.cert_check.specs.declared.judge.Judged.TheVariants.{Accepted, Rejected, Unknown}

@@ -8,12 +8,12 @@ use Rattle.bp_search.specs.Ends.{IsOutcome}
 use Rattle.cert_check.specs.Judging.{IsJudged}
 use Rattle.cert_check.specs.declared.judge.Judged.{Judged}
 use Rattle.cert_report.specs.Certificates.{demo_report}
-use Rattle.bp_front.specs.Front.{ends}
-use Rattle.bp_front.specs.Answers.{AnswersBy, IsOnly, CutsOff, stopped, went_on}
-use Rattle.bp_front.specs.declared.ending.Reply.{Reply}
-use Rattle.bp_front.specs.declared.front.Halt.{Halt}
-use Rattle.bp_front.specs.declared.front.Halt.TheVariants.{Refused, Stopped}
-use Rattle.bp_front.proofs.Lifts.{stop_only, printed_status}
+use Rattle.frontend.specs.Front.{ends}
+use Rattle.frontend.specs.Answers.{AnswersBy, IsOnly, CutsOff, stopped, went_on}
+use Rattle.frontend.specs.declared.ending.Reply.{Reply}
+use Rattle.frontend.specs.declared.front.Halt.{Halt}
+use Rattle.frontend.specs.declared.front.Halt.TheVariants.{Refused, Stopped}
+use Rattle.frontend.proofs.Lifts.{stop_only, printed_status}
 use Rattle.search_outcome.specs.Outcomes.{outcome_status, outcome_certificate}
 use Rattle.search_outcome.proofs.Outcomes.{outcome_certified}
 use Rattle.cmd_demo.specs.Demos.{made_files, MadeCome, DemosBlocked, AnswersDemo, IsDemo, DemoHalts}

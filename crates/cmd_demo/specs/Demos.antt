@@ -10,11 +10,11 @@ use Rattle.bp_search.specs.Ends.{IsOutcome}
 use Rattle.bp_gen.specs.Generator.{lp_text, dec_text}
 use Rattle.cert_check.specs.declared.judge.Judged.TheVariants.{Accepted}
 use Rattle.cert_report.specs.Certificates.{demo_report}
-use Rattle.bp_front.specs.Front.{Front, FilesCome, blocked, ends}
-use Rattle.bp_front.specs.Answers.{AnswersFront}
-use Rattle.bp_front.specs.declared.ending.Reply.{Reply}
-use Rattle.bp_front.specs.declared.front.Halt.{Halt}
-use Rattle.bp_front.specs.declared.front.Halt.TheVariants.{Refused, Stopped}
+use Rattle.frontend.specs.Front.{Front, FilesCome, blocked, ends}
+use Rattle.frontend.specs.Answers.{AnswersFront}
+use Rattle.frontend.specs.declared.ending.Reply.{Reply}
+use Rattle.frontend.specs.declared.front.Halt.{Halt}
+use Rattle.frontend.specs.declared.front.Halt.TheVariants.{Refused, Stopped}
 use Rattle.search_outcome.specs.Outcomes.{outcome_status, outcome_certificate}
 
 -- the files of a seed and a size, which stand nowhere but in memory: the empty name is that of the LP text, and every other name is that of the DEC text

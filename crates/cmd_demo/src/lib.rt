@@ -6,12 +6,11 @@ ghost use Rattle.bp_search.specs.Ends.{IsOutcome};
 ghost use Rattle.cert_text.specs.Outcomes.{IsWritable};
 ghost use Rattle.cert_check.specs.Judging.{IsJudged};
 ghost use Rattle.cert_stream.specs.Checks.{Finishes};
-ghost use Rattle.bp_front.specs.Answers.{AnswersBy, IsOnly, CutsOff, HasCauses, PutsReport, IsUnput};
+ghost use Rattle.frontend.specs.Answers.{AnswersBy, IsOnly, CutsOff, HasCauses, PutsReport, IsUnput};
 ghost use Rattle.search_outcome.specs.Outcomes.{outcome_certificate};
 ghost use Rattle.cmd_demo.specs.Demos.{AnswersDemo, IsSummary, IsDemo, DemoHalts};
 
 use block_program::Blocked;
-use bp_front::{Ended, Halt, Reply, blocks_of, print, stopped};
 use bp_gen::{make_dec, make_lp};
 use bp_search::search;
 use bp_shelf::Sink;
@@ -20,6 +19,7 @@ use cert_check::Judged;
 use cert_report::{DEMO_STEPS, demo_text};
 use cert_stream::{Checker, FeedFault};
 use cert_text::write_cert;
+use frontend::{Ended, Halt, Reply, blocks_of, print, stopped};
 use search_outcome::status_of;
 use std::alloc::{AllocError, Global};
 

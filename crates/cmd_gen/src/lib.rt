@@ -4,13 +4,13 @@
 ghost use Rattle.std.specs.Prelude.{◌≡◌, ◌≢◌, ◌⊎◌, ◌<◌, ◌≤◌, [], IfOk, IsErrOf, IsTrue, None};
 ghost use Rattle.bp_shelf.specs.Shelf.{CountsFailed};
 ghost use Rattle.bp_shelf.specs.declared.shelf.ShelfFault.TheVariants.{Missing};
-ghost use Rattle.bp_front.specs.Answers.{AnswersBy, IsOnly, CutsOff, HasCauses, PutsReport, FailsToWrite};
+ghost use Rattle.frontend.specs.Answers.{AnswersBy, IsOnly, CutsOff, HasCauses, PutsReport, FailsToWrite};
 ghost use Rattle.cmd_gen.specs.Generates.{AnswersGen, HoldsTexts, OthersStand, WritesBoth, GenLeaves, GenWrites};
 
-use bp_front::{Ended, Reply, print, stopped};
 use bp_gen::{make_dec, make_lp};
 use bp_report::made_text;
 use bp_shelf::{Shelf, ShelfFault, Sink};
+use frontend::{Ended, Reply, print, stopped};
 use std::alloc::{AllocError, Global};
 
 // The generator's texts, and the report on them.

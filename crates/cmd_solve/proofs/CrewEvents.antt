@@ -6,7 +6,7 @@ use Rattle.search_laws.specs.declared.Event.{Event}
 use Rattle.search_laws.specs.declared.Side.{Side}
 use Rattle.branch_tree.specs.declared.loaded.Loaded.{Loaded}
 use Rattle.branch_tree.specs.declared.outcome.Outcome.{Outcome}
-use Rattle.bp_front.specs.Front.{FilesCome, blocked}
+use Rattle.frontend.specs.Front.{FilesCome, blocked}
 use Rattle.cmd_solve.specs.declared.crew.CrewOrder.{CrewOrder}
 use Rattle.cmd_solve.specs.Crews.{ordered_crew, IsSearchOf, HasEventsFrom, events_with, EventsBy, HasEvents}
 use Rattle.cmd_solve.proofs.Starting.{ComesFrom, begins}

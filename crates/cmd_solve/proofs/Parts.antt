@@ -5,7 +5,7 @@ use Rattle.block_program.specs.Blocked.{BlockedProgram}
 use Rattle.search_laws.specs.declared.Side.{Side}
 use Rattle.branch_tree.specs.declared.loaded.Loaded.{Loaded}
 use Rattle.branch_tree.specs.declared.outcome.Outcome.{Outcome}
-use Rattle.bp_front.specs.Front.{FilesCome, blocked}
+use Rattle.frontend.specs.Front.{FilesCome, blocked}
 use Rattle.search_outcome.specs.Endings.{EndsAt}
 use Rattle.cmd_solve.specs.Solves.{SolvesAt}
 use Rattle.search_outcome.specs.Outcomes.{TellsOf, HoldsPart, AsBeforeOr}

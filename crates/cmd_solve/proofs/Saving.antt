@@ -3,7 +3,7 @@ use Rattle.std.proofs.Common.{◌≡◌, ℕ, List, Option, Some, None}
 use Rattle.block_program.specs.Blocked.{BlockedProgram}
 use Rattle.branch_tree.specs.declared.outcome.Outcome.{Outcome}
 use Rattle.bp_shelf.specs.Shelf.{Files}
-use Rattle.bp_front.specs.Front.{FilesCome, blocked}
+use Rattle.frontend.specs.Front.{FilesCome, blocked}
 use Rattle.branch_tree.specs.declared.loaded.Loaded.{Loaded}
 use Rattle.search_start.specs.Starts.{BeginsBy}
 use Rattle.search_outcome.specs.Outcomes.{SavesBlocked}

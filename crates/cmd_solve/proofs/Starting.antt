@@ -13,18 +13,18 @@ use Rattle.branch_tree.specs.declared.loaded.Loaded.{Loaded}
 use Rattle.cert_load.specs.Loadings.{IsTooDeep}
 use Rattle.cert_load.specs.Recut.{with_cuts}
 use Rattle.cert_load.proofs.Reaching.{loaded_is_low}
-use Rattle.cert_form.specs.Fault.{IsCertText}
-use Rattle.cert_form.specs.Written.{cert_of}
+use Rattle.cert_format.specs.Fault.{IsCertText}
+use Rattle.cert_format.specs.Written.{cert_of}
 use Rattle.cert_text.specs.Programs.{frame_for}
-use Rattle.cert_form.proofs.LawProofs.{certificates_are_one}
+use Rattle.cert_format.proofs.LawProofs.{certificates_are_one}
 use Rattle.cert_report.specs.Certificates.{accepted_report, rejected_report}
 use Rattle.bp_report.specs.Refusals.{cert_refusal}
-use Rattle.bp_front.specs.Answers.{AnswersBy, IsOnly, CutsOff}
-use Rattle.bp_front.specs.Endings.{status_of}
-use Rattle.bp_front.proofs.Lifts.{printed_status}
+use Rattle.frontend.specs.Answers.{AnswersBy, IsOnly, CutsOff}
+use Rattle.frontend.specs.Endings.{status_of}
+use Rattle.frontend.proofs.Lifts.{printed_status}
 use Rattle.bp_shelf.specs.declared.shelf.ShelfFault.{ShelfFault}
 use Rattle.bp_shelf.specs.declared.shelf.ShelfFault.TheVariants.{Missing, Failed, NoMemory}
-use Rattle.bp_front.specs.declared.ending.Reply.{Reply}
+use Rattle.frontend.specs.declared.ending.Reply.{Reply}
 use Rattle.cmd_check.specs.Checks as checks
 use Rattle.cmd_check.proofs.OneAnswer.{one_check}
 use Rattle.cmd_check.proofs.Certificates.{one_written}

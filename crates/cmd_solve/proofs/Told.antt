@@ -10,7 +10,7 @@ use Rattle.branch_tree.specs.declared.outcome.Outcome.{Outcome}
 use Rattle.bp_search.specs.Ends.{EndsWithin, given_steps}
 use Rattle.bp_search.specs.Below.{steps_in}
 use Rattle.bp_report.specs.Report.{solve_report}
-use Rattle.bp_front.specs.Answers.{AnswersBy, IsOnly, CutsOff}
+use Rattle.frontend.specs.Answers.{AnswersBy, IsOnly, CutsOff}
 use Rattle.search_outcome.specs.Endings.{EndsOn, EndsAt}
 use Rattle.cmd_solve.specs.Solves.{SolvesBlocked, SolvesOn, SolvesAt}
 use Rattle.search_outcome.specs.Outcomes.{outcome_status, TellsOf, IsSaved}

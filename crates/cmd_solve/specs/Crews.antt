@@ -1,4 +1,4 @@
--- The events of a crew that searches.
+-- How a search went: from where it went on, and the events of a crew.
 use Rattle.std.specs.Prelude.{◌≡◌, ℕ, List, [], Option, Some, None}
 use Rattle.bp_shelf.specs.Shelf.{Files}
 use Rattle.block_program.specs.Blocked.{BlockedProgram}
@@ -8,7 +8,8 @@ use Rattle.branch_tree.specs.declared.loaded.Loaded.{Loaded}
 use Rattle.branch_tree.specs.declared.outcome.Outcome.{Outcome}
 use Rattle.bp_search.specs.Ends.{last_step}
 use Rattle.bp_crew.specs.Runs.{IsCrewRun}
-use Rattle.bp_front.specs.Front.{FilesCome, blocked}
+use Rattle.frontend.specs.Front.{FilesCome, blocked}
+use Rattle.search_outcome.specs.Endings.{GoesOnAt}
 use Rattle.search_start.specs.Starts.{BeginsBy}
 use Rattle.cmd_solve.specs.declared.crew.CrewOrder.{CrewOrder}
 
@@ -31,9 +32,14 @@ pub record IsCrewSearch (b : BlockedProgram) (from : Option Loaded) (steps : Opt
   pub run : IsCrewRun b start crew.workers crew.order (last_step start.grove steps) outcome events
 
 -- what a search's events are: those of the crew, or none where none was ordered
-abbrev pub IsSearchOf : BlockedProgram → Option Loaded → (steps : Option ℕ) → Option CrewOrder → Outcome → List Event → Type 0
-IsSearchOf b from steps None outcome events = events ≡ []
-IsSearchOf b from steps (Some crew) outcome events = IsCrewSearch b from steps crew outcome events
+abbrev pub HasEventsOf : BlockedProgram → Option Loaded → (steps : Option ℕ) → Option CrewOrder → Outcome → List Event → Type 0
+HasEventsOf b from steps None outcome events = events ≡ []
+HasEventsOf b from steps (Some crew) outcome events = IsCrewSearch b from steps crew outcome events
+
+-- how a search went: its outcome goes on from the tree that was loaded, where one was, and its events are those of the crew
+pub record IsSearchOf (b : BlockedProgram) (from : Option Loaded) (steps : Option ℕ) (crew : Option CrewOrder) (outcome : Outcome) (events : List Event) : Type 0 where
+  pub goes_on : GoesOnAt b from outcome
+  pub has_events : HasEventsOf b from steps crew outcome events
 
 -- the same beside what is kept: no events where nothing is
 abbrev pub HasEventsFrom : BlockedProgram → Option Loaded → (steps : Option ℕ) → Option CrewOrder → Option Outcome → List Event → Type 0
@@ -45,13 +51,14 @@ abbrev pub events_with : Option Outcome → List Event → List Event
 events_with None events = []
 events_with (Some outcome) events = events
 
--- the events of a program in blocks, beside what is kept: those of the search over the program with its cuts
+-- how the search of a program in blocks went, beside what is kept: that over the program with its cuts
 abbrev pub EventsBy : Files → (from : Option (List ℕ)) → (steps : Option ℕ) → Option CrewOrder → (cuts : ℕ) → BlockedProgram → Option Outcome → List Event → Type 0
 EventsBy files from steps crew cuts b None events = events ≡ []
 EventsBy files from steps crew cuts b (Some outcome) events =
     (c : BlockedProgram) × (start : Option Loaded) × BeginsBy files from cuts b c start × IsSearchOf c start steps crew outcome events
 
--- the events of `solve`: none where nothing is kept, and else those of the program in blocks that the files come to
+-- how the search of `solve` went: no events where nothing is kept, and else that of the program in blocks that the files come to, which
+-- goes on from the certificate of the named file where one is named
 abbrev pub HasEvents : Files → (lp : List ℕ) → (dec : Option (List ℕ)) → (steps : Option ℕ) → (from : Option (List ℕ)) → (workers order : Option ℕ) → (cuts : ℕ) → Option Outcome → List Event → Type 0
 HasEvents files lp dec steps from workers order cuts None events = events ≡ []
 HasEvents files lp dec steps from workers order cuts (Some outcome) events =

@@ -9,7 +9,7 @@ use Rattle.search_laws.specs.declared.Side.{Side}
 use Rattle.search_laws.specs.Grove.{GrowingTree, certificate_tree}
 use Rattle.bp_search.specs.Ends.{EndsWithin, given_steps}
 use Rattle.bp_search.specs.Below.{EndsBelow}
-use Rattle.bp_front.specs.Front.{FilesCome, blocked, ends}
+use Rattle.frontend.specs.Front.{FilesCome, blocked, ends}
 use Rattle.search_outcome.specs.Outcomes.{IsSaved, HoldsPart, AsBeforeOr}
 use Rattle.search_start.specs.Cuttings.{HasCuts}
 use Rattle.search_start.specs.Starts.{IsStartAt, RefusesStart, SearchesOver}

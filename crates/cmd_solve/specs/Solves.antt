@@ -10,7 +10,7 @@ use Rattle.branch_tree.specs.declared.loaded.Loaded.{Loaded}
 use Rattle.bp_search.specs.Ends.{EndsWithin, given_steps}
 use Rattle.bp_search.specs.Below.{EndsBelow}
 use Rattle.bp_report.specs.Report.{solve_report}
-use Rattle.bp_front.specs.Answers.{AnswersFront}
+use Rattle.frontend.specs.Answers.{AnswersFront}
 use Rattle.search_outcome.specs.Outcomes.{outcome_status}
 use Rattle.search_start.specs.Cuttings.{HasCuts}
 use Rattle.search_start.specs.Starts.{IsStartAt, RefusesStart}

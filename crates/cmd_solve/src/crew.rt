@@ -42,7 +42,8 @@ pub fn crew_ordered(workers: Option<u32>, order: Option<u64>) -> Option<CrewOrde
 }
 
 /// A search from a tree, or from the start, by a crew where one is ordered. Where there is a path, it works at that
-/// path of the tree and below it alone.
+/// path of the tree and below it alone. What it ends with goes on from the tree: only live leaves have grown, its point is no dearer, and its
+/// dual bound is no less.
 pub fn search_from(
     alloc: Global,
     b: &Blocked,

@@ -8,7 +8,7 @@ mod crew;
 ghost use Rattle.std.specs.Prelude.{[], ◌≡◌, ◌≢◌, ◌⊎◌, ◌≤◌, ◌^◌, IfSome, IsTrue, None};
 ghost use Rattle.std.specs.Option.{option_map};
 ghost use Rattle.branch_tree.specs.Loads.{IsLoaded};
-ghost use Rattle.bp_front.specs.Answers.{AnswersBy, IsOnly, CutsOff, HasCauses, PutsReport, FailsToWrite, FilesStand};
+ghost use Rattle.frontend.specs.Answers.{AnswersBy, IsOnly, CutsOff, HasCauses, PutsReport, FailsToWrite, FilesStand};
 ghost use Rattle.cmd_solve.specs.Solves.{AnswersSolve, SolvesBy, SolvesAt};
 ghost use Rattle.search_outcome.specs.Outcomes.{SavesBlocked, HoldsPart, AsBeforeOr};
 ghost use Rattle.cmd_solve.specs.Crews.{HasEventsFrom, EventsBy, HasEvents};
@@ -16,10 +16,10 @@ ghost use Rattle.cmd_solve.specs.Saves.{SavesBy, HasCertificate, LeavesAt, Leave
 
 use crate::crew::{CrewOrder, Searched, crew_ordered, kept_events, search_from};
 use block_program::Blocked;
-use bp_front::{Ended, Halt, Reply, load, print, stopped, stopped_by};
 use bp_shelf::{Shelf, Sink};
 use bp_theory::Items;
 use branch_tree::Loaded;
+use frontend::{Ended, Halt, Reply, load, print, stopped, stopped_by};
 use search_laws::Side;
 use search_outcome::tell;
 use search_start::{Start, begin};

@@ -36,8 +36,8 @@ use Rattle.bp_model.specs.Tidy.{as_term, nonzero}
 use Rattle.bp_model.proofs.TidyLemmas.{map_tidies}
 use Rattle.block_program.specs.Blocked.{RootBlock}
 use Rattle.block_program.proofs.StandLemmas.{coefficient_at}
-use Rattle.pricing.specs.Form.{cost_size}
-use Rattle.pricing.proofs.EndLaws.{number-le_reach, product-within}
+use Rattle.pricing_problem.specs.Form.{cost_size}
+use Rattle.pricing_problem.proofs.EndLaws.{number-le_reach, product-within}
 use Rattle.col_pool.specs.declared.column.Column.{Column}
 use Rattle.col_pool.specs.declared.fault.Added.{Added}
 use Rattle.col_pool.specs.declared.fault.Added.TheVariants.{New, Known}

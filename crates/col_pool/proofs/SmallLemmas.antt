@@ -24,7 +24,7 @@ use Rattle.bp_theory.proofs.CutProof.{cuts_are_met_lem}
 use Rattle.bp_model.specs.Named.{NamedProgram, IsKept, HasSmallEnds}
 use Rattle.block_program.specs.Blocked.{BlockedProgram, IsFormed}
 use Rattle.block_program.proofs.StandLemmas.{passing_few}
-use Rattle.pricing.specs.Form.{HasShortEnds, row_size, term_size, cost_size}
+use Rattle.pricing_problem.specs.Form.{HasShortEnds, row_size, term_size, cost_size}
 use Rattle.col_pool.specs.Pools.{HasSmallSums, root_block, costs_of, coefs_of}
 
 -- ---- sums over the variables of a block

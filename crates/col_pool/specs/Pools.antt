@@ -8,7 +8,7 @@ use Rattle.bp_theory.specs.Blocking.{Copy, Block, coef_in}
 use Rattle.bp_theory.specs.Bound.{IsPoint, spans_of}
 use Rattle.bp_model.specs.Miss.{IsFirstOutside, IsFirstMissed}
 use Rattle.block_program.specs.Blocked.{RootBlock, BlockedProgram}
-use Rattle.pricing.specs.Form.{IsForm, cost_size}
+use Rattle.pricing_problem.specs.Form.{IsForm, cost_size}
 use Rattle.col_pool.specs.declared.column.Column.{Column}
 use Rattle.col_pool.specs.declared.fault.Added.{Added}
 use Rattle.col_pool.specs.declared.fault.Added.TheVariants.{New, Known}

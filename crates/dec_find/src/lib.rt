@@ -1,7 +1,8 @@
-//! Decompositions for given master rows: the rows that a text lists, the blocks of the rows that they leave, and the text
-//! of a decomposition.
+//! Decompositions for given master rows, which a text lists or a caller marks: the rows that are left stand in blocks, two in one
+//! block exactly where shared variables join them. The text of a decomposition.
 #![tactic(auto)]
 
+mod marked;
 mod rows;
 mod text;
 mod trees;
@@ -13,12 +14,13 @@ ghost use Rattle.bp_model.specs.Named.{NamedProgram, IsKept};
 ghost use Rattle.block_form.specs.Checks.{HasBlockFault};
 ghost use Rattle.block_form.specs.declared.fault.BlockFault.{BlockFault};
 ghost use Rattle.block_form.specs.declared.fault.BlockFault.TheVariants as block;
-ghost use Rattle.dec_words.specs.declared.fault.RowsKind.{RowsKind};
-ghost use Rattle.dec_words.specs.Rows.{ListsRows, HasRowsFault};
-ghost use Rattle.row_blocks.specs.Joined.{Joined, IsFound, HasMaster, place_at};
+ghost use Rattle.dec_write.specs.declared.fault.RowsKind.{RowsKind};
+ghost use Rattle.dec_write.specs.Rows.{ListsRows, HasRowsFault};
+ghost use Rattle.dec_components.specs.Joined.{Joined, IsFound, HasMaster, place_at};
 
-pub use dec_words::{RowsFault, RowsKind};
-pub use row_blocks::FindFault;
+pub use dec_components::FindFault;
+pub use dec_write::{RowsFault, RowsKind};
+pub use marked::{beside, beside_or_plain};
 pub use rows::read_rows;
 pub use text::dec_text;
 pub use trees::find;

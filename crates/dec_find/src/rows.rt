@@ -1,10 +1,10 @@
 // The master rows that a text lists by their names.
 ghost use Rattle.std.specs.Prelude.{◌<◌, All, IfOk, IfErr, length};
-ghost use Rattle.dec_words.specs.Rows.{ListsRows, IsRowsFault};
+ghost use Rattle.dec_write.specs.Rows.{ListsRows, IsRowsFault};
 
 use bp_model::Model;
-use dec_tokens::{Cursor, next_word};
-use dec_words::{Listing, RowsFault, RowsKind};
+use dec_syntax::{Cursor, next_word};
+use dec_write::{Listing, RowsFault, RowsKind};
 use std::alloc::Global;
 
 /// The greatest length of a text in bytes.

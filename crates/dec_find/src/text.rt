@@ -3,10 +3,10 @@ ghost use Rattle.std.specs.Prelude.{◌≡◌, [], IfOk, All};
 ghost use Rattle.std.specs.List.{zip};
 ghost use Rattle.bp_theory.specs.Decomposition.{HasPlaces};
 ghost use Rattle.dec_read.specs.Reading.{ReadsDecomposition};
-ghost use Rattle.dec_words.specs.Text.{IsRowName, text_of, AreLines};
+ghost use Rattle.dec_write.specs.Text.{IsRowName, text_of, AreLines};
 
 use bp_model::{Dec, Model};
-use dec_words::Lines;
+use dec_write::Lines;
 use std::alloc::{AllocError, Global};
 
 // The lines of a decomposition.

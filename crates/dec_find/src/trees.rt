@@ -1,10 +1,10 @@
 // The blocks of the rows that master rows leave.
 ghost use Rattle.std.specs.Prelude.{◌≡◌, ◌≤◌, ◌<◌, IfOk, All, length};
-ghost use Rattle.row_blocks.specs.Joined.{IsFound, HasTooMany};
-ghost use Rattle.row_blocks.specs.declared.fault.FindFault.TheVariants.{Blocks};
+ghost use Rattle.dec_components.specs.Joined.{IsFound, HasTooMany};
+ghost use Rattle.dec_components.specs.declared.fault.FindFault.TheVariants.{Blocks};
 
 use bp_model::{Dec, Items, Model};
-use row_blocks::{FindFault, marks_of, numbered, tied_rows};
+use dec_components::{FindFault, marks_of, numbered, tied_rows};
 use std::alloc::Global;
 
 /// The greatest number of blocks.

@@ -2,14 +2,14 @@
 use Rattle.std.proofs.Common.{◌≡◌, ℕ, ◌≤◌, List, [], ◌∷◌, length, refl, sym, ◌∙◌, ap, subst, Option, None, Some, Ok}
 use Rattle.bp_theory.specs.Decomposition.{Decomposition}
 use Rattle.bp_model.specs.Named.{NamedProgram, IsKept}
-use Rattle.dec_tokens.specs.Cut.{Token, tokens, end_line}
-use Rattle.dec_tokens.specs.Parts.{Part, decomposition_of}
-use Rattle.dec_tokens.specs.Faults.{token_fault, end_fault}
-use Rattle.dec_tokens.specs.State.{HasRead, StandsBefore, Takes}
-use Rattle.dec_tokens.specs.declared.state.Reader.{Reader}
-use Rattle.dec_tokens.specs.declared.kind.DecKind.{DecKind}
-use Rattle.dec_tokens.proofs.ReadLemmas.{next_is, here, read_all}
-use Rattle.dec_tokens.proofs.PlaceLemmas.{IsPlaced, faultless_placed}
+use Rattle.dec_syntax.specs.Cut.{Token, tokens, end_line}
+use Rattle.dec_syntax.specs.Parts.{Part, decomposition_of}
+use Rattle.dec_syntax.specs.Faults.{token_fault, end_fault}
+use Rattle.dec_syntax.specs.State.{HasRead, StandsBefore, Takes}
+use Rattle.dec_syntax.specs.declared.state.Reader.{Reader}
+use Rattle.dec_syntax.specs.declared.kind.DecKind.{DecKind}
+use Rattle.dec_syntax.proofs.ReadLemmas.{next_is, here, read_all}
+use Rattle.dec_syntax.proofs.PlaceLemmas.{IsPlaced, faultless_placed}
 use Rattle.dec_read.specs.Reading.{ReadsDecomposition, HasDecTextFault, at_token, at_end}
 
 -- the next token at fault is the first

@@ -3,12 +3,12 @@ use Rattle.std.proofs.Common.{◌≡◌, ℕ, ◌<◌, ◌≤◌, ◌⊎◌, Lis
 use Rattle.std.proofs.lemmas.Bool.{cases_lt}
 use Rattle.bp_theory.specs.Decomposition.{Decomposition}
 use Rattle.bp_model.specs.Named.{NamedProgram}
-use Rattle.dec_tokens.specs.Cut.{tokens, end_line}
-use Rattle.dec_tokens.specs.Parts.{parts_of, decomposition_of}
-use Rattle.dec_tokens.specs.Faults.{fault_at, end_fault}
-use Rattle.dec_tokens.specs.declared.kind.DecKind.{DecKind}
-use Rattle.dec_tokens.specs.declared.kind.DecKind.TheVariants.{Limit}
-use Rattle.dec_tokens.proofs.FaultLemmas.{IsFirstBelow, first_or_none, fault_token, no_fault_past}
+use Rattle.dec_syntax.specs.Cut.{tokens, end_line}
+use Rattle.dec_syntax.specs.Parts.{parts_of, decomposition_of}
+use Rattle.dec_syntax.specs.Faults.{fault_at, end_fault}
+use Rattle.dec_syntax.specs.declared.kind.DecKind.{DecKind}
+use Rattle.dec_syntax.specs.declared.kind.DecKind.TheVariants.{Limit}
+use Rattle.dec_syntax.proofs.FaultLemmas.{IsFirstBelow, first_or_none, fault_token, no_fault_past}
 use Rattle.dec_read.specs.Reading.{ReadsDecomposition, HasDecTextFault, too_long, at_token, at_end}
 
 pub decomposition_or_fault_lem : (text : List ℕ) (m : NamedProgram) → ((d : Decomposition) × ReadsDecomposition text m d) ⊎ ((line : ℕ) × (kind : DecKind) × HasDecTextFault text m line kind)

@@ -3,11 +3,11 @@ use Rattle.std.specs.Prelude.{◌≡◌, ℕ, ◌<◌, ◌≤◌, List, length, 
 use Rattle.bp_theory.specs.Limits.{most_bytes}
 use Rattle.bp_theory.specs.Decomposition.{Decomposition}
 use Rattle.bp_model.specs.Named.{NamedProgram}
-use Rattle.dec_tokens.specs.Cut.{Token, tokens, end_line}
-use Rattle.dec_tokens.specs.Parts.{parts_of, decomposition_of}
-use Rattle.dec_tokens.specs.Faults.{fault_at, end_fault}
-use Rattle.dec_tokens.specs.declared.kind.DecKind.{DecKind}
-use Rattle.dec_tokens.specs.declared.kind.DecKind.TheVariants.{Limit}
+use Rattle.dec_syntax.specs.Cut.{Token, tokens, end_line}
+use Rattle.dec_syntax.specs.Parts.{parts_of, decomposition_of}
+use Rattle.dec_syntax.specs.Faults.{fault_at, end_fault}
+use Rattle.dec_syntax.specs.declared.kind.DecKind.{DecKind}
+use Rattle.dec_syntax.specs.declared.kind.DecKind.TheVariants.{Limit}
 use Rattle.dec_read.specs.declared.fault.DecFault.{DecFault}
 use Rattle.dec_read.specs.declared.fault.DecFault.TheVariants.{At, NoMemory}
 

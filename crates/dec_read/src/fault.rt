@@ -2,7 +2,7 @@
 ghost use Rattle.std.specs.Prelude.{◌≡◌};
 ghost use Rattle.dec_read.specs.declared.fault.DecFault.TheVariants.{NoMemory};
 
-use dec_tokens::DecKind;
+use dec_syntax::DecKind;
 use std::alloc::AllocError;
 use thiserror::Error;
 

@@ -8,12 +8,12 @@ ghost use Rattle.std.specs.Prelude.{◌≡◌, ◌≤◌, ◌⊎◌, ℕ, List, 
 ghost use Rattle.bp_theory.specs.Decomposition.{Decomposition, HasPlaces};
 ghost use Rattle.bp_model.specs.Dec.{HasListed};
 ghost use Rattle.bp_model.specs.Named.{NamedProgram};
-ghost use Rattle.dec_tokens.specs.declared.kind.DecKind.{DecKind};
+ghost use Rattle.dec_syntax.specs.declared.kind.DecKind.{DecKind};
 ghost use Rattle.dec_read.specs.Reading.{ReadsDecomposition, HasDecTextFault, IsFault};
 
 use bp_model::{Dec, Model};
-pub use dec_tokens::DecKind;
-use dec_tokens::{Cursor, Reader, end_line, next_word};
+pub use dec_syntax::DecKind;
+use dec_syntax::{Cursor, Reader, end_line, next_word};
 pub use fault::DecFault;
 use std::alloc::Global;
 

@@ -6,7 +6,7 @@ use Rattle.search_laws.specs.declared.UsedColumn.{UsedColumn}
 use Rattle.search_laws.specs.Spread.{IsSpread}
 use Rattle.block_program.specs.Blocked.{BlockedProgram}
 use Rattle.block_class.specs.Classes.{Grouping}
-use Rattle.column_deals.specs.Deals.{IsPointZone}
+use Rattle.column_assignment.specs.Deals.{IsPointZone}
 use Rattle.disagg.specs.declared.answer.Spread.{Spread}
 
 -- the point is there exactly where there is a spread, and the split exactly where a span has two numbers

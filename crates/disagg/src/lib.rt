@@ -6,6 +6,6 @@ mod answer;
 mod spreading;
 
 pub use answer::Spread;
-pub use column_deals::most_mixed;
+pub use column_assignment::most_mixed;
 pub use search_laws::UsedColumn as Used;
 pub use spreading::spread;

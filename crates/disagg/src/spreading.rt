@@ -2,14 +2,14 @@
 ghost use Rattle.std.specs.Prelude.{◌≡◌, ◌<◌, ◌^◌, length, All, IfOk, MatchOption};
 ghost use Rattle.bp_theory.specs.Trees.{IsZone};
 ghost use Rattle.search_laws.specs.Spread.{AreClasses, IsUsed};
-ghost use Rattle.column_deals.specs.Deals.{HasWeight, HaveNumbers};
+ghost use Rattle.column_assignment.specs.Deals.{HasWeight, HaveNumbers};
 ghost use Rattle.disagg.specs.Spreads.{IsSpreadOut};
 
 use crate::answer::Spread;
 use block_class::Classes;
 use block_program::{Blocked, Zone};
 use bp_theory::Items;
-use column_deals::{
+use column_assignment::{
     chosen_split, columns_of_blocks, copies_agree, dealt_point, decks, is_spreadable, most_mixed,
 };
 use search_laws::UsedColumn;

@@ -1,11 +1,11 @@
 // The pricer by a table.
-ghost use Rattle.load_table.specs.Rooms.{HasRoom, cells_of, count_of};
+ghost use Rattle.knapsack_table.specs.Rooms.{HasRoom, cells_of, count_of};
 ghost use Rattle.std.specs.Prelude.{◌≡◌, ◌≤◌, length, vec_len};
 
 use block_program::Block;
 use bp_theory::Span;
-use load_table::{Cells, Form, Table, is_taken, price_zone};
-use pricing::{Cap, Priced, Pricer, copied_spans};
+use knapsack_table::{Cells, Form, Table, is_taken, price_zone};
+use pricing_problem::{Cap, Priced, Pricer, copied_spans};
 use std::alloc::{AllocError, Global};
 
 /// What pricing a block by a table takes, but for the table's cells, which several plans may use one after the other.
@@ -20,12 +20,12 @@ pub struct KnapPlan {
 
 impl KnapPlan {
     ghost use Rattle.std.specs.Prelude.{◌≡◌, ◌≤◌, IfOk, vec_len};
-    ghost use Rattle.pricing.specs.Form.{IsForm, IsPriceable, AreOf};
-    ghost use Rattle.pricing.specs.Priced.{IsPriced};
-    ghost use Rattle.pricing.specs.declared.Cap.TheVariants.{Never};
+    ghost use Rattle.pricing_problem.specs.Form.{IsForm, IsPriceable, AreOf};
+    ghost use Rattle.pricing_problem.specs.Priced.{IsPriced};
+    ghost use Rattle.pricing_problem.specs.declared.Cap.TheVariants.{Never};
     ghost use Rattle.knap_price.specs.Kept.{plan_rows, plan_spans, plan_point};
-    ghost use Rattle.load_table.specs.Rooms.{cells_of, count_of};
-    ghost use Rattle.load_table.specs.Taken.{IsTaken};
+    ghost use Rattle.knapsack_table.specs.Rooms.{cells_of, count_of};
+    ghost use Rattle.knapsack_table.specs.Taken.{IsTaken};
 
     /// The plan of a block that a table takes.
     pub fn make(alloc: Global, block: &Block) -> Result<KnapPlan, AllocError>
@@ -96,9 +96,9 @@ pub struct KnapPricer {
 
 impl KnapPricer {
     ghost use Rattle.std.specs.Prelude.{◌↔◌, IsTrue, IfOk};
-    ghost use Rattle.pricing.specs.Form.{IsForm, AreOf};
+    ghost use Rattle.pricing_problem.specs.Form.{IsForm, AreOf};
     ghost use Rattle.knap_price.specs.Kept.{rows_of, spans_of};
-    ghost use Rattle.load_table.specs.Taken.{IsTaken};
+    ghost use Rattle.knapsack_table.specs.Taken.{IsTaken};
 
     /// Whether a table takes a block: exactly where the block has one row, and one more than its variables times one
     /// more than the row's reach is at most 1,048,576. The reach is the sum of each coefficient's magnitude times how
@@ -124,9 +124,9 @@ impl KnapPricer {
 
 impl Pricer for KnapPricer {
     ghost use Rattle.std.specs.Prelude.{◌≡◌};
-    ghost use Rattle.pricing.specs.Form.{IsPriceable, AreOf};
-    ghost use Rattle.pricing.specs.Priced.{IsPriced};
-    ghost use Rattle.pricing.specs.declared.Cap.TheVariants.{Never};
+    ghost use Rattle.pricing_problem.specs.Form.{IsPriceable, AreOf};
+    ghost use Rattle.pricing_problem.specs.Priced.{IsPriced};
+    ghost use Rattle.pricing_problem.specs.declared.Cap.TheVariants.{Never};
     ghost use Rattle.knap_price.specs.Kept.{rows_of, spans_of, kept_point};
 
     ghost rows = { rows_of };

@@ -22,19 +22,19 @@ use Rattle.bp_theory.proofs.ClassProof.{least_over_box_lem}
 use Rattle.bp_theory.proofs.RoundProof.{parts_add_up_lem}
 use Rattle.bp_theory.proofs.ShrinkProof.{one_bound_lem}
 use Rattle.search_laws.specs.Spread.{block_at}
-use Rattle.pricing.specs.Form.{cost_size}
-use Rattle.pricing.specs.Priced.{IsCheapest, IsPriced, HasNoPoint}
-use Rattle.pricing.specs.declared.Cap.{Cap}
-use Rattle.pricing.specs.declared.Cap.TheVariants.{Never}
-use Rattle.pricing.specs.declared.Priced.{Priced}
-use Rattle.pricing.specs.declared.Priced.TheVariants.{Least, Nothing, Cut}
-use Rattle.pricing.proofs.EndLaws.{number-le_reach, product-within}
-use Rattle.proof_costs.specs.Sizes.{reduced_costs, block_least, block_size, base_size, bound_size}
+use Rattle.pricing_problem.specs.Form.{cost_size}
+use Rattle.pricing_problem.specs.Priced.{IsCheapest, IsPriced, HasNoPoint}
+use Rattle.pricing_problem.specs.declared.Cap.{Cap}
+use Rattle.pricing_problem.specs.declared.Cap.TheVariants.{Never}
+use Rattle.pricing_problem.specs.declared.Priced.{Priced}
+use Rattle.pricing_problem.specs.declared.Priced.TheVariants.{Least, Nothing, Cut}
+use Rattle.pricing_problem.proofs.EndLaws.{number-le_reach, product-within}
+use Rattle.reduced_costs.specs.Sizes.{reduced_costs, block_least, block_size, base_size, bound_size}
 use Rattle.lagr_bound.specs.Bounded.{IsPartAnswer, IsBounded, IsBestPoint}
 use Rattle.lagr_bound.specs.declared.bounded.Bounded.{Bounded}
 use Rattle.lagr_bound.specs.declared.bounded.Bounded.TheVariants as bounds
-use Rattle.proof_costs.proofs.Steps.{base_within}
-use Rattle.proof_costs.proofs.FillLemmas.{no_block}
+use Rattle.reduced_costs.proofs.Steps.{base_within}
+use Rattle.reduced_costs.proofs.FillLemmas.{no_block}
 
 -- ---- the size of a part
 

@@ -12,8 +12,8 @@ use Rattle.bp_theory.proofs.ClassProof.{same_price_lem}
 use Rattle.search_laws.specs.Spread.{block_at, class_at}
 use Rattle.block_class.specs.Classes.{Grouping, AreSameClasses}
 use Rattle.lagr_bound.specs.Bounded.{IsLowest, IsBestPoint, IsTold, AreTold, IsKnown, AreKnown, IfLeast}
-use Rattle.pricing.specs.declared.Priced.{Priced}
-use Rattle.pricing.specs.declared.Priced.TheVariants.{Least, Nothing, Cut}
+use Rattle.pricing_problem.specs.declared.Priced.{Priced}
+use Rattle.pricing_problem.specs.declared.Priced.TheVariants.{Least, Nothing, Cut}
 
 -- what is known of a class is the part of each picked block of it
 pub known_part : (b : Blocking) (zone : List Span) (proof : Proof) (g : Grouping) (k : ℕ) (v : ℤ) → AreSameClasses zone b g → k < length b.blocks

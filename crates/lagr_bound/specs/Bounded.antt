@@ -7,11 +7,11 @@ use Rattle.bp_theory.specs.declared.Span.{Span}
 use Rattle.bp_theory.specs.declared.Picked.{Picked}
 use Rattle.bp_theory.specs.declared.Proof.{Proof}
 use Rattle.search_laws.specs.Spread.{block_at, class_at}
-use Rattle.pricing.specs.Priced.{IsExceeded, HasNoPoint}
-use Rattle.pricing.specs.declared.Cap.{Cap}
-use Rattle.pricing.specs.declared.Priced.{Priced}
-use Rattle.pricing.specs.declared.Priced.TheVariants.{Least, Nothing, Cut}
-use Rattle.proof_costs.specs.Sizes.{reduced_costs}
+use Rattle.pricing_problem.specs.Priced.{IsExceeded, HasNoPoint}
+use Rattle.pricing_problem.specs.declared.Cap.{Cap}
+use Rattle.pricing_problem.specs.declared.Priced.{Priced}
+use Rattle.pricing_problem.specs.declared.Priced.TheVariants.{Least, Nothing, Cut}
+use Rattle.reduced_costs.specs.Sizes.{reduced_costs}
 use Rattle.lagr_bound.specs.declared.bounded.Bounded.{Bounded}
 use Rattle.lagr_bound.specs.declared.bounded.Bounded.TheVariants as bounds
 

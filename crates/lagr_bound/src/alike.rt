@@ -4,9 +4,9 @@ ghost use Rattle.bp_theory.specs.Limits.{price_limit};
 ghost use Rattle.bp_theory.specs.Bound.{Fits, IsEndless};
 ghost use Rattle.bp_theory.specs.Trees.{IsZone};
 ghost use Rattle.block_class.specs.Classes.{AreSameClasses};
-ghost use Rattle.pricing.specs.declared.Cap.TheVariants.{Never};
-ghost use Rattle.block_forms.specs.Told.{told_point};
-ghost use Rattle.block_forms.specs.Forms.{forms_in};
+ghost use Rattle.pricing_problem.specs.declared.Cap.TheVariants.{Never};
+ghost use Rattle.block_pricers.specs.Told.{told_point};
+ghost use Rattle.block_pricers.specs.Forms.{forms_in};
 ghost use Rattle.block_pricers.specs.Works.{forms_of, point_at, IsSilent};
 ghost use Rattle.lagr_bound.specs.Bounded.{IsBounded, IfWhole, IsPartAnswer, TellsPoints, AreTold, AreKnown, IfLeast};
 
@@ -16,8 +16,8 @@ use block_class::Classes;
 use block_pricers::Work;
 use block_program::{Blocked, Zone};
 use bp_theory::Proof;
-use pricing::{Cap, Priced, plus};
-use proof_costs::{base, is_picked};
+use pricing_problem::{Cap, Priced, plus};
+use reduced_costs::{base, is_picked};
 
 /// The weak Lagrangian bound of a proof in a zone with the zone's classes, whose picked blocks are priced once a class:
 /// the lowest picked block, since blocks that are the same in the zone have the same least. It is the sum over all

@@ -3,8 +3,8 @@ ghost use Rattle.std.specs.Prelude.{◌≡◌, ◌<◌, length, unsigned_abs};
 ghost use Rattle.bp_theory.specs.Limits.{price_limit};
 ghost use Rattle.bp_theory.specs.Bound.{Fits, IsEndless};
 ghost use Rattle.bp_theory.specs.Trees.{IsZone};
-ghost use Rattle.pricing.specs.declared.Cap.TheVariants.{Never};
-ghost use Rattle.block_forms.specs.Forms.{forms_in};
+ghost use Rattle.pricing_problem.specs.declared.Cap.TheVariants.{Never};
+ghost use Rattle.block_pricers.specs.Forms.{forms_in};
 ghost use Rattle.block_pricers.specs.Works.{forms_of, IsSilent};
 ghost use Rattle.lagr_bound.specs.Bounded.{IsBounded, IfWhole};
 
@@ -12,8 +12,8 @@ use crate::parts::part;
 use block_pricers::Work;
 use block_program::{Blocked, Zone};
 use bp_theory::Proof;
-use pricing::{Cap, Priced, plus};
-use proof_costs::base;
+use pricing_problem::{Cap, Priced, plus};
+use reduced_costs::base;
 
 /// The weak Lagrangian bound of a proof in a zone, as far as it was priced.
 #[derive(Clone, Copy, Debug, PartialEq, Eq)]

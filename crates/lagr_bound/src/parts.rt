@@ -4,15 +4,15 @@ ghost use Rattle.bp_theory.specs.Bound.{Fits, IsPart, is_picked};
 ghost use Rattle.bp_theory.specs.Trees.{IsZone};
 ghost use Rattle.block_program.specs.Blocked.{IsFormed};
 ghost use Rattle.search_laws.specs.Spread.{block_at};
-ghost use Rattle.block_forms.specs.Forms.{forms_in};
+ghost use Rattle.block_pricers.specs.Forms.{forms_in};
 ghost use Rattle.block_pricers.specs.Works.{forms_of};
 ghost use Rattle.lagr_bound.specs.Bounded.{IsPartAnswer};
 
 use block_pricers::Work;
 use block_program::{Blocked, Zone};
 use bp_theory::Proof;
-use pricing::{Cap, Priced};
-use proof_costs::{box_least, is_picked};
+use pricing_problem::{Cap, Priced};
+use reduced_costs::{box_least, is_picked};
 
 /// What a block that isn't picked gives to a bound.
 pub fn box_part(b: &Blocked, number: u32, zone: &Zone, proof: &Proof) -> i128

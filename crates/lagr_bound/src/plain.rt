@@ -7,8 +7,8 @@ ghost use Rattle.bp_theory.specs.declared.Picked.TheVariants.{These};
 
 use block_program::{Blocked, Zone};
 use bp_theory::Proof;
-use pricing::plus;
-use proof_costs::{base, box_least};
+use pricing_problem::plus;
+use reduced_costs::{base, box_least};
 
 /// The weak Lagrangian bound of a proof that picks no block: what it gives before the blocks, and for each block the
 /// least of its reduced costs over its box in the zone. Its magnitude is below `2^116`.

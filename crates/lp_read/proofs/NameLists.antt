@@ -9,9 +9,9 @@ use Rattle.std.proofs.lemmas.Slice.Eq.{bytes_eq-Decides}
 use Rattle.std.specs.Prelude.{filter, Contains, slice_index_or, decimal}
 use Rattle.std.specs.List.{list_any}
 use Rattle.std.specs.Str.{bytes_eq}
-use Rattle.lp_tree.specs.Tree.{Name}
-use Rattle.lp_meaning.specs.Meaning.{has_name}
-use Rattle.lp_tree.specs.Roles.{firsts, has_twice, names_from}
+use Rattle.lp_syntax.specs.Tree.{Name}
+use Rattle.lp_semantics.specs.Meaning.{has_name}
+use Rattle.lp_syntax.specs.Roles.{firsts, has_twice, names_from}
 use Rattle.lp_read.specs.Noted.{with_name, row_name}
 
 equal : (m n : Name) → bytes_eq m n ≡ true → m ≡ n

@@ -10,12 +10,12 @@ use Rattle.std.specs.Str.{bytes_eq}
 use Rattle.lp_token.specs.declared.LpKind.{LpKind}
 use Rattle.lp_token.specs.declared.LpKind.TheVariants.{RowTwice, Limit}
 use Rattle.lp_read.specs.declared.notes.Notes.{Notes}
-use Rattle.lp_tree.specs.Tree.{Name, Symbol}
-use Rattle.lp_tree.specs.declared.tree.Site.{Site}
-use Rattle.lp_tree.specs.declared.tree.Site.TheVariants.{ObjectiveFirst as objective_first, ObjectiveMore as objective_more, RowFirst as row_first, RowMore as row_more, Listed as listed, Other as other}
-use Rattle.lp_meaning.specs.Meaning.{has_name}
-use Rattle.lp_meaning.specs.Reading.{place_of, row_places}
-use Rattle.lp_tree.specs.Roles.{Seen, seen, first_of_symbols, variable_of, counts_as_term, row_of, firsts, has_twice, names_from, variables, row_names, term_count, is_over_limit, role_fault}
+use Rattle.lp_syntax.specs.Tree.{Name, Symbol}
+use Rattle.lp_syntax.specs.declared.tree.Site.{Site}
+use Rattle.lp_syntax.specs.declared.tree.Site.TheVariants.{ObjectiveFirst as objective_first, ObjectiveMore as objective_more, RowFirst as row_first, RowMore as row_more, Listed as listed, Other as other}
+use Rattle.lp_semantics.specs.Meaning.{has_name}
+use Rattle.lp_semantics.specs.Reading.{place_of, row_places}
+use Rattle.lp_syntax.specs.Roles.{Seen, seen, first_of_symbols, variable_of, counts_as_term, row_of, firsts, has_twice, names_from, variables, row_names, term_count, is_over_limit, role_fault}
 use Rattle.lp_read.specs.Noted.{with_name, with_token, names_with, tokens_with, row_name, rows_with, row_tokens_with, is_repeated, is_repeated_in, terms_with, noted, are_too_many, AreNoted}
 use Rattle.lp_read.proofs.NameLists.{itself, firsts_has, firsts_push, rows_push, once_push, twice_push}
 

@@ -1,17 +1,17 @@
 -- Reading all symbols of a text.
 use Rattle.std.proofs.Common.{◌≡◌, ℕ, zero, suc, ◌+◌, ◌<◌, ◌≤◌, List, [], ◌∷◌, map, drop, length, refl, sym, ap, subst, arith, Option, Some}
 use Rattle.std.specs.Prelude.{slice_get, get_or, Result, Ok, Err, IfOk, IfErr, IsErrAnd}
-use Rattle.lp_tree.specs.declared.symbol as rust
-use Rattle.lp_grammar.specs.declared.stage.Stage.TheVariants as variants
-use Rattle.lp_tree.specs.declared.tree.Tree as trees
+use Rattle.lp_syntax.specs.declared.symbol as rust
+use Rattle.lp_parser.specs.declared.stage.Stage.TheVariants as variants
+use Rattle.lp_syntax.specs.declared.tree.Tree as trees
 use Rattle.lp_read.specs.declared.notes.Notes.{Notes}
 use Rattle.lp_read.specs.declared.notes.ParseFault.{ParseFault}
 use Rattle.lp_read.specs.declared.notes.ParseFault.TheVariants.{NoEnd}
 use Rattle.lp_read.specs.declared.parse.State.{State}
 use Rattle.lp_read.specs.declared.parse.Parsed.{Parsed}
-use Rattle.lp_tree.specs.Tree.{Symbol}
-use Rattle.lp_tree.specs.TreeIn.{symbol_in, next_in}
-use Rattle.lp_tree.specs.Roles.{first_of_symbols}
+use Rattle.lp_syntax.specs.Tree.{Symbol}
+use Rattle.lp_syntax.specs.TreeIn.{symbol_in, next_in}
+use Rattle.lp_syntax.specs.Roles.{first_of_symbols}
 use Rattle.lp_read.specs.Noted.{HaveRoom, AreNoted}
 use Rattle.lp_read.specs.Parsing.{IsRead, IsNext, IsParseFault, IsParsed, ReadsOn, StopsAt}
 use Rattle.lp_read.proofs.Noting.{none_noted}

@@ -6,26 +6,26 @@ use Rattle.std.proofs.lemmas.Bool.{cases_Bool, or_cases}
 use Rattle.std.specs.Prelude.{slice_get, get_or, Result, Ok, Err, IfOk, IfErr}
 use Rattle.lp_token.specs.declared.LpKind.{LpKind}
 use Rattle.lp_token.specs.declared.LpKind.TheVariants.{Syntax, RowTwice, Limit}
-use Rattle.lp_tree.specs.declared.symbol as rust
-use Rattle.lp_grammar.specs.declared.stage.Stage as stages
-use Rattle.lp_grammar.specs.declared.stage.Stage.TheVariants as variants
-use Rattle.lp_tree.specs.declared.tree.Tree as trees
-use Rattle.lp_grammar.specs.declared.stage.ObjectiveStage.TheVariants as objectives
-use Rattle.lp_grammar.specs.declared.stage.RowStage.TheVariants as rows
-use Rattle.lp_grammar.specs.declared.stage.BoundStage.TheVariants as bounds
+use Rattle.lp_syntax.specs.declared.symbol as rust
+use Rattle.lp_parser.specs.declared.stage.Stage as stages
+use Rattle.lp_parser.specs.declared.stage.Stage.TheVariants as variants
+use Rattle.lp_syntax.specs.declared.tree.Tree as trees
+use Rattle.lp_parser.specs.declared.stage.ObjectiveStage.TheVariants as objectives
+use Rattle.lp_parser.specs.declared.stage.RowStage.TheVariants as rows
+use Rattle.lp_parser.specs.declared.stage.BoundStage.TheVariants as bounds
 use Rattle.lp_read.specs.declared.notes.Notes.{Notes}
 use Rattle.lp_read.specs.declared.notes.ParseFault.{ParseFault}
 use Rattle.lp_read.specs.declared.notes.ParseFault.TheVariants.{At, NoEnd, NoMemory}
 use Rattle.lp_read.specs.declared.parse.State.{State}
 use Rattle.lp_read.specs.declared.parse.Parsed.{Parsed}
-use Rattle.lp_tree.specs.Tree.{Symbol, SyntaxTree, Written, IsText, spelling, sites}
-use Rattle.lp_tree.specs.declared.tree.Site.{Site}
-use Rattle.lp_tree.specs.TreeIn.{symbol_in, next_in, tree_in}
-use Rattle.lp_grammar.specs.StageIn.{stage_in}
-use Rattle.lp_grammar.specs.Parser.{Stage, start, done, step, Leads}
-use Rattle.lp_tree.specs.Roles.{Seen, seen, first_of_symbols, role_fault}
-use Rattle.lp_meaning.specs.Meaning.{tokens_of}
-use Rattle.lp_meaning.specs.Reading.{own_fault, StandsAt, AreSound, is_ended, is_end_word}
+use Rattle.lp_syntax.specs.Tree.{Symbol, SyntaxTree, Written, IsText, spelling, sites}
+use Rattle.lp_syntax.specs.declared.tree.Site.{Site}
+use Rattle.lp_syntax.specs.TreeIn.{symbol_in, next_in, tree_in}
+use Rattle.lp_parser.specs.StageIn.{stage_in}
+use Rattle.lp_parser.specs.Parser.{Stage, start, done, step, Leads}
+use Rattle.lp_syntax.specs.Roles.{Seen, seen, first_of_symbols, role_fault}
+use Rattle.lp_semantics.specs.Meaning.{tokens_of}
+use Rattle.lp_semantics.specs.Reading.{own_fault, StandsAt, AreSound, is_ended, is_end_word}
 use Rattle.lp_read.specs.Noted.{seen_in, noted, is_repeated_in, are_too_many, IsRoleFault, AreNoted}
 use Rattle.lp_read.specs.Parsing.{HasRead, IsReadBy, IsRead, IsNext, IsParseFault, IsParsed, ReadsOn, StopsAt}
 use Rattle.lp_read.proofs.Noting.{notes_more, sound_more, twice_more, limit_more, seen_more, no_tokens}

@@ -11,17 +11,17 @@ use Rattle.lp_token.specs.Cut.{Cut, IsCutFault, line_at}
 use Rattle.bp_model.specs.Named.{NamedProgram}
 use Rattle.lp_read.specs.declared.parse.Parsed.{Parsed}
 use Rattle.lp_read.specs.declared.notes.ParseFault.TheVariants as stops
-use Rattle.lp_meaning.specs.declared.MeaningFault.{MeaningFault}
-use Rattle.lp_meaning.specs.declared.MeaningFault.TheVariants as refusals
-use Rattle.lp_tree.specs.Tree.{Name, Symbol, SyntaxTree}
-use Rattle.lp_tree.specs.TreeIn.{tree_in}
-use Rattle.lp_tree.specs.Symbols.{symbols}
-use Rattle.lp_tree.specs.Roles.{variables}
-use Rattle.lp_meaning.specs.Meaning.{model_of, tokens_of}
-use Rattle.lp_meaning.specs.Reading.{AreSound, StandsAt, is_ended, place_of, row_places, line_of, IsTextOf, HasLpTextFault, too_long, uncut, at_token, unended, in_meaning}
+use Rattle.lp_semantics.specs.declared.MeaningFault.{MeaningFault}
+use Rattle.lp_semantics.specs.declared.MeaningFault.TheVariants as refusals
+use Rattle.lp_syntax.specs.Tree.{Name, Symbol, SyntaxTree}
+use Rattle.lp_syntax.specs.TreeIn.{tree_in}
+use Rattle.lp_syntax.specs.Symbols.{symbols}
+use Rattle.lp_syntax.specs.Roles.{variables}
+use Rattle.lp_semantics.specs.Meaning.{model_of, tokens_of}
+use Rattle.lp_semantics.specs.Reading.{AreSound, StandsAt, is_ended, place_of, row_places, line_of, IsTextOf, HasLpTextFault, too_long, uncut, at_token, unended, in_meaning}
 use Rattle.lp_read.specs.Parsing.{IsParsed, IsParseFault}
-use Rattle.lp_meaning.specs.PartsOf.{IsModelOf, IsRefused}
-use Rattle.lp_meaning.specs.Model.{Means, IsFaultOf}
+use Rattle.lp_semantics.specs.PartsOf.{IsModelOf, IsRefused}
+use Rattle.lp_semantics.specs.Model.{Means, IsFaultOf}
 use Rattle.lp_read.proofs.Readings.{symbols-length}
 
 pub text_of : (text : List ℕ) (tokens : List Tok) (p : Parsed) → IsParsed text (symbols text tokens) p → IsTextOf text tokens (tree_in text p.tree)

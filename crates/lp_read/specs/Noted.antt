@@ -5,13 +5,13 @@ use Rattle.lp_token.specs.declared.LpKind.TheVariants.{RowTwice, Limit}
 use Rattle.lp_read.specs.declared.notes.Notes.{Notes}
 use Rattle.lp_read.specs.declared.notes.ParseFault.{ParseFault}
 use Rattle.lp_read.specs.declared.notes.ParseFault.TheVariants.{At, NoEnd, NoMemory}
-use Rattle.lp_tree.specs.declared.symbol.Symbol.{Symbol}
-use Rattle.lp_tree.specs.Tree.{Name}
-use Rattle.lp_tree.specs.declared.tree.Site.{Site}
-use Rattle.lp_tree.specs.TreeIn.{symbol_in, next_in}
-use Rattle.lp_tree.specs.Roles.{Seen, variable_of, counts_as_term, row_of, variables, row_names, term_count}
-use Rattle.lp_meaning.specs.Meaning.{has_name}
-use Rattle.lp_meaning.specs.Reading.{place_of, row_places}
+use Rattle.lp_syntax.specs.declared.symbol.Symbol.{Symbol}
+use Rattle.lp_syntax.specs.Tree.{Name}
+use Rattle.lp_syntax.specs.declared.tree.Site.{Site}
+use Rattle.lp_syntax.specs.TreeIn.{symbol_in, next_in}
+use Rattle.lp_syntax.specs.Roles.{Seen, variable_of, counts_as_term, row_of, variables, row_names, term_count}
+use Rattle.lp_semantics.specs.Meaning.{has_name}
+use Rattle.lp_semantics.specs.Reading.{place_of, row_places}
 
 -- a symbol of the text in its site, with the one behind it
 abbrev pub seen_in : List ℕ → Site → Symbol → Option Symbol → Seen

@@ -1,17 +1,17 @@
 -- What a reader of a text's symbols keeps, and what it gives.
 use Rattle.std.specs.Prelude.{◌≡◌, ℕ, ◌+◌, List, map, take, drop, length, Option, None, Some, slice_get, IsFalse}
-use Rattle.lp_tree.specs.declared.symbol as symbols
+use Rattle.lp_syntax.specs.declared.symbol as symbols
 use Rattle.lp_read.specs.declared.notes.ParseFault.{ParseFault}
 use Rattle.lp_read.specs.declared.notes.ParseFault.TheVariants.{At, NoEnd, NoMemory}
 use Rattle.lp_read.specs.declared.parse.State.{State}
 use Rattle.lp_read.specs.declared.parse.Parsed.{Parsed}
-use Rattle.lp_tree.specs.Tree.{Symbol, Written, IsText, spelling}
-use Rattle.lp_tree.specs.TreeIn.{symbol_in, next_in, tree_in}
-use Rattle.lp_grammar.specs.StageIn.{stage_in}
-use Rattle.lp_grammar.specs.Parser.{Stage, start, Leads}
-use Rattle.lp_tree.specs.Roles.{seen, first_of_symbols, role_fault}
-use Rattle.lp_meaning.specs.Meaning.{tokens_of}
-use Rattle.lp_meaning.specs.Reading.{StandsAt, AreSound, is_ended}
+use Rattle.lp_syntax.specs.Tree.{Symbol, Written, IsText, spelling}
+use Rattle.lp_syntax.specs.TreeIn.{symbol_in, next_in, tree_in}
+use Rattle.lp_parser.specs.StageIn.{stage_in}
+use Rattle.lp_parser.specs.Parser.{Stage, start, Leads}
+use Rattle.lp_syntax.specs.Roles.{seen, first_of_symbols, role_fault}
+use Rattle.lp_semantics.specs.Meaning.{tokens_of}
+use Rattle.lp_semantics.specs.Reading.{StandsAt, AreSound, is_ended}
 use Rattle.lp_read.specs.Noted.{AreNoted}
 
 -- the first n symbols are read, up to a stage

@@ -3,19 +3,19 @@ ghost use Rattle.std.specs.Prelude.{◌≡◌, ℕ, ◌+◌, ◌<◌, ◌^◌, �
 ghost use Rattle.lp_token.specs.declared.LpKind.TheVariants.{RowTwice, Limit};
 ghost use Rattle.std.specs.Option.{ForSome};
 ghost use Rattle.lp_token.specs.Lexeme.{is_name};
-ghost use Rattle.lp_tree.specs.Tree as plain;
-ghost use Rattle.lp_tree.specs.declared.tree.Site.TheVariants.{RowFirst as row_first, Listed as listed};
-ghost use Rattle.lp_tree.specs.TreeIn.{IsNamed, symbol_in, next_in, name_in, label_in};
-ghost use Rattle.lp_tree.specs.Roles.{label_of, is_colon as specs_is_colon, is_name_symbol as specs_is_name, variable_of as specs_variable_of, counts_as_term as specs_counts_as_term, row_of as specs_row_of};
+ghost use Rattle.lp_syntax.specs.Tree as plain;
+ghost use Rattle.lp_syntax.specs.declared.tree.Site.TheVariants.{RowFirst as row_first, Listed as listed};
+ghost use Rattle.lp_syntax.specs.TreeIn.{IsNamed, symbol_in, next_in, name_in, label_in};
+ghost use Rattle.lp_syntax.specs.Roles.{label_of, is_colon as specs_is_colon, is_name_symbol as specs_is_name, variable_of as specs_variable_of, counts_as_term as specs_counts_as_term, row_of as specs_row_of};
 ghost use Rattle.lp_read.specs.Noted.{seen_in, with_name, with_token, names_with, tokens_with, row_name, rows_with, row_tokens_with, is_repeated, terms_with, with_rows, with_variables, noted, is_repeated_in, are_too_many, HaveRoom, HaveRoomForVariables, IsTwice, IsRowFault, IsRoleFault};
-ghost use Rattle.lp_tree.specs.declared.symbol.Symbol.TheVariants as symbols;
-ghost use Rattle.lp_meaning.specs.Meaning.{has_name};
+ghost use Rattle.lp_syntax.specs.declared.symbol.Symbol.TheVariants as symbols;
+ghost use Rattle.lp_semantics.specs.Meaning.{has_name};
 ghost use Rattle.lp_read.specs.declared.notes.ParseFault.TheVariants.{At, NoMemory};
 
 use bp_model::{MAX_ROWS, MAX_TERMS, MAX_VARS, Names};
 use bp_theory::Items;
+use lp_syntax::{Site, Symbol, TextRange, name_at};
 use lp_token::LpKind;
-use lp_tree::{Site, Symbol, TextRange, name_at};
 use std::alloc::{AllocError, Global};
 
 /// Why tokens are no text.

@@ -1,19 +1,19 @@
 // Reading the symbols of a text, one by one, up to its tree or its first fault.
 ghost use Rattle.std.specs.Prelude.{◌≡◌, ℕ, ◌+◌, ◌<◌, List, map, drop, length, IfOk, IfErr, All, None, Some, false};
-ghost use Rattle.lp_tree.specs.Tree as plain;
-ghost use Rattle.lp_tree.specs.declared.tree.Tree.{Tree};
-ghost use Rattle.lp_tree.specs.TreeIn.{IsNamed, symbol_in, next_in};
-ghost use Rattle.lp_tree.specs.Roles.{first_of_symbols};
-ghost use Rattle.lp_meaning.specs.Reading.{own_fault as specs_own_fault};
+ghost use Rattle.lp_syntax.specs.Tree as plain;
+ghost use Rattle.lp_syntax.specs.declared.tree.Tree.{Tree};
+ghost use Rattle.lp_syntax.specs.TreeIn.{IsNamed, symbol_in, next_in};
+ghost use Rattle.lp_syntax.specs.Roles.{first_of_symbols};
+ghost use Rattle.lp_semantics.specs.Reading.{own_fault as specs_own_fault};
 ghost use Rattle.lp_read.specs.Noted.{HaveRoom, seen_in, noted, is_repeated_in, are_too_many, IsRoleFault};
 ghost use Rattle.lp_read.specs.Parsing.{ReadsOn, StopsAt, IsParseFault, IsParsed};
-ghost use Rattle.lp_grammar.specs.declared.stage.Stage.TheVariants as stages;
+ghost use Rattle.lp_parser.specs.declared.stage.Stage.TheVariants as stages;
 ghost use Rattle.lp_read.specs.declared.notes.ParseFault.TheVariants as faults;
 
 use crate::notes::{Notes, ParseFault, let_notes_go, no_notes, note};
-use lp_grammar::{Stage, let_go, step};
+use lp_parser::{Stage, let_go, step};
+use lp_syntax::{Site, Symbol, Tree};
 use lp_token::LpKind;
-use lp_tree::{Site, Symbol, Tree};
 use std::alloc::Global;
 
 /// What is read so far, and what is noted of it.

@@ -1,22 +1,22 @@
 // The model that an LP text means, or its first fault.
 ghost use Rattle.std.specs.Prelude.{◌≡◌, ◌+◌, ◌≤◌, ◌^◌, length, count_by, slice_index_or, IfOk, IfErr};
 ghost use Rattle.lp_token.specs.Cut.{Cut, is_line_feed, line_at};
-ghost use Rattle.lp_tree.specs.Symbols.{symbols};
-ghost use Rattle.lp_tree.specs.TreeIn.{tree_in};
-ghost use Rattle.lp_tree.specs.Roles as roles;
-ghost use Rattle.lp_meaning.specs.Meaning.{tokens_of};
-ghost use Rattle.lp_meaning.specs.PartsOf.{IsTextOfSome, IsRefused, IsModelOf};
-ghost use Rattle.lp_meaning.specs.Reading.{line_of as specs_line_of};
+ghost use Rattle.lp_syntax.specs.Symbols.{symbols};
+ghost use Rattle.lp_syntax.specs.TreeIn.{tree_in};
+ghost use Rattle.lp_syntax.specs.Roles as roles;
+ghost use Rattle.lp_semantics.specs.Meaning.{tokens_of};
+ghost use Rattle.lp_semantics.specs.PartsOf.{IsTextOfSome, IsRefused, IsModelOf};
+ghost use Rattle.lp_semantics.specs.Reading.{line_of as specs_line_of};
 ghost use Rattle.lp_read.specs.Parsing.{IsParsed};
-ghost use Rattle.lp_meaning.specs.Model.{Means, IsFaultOf};
+ghost use Rattle.lp_semantics.specs.Model.{Means, IsFaultOf};
 
 use crate::notes::{Notes, ParseFault};
 use crate::parse::{Parsed, parse};
 use bp_model::{Model, Names};
 use bp_theory::Items;
-use lp_meaning::{MeaningFault, model_of};
+use lp_semantics::{MeaningFault, model_of};
+use lp_syntax::{Tree, symbols_of};
 use lp_token::{LpFault, LpKind, Tok, tokens};
-use lp_tree::{Tree, symbols_of};
 use std::alloc::Global;
 
 /// The greatest number of bytes of a text.

@@ -4,7 +4,7 @@ use Rattle.std.specs.Prelude.{ℕ, ℤ, pos, ◌+ℤ◌, ◌*ℤ◌, ◌≤ℤ�
 use Rattle.search_laws.specs.Master.{FitsTimes, one_weight, weighted_cost, gap, short}
 use Rattle.search_laws.proofs.MasterProof.{gap_bounds_lem, short_is_none_lem}
 use Rattle.master_lp.specs.declared.answer.MasterAnswer.{MasterAnswer}
-use Rattle.master_measure.specs.Restricted.{Restricted, IsModest}
+use Rattle.master_gap.specs.Restricted.{Restricted, IsModest}
 use Rattle.master_lp.specs.Answer.{IsAnswer, IsNearBest}
 
 no_less : {n m : ℕ} → pos n ≡ pos m → n ≡ m

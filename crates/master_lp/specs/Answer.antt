@@ -2,8 +2,8 @@
 use Rattle.std.specs.Prelude.{◌≡◌, ◌↔◌, ℕ, List, zip, length, ℤ, pos, ◌+ℤ◌, ◌*ℤ◌, ◌≤ℤ◌, All}
 use Rattle.search_laws.specs.Master.{AreConvex, FitsTimes, one_weight, weighted_cost, gap, short}
 use Rattle.master_lp.specs.declared.answer.MasterAnswer.{MasterAnswer}
-use Rattle.master_measure.specs.Restricted.{Restricted}
-use Rattle.master_measure.specs.Ranges.{AreWeights, AreMultipliers}
+use Rattle.master_gap.specs.Restricted.{Restricted}
+use Rattle.master_gap.specs.Ranges.{AreWeights, AreMultipliers}
 
 -- weights and multipliers as they should be, and each class's least price, the gap and what is short, exactly
 pub record IsAnswer (m : Restricted) (a : MasterAnswer) : Type 0 where

@@ -7,5 +7,5 @@ mod master;
 mod measure;
 
 pub use answer::MasterAnswer;
+pub use exact_simplex::Proposal;
 pub use master::{Master, solve_master};
-pub use master_simplex::Proposal;

@@ -1,12 +1,12 @@
 // The restricted master, kept between rounds.
 ghost use Rattle.std.specs.Prelude.{◌≡◌, IfOk, OnOk, OnErr};
-ghost use Rattle.master_measure.specs.Restricted.{IsModest, without_columns, with_column};
+ghost use Rattle.master_gap.specs.Restricted.{IsModest, without_columns, with_column};
 ghost use Rattle.master_lp.specs.Answer.{IsAnswer, IsNearBest};
 
 use crate::answer::MasterAnswer;
 use crate::measure::measured;
 use bp_theory::{Items, MasterRow};
-use master_simplex::{Proposal, Simplex};
+use exact_simplex::{Proposal, Simplex};
 use search_laws::Column;
 use std::alloc::{AllocError, Global};
 use std::marker::Model;
@@ -33,7 +33,7 @@ impl Drop for Master {
 }
 
 impl Model for Master {
-    ghost use Rattle.master_measure.specs.Restricted.{Restricted};
+    ghost use Rattle.master_gap.specs.Restricted.{Restricted};
 
     ghost Value = { Restricted };
 

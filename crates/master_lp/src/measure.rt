@@ -1,11 +1,11 @@
 // An answer from proposals: what it says of them is exact.
 ghost use Rattle.std.specs.Prelude.{IfOk};
-ghost use Rattle.master_measure.specs.Restricted.{IsModest};
+ghost use Rattle.master_gap.specs.Restricted.{IsModest};
 ghost use Rattle.master_lp.specs.Answer.{IsAnswer, IsNearBest};
 
 use crate::answer::MasterAnswer;
 use bp_theory::MasterRow;
-use master_measure::{clipped_multipliers, clipped_weights, gap_of, least_prices, short_of};
+use master_gap::{clipped_multipliers, clipped_weights, gap_of, least_prices, short_of};
 use search_laws::Column;
 use std::alloc::{AllocError, Global};
 

@@ -7,7 +7,7 @@ use Rattle.bp_theory.specs.Blocking.{Block, Blocking}
 use Rattle.bp_theory.specs.Bound.{IsBound, IsLeast, AreParts, plain_proof, reduced_cost, spans_of}
 use Rattle.bp_theory.specs.declared.Span.{Span}
 use Rattle.bp_theory.specs.declared.Row.{Row}
-use Rattle.lone_leaf.specs.Rowless.{AreRowless}
+use Rattle.compact_relaxation.specs.Rowless.{AreRowless}
 use Rattle.search_laws.specs.Verdicts.{every_block}
 
 parts_alike : (zone : List Span) (k : ℕ) (bs : List Block) (vs : List ℤ) → AllByRecursion (λ (b : Block). b.rows ≡ []) bs

@@ -15,8 +15,8 @@ use Rattle.bp_theory.proofs.ShrinkProof.{one_bound_lem}
 use Rattle.bp_theory.proofs.CutProof.{le-round_up}
 use Rattle.search_laws.specs.Spread.{block_at}
 use Rattle.search_laws.specs.Verdicts.{every_block}
-use Rattle.pricing.specs.Priced.{IsExceeded}
-use Rattle.pricing.specs.declared.Cap.TheVariants.{At}
+use Rattle.pricing_problem.specs.Priced.{IsExceeded}
+use Rattle.pricing_problem.specs.declared.Cap.TheVariants.{At}
 use Rattle.node_bound.specs.Openings.{IsStrong, IsReached, MayBeCut}
 use Rattle.node_bound.specs.Shown.{ShutsOff}
 

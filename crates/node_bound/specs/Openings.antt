@@ -5,8 +5,8 @@ use Rattle.bp_theory.specs.Blocking.{Blocking}
 use Rattle.bp_theory.specs.Bound.{IsBound, IsEndless, is_picked, spans_of}
 use Rattle.bp_theory.specs.declared.Proof.{Proof}
 use Rattle.bp_theory.specs.declared.Span.{Span}
-use Rattle.pricing.specs.Priced.{IsExceeded}
-use Rattle.pricing.specs.declared.Cap.TheVariants.{At}
+use Rattle.pricing_problem.specs.Priced.{IsExceeded}
+use Rattle.pricing_problem.specs.declared.Cap.TheVariants.{At}
 use Rattle.search_laws.specs.GroveFacts.{IsSoundProof}
 use Rattle.search_laws.specs.Spread.{block_at}
 use Rattle.search_laws.specs.Verdicts.{every_block, HasFewPrefixes}

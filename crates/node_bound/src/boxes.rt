@@ -3,7 +3,7 @@ ghost use Rattle.std.specs.Prelude.{◌≡◌, ◌<◌, ◌^◌, ◌≤ℤ◌, [
 ghost use Rattle.bp_theory.specs.Trees.{IsZone};
 ghost use Rattle.bp_theory.specs.declared.Picked.TheVariants.{These};
 ghost use Rattle.branch_tree.specs.Turns.{IsTurn};
-ghost use Rattle.lone_leaf.specs.Rowless.{AreRowless};
+ghost use Rattle.compact_relaxation.specs.Rowless.{AreRowless};
 ghost use Rattle.node_bound.specs.Shown.{IsShown, ShutsOff};
 ghost use Rattle.node_bound.specs.Openings.{IsStrong};
 

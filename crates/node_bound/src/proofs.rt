@@ -6,7 +6,7 @@ ghost use Rattle.search_laws.specs.Verdicts.{every_block};
 ghost use Rattle.node_bound.specs.Shown.{row_proof, block_proof};
 
 use bp_theory::{Items, Picked, Proof};
-use lone_leaf::at_scale;
+use compact_relaxation::at_scale;
 use std::alloc::{AllocError, Global};
 
 /// The proof of scale 1 that names no row and picks no block.

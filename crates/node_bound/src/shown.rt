@@ -5,7 +5,7 @@ ghost use Rattle.bp_theory.specs.Trees.{IsZone};
 ghost use Rattle.bp_theory.specs.declared.Picked.TheVariants.{These};
 ghost use Rattle.block_class.specs.Classes.{AreSameClasses};
 ghost use Rattle.branch_tree.specs.Turns.{IsTurn};
-ghost use Rattle.block_forms.specs.Forms.{forms_in};
+ghost use Rattle.block_pricers.specs.Forms.{forms_in};
 ghost use Rattle.block_pricers.specs.Works.{forms_of};
 ghost use Rattle.search_laws.specs.GroveFacts.{IsSoundProof};
 ghost use Rattle.node_bound.specs.Shown.{IsShown, ShutsOff, row_proof};
@@ -13,13 +13,12 @@ ghost use Rattle.node_bound.specs.Openings.{IsOpening, IsOfNoUse};
 
 use crate::proofs::{by_row, every};
 use block_class::Classes;
-use block_program::{Blocked, Zone};
+use block_program::{Blocked, MAX_SCALE, Zone, fits, signs_fit};
 use bp_theory::Proof;
 use branch_tree::{Turn, proof_copy};
-use hint_pools::{MOST_VISITS, PricingBudget};
 use lagr_bound::{Bounded, Work, bound, box_bound, round};
-use pricing::Cap;
-use proof_fit::{MAX_SCALE, fits, signs_fit};
+use node_memory::{MOST_VISITS, PricingBudget};
+use pricing_problem::Cap;
 use std::alloc::{AllocError, Global};
 
 /// The scale of a short proof.

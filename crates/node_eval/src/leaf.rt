@@ -2,7 +2,7 @@
 ghost use Rattle.std.specs.Prelude.{◌<◌, ◌^◌, unsigned_abs, IfOk, IfSome};
 ghost use Rattle.block_class.specs.Classes.{AreSameClasses};
 ghost use Rattle.branch_tree.specs.Turns.{IsTurn};
-ghost use Rattle.hint_pools.specs.Pools.{AreMadeFor};
+ghost use Rattle.node_memory.specs.Pools.{AreMadeFor};
 ghost use Rattle.search_laws.specs.Verdicts.{IsVerdict, IsThorough};
 ghost use Rattle.node_bound.specs.Shown.{IsShown, IsOpen, ShutsOff};
 ghost use Rattle.node_bound.specs.Openings.{IsStrong};
@@ -13,12 +13,12 @@ use block_class::Classes;
 use block_program::Blocked;
 use bp_theory::Proof;
 use branch_tree::{Next, Turn, Verdict};
-use lone_leaf::serves;
+use compact_relaxation::serves;
 use node_bound::{
     Opening, Shown, at_both_scales, better_point, cheaper, emptied, emptied_by, first_open,
     one_point, open_or, opened, settled,
 };
-use node_hint::{Hint, Pools, hinted, unreached};
+use node_heuristics::{Hint, Pools, hinted, unreached};
 use std::alloc::{AllocError, Global};
 
 /// The verdict on a live leaf: a point that is feasible and cheaper than the best cost, where one was found, and what is

@@ -1,18 +1,18 @@
 // The verdict on a leaf of a program whose blocks have no rows: each block's box is all of its points.
 ghost use Rattle.std.specs.Prelude.{IfOk};
 ghost use Rattle.branch_tree.specs.Turns.{IsTurn};
-ghost use Rattle.lone_leaf.specs.Rowless.{AreRowless};
-ghost use Rattle.hint_pools.specs.Pools.{AreMadeFor};
+ghost use Rattle.compact_relaxation.specs.Rowless.{AreRowless};
+ghost use Rattle.node_memory.specs.Pools.{AreMadeFor};
 ghost use Rattle.search_laws.specs.Verdicts.{IsVerdict, IsThorough};
 ghost use Rattle.node_bound.specs.Shown.{IsOpen};
 
 use block_program::Blocked;
 use branch_tree::{Next, Turn, Verdict};
-use lone_leaf::LoneHint;
+use compact_relaxation::LoneHint;
 use node_bound::{
     better_point, boxed, by_scaled, cheaper, open_or, raised_by_box, settled, shown_empty,
 };
-use node_hint::{Pools, lone_hinted};
+use node_heuristics::{Pools, lone_hinted};
 use std::alloc::{AllocError, Global};
 
 /// The verdict on a zone with an open variable of a program whose blocks have no rows.

@@ -2,7 +2,7 @@
 ghost use Rattle.std.specs.Prelude.{◌≡◌, ◌<◌, ◌^◌, ◌≤ℤ◌, ℤ, unsigned_abs};
 ghost use Rattle.bp_theory.specs.Trees.{IsZone};
 ghost use Rattle.block_class.specs.Classes.{AreSameClasses};
-ghost use Rattle.block_forms.specs.Forms.{forms_in};
+ghost use Rattle.block_pricers.specs.Forms.{forms_in};
 ghost use Rattle.block_pricers.specs.Works.{forms_of};
 ghost use Rattle.node_bound.specs.Shown.{IsShown};
 ghost use Rattle.node_bound.specs.Openings.{IsReached};
@@ -12,8 +12,8 @@ use block_program::{Blocked, Zone};
 use bp_theory::Proof;
 use lagr_bound::{Bounded, Work, bound};
 use node_bound::{Scaled, Shown, is_sound, raised_to};
-use node_hint::MOST_VISITS;
-use pricing::Cap;
+use node_heuristics::MOST_VISITS;
+use pricing_problem::Cap;
 
 /// A bound of a zone, or a greater one that two proofs show, the short one where it does as well.
 pub fn strongest(

@@ -4,12 +4,12 @@ use Rattle.bp_theory.specs.declared.CheckKind.{CheckKind}
 use Rattle.bp_theory.specs.declared.CheckKind.TheVariants as check
 use Rattle.lp_token.specs.declared.LpKind.{LpKind}
 use Rattle.lp_token.specs.declared.LpKind.TheVariants as lp
-use Rattle.dec_tokens.specs.declared.kind.DecKind.{DecKind}
-use Rattle.dec_tokens.specs.declared.kind.DecKind.TheVariants as dec
-use Rattle.dec_words.specs.declared.fault.RowsKind.{RowsKind}
-use Rattle.dec_words.specs.declared.fault.RowsKind.TheVariants as rows
-use Rattle.cert_form.specs.declared.fault.CertKind.{CertKind}
-use Rattle.cert_form.specs.declared.fault.CertKind.TheVariants as cert
+use Rattle.dec_syntax.specs.declared.kind.DecKind.{DecKind}
+use Rattle.dec_syntax.specs.declared.kind.DecKind.TheVariants as dec
+use Rattle.dec_write.specs.declared.fault.RowsKind.{RowsKind}
+use Rattle.dec_write.specs.declared.fault.RowsKind.TheVariants as rows
+use Rattle.cert_format.specs.declared.fault.CertKind.{CertKind}
+use Rattle.cert_format.specs.declared.fault.CertKind.TheVariants as cert
 
 -- a kind of fault of an LP text, as reports name it
 abbrev pub lp_kind_name : LpKind → List ℕ

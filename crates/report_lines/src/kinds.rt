@@ -3,9 +3,9 @@ ghost use Rattle.std.specs.Prelude.{◌≡◌};
 ghost use Rattle.report_lines.specs.Kinds.{lp_kind_name, dec_kind_name, rows_kind_name, cert_kind_name, check_kind_name};
 
 use bp_theory::CheckKind;
-use cert_form::CertKind;
+use cert_format::CertKind;
 use dec_read::DecKind;
-use dec_words::RowsKind;
+use dec_write::RowsKind;
 use lp_token::LpKind;
 
 /// A kind of fault of an LP text as reports name it.

@@ -1,2 +1,4 @@
 pub mod SeveralLemmas
 pub mod PlainCuts
+pub mod TakenLemmas
+pub mod OneList

@@ -18,16 +18,16 @@ use Rattle.bp_theory.specs.declared.Row.{Row}
 use Rattle.bp_theory.specs.declared.Cut.{Cut}
 use Rattle.block_program.specs.Cuts.{KeepsCuts, IsSmallCut}
 use Rattle.block_program.proofs.NamedRows.{own_rows}
-use Rattle.round_sums.specs.declared.fault.CutFault.{CutFault}
-use Rattle.round_sums.specs.declared.fault.CutFault.TheVariants.{Sign, Large, NoMemory}
-use Rattle.round_sums.specs.Cutting.{IsWhole, HasCutFault, HasFittingSigns, IsCutOver}
+use Rattle.cut_sums.specs.declared.fault.CutFault.{CutFault}
+use Rattle.cut_sums.specs.declared.fault.CutFault.TheVariants.{Sign, Large, NoMemory}
+use Rattle.cut_sums.specs.Cutting.{IsWhole, HasCutFault, HasFittingSigns, IsCutOver}
 use Rattle.round_cut.specs.Several.{AreCutsOver, AreRowsOfCuts}
-use Rattle.round_sums.specs.Plain.{IsDivisor, Sharpens, IsPlain, entry_of}
-use Rattle.round_sums.specs.PlainSteps.{IsUnit, IsPlainOf, SharpensRow}
-use Rattle.round_sums.proofs.RowLemmas.{all_links}
-use Rattle.round_sums.proofs.CutLemmas.{later_cut}
+use Rattle.cut_sums.specs.Plain.{IsDivisor, Sharpens, IsPlain, entry_of}
+use Rattle.cut_sums.specs.PlainSteps.{IsUnit, IsPlainOf, SharpensRow}
+use Rattle.cut_sums.proofs.RowLemmas.{all_links}
+use Rattle.cut_sums.proofs.CutLemmas.{later_cut}
 use Rattle.round_cut.proofs.SeveralLemmas.{one_row_more}
-use Rattle.round_sums.proofs.PlainLemmas.{one_divisor, same_cut, entry_is, row_is}
+use Rattle.cut_sums.proofs.PlainLemmas.{one_divisor, same_cut, entry_is, row_is}
 
 -- ---- a master row stands at its number whatever cuts there are
 

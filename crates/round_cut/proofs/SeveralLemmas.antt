@@ -11,11 +11,11 @@ use Rattle.bp_theory.specs.declared.Sense.TheVariants.{Ge}
 use Rattle.bp_theory.specs.declared.Row.{Row}
 use Rattle.bp_theory.specs.declared.Cut.{Cut}
 use Rattle.block_program.specs.Cuts.{KeepsCuts, IsSmallCut}
-use Rattle.round_sums.specs.Cutting.{HasCutFault, HasFittingSigns, IsCutOver, IsEarlierCut}
+use Rattle.cut_sums.specs.Cutting.{HasCutFault, HasFittingSigns, IsCutOver, IsEarlierCut}
 use Rattle.round_cut.specs.Several.{AreCutsOver, AreRowsOfCuts, HasCutsFault}
-use Rattle.round_sums.specs.declared.fault.CutFault.{CutFault}
-use Rattle.round_sums.specs.declared.fault.CutFault.TheVariants.{Sign, Large, NoMemory}
-use Rattle.round_sums.proofs.RoundLemmas.{closed_terms, tidy_within}
+use Rattle.cut_sums.specs.declared.fault.CutFault.{CutFault}
+use Rattle.cut_sums.specs.declared.fault.CutFault.TheVariants.{Sign, Large, NoMemory}
+use Rattle.cut_sums.proofs.RoundLemmas.{closed_terms, tidy_within}
 
 -- the rows of one cut more
 pub cut_rows_push : (p : Program) (d : Decomposition) (earlier : List Row) (cuts : List Cut) (cut : Cut)

@@ -1,1 +1,3 @@
 pub mod Several
+-- Other crates cite Taken.
+pub mod Taken

@@ -6,9 +6,9 @@ use Rattle.bp_theory.specs.Cuts.{cut_row, cut_rows}
 use Rattle.bp_theory.specs.declared.Row.{Row}
 use Rattle.bp_theory.specs.declared.Cut.{Cut}
 use Rattle.block_program.specs.Cuts.{KeepsCuts}
-use Rattle.round_sums.specs.Cutting.{HasCutFault, IsCutOver, IsEarlierCut}
-use Rattle.round_sums.specs.declared.fault.CutFault.{CutFault}
-use Rattle.round_sums.specs.declared.fault.CutFault.TheVariants.{Sign, Large, NoMemory}
+use Rattle.cut_sums.specs.Cutting.{HasCutFault, IsCutOver, IsEarlierCut}
+use Rattle.cut_sums.specs.declared.fault.CutFault.{CutFault}
+use Rattle.cut_sums.specs.declared.fault.CutFault.TheVariants.{Sign, Large, NoMemory}
 
 -- each cut keeps the rules over the rows of proofs before it
 abbrev pub AreCutsOver : Program → Decomposition → List Row → List Cut → Type 0

@@ -3,12 +3,12 @@ ghost use Rattle.std.specs.Prelude.{◌≡◌, ◌≤◌, ℤ, List, length, All
 ghost use Rattle.bp_theory.specs.Program.{IsFeasible, MeetsRow};
 ghost use Rattle.bp_theory.specs.Decomposition.{proof_rows};
 ghost use Rattle.bp_theory.specs.Cuts.{cut_row};
-ghost use Rattle.round_sums.specs.Cutting.{HasCutFault, HasFittingSigns, IsCutOver, IsEarlierCut};
-ghost use Rattle.round_sums.specs.Rows.{program_of, rows_in, IsRows};
+ghost use Rattle.cut_sums.specs.Cutting.{HasCutFault, HasFittingSigns, IsCutOver, IsEarlierCut};
+ghost use Rattle.cut_sums.specs.Rows.{program_of, rows_in, IsRows};
 
 use block_program::Blocked;
 use bp_theory::{Cut, Row};
-use round_sums::{CutFault, Rows, bounded_row, demand, round_up, rounded, signs_fit};
+use cut_sums::{CutFault, Rows, bounded_row, demand, round_up, rounded, signs_fit};
 use std::alloc::Global;
 
 /// The row of a cut of a program in blocks, over its master rows and the rows of earlier cuts, of which there are at most 255;

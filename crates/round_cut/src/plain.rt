@@ -1,14 +1,14 @@
 // The plain cuts of a program in blocks.
 ghost use Rattle.std.specs.Prelude.{◌≡◌, ◌≢◌, ◌+◌, ◌*◌, [], IfOk, None, OnOk};
-ghost use Rattle.round_sums.specs.declared.fault.CutFault.TheVariants.{NoMemory};
-ghost use Rattle.round_sums.specs.Plain.{AreFirstPlain};
-ghost use Rattle.round_sums.specs.PlainSteps.{rank_of, AreFirstBelow, IsPlainOf, IsUnit, SharpensRow};
-ghost use Rattle.round_sums.specs.Rows.{program_of, row_in, IsRows};
+ghost use Rattle.cut_sums.specs.declared.fault.CutFault.TheVariants.{NoMemory};
+ghost use Rattle.cut_sums.specs.Plain.{AreFirstPlain};
+ghost use Rattle.cut_sums.specs.PlainSteps.{rank_of, AreFirstBelow, IsPlainOf, IsUnit, SharpensRow};
+ghost use Rattle.cut_sums.specs.Rows.{program_of, row_in, IsRows};
 
 use crate::cut::row_over;
 use block_program::Blocked;
 use bp_theory::Cut;
-use round_sums::{CutFault, Rows, lone_cut, sharpening};
+use cut_sums::{CutFault, Rows, lone_cut, sharpening};
 use std::alloc::{AllocError, Global};
 
 /// The first plain cuts of a program in blocks, at most so many, in their order. A master row gives some where the greatest

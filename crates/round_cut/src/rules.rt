@@ -3,12 +3,12 @@ ghost use Rattle.std.specs.Prelude.{◌≡◌, ◌≢◌, ◌≤◌, ◌↔◌, 
 ghost use Rattle.std.specs.List.Sorted.{IsStrictlyIncreasing};
 ghost use Rattle.bp_theory.specs.Limits.{greatest_divisor};
 ghost use Rattle.bp_theory.specs.Decomposition.{proof_rows};
-ghost use Rattle.round_sums.specs.Cutting.{IsCutOver, IsEarlierCut, IsWhole};
-ghost use Rattle.round_sums.specs.Rows.{row_in, rows_in, IsRows};
+ghost use Rattle.cut_sums.specs.Cutting.{IsCutOver, IsEarlierCut, IsWhole};
+ghost use Rattle.cut_sums.specs.Rows.{row_in, rows_in, IsRows};
 
 use block_program::Blocked;
 use bp_theory::{Cut, Row};
-use round_sums::{MAX_DIVISOR, Rows};
+use cut_sums::{MAX_DIVISOR, Rows};
 
 /// Whether a cut has a divisor, keeps the limits, and combines master rows and earlier cuts alone, each once and in order.
 pub fn keeps_rules(b: &Blocked, earlier: &[Row], cut: &Cut) -> bool

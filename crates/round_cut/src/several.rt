@@ -8,7 +8,7 @@ use crate::cut::cut_row;
 use block_form::recut;
 use block_program::Blocked;
 use bp_theory::{Cut, Items, Row};
-use round_sums::{CutFault, copies_of};
+use cut_sums::{CutFault, copies_of};
 use std::alloc::{AllocError, Global};
 
 /// The program in blocks of the same model and decomposition that has these cuts in place of its own; there are at most 256,

@@ -15,7 +15,7 @@ use Rattle.cert_file.specs.declared.stop.StreamStop.{StreamStop}
 use Rattle.cert_file.specs.declared.stop.StreamStop.TheVariants.{Failed, NoMemory}
 use Rattle.bp_search.specs.Ends.{EndsWithin}
 use Rattle.search_laws.specs.Outcomes.{read_off}
-use Rattle.bp_front.specs.declared.ending.Reply.{Reply}
+use Rattle.frontend.specs.declared.ending.Reply.{Reply}
 use Rattle.search_outcome.specs.Outcomes.{outcome_certificate, IsSolved, TellsOf, IsSaved, IsPartOf, AsBeforeOr}
 
 -- the certificate of an outcome of a search is valid

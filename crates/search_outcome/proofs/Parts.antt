@@ -3,7 +3,7 @@ use Rattle.std.proofs.Common.{◌≡◌, ap, inl, inr, ℕ, List, Option, Some, 
 use Rattle.bp_shelf.specs.Shelf.{Files}
 use Rattle.block_program.specs.Blocked.{BlockedProgram}
 use Rattle.branch_tree.specs.declared.outcome.Outcome.{Outcome}
-use Rattle.bp_front.specs.declared.ending.Reply.{Reply}
+use Rattle.frontend.specs.declared.ending.Reply.{Reply}
 use Rattle.search_outcome.specs.Outcomes.{IsSolved, TellsOf, IsPartOf, HoldsPart, AsBeforeOr}
 use Rattle.search_outcome.proofs.Outcomes.{tells}
 

@@ -8,6 +8,7 @@ use Rattle.branch_tree.specs.declared.loaded.Loaded.{Loaded}
 use Rattle.branch_tree.specs.declared.outcome.Outcome.{Outcome}
 use Rattle.bp_search.specs.Ends.{EndsWithin, given_steps}
 use Rattle.bp_search.specs.Below.{EndsBelow}
+use Rattle.bp_search.specs.Resumed.{GoesOn}
 
 -- how a search ends that goes on from a tree, everywhere in it or at a path and below it alone, and how many steps its report
 -- tells: the given ones, or those that were taken
@@ -19,3 +20,8 @@ EndsOn b start (Some path) given outcome told = (ends : EndsBelow b start path g
 abbrev pub EndsAt : BlockedProgram → Option Loaded → (below : Option (List Side)) → (given : Option ℕ) → Outcome → (told : Option ℕ) → Type 0
 EndsAt b None below given outcome told = EndsWithin b (given_steps given) outcome × (told ≡ given)
 EndsAt b (Some from) below given outcome told = EndsOn b from.grove.tree below given outcome told
+
+-- an outcome goes on from a tree that was loaded, where one was
+abbrev pub GoesOnAt : BlockedProgram → Option Loaded → Outcome → Type 0
+GoesOnAt b None outcome = Unit {0}
+GoesOnAt b (Some from) outcome = GoesOn b from.grove from.best outcome

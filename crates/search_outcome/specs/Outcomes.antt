@@ -8,13 +8,13 @@ use Rattle.search_laws.specs.Outcomes.{read_off}
 use Rattle.branch_tree.specs.declared.outcome.Outcome.{Outcome}
 use Rattle.branch_tree.specs.declared.outcome.Outcome.TheVariants.{Optimal, Infeasible, Budget}
 use Rattle.bp_search.specs.Ends.{given_steps}
-use Rattle.cert_form.specs.Plain.{version_with}
-use Rattle.cert_form.specs.Fault.{IsText}
-use Rattle.cert_form.specs.Written.{cert_of}
+use Rattle.cert_format.specs.Plain.{version_with}
+use Rattle.cert_format.specs.Fault.{IsText}
+use Rattle.cert_format.specs.Written.{cert_of}
 use Rattle.cert_text.specs.Programs.{frame_for}
 use Rattle.cert_text.specs.Outcomes.{grove_of, claim_of, point_of}
 use Rattle.bp_report.specs.Report.{solve_report}
-use Rattle.bp_front.specs.declared.ending.Reply.{Reply}
+use Rattle.frontend.specs.declared.ending.Reply.{Reply}
 
 -- the status of an outcome: optimal, infeasible, or out of steps
 abbrev pub outcome_status : Outcome → ℕ

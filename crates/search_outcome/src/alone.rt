@@ -3,7 +3,8 @@ ghost use Rattle.std.specs.Prelude.{◌≡◌, ◌≤◌, ◌^◌, IfOk, IfSome}
 ghost use Rattle.branch_tree.specs.Loads.{IsLoaded};
 ghost use Rattle.cert_text.specs.Outcomes.{IsWritable};
 ghost use Rattle.bp_search.specs.Below.{steps_in};
-ghost use Rattle.search_outcome.specs.Endings.{EndsAt, EndsOn};
+ghost use Rattle.bp_search.specs.Resumed.{GoesOn};
+ghost use Rattle.search_outcome.specs.Endings.{EndsAt, EndsOn, GoesOnAt};
 
 use block_program::Blocked;
 use bp_search::{resume, resume_below, search};
@@ -24,6 +25,7 @@ pub fn search_alone(
     requires loaded { IfSome from (IsLoaded b.now) }
     requires few { IfSome steps (λ n. n ≤ 2 ^ 60) }
     ensures ends { IfOk result (λ r. EndsAt b.now from below steps r.0 r.1) }
+    ensures goes_on { IfOk result (λ r. GoesOnAt b.now from r.0) }
     ensures writable { IfOk result (λ r. IsWritable b.now r.0) }
 {
     match from {
@@ -46,6 +48,7 @@ fn search_on(
     requires loaded { IsLoaded b.now from }
     requires few { IfSome steps (λ n. n ≤ 2 ^ 60) }
     ensures ends { IfOk result (λ r. EndsOn b.now from.grove.tree below steps r.0 r.1) }
+    ensures goes_on { IfOk result (λ r. GoesOn b.now from.grove from.best r.0) }
     ensures writable { IfOk result (λ r. IsWritable b.now r.0) }
 {
     match below {

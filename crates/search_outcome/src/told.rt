@@ -5,16 +5,16 @@ ghost use Rattle.cert_text.specs.Outcomes.{IsWritable};
 ghost use Rattle.bp_search.specs.Ends.{EndsWithin};
 ghost use Rattle.cert_file.specs.Appends.{CountsStop};
 ghost use Rattle.cert_file.specs.declared.stop.StreamStop.TheVariants.{NoMemory};
-ghost use Rattle.bp_front.specs.Answers.{AnswersBy, IsOnly, CutsOff, HasCauses, PutsReport, FailsToWrite, FilesStand};
+ghost use Rattle.frontend.specs.Answers.{AnswersBy, IsOnly, CutsOff, HasCauses, PutsReport, FailsToWrite, FilesStand};
 ghost use Rattle.search_outcome.specs.Outcomes.{outcome_status, IsSolved, IsSaved, TellsOf, SavesBlocked, IsPartOf, HoldsPart, AsBeforeOr};
 
 use block_program::Blocked;
-use bp_front::{Ended, Reply, print, stopped};
 use bp_report::solve_text;
 use bp_search::MAX_STEPS;
 use bp_shelf::{Shelf, Sink};
 use branch_tree::Outcome;
 use cert_stream::{StreamStop, write_stream};
+use frontend::{Ended, Reply, print, stopped};
 use std::alloc::{AllocError, Global};
 
 /// Writes the certificate of an outcome, where a file is named for it, and prints the report, which tells so many steps. The

@@ -1,14 +1,14 @@
 // The pricer by search.
 ghost use Rattle.std.specs.Prelude.{◌≡◌, vec_len};
-ghost use Rattle.depth_search.specs.Sizes.{HasPlaces};
+ghost use Rattle.enumeration.specs.Sizes.{HasPlaces};
 
 use block_program::Block;
 use bp_theory::Span;
-use depth_search::{
+use enumeration::{
     Dive, Form, Frame, Multipliers, Relaxed, begin, explore, least_cost, rows_can_meet, set_order,
     visits_under,
 };
-use pricing::{Cap, Priced, Pricer};
+use pricing_problem::{Cap, Priced, Pricer};
 use std::alloc::{AllocError, Global};
 
 /// Prices by a depth first search over a block's variables, pruned by what each row can still reach, by cost, and by cost
@@ -32,7 +32,7 @@ pub struct SearchPricer {
 
 impl SearchPricer {
     ghost use Rattle.std.specs.Prelude.{IfOk};
-    ghost use Rattle.pricing.specs.Form.{IsForm, AreOf};
+    ghost use Rattle.pricing_problem.specs.Form.{IsForm, AreOf};
     ghost use Rattle.search_price.specs.Kept.{rows_of, spans_of};
 
     /// The pricer of a block.

@@ -8,10 +8,10 @@ use Rattle.search_laws.specs.declared.Side.{Side}
 use Rattle.branch_tree.specs.declared.loaded.Loaded.{Loaded}
 use Rattle.cert_load.specs.Loadings.{IsLoadedOf, IsTooDeep}
 use Rattle.cert_load.specs.Recut.{with_cuts}
-use Rattle.cert_form.specs.Fault.{IsCertText}
+use Rattle.cert_format.specs.Fault.{IsCertText}
 use Rattle.cert_text.specs.Programs.{frame_for}
-use Rattle.cert_form.specs.Kept.{certificate_of, kept_cert}
-use Rattle.cert_form.specs.declared.cert.Cert.{Cert as Kept}
+use Rattle.cert_format.specs.Kept.{certificate_of, kept_cert}
+use Rattle.cert_format.specs.declared.cert.Cert.{Cert as Kept}
 use Rattle.cert_check.specs.Judging.{IsJudged}
 use Rattle.cert_check.specs.declared.judge.Judged.{Judged}
 use Rattle.cert_check.specs.declared.judge.Judged.TheVariants.{Accepted, Rejected, Unknown}

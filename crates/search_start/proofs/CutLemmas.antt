@@ -8,7 +8,7 @@ use Rattle.block_program.specs.Blocked.{BlockedProgram, IsFormed}
 use Rattle.block_program.specs.Cuts.{KeepsCuts}
 use Rattle.branch_tree.specs.Loads.{IsLoaded}
 use Rattle.branch_tree.specs.declared.loaded.Loaded.{Loaded}
-use Rattle.round_sums.specs.Plain.{IsPlain, ComesBefore, AreFirstPlain}
+use Rattle.cut_sums.specs.Plain.{IsPlain, ComesBefore, AreFirstPlain}
 use Rattle.round_cut.proofs.PlainCuts.{plain_keep}
 use Rattle.round_cut.proofs.SeveralLemmas.{rows_of_kept}
 use Rattle.cert_load.specs.Recut.{with_cuts}

@@ -4,8 +4,8 @@ use Rattle.bp_theory.specs.Limits.{most_cuts}
 use Rattle.bp_theory.specs.declared.Cut.{Cut}
 use Rattle.block_program.specs.Blocked.{BlockedProgram}
 use Rattle.block_program.specs.Cuts.{KeepsCuts}
-use Rattle.round_sums.specs.Plain.{AreFirstPlain}
-use Rattle.cut_list.specs.Taken.{GoesOn}
+use Rattle.cut_sums.specs.Plain.{AreFirstPlain}
+use Rattle.round_cut.specs.Taken.{GoesOn}
 use Rattle.cert_load.specs.Recut.{with_cuts}
 
 -- how many cuts may be added behind those that there are: at most so many as are ordered, and no more than 256 in all

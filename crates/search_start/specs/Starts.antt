@@ -10,13 +10,13 @@ use Rattle.branch_tree.specs.Loads.{IsLoaded}
 use Rattle.branch_tree.specs.declared.loaded.Loaded.{Loaded}
 use Rattle.cert_load.specs.Loadings.{IsLoadedOf, IsTooDeep}
 use Rattle.cert_load.specs.Recut.{with_cuts}
-use Rattle.cert_form.specs.Fault.{IsCertText}
-use Rattle.cert_form.specs.Fault as texts
-use Rattle.cert_form.specs.Written.{cert_of}
-use Rattle.cert_form.specs.Kept.{kept_cert}
-use Rattle.cert_form.specs.declared.cert.Cert.{Cert}
+use Rattle.cert_format.specs.Fault.{IsCertText}
+use Rattle.cert_format.specs.Fault as texts
+use Rattle.cert_format.specs.Written.{cert_of}
+use Rattle.cert_format.specs.Kept.{kept_cert}
+use Rattle.cert_format.specs.declared.cert.Cert.{Cert}
 use Rattle.cert_text.specs.Programs.{frame_for}
-use Rattle.cert_form.specs.declared.fault.CertKind.{CertKind}
+use Rattle.cert_format.specs.declared.fault.CertKind.{CertKind}
 use Rattle.cert_report.specs.Certificates.{rejected_report}
 use Rattle.bp_report.specs.Refusals.{cert_refusal, from_refusal, leaf_refusal}
 use Rattle.search_start.specs.Cuttings.{HasCuts}

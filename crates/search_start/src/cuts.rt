@@ -7,9 +7,8 @@ ghost use Rattle.search_start.specs.Cuttings.{room_behind, HasCuts, HasPlain, Ha
 
 use block_program::Blocked;
 use bp_theory::Cut;
-use cut_hint::choose;
-use cut_list::copies_of;
-use round_cut::{CutFault, first_cuts, with_cuts};
+use cut_separation::choose;
+use round_cut::{CutFault, copies_of, first_cuts, with_cuts};
 use std::alloc::{AllocError, Global};
 
 // How many cuts a program may have.

@@ -1,6 +1,6 @@
 // The open leaf of a certificate's tree that a number names.
 ghost use Rattle.std.specs.Prelude.{◌≡◌, IfOk};
-ghost use Rattle.cert_form.specs.Sketch.{tree_of};
+ghost use Rattle.cert_format.specs.Sketch.{tree_of};
 ghost use Rattle.search_start.specs.Leaves.{open_path, Seeks};
 
 use bp_theory::Items;

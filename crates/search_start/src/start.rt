@@ -4,7 +4,7 @@ ghost use Rattle.std.specs.Option.{option_map};
 ghost use Rattle.bp_theory.specs.Claims.{IsCertified};
 ghost use Rattle.bp_shelf.specs.Shelf.{CountsFailed};
 ghost use Rattle.bp_shelf.specs.declared.shelf.ShelfFault.TheVariants.{Missing};
-ghost use Rattle.cert_form.specs.Kept.{certificate_of};
+ghost use Rattle.cert_format.specs.Kept.{certificate_of};
 ghost use Rattle.cert_text.specs.Programs.{GoesWith};
 ghost use Rattle.branch_tree.specs.Loads.{IsLoaded};
 ghost use Rattle.cert_load.specs.Loadings.{IsLoadedOf};
@@ -14,7 +14,6 @@ ghost use Rattle.search_start.specs.Starts.{IsReady, StartsBy, StartsOf, StartsA
 use crate::cuts::with_added;
 use crate::leaf::open_path;
 use block_program::Blocked;
-use bp_front::{Reply, read_front};
 use bp_report::{cert_text, from_text, leaf_text};
 use bp_shelf::{Shelf, ShelfFault};
 use bp_theory::Items;
@@ -23,6 +22,7 @@ use cert_check::{Judged, check as judge};
 use cert_load::{LoadFault, load, with_cuts_of};
 use cert_report::check_text;
 use cert_text::{Cert, CertFault, read_cert};
+use frontend::{Reply, read_front};
 use search_laws::Side;
 use std::alloc::{AllocError, Global};
 

@@ -6,7 +6,7 @@ use Rattle.std.specs.List.{AllByRecursion}
 use Rattle.std.proofs.lemmas.Bool.{cases_lt}
 use Rattle.std.proofs.lemmas.List.{get_or_default}
 use Rattle.std.proofs.lemmas.List.Elements.{recursion_from_All, All-from_recursion}
-use Rattle.pricing.specs.Form.{HasShortEnds}
+use Rattle.pricing_problem.specs.Form.{HasShortEnds}
 use Rattle.state_graph.proofs.ColumnLaws.{old_at, new_at}
 use Rattle.std.proofs.lemmas.Int.{ints, clamps}
 use Rattle.bp_theory.specs.Program.{span_at, activity, IsWithin, IsInside, Meets}

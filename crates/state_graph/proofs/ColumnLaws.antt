@@ -18,8 +18,8 @@ use Rattle.bp_theory.specs.declared.Row.{Row}
 use Rattle.bp_theory.specs.declared.Sense.TheVariants.{Le}
 use Rattle.bp_theory.proofs.SumLaws.{sum_of_more, dot-map-map}
 use Rattle.bp_theory.proofs.KeyLaws.{if_same, if_other, sum_of-by_key}
-use Rattle.pricing.specs.Ends.{top_cost}
-use Rattle.pricing.proofs.EndLaws.{end_cost-le, top_cost-ge}
+use Rattle.pricing_problem.specs.Ends.{top_cost}
+use Rattle.pricing_problem.proofs.EndLaws.{end_cost-le, top_cost-ge}
 use Rattle.state_graph.specs.Windows.{coef_of}
 use Rattle.state_graph.specs.Columns.{AreCoefs, AreDense, AreWidened}
 use Rattle.state_graph.specs.Layers.{row_sum, AreHulls}

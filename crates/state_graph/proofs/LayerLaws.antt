@@ -10,7 +10,7 @@ use Rattle.bp_theory.specs.Decomposition.{HasVariablesBelow}
 use Rattle.bp_theory.specs.declared.Span.{Span}
 use Rattle.bp_theory.specs.declared.Row.{Row}
 use Rattle.bp_theory.proofs.ZipLaws.{AllZip-length}
-use Rattle.pricing.specs.Form.{row_size, cost_size}
+use Rattle.pricing_problem.specs.Form.{row_size, cost_size}
 use Rattle.state_graph.specs.Windows.{coef_of}
 use Rattle.state_graph.specs.Columns.{IsLong, hull_with, AreDense, IsColumn, AreWidened, AreRefined, AreFirst}
 use Rattle.state_graph.specs.Layers.{spans_in, row_sum, AreHulls, AreTwins, AreLayers, AreClosed, AreLayersOf}

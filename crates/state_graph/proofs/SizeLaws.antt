@@ -14,9 +14,9 @@ use Rattle.bp_theory.proofs.SumLaws.{sum_of_so_far_within}
 use Rattle.bp_theory.proofs.KeyLaws.{if_same, if_other}
 use Rattle.bp_theory.specs.Bound.{end_cost}
 use Rattle.bp_theory.specs.declared.Sense.TheVariants.{Le}
-use Rattle.pricing.specs.Ends.{top_cost}
-use Rattle.pricing.specs.Form.{term_size, row_size, cost_size}
-use Rattle.pricing.proofs.EndLaws.{end_cost-within, top_cost-within}
+use Rattle.pricing_problem.specs.Ends.{top_cost}
+use Rattle.pricing_problem.specs.Form.{term_size, row_size, cost_size}
+use Rattle.pricing_problem.proofs.EndLaws.{end_cost-within, top_cost-within}
 use Rattle.state_graph.specs.Windows.{coef_of}
 use Rattle.state_graph.specs.Columns.{AreDense, IsLong, hull_with}
 use Rattle.state_graph.proofs.ColumnLaws.{coefs_by_places}

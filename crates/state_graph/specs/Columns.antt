@@ -5,7 +5,7 @@ use Rattle.bp_theory.specs.Bound.{end_cost}
 use Rattle.bp_theory.specs.declared.Span.{Span}
 use Rattle.bp_theory.specs.declared.Term.{Term}
 use Rattle.bp_theory.specs.declared.Row.{Row}
-use Rattle.pricing.specs.Ends.{top_cost}
+use Rattle.pricing_problem.specs.Ends.{top_cost}
 use Rattle.state_graph.specs.Windows.{coef_of, twin_at}
 
 -- the coefficient of each variable in a row's terms

@@ -5,7 +5,7 @@ use Rattle.bp_theory.specs.Program.{span_at}
 use Rattle.bp_theory.specs.Classes.{width, prefixes}
 use Rattle.bp_theory.specs.declared.Span.{Span}
 use Rattle.bp_theory.specs.declared.Row.{Row}
-use Rattle.pricing.specs.Priced.{HasNoPoint}
+use Rattle.pricing_problem.specs.Priced.{HasNoPoint}
 
 -- the most arcs of a graph before its nodes are merged
 abbrev pub most_arcs : ℕ

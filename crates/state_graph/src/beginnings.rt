@@ -2,7 +2,7 @@
 ghost use Rattle.std.specs.Prelude.{◌≡◌, ◌+◌, ◌*◌, ◌≤◌, All};
 ghost use Rattle.std.specs.Bool.{OnTrue};
 ghost use Rattle.bp_theory.specs.Classes.{width};
-ghost use Rattle.pricing.specs.Form.{HasShortEnds};
+ghost use Rattle.pricing_problem.specs.Form.{HasShortEnds};
 ghost use Rattle.state_graph.specs.Limits.{beginnings};
 
 use crate::expand::count_of;

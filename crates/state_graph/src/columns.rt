@@ -2,14 +2,14 @@
 ghost use Rattle.std.specs.Prelude.{◌≡◌, ◌<◌, ◌≤◌, ◌^◌, ◌+ℤ◌, unsigned_abs, IfOk, IfSome, IfNone, All, ℕ, List, ◌*◌, ◌⊎◌, sum_by, FitsSigned, length};
 ghost use Rattle.bp_theory.specs.Bound.{end_cost};
 ghost use Rattle.bp_theory.specs.Program.{span_at};
-ghost use Rattle.pricing.specs.Ends.{top_cost};
+ghost use Rattle.pricing_problem.specs.Ends.{top_cost};
 ghost use Rattle.bp_theory.specs.Decomposition.{HasVariablesBelow};
 ghost use Rattle.std.specs.Bool.{OnTrue, OnFalse};
 ghost use Rattle.std.specs.Int.{w64};
 ghost use Rattle.bp_theory.specs.Limits.{number_limit};
 ghost use Rattle.bp_theory.specs.declared.Span.{Span};
 ghost use Rattle.state_graph.specs.Windows.{coef_of};
-ghost use Rattle.pricing.specs.Form.{IsForm, term_size, row_size};
+ghost use Rattle.pricing_problem.specs.Form.{IsForm, term_size, row_size};
 ghost use Rattle.state_graph.specs.Layers.{AreLayersOf};
 ghost use Rattle.state_graph.specs.Limits.{most_coefs, HasLongSpan};
 ghost use Rattle.state_graph.specs.Columns.{AreCoefs, AreDense, IsColumn, IsLong, hull_with, AreWidened, AreZeros};

@@ -4,7 +4,7 @@ ghost use Rattle.std.specs.Bool.{OnTrue, OnFalse};
 ghost use Rattle.bp_theory.specs.Program.{IsWithin};
 ghost use Rattle.bp_theory.specs.declared.Span.{Span};
 ghost use Rattle.bp_theory.specs.Classes.{width};
-ghost use Rattle.pricing.specs.Form.{HasShortEnds};
+ghost use Rattle.pricing_problem.specs.Form.{HasShortEnds};
 ghost use Rattle.state_graph.specs.Layers.{IsShaped};
 ghost use Rattle.state_graph.specs.Expansions.{IsStateOf, IsBuilt, IsExpanded, IsLeft, IsGone, HaveRows};
 

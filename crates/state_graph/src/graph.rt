@@ -2,7 +2,7 @@
 ghost use Rattle.std.specs.Prelude.{◌≡◌, ◌<◌, ◌≤◌, ◌^◌, ◌↔◌, ◌⊎◌, ℕ, [], pos, All, IfOk, IfSome, IfNone, IsTrue, length, vec_len};
 ghost use Rattle.bp_theory.specs.Classes.{prefixes};
 ghost use Rattle.bp_theory.specs.Program.{IsWithin};
-ghost use Rattle.pricing.specs.Form.{IsForm, HasShortEnds};
+ghost use Rattle.pricing_problem.specs.Form.{IsForm, HasShortEnds};
 ghost use Rattle.layer_graph.specs.Graphs.{AreOrdered, IsGraphOf};
 ghost use Rattle.state_graph.specs.Layers.{AreLayers, spans_in};
 ghost use Rattle.state_graph.specs.Expansions.{IsRight, IsEndState};

@@ -9,9 +9,9 @@ use Rattle.bp_theory.specs.declared.Span.{Span}
 use Rattle.bp_theory.specs.declared.Row.{Row}
 use Rattle.layer_graph.specs.Graphs.{IsWay, IsFaithful}
 use Rattle.layer_graph.specs.declared.graph.Arc.{Arc}
-use Rattle.graph_pass.proofs.PriceLaws.{way_meets}
-use Rattle.var_order.specs.Orders.{IsOrder, rows_by, spans_by, numbers_by}
-use Rattle.var_order.proofs.OrderLaws.{point_back}
+use Rattle.shortest_path.proofs.PriceLaws.{way_meets}
+use Rattle.variable_order.specs.Orders.{IsOrder, rows_by, spans_by, numbers_by}
+use Rattle.variable_order.proofs.OrderLaws.{point_back}
 
 -- a way of a graph in an order, inside a zone, is a point of the block in its own order
 pub way_back : (t : Bool) (steps : List (List Arc)) (count : ℕ) (vars places : List ℕ) (rows : List Row) (spans zone : List Span) (ys : List ℤ) → IsOrder count vars places

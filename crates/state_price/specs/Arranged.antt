@@ -2,7 +2,7 @@
 use Rattle.std.specs.Prelude.{List, ℤ, Option, Some, None}
 use Rattle.bp_theory.specs.declared.Span.{Span}
 use Rattle.bp_theory.specs.declared.Row.{Row}
-use Rattle.var_order.specs.Orders.{rows_by, spans_by}
+use Rattle.variable_order.specs.Orders.{rows_by, spans_by}
 use Rattle.state_price.specs.declared.arranged.Arranged.{Arranged}
 
 -- rows as a graph has them: by an order, if there is one, else as they are

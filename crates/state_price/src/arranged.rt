@@ -3,7 +3,7 @@ ghost use Rattle.std.specs.Prelude.{◌≡◌, length, vec_len};
 
 use bp_theory::Span;
 use std::alloc::{AllocError, Global};
-use var_order::{Order, arrange_costs, arrange_spans, put_back};
+use variable_order::{Order, arrange_costs, arrange_spans, put_back};
 
 /// An order of a block's variables, with room for a zone and costs in that order, and for a point in the block's.
 #[derive(Drop)]
@@ -19,7 +19,7 @@ pub struct Arranged {
 
 impl Arranged {
     ghost use Rattle.std.specs.Prelude.{◌≡◌, IfOk, length, vec_len};
-    ghost use Rattle.var_order.specs.Orders.{spans_by, numbers_by};
+    ghost use Rattle.variable_order.specs.Orders.{spans_by, numbers_by};
 
     /// The room for an order.
     pub fn make(alloc: Global, order: Order) -> Result<Arranged, AllocError>

@@ -2,26 +2,26 @@
 ghost use Rattle.std.specs.Prelude.{◌≡◌, ◌<◌, ◌≤◌, ◌^◌, ℤ, List, MatchOption, IfOk, IfSome, IfNone, length, vec_len};
 ghost use Rattle.std.specs.Bool.{OnTrue};
 ghost use Rattle.bp_theory.specs.Bound.{IsPoint};
-ghost use Rattle.pricing.specs.Form.{IsForm, IsPriceable, cost_size};
-ghost use Rattle.pricing.specs.Priced.{IsCheapest, HasNoPoint};
+ghost use Rattle.pricing_problem.specs.Form.{IsForm, IsPriceable, cost_size};
+ghost use Rattle.pricing_problem.specs.Priced.{IsCheapest, HasNoPoint};
 ghost use Rattle.bp_theory.specs.declared.Span.{Span};
 ghost use Rattle.bp_theory.specs.declared.Row.{Row};
 ghost use Rattle.layer_graph.specs.Graphs.{IsFaithful};
-ghost use Rattle.graph_pass.specs.Pairs.{steps_with, AreLinked};
-ghost use Rattle.graph_pass.specs.Rooms.{HasRoom};
+ghost use Rattle.shortest_path.specs.Pairs.{steps_with, AreLinked};
+ghost use Rattle.shortest_path.specs.Rooms.{HasRoom};
 ghost use Rattle.state_graph.specs.Limits.{beginnings, IsBeyond};
-ghost use Rattle.var_order.specs.Orders.{rows_by, spans_by};
+ghost use Rattle.variable_order.specs.Orders.{rows_by, spans_by};
 ghost use Rattle.state_price.specs.Arranged.{graph_rows, graph_spans, block_point};
 
 use crate::arranged::Arranged;
 use block_program::Block;
 use bp_theory::{Items, Row, Span};
-use graph_pass::{Margins, Pair, Work, are_short, pairs_in, price_zone, write_way};
 use layer_graph::Graph;
-use pricing::{Cap, Priced, Pricer, copied_rows, copied_spans};
+use pricing_problem::{Cap, Priced, Pricer, copied_rows, copied_spans};
+use shortest_path::{Margins, Pair, Work, are_short, pairs_in, price_zone, write_way};
 use state_graph::{build, has_beginnings};
 use std::alloc::{AllocError, Global};
-use var_order::{Order, arrange_spans, other_order, renamed_rows};
+use variable_order::{Order, arrange_spans, other_order, renamed_rows};
 
 /// Prices a block by a graph of states, which is made once, as is all memory that a price needs. It is never cut. Where the graph
 /// takes the block's variables in another order, zone and costs are written in that order, and the point is written back.
@@ -49,7 +49,7 @@ impl StatePricer {
     ghost use Rattle.std.specs.Prelude.{◌≡◌, ◌≤◌, IfOk, IfSome, IfNone, length};
     ghost use Rattle.std.specs.Bool.{OnTrue};
     ghost use Rattle.bp_theory.specs.Bound.{IsPoint};
-    ghost use Rattle.pricing.specs.Form.{IsForm, AreOf};
+    ghost use Rattle.pricing_problem.specs.Form.{IsForm, AreOf};
     ghost use Rattle.state_price.specs.Kept.{rows_of, spans_of, kept_point};
     ghost use Rattle.state_graph.specs.Limits.{beginnings, IsBeyond};
 
@@ -60,7 +60,7 @@ impl StatePricer {
     /// while it is made at most 230 MiB. There is none only where a graph with an arc for each beginning of an assignment would
     /// pass one of these, or where there are no variables and no point (`IsBeyond`): a block of few beginnings has a graph. One of
     /// many beginnings may have a graph too, since its beginnings share states; whether it has, no clause tells. The graph takes
-    /// the block's variables in the order that a rule gives (`var_order`), or in the block's own where the rule gives none, or none
+    /// the block's variables in the order that a rule gives (`variable_order`), or in the block's own where the rule gives none, or none
     /// whose graph keeps the limits and took no more arcs than there are beginnings.
     pub fn make(alloc: Global, block: &Block) -> Result<Option<StatePricer>, AllocError>
         requires { IsForm block.now.block.rows block.now.spans }
@@ -449,9 +449,9 @@ fn choose_by(
 
 impl Pricer for StatePricer {
     ghost use Rattle.std.specs.Prelude.{◌≡◌};
-    ghost use Rattle.pricing.specs.Form.{IsPriceable, AreOf};
-    ghost use Rattle.pricing.specs.Priced.{IsPriced};
-    ghost use Rattle.pricing.specs.declared.Cap.TheVariants.{Never};
+    ghost use Rattle.pricing_problem.specs.Form.{IsPriceable, AreOf};
+    ghost use Rattle.pricing_problem.specs.Priced.{IsPriced};
+    ghost use Rattle.pricing_problem.specs.declared.Cap.TheVariants.{Never};
     ghost use Rattle.state_price.specs.Kept.{rows_of, spans_of, kept_point};
 
     ghost rows = { rows_of };

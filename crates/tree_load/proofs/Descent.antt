@@ -27,7 +27,7 @@ use Rattle.search_laws.specs.Grove.{GrowingTree, live, shut, fork, live_count, c
 use Rattle.search_laws.specs.GroveFacts.{Settles}
 use Rattle.search_laws.specs.Loading.{rounded_bound, LoadsLeaf, Loads}
 use Rattle.branch_tree.specs.Groves.{made}
-use Rattle.line_check.proofs.Lines.{high_is, back_is, low_zone, high_zone, holds_by, empties_by}
+use Rattle.cert_line_check.proofs.Lines.{high_is, back_is, low_zone, high_zone, holds_by, empties_by}
 use Rattle.tree_load.specs.Rooms.{rooms, FindsDeep, FindsBehind, node_count, CanLoadLeaf, CanLoad, SettlesBy, IsLeaf}
 use Rattle.tree_load.specs.Nodes.{MayLoad, IsLoadedNode}
 use Rattle.tree_load.specs.declared.walk.Walk.{Walk}

@@ -1,17 +1,17 @@
 // A leaf of a certificate as a leaf of a search's tree.
 ghost use Rattle.std.specs.Prelude.{◌≡◌, ◌↔◌, ◌<◌, ◌<ℤ◌, ◌*ℤ◌, ◌-ℤ◌, pos, IsTrue, IfOk, IfSome};
 ghost use Rattle.bp_theory.specs.Trees.{IsZone};
-ghost use Rattle.block_forms.specs.Forms.{forms_in};
+ghost use Rattle.block_pricers.specs.Forms.{forms_in};
 ghost use Rattle.block_pricers.specs.Works.{forms_of};
 ghost use Rattle.search_laws.specs.Loading.{LoadsLeaf};
-ghost use Rattle.grove_parts.specs.Trees.{tree_of};
+ghost use Rattle.open_nodes.specs.Trees.{tree_of};
 ghost use Rattle.tree_load.specs.Rooms.{CanLoadLeaf, SettlesBy};
 
 use block_program::{Blocked, Zone};
 use bp_theory::Proof;
 use branch_tree::{Tree, proof_copy};
+use cert_line_check::bound_in;
 use lagr_bound::{Work, round};
-use line_check::bound_in;
 use std::alloc::{AllocError, Global};
 
 /// The leaf that a certificate's is loaded as: shut where its proof settles its zone against the best cost, or empties it

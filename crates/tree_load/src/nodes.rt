@@ -2,9 +2,9 @@
 ghost use Rattle.std.specs.Prelude.{◌≡◌, IfOk, IfSome};
 ghost use Rattle.bp_theory.specs.Trees as trees;
 ghost use Rattle.search_laws.specs.Grove.{fork};
-ghost use Rattle.cert_form.specs.Sketch as sketches;
-ghost use Rattle.grove_parts.specs.Trees.{tree_of};
-ghost use Rattle.block_forms.specs.Forms.{forms_in};
+ghost use Rattle.cert_format.specs.Sketch as sketches;
+ghost use Rattle.open_nodes.specs.Trees.{tree_of};
+ghost use Rattle.block_pricers.specs.Forms.{forms_in};
 ghost use Rattle.block_pricers.specs.Works.{forms_of};
 ghost use Rattle.tree_load.specs.Nodes.{MayLoad, IsLoadedNode};
 
@@ -13,7 +13,7 @@ use crate::walk::{Walk, back, pass, to_high, to_low};
 use block_program::Blocked;
 use bp_theory::Proof;
 use branch_tree::Tree;
-use cert_form::Sketch;
+use cert_format::Sketch;
 use lagr_bound::Work;
 use std::alloc::{AllocError, Global};
 

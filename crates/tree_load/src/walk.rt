@@ -3,7 +3,7 @@ ghost use Rattle.std.specs.Prelude.{◌≡◌, ◌+◌, ◌-◌, ◌<◌, ◌≤
 ghost use Rattle.bp_theory.specs.Digits.{binary_digits, span_bits, zone_bits};
 ghost use Rattle.bp_theory.specs.Trees.{IsSoundSplit, low_part};
 ghost use Rattle.std.specs.Int.{int_gap};
-ghost use Rattle.grove_parts.specs.Trees.{tree_of};
+ghost use Rattle.open_nodes.specs.Trees.{tree_of};
 ghost use Rattle.tree_load.specs.Rooms.{rooms, FindsDeep, FindsBehind, IsLeaf};
 
 use block_program::Zone;

@@ -3,7 +3,7 @@ ghost use Rattle.std.specs.Prelude.{◌≡◌, ◌+◌, ◌<◌, ◌^◌, IfOk};
 ghost use Rattle.search_laws.specs.Verdicts.{cheaper_cost};
 ghost use Rattle.branch_tree.specs.Groves.{made};
 ghost use Rattle.branch_tree.specs.Loads.{IsLoaded};
-ghost use Rattle.grove_parts.specs.Trees.{tree_of};
+ghost use Rattle.open_nodes.specs.Trees.{tree_of};
 ghost use Rattle.tree_merge.specs.Merging.{merged, shut_by};
 ghost use Rattle.tree_merge.specs.Merges.{cost_in, cheaper_of, IsMergedOf};
 

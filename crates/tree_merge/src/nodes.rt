@@ -4,7 +4,7 @@ ghost use Rattle.std.specs.Prelude.{◌≡◌, IfOk};
 ghost use Rattle.std.specs.Int.{int_min};
 ghost use Rattle.search_laws.specs.Grove.{live, shut, fork};
 ghost use Rattle.search_laws.specs.Verdicts.{cheaper_cost};
-ghost use Rattle.grove_parts.specs.Trees.{tree_of};
+ghost use Rattle.open_nodes.specs.Trees.{tree_of};
 ghost use Rattle.tree_merge.specs.Merging.{same_split, raised, least_live, is_beyond, farther, merged, is_below, shut_by};
 
 use bp_theory::Proof;

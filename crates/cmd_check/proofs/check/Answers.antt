@@ -1,7 +1,7 @@
 use Rattle.std.proofs.Common.{◌≡◌, ◌≢◌, sym, subst, ℕ, Result, IfOk}
 use Rattle.std.specs.Option.{option_map}
-use Rattle.bp_front.specs.declared.ending.Reply.{Reply}
-use Rattle.bp_front.proofs.Finishing.{readers_end, unfailed}
+use Rattle.frontend.specs.declared.ending.Reply.{Reply}
+use Rattle.frontend.proofs.Finishing.{readers_end, unfailed}
 use Rattle.cmd_check.specs.Checks.{AnswersCheck}
 use Rattle.cmd_check.proofs.OneAnswer.{one_answer}
 use Rattle.cmd_check.proofs.check.Goals as goal

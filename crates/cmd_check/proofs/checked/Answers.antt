@@ -1,9 +1,9 @@
 use Rattle.std.proofs.Common.{sym, subst, ℕ, Bool, IsTrue}
 use Rattle.std.specs.Option.{option_map}
 use Rattle.bp_shelf.specs.Shelf.{Files}
-use Rattle.bp_front.specs.Endings.{IsRightReply}
-use Rattle.bp_front.specs.Halts.{CountsHalted}
-use Rattle.bp_front.proofs.Lifts.{halt_right, reply_right}
+use Rattle.frontend.specs.Endings.{IsRightReply}
+use Rattle.frontend.specs.Halts.{CountsHalted}
+use Rattle.frontend.proofs.Lifts.{halt_right, reply_right}
 use Rattle.cmd_check.specs.Checks.{ChecksVisiting}
 use Rattle.cmd_check.proofs.checked.Goals as goal
 

@@ -1,5 +1,5 @@
-use Rattle.bp_front.specs.declared.ending.Reply.{Reply}
-use Rattle.bp_front.proofs.Lifts.{counts_halt}
+use Rattle.frontend.specs.declared.ending.Reply.{Reply}
+use Rattle.frontend.proofs.Lifts.{counts_halt}
 use Rattle.cmd_check.proofs.OneAnswer.{as_missing, fault_right}
 use Rattle.cmd_check.proofs.Replies.{file_replies}
 use Rattle.cmd_check.proofs.judged_file.Goals as goal

@@ -1,6 +1,6 @@
 use Rattle.std.proofs.Common.{◌≡◌, ◌∙◌, refl, ap, ℕ, List, Err}
-use Rattle.cert_form.specs.Written.{certificate}
-use Rattle.cert_form.specs.declared.fault.CertKind.{CertKind}
+use Rattle.cert_format.specs.Written.{certificate}
+use Rattle.cert_format.specs.declared.fault.CertKind.{CertKind}
 use Rattle.cert_stream.specs.Checks.{Finishes}
 use Rattle.bp_report.specs.Refusals.{cert_refusal}
 use Rattle.cmd_check.proofs.Certificates.{kept_point}

@@ -1,6 +1,6 @@
 use Rattle.std.proofs.Common.{None, subst, List, ℕ, Ok}
 use Rattle.cert_stream.specs.Checks.{Finishes}
-use Rattle.cert_form.specs.Plain.{version_with}
+use Rattle.cert_format.specs.Plain.{version_with}
 use Rattle.search_outcome.specs.Outcomes.{outcome_certificate}
 use Rattle.search_outcome.proofs.Outcomes.{outcome_certified}
 use Rattle.cmd_demo.proofs.Certified.{judged_back}

@@ -1,6 +1,6 @@
 use Rattle.std.proofs.Common.{sym, subst, refl, List}
 use Rattle.search_laws.specs.declared.Event.{Event}
-use Rattle.bp_front.proofs.Faults.{fails_as}
+use Rattle.frontend.proofs.Faults.{fails_as}
 use Rattle.cmd_solve.specs.Crews.{HasEventsFrom}
 use Rattle.std.specs.Option.{option_map}
 use Rattle.cmd_solve.proofs.CrewEvents.{kept_with}

@@ -2,9 +2,9 @@ use Rattle.std.proofs.Common.{◌≡◌, ◌∙◌, inr, refl, sym, subst, None,
 use Rattle.std.specs.Option.{option_map}
 use Rattle.bp_shelf.specs.Shelf.{Files}
 use Rattle.branch_tree.specs.declared.outcome.Outcome.{Outcome}
-use Rattle.bp_front.specs.Answers.{stopped, AnswersBy, IsOnly, CutsOff}
-use Rattle.bp_front.proofs.Faults.{fails_as}
-use Rattle.bp_front.proofs.Lifts.{lift_answers, lift_only, lift_cut, stop_only, fault_only, printed_status}
+use Rattle.frontend.specs.Answers.{stopped, AnswersBy, IsOnly, CutsOff}
+use Rattle.frontend.proofs.Faults.{fails_as}
+use Rattle.frontend.proofs.Lifts.{lift_answers, lift_only, lift_cut, stop_only, fault_only, printed_status}
 use Rattle.cmd_solve.specs.Saves.{LeavesBy, SavesBy, searched, HoldsPartBy}
 use Rattle.search_outcome.specs.Outcomes.{AsBeforeOr}
 use Rattle.cmd_solve.specs.Saves as leaves

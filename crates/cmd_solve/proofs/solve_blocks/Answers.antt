@@ -2,7 +2,7 @@ use Rattle.std.proofs.Common.{◌∙◌, inr, refl, ap, subst, Option, List, ℕ
 use Rattle.std.specs.Option.{option_map}
 use Rattle.bp_shelf.specs.Shelf.{Files}
 use Rattle.bp_shelf.specs.declared.shelf.ShelfFault.{ShelfFault}
-use Rattle.bp_front.proofs.Faults.{fails_as}
+use Rattle.frontend.proofs.Faults.{fails_as}
 use Rattle.cmd_solve.specs.Saves.{HoldsPartBy}
 use Rattle.search_outcome.specs.Outcomes.{AsBeforeOr}
 use Rattle.cmd_solve.proofs.Starting.{can_begin, alone_at, comes_from, begins, refused_from, started_answers, started_only, started_cut, started_leaves, refused_answers, refusal_only, refused_cut, refused_leaves, fault_answers, fault_only}

@@ -1,4 +1,4 @@
-use Rattle.row_blocks.proofs.FoundLemmas.{joined_share}
+use Rattle.dec_components.proofs.FoundLemmas.{joined_share}
 use Rattle.dec_find.proofs.joined_rows_share_a_block.Goals as goal
 
 pub returns : goal.returns

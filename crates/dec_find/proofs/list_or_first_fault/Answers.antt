@@ -1,4 +1,4 @@
-use Rattle.dec_words.proofs.RowsLemmas.{list_or_fault_lem}
+use Rattle.dec_write.proofs.RowsLemmas.{list_or_fault_lem}
 use Rattle.dec_find.proofs.list_or_first_fault.Goals as goal
 
 pub returns : goal.returns

@@ -1,4 +1,4 @@
-use Rattle.row_blocks.proofs.FoundLemmas.{found_once}
+use Rattle.dec_components.proofs.FoundLemmas.{found_once}
 use Rattle.dec_find.proofs.one_decomposition.Goals as goal
 
 pub returns : goal.returns

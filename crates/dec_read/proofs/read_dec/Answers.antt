@@ -1,7 +1,7 @@
 use Rattle.std.proofs.Common.{ℕ, [], arith, sym, subst}
 use Rattle.dec_read.specs.Reading.{HasDecTextFault}
-use Rattle.dec_tokens.specs.Scan.{tokens_at, token_in}
-use Rattle.dec_tokens.proofs.ReadLemmas.{read_none, stands_more}
+use Rattle.dec_syntax.specs.Scan.{tokens_at, token_in}
+use Rattle.dec_syntax.proofs.ReadLemmas.{read_none, stands_more}
 use Rattle.dec_read.proofs.EndLemmas.{stands_fault, end_reads, end_has_fault, reads_placed}
 use Rattle.dec_read.proofs.read_dec.Goals as goal
 

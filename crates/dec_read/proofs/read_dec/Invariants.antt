@@ -1,6 +1,6 @@
 use Rattle.std.proofs.Common.{◌-◌, length}
-use Rattle.dec_tokens.specs.Scan.{StandsIn, tokens_at}
-use Rattle.dec_tokens.specs.State.{StandsBefore}
+use Rattle.dec_syntax.specs.Scan.{StandsIn, tokens_at}
+use Rattle.dec_syntax.specs.State.{StandsBefore}
 use Rattle.dec_read.proofs.read_dec.Given as goal
 
 abbrev pub invariant-loop-word : goal.invariant-loop-word

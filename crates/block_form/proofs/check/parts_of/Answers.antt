@@ -3,7 +3,7 @@ use Rattle.bp_theory.specs.Decomposition.{Decomposition, HasLargeLinks}
 use Rattle.bp_theory.specs.declared.Row.{Row}
 use Rattle.bp_model.specs.Named.{NamedProgram}
 use Rattle.block_program.specs.Cuts.{AreCutRows}
-use Rattle.block_parts.proofs.BlockingLemmas.{first_misplaced_at, none_misplaced_at, parts_bare, no_cut_rows, large_at, made_here, homes_at, kept_at}
+use Rattle.block_build.proofs.BlockingLemmas.{first_misplaced_at, none_misplaced_at, parts_bare, no_cut_rows, large_at, made_here, homes_at, kept_at}
 use Rattle.block_form.proofs.check.parts_of.Goals as goal
 
 pub source_of-requires-clause-cuts : goal.source_of-requires-clause-cuts

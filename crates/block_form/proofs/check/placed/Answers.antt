@@ -2,7 +2,7 @@ use Rattle.std.proofs.Common.{◌≡◌, ℕ, List, [], length, map, refl, sym, 
 use Rattle.bp_theory.specs.declared.Cut.{Cut}
 use Rattle.block_program.specs.Blocked.{RootBlock, AreParts, ArePlaces}
 use Rattle.block_program.specs.declared.blocked.Base.{Base}
-use Rattle.block_parts.proofs.PlaceLemmas.{vars_below, all_placed}
+use Rattle.block_build.proofs.PlaceLemmas.{vars_below, all_placed}
 use Rattle.block_form.proofs.check.placed.Goals as goal
 
 pub var_places-requires-clause-below : goal.var_places-requires-clause-below

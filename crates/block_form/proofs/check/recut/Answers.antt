@@ -5,9 +5,9 @@ use Rattle.bp_model.specs.Named.{NamedProgram}
 use Rattle.bp_theory.specs.Decomposition.{Decomposition}
 use Rattle.block_program.specs.Blocked.{RootBlock, AreMade, AreParts, ArePlaces}
 use Rattle.block_program.specs.Cuts.{AreCutRows}
-use Rattle.block_parts.proofs.BlockingLemmas.{parts_cut}
-use Rattle.block_parts.proofs.CutLemmas.{rows_of_cuts}
-use Rattle.block_parts.proofs.PlaceLemmas.{vars_below, all_placed}
+use Rattle.block_build.proofs.BlockingLemmas.{parts_cut}
+use Rattle.block_build.proofs.CutLemmas.{rows_of_cuts}
+use Rattle.block_build.proofs.PlaceLemmas.{vars_below, all_placed}
 use Rattle.block_form.proofs.check.recut.Goals as goal
 
 pub parts_with-requires : goal.parts_with-requires

@@ -1,7 +1,7 @@
 use Rattle.std.proofs.Common.{refl, None, arith, ⊎_elim}
 use Rattle.std.proofs.lemmas.Bool.{cases_lt}
 use Rattle.std.proofs.lemmas.List.{get_or_past}
-use Rattle.block_forms.proofs.FormLemmas.{none_more}
+use Rattle.block_pricers.proofs.FormLemmas.{none_more}
 use Rattle.block_pricers.proofs.desks.clear.Goals as goal
 
 pub loop-k-preserved : goal.loop-k-preserved

@@ -1,8 +1,8 @@
 use Rattle.std.proofs.Common.{◌∙◌, sym, subst, ℕ, ◌<◌, All, length, get_or}
-use Rattle.block_forms.specs.Forms.{forms_in}
+use Rattle.block_pricers.specs.Forms.{forms_in}
 use Rattle.block_pricers.specs.Pricers.{IsFitting}
 use Rattle.block_pricers.specs.declared.desk.Desk.{Desk}
-use Rattle.block_forms.proofs.FormLemmas.{has_form, form_in_at, all_more}
+use Rattle.block_pricers.proofs.FormLemmas.{has_form, form_in_at, all_more}
 use Rattle.block_pricers.proofs.DeskLemmas.{one_desk_more, enough_more}
 use Rattle.block_pricers.proofs.GraphLemmas.{spending_more, graphs_more}
 use Rattle.block_pricers.proofs.desks.desks_of.Goals as goal

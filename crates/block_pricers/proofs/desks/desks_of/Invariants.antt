@@ -1,6 +1,6 @@
 use Rattle.std.proofs.Common.{◌≡◌, All, map, take}
 use Rattle.block_pricers.specs.Desks.{form_of}
-use Rattle.block_forms.specs.Forms.{form_at, forms_in}
+use Rattle.block_pricers.specs.Forms.{form_at, forms_in}
 use Rattle.block_pricers.specs.Pricers.{AreEnough, IsFitting}
 use Rattle.block_pricers.specs.declared.desk.Desk.{Desk}
 use Rattle.block_pricers.specs.Desks.{HaveGraphs}

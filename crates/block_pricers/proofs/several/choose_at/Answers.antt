@@ -4,9 +4,9 @@ use Rattle.std.specs.Prelude.{List}
 use Rattle.std.specs.Bool.{OnTrue}
 use Rattle.std.proofs.lemmas.List.{get_or-map, get_or-set_same, length-set}
 use Rattle.bp_theory.specs.Bound.{IsPoint, spans_of}
-use Rattle.block_forms.specs.Forms.{no_form}
+use Rattle.block_pricers.specs.Forms.{no_form}
 use Rattle.block_pricers.specs.Desks.{form_of, priced_point}
-use Rattle.block_forms.proofs.FormLemmas.{map-set_alike}
+use Rattle.block_pricers.proofs.FormLemmas.{map-set_alike}
 use Rattle.block_pricers.proofs.several.choose_at.Goals as goal
 
 pub choose-requires-clause-same_block : goal.choose-requires-clause-same_block

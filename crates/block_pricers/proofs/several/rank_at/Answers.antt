@@ -1,8 +1,8 @@
 use Rattle.std.proofs.Common.{◌≡◌, ◌∙◌, sym, ap, arith}
 use Rattle.std.proofs.lemmas.List.{get_or-map}
-use Rattle.block_forms.specs.Forms.{no_form}
+use Rattle.block_pricers.specs.Forms.{no_form}
 use Rattle.block_pricers.specs.Desks.{form_of}
-use Rattle.block_forms.proofs.FormLemmas.{map-set_alike}
+use Rattle.block_pricers.proofs.FormLemmas.{map-set_alike}
 use Rattle.block_pricers.proofs.several.rank_at.Goals as goal
 
 pub rank-requires-clause-same_block : goal.rank-requires-clause-same_block

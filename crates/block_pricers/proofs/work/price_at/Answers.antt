@@ -2,12 +2,12 @@ use Rattle.std.proofs.Common.{◌≡◌, ◌∙◌, sym, ap, subst, [], map, len
 use Rattle.std.proofs.Math.IntN.{ℤ}
 use Rattle.std.specs.Prelude.{List}
 use Rattle.std.proofs.lemmas.List.{get_or-map, get_or-set_same, length-set}
-use Rattle.pricing.specs.Priced.{IsPriced}
+use Rattle.pricing_problem.specs.Priced.{IsPriced}
 use Rattle.bp_theory.specs.Bound.{spans_of}
-use Rattle.proof_costs.specs.Sizes.{reduced_costs}
-use Rattle.block_forms.specs.Forms.{no_form}
+use Rattle.reduced_costs.specs.Sizes.{reduced_costs}
+use Rattle.block_pricers.specs.Forms.{no_form}
 use Rattle.block_pricers.specs.Desks.{form_of, priced_point}
-use Rattle.block_forms.proofs.FormLemmas.{map-set_alike}
+use Rattle.block_pricers.proofs.FormLemmas.{map-set_alike}
 use Rattle.block_pricers.proofs.DeskLemmas.{enough_at}
 use Rattle.block_pricers.proofs.work.price_at.Goals as goal
 

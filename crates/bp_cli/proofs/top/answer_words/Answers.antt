@@ -1,7 +1,7 @@
 use Rattle.std.proofs.Common.{◌≡◌, inr, refl, None}
 use Rattle.std.specs.Prelude.{map, string_bytes}
 use Rattle.bp_report.specs.Refusals.{words_refusal}
-use Rattle.bp_front.proofs.Faults.{fails_as}
+use Rattle.frontend.proofs.Faults.{fails_as}
 use Rattle.bp_cli.specs.Promises.{Demonstrates}
 use Rattle.bp_cli.specs.Running.{refused, HasWritten, HasPutLast, ListsEvents}
 use Rattle.bp_cli.proofs.Words.{order_answers, order_only, order_cut, of_order, no_order, refused_two}

@@ -1,14 +1,14 @@
 use Rattle.std.proofs.Common.{inr, refl, sym, subst}
 use Rattle.std.specs.Option.{option_map}
-use Rattle.word_orders.specs.declared.order.Order.{Order}
-use Rattle.bp_front.specs.Answers.{AnswersBy, IsOnly, CutsOff}
+use Rattle.cli_orders.specs.declared.order.Order.{Order}
+use Rattle.frontend.specs.Answers.{AnswersBy, IsOnly, CutsOff}
 use Rattle.cmd_check.specs.Checks.{AnswersCheck}
-use Rattle.cmd_show.specs.Shows.{AnswersShow}
-use Rattle.cmd_detect.specs.Detects.{AnswersDetect}
-use Rattle.cmd_propose.specs.Proposes.{AnswersPropose}
-use Rattle.cmd_merge.specs.Merges.{AnswersMerge}
-use Rattle.cmd_migrate.specs.Migrates.{AnswersMigrate}
-use Rattle.bp_front.proofs.Faults.{fails_as, unput_as}
+use Rattle.cmd_decompose.specs.Shows.{AnswersShow}
+use Rattle.cmd_decompose.specs.Detects.{AnswersDetect}
+use Rattle.cmd_decompose.specs.Proposes.{AnswersPropose}
+use Rattle.cmd_certificates.specs.Merges.{AnswersMerge}
+use Rattle.cmd_certificates.specs.Migrates.{AnswersMigrate}
+use Rattle.frontend.proofs.Faults.{fails_as, unput_as}
 use Rattle.bp_cli.specs.Promises.{Demonstrates}
 use Rattle.bp_cli.specs.Running.{AnswersOrder, HasWritten, HasPutLast}
 use Rattle.bp_cli.proofs.OneOrder.{as_solve, as_check, as_show, as_gen, as_detect, as_propose, as_merge, as_migrate}

@@ -5,11 +5,11 @@ use Rattle.block_program.specs.Blocked.{BlockedProgram}
 use Rattle.search_laws.specs.Crew.{CrewEvent, takes}
 use Rattle.search_laws.specs.declared.Side.{Side}
 use Rattle.search_laws.specs.declared.Kind.TheVariants.{Take}
-use Rattle.crew_turns.specs.declared.choice.Task.{Task}
-use Rattle.crew_turns.specs.declared.choice.Task.TheVariants.{Take as TakeTask}
-use Rattle.crew_turns.specs.declared.choice.Choice.{Choice}
-use Rattle.crew_turns.specs.States.{CrewState, IsEvent}
-use Rattle.crew_turns.specs.Draws.{IsOf}
+use Rattle.crew_steps.specs.declared.choice.Task.{Task}
+use Rattle.crew_steps.specs.declared.choice.Task.TheVariants.{Take as TakeTask}
+use Rattle.crew_steps.specs.declared.choice.Choice.{Choice}
+use Rattle.crew_steps.specs.States.{CrewState, IsEvent}
+use Rattle.crew_steps.specs.Draws.{IsOf}
 use Rattle.bp_crew.specs.Runs.{IsDone}
 use Rattle.bp_crew.proofs.run.act.Goals as goal
 

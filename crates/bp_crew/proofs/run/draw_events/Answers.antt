@@ -1,7 +1,7 @@
 use Rattle.std.proofs.Common.{◌≡◌, ◌∙◌, ◌<◌, ◌%◌, length, Some, sym, subst, refl, arith}
 use Rattle.std.specs.Prelude.{slice_get}
-use Rattle.crew_turns.specs.States.{CrewState, crew_of}
-use Rattle.crew_turns.specs.Draws.{draw_of, drops_after, moment_of, choices_in}
+use Rattle.crew_steps.specs.States.{CrewState, crew_of}
+use Rattle.crew_steps.specs.Draws.{draw_of, drops_after, moment_of, choices_in}
 use Rattle.bp_crew.specs.Runs.{IsDrawnTo}
 use Rattle.bp_crew.proofs.Drawing.{drawn_allowed, drawn_low, hands_long, steps_within, drawn_on, falls, left_to_do}
 use Rattle.bp_crew.proofs.run.draw_events.Goals as goal

@@ -1,9 +1,9 @@
 use Rattle.std.proofs.Common.{◌≡◌, ◌≤◌, length}
 use Rattle.bp_theory.specs.Trees.{steps}
 use Rattle.search_laws.specs.Grove.{certificate_tree}
-use Rattle.hint_pools.specs.Pools.{AreMadeFor}
-use Rattle.crew_turns.specs.States.{IsCrewOf, crew_of}
-use Rattle.crew_turns.specs.Draws.{moment_of}
+use Rattle.node_memory.specs.Pools.{AreMadeFor}
+use Rattle.crew_steps.specs.States.{IsCrewOf, crew_of}
+use Rattle.crew_steps.specs.Draws.{moment_of}
 use Rattle.bp_crew.specs.Runs.{IsDrawnTo}
 use Rattle.bp_crew.proofs.Drawing.{left_to_do}
 use Rattle.bp_crew.proofs.run.draw_events.Given as goal

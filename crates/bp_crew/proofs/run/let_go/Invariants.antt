@@ -1,5 +1,5 @@
 use Rattle.std.proofs.Common.{◌≡◌, length}
-use Rattle.crew_turns.specs.States.{IsCrewOf}
+use Rattle.crew_steps.specs.States.{IsCrewOf}
 use Rattle.bp_crew.proofs.Finishing.{IsLetGoTo}
 use Rattle.bp_crew.proofs.run.let_go.Given as goal
 

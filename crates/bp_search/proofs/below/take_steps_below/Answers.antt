@@ -1,6 +1,8 @@
 use Rattle.std.proofs.Common.{arith, List}
 use Rattle.search_laws.specs.declared.Side.{Side}
-use Rattle.grove_parts.specs.Queues.{LiesBelow}
+use Rattle.open_nodes.specs.Queues.{LiesBelow}
+use Rattle.bp_search.specs.Searches.{kept_cost}
+use Rattle.bp_search.proofs.Extending.{extends_itself, extends_on, no_dearer_itself, no_dearer_on}
 use Rattle.bp_search.proofs.Beside.{beside_itself, beside_more, taken_below}
 use Rattle.bp_search.proofs.below.take_steps_below.Goals as goal
 
@@ -11,6 +13,8 @@ loop-alloc-init c = record {
   few = c.requires.few;
   beside = beside_itself c.args.grove.now.tree c.args.below.now;
   made_for = c.in_ok-pools.ensures;
+  extends = extends_itself c.args.grove.now.tree;
+  cheaper = no_dearer_itself (kept_cost c.args.best.now);
 }
 
 pub loop-alloc-preserved-in_ok-step : goal.loop-alloc-preserved-in_ok-step
@@ -24,6 +28,8 @@ loop-alloc-preserved-in_ok-step c =
       beside = beside_more c.args.grove.now.tree c.loop-alloc.grove.tree c.step.new.grove.tree c.args.below.now lies.0 c.in-Some.turn.path lies.1
           c.loop-alloc.invariant.beside c.in_ok-step.ensures.beside;
       made_for = c.step.ensures.made_for;
+      extends = extends_on c.args.grove.now.tree c.loop-alloc.grove.tree c.step.new.grove.tree c.loop-alloc.invariant.extends c.in_ok-step.ensures.extends;
+      cheaper = no_dearer_on (kept_cost c.step.new.best) (kept_cost c.loop-alloc.best) (kept_cost c.args.best.now) c.in_ok-step.ensures.cheaper c.loop-alloc.invariant.cheaper;
     }
 
 pub loop-alloc-preserved : goal.loop-alloc-preserved
@@ -37,4 +43,6 @@ loop-alloc-preserved c =
       beside = beside_more c.args.grove.now.tree c.loop-alloc.grove.tree c.step.new.grove.tree c.args.below.now lies.0 c.in-Some.turn.path lies.1
           c.loop-alloc.invariant.beside c.in_ok-step.ensures.beside;
       made_for = c.step.ensures.made_for;
+      extends = extends_on c.args.grove.now.tree c.loop-alloc.grove.tree c.step.new.grove.tree c.loop-alloc.invariant.extends c.in_ok-step.ensures.extends;
+      cheaper = no_dearer_on (kept_cost c.step.new.best) (kept_cost c.loop-alloc.best) (kept_cost c.args.best.now) c.in_ok-step.ensures.cheaper c.loop-alloc.invariant.cheaper;
     }

@@ -1,8 +1,10 @@
 use Rattle.std.proofs.Common.{◌-◌, ◌≤◌}
 use Rattle.bp_theory.specs.Trees.{steps}
 use Rattle.search_laws.specs.Grove.{certificate_tree}
-use Rattle.hint_pools.specs.Pools.{AreMadeFor}
-use Rattle.bp_search.specs.Searches.{IsRunning}
+use Rattle.node_memory.specs.Pools.{AreMadeFor}
+use Rattle.search_laws.specs.GroveFacts.{IsNoDearer}
+use Rattle.bp_search.specs.Searches.{IsRunning, kept_cost}
+use Rattle.bp_search.specs.Resumed.{Extends}
 use Rattle.bp_search.specs.Below.{IsAsBeside}
 use Rattle.bp_search.proofs.below.take_steps_below.Given as goal
 
@@ -13,6 +15,8 @@ invariant-loop-alloc l = record {
   few : steps (certificate_tree l.grove.tree) ≤ l.last;
   beside : IsAsBeside l.below l.initial.grove.tree l.grove.tree;
   made_for : AreMadeFor l.b l.pools;
+  extends : Extends l.initial.grove.tree l.grove.tree;
+  cheaper : IsNoDearer (kept_cost l.best) (kept_cost l.initial.best);
 }
 
 abbrev pub decreases-loop-alloc : goal.decreases-loop-alloc

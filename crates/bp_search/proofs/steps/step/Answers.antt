@@ -2,7 +2,11 @@ use Rattle.std.proofs.Common.{subst, sym, ◌<◌, ◌^◌}
 use Rattle.std.specs.Prelude.{IfSome, unsigned_abs, Option, ℤ}
 use Rattle.bp_search.proofs.Running.{turn_of, small_cost, can_grow, runs_on, one_step}
 use Rattle.bp_search.specs.Below.{IsAsBeside}
+use Rattle.search_laws.specs.GroveFacts.{IsNoDearer}
+use Rattle.bp_search.specs.Resumed.{Extends}
+use Rattle.bp_search.specs.Searches.{kept_cost}
 use Rattle.bp_search.proofs.Beside.{grown_is}
+use Rattle.bp_search.proofs.Resuming.{step_extends, step_cheaper}
 use Rattle.bp_search.proofs.steps.step.Goals as goal
 
 pub evaluate-requires-clause-turn : goal.evaluate-requires-clause-turn
@@ -31,3 +35,12 @@ pub returns-clause-beside : goal.returns-clause-beside
 returns-clause-beside c =
     subst (IsAsBeside c.args.turn.now.path c.args.grove.now.tree) (sym c.in_ok-grow.ensures.tree)
     (grown_is c.args.grove.now.tree c.args.turn.now.path c.in_ok-point.field-0.next)
+
+pub returns-clause-extends : goal.returns-clause-extends
+returns-clause-extends c =
+    subst (Extends c.args.grove.now.tree) (sym c.in_ok-grow.ensures.tree)
+    (step_extends c.args.b.now c.args.grove.now c.args.turn.now c.cost_of.result c.in_ok-point.field-0 c.requires.turn c.in_ok-point.ensures.verdict)
+
+pub returns-clause-cheaper : goal.returns-clause-cheaper
+returns-clause-cheaper c =
+    step_cheaper c.args.b.now.named.program c.args.best.now c.keep.new.best c.in_ok-point.field-0.point c.requires.running.costs c.keep.ensures.costs c.keep.ensures.point

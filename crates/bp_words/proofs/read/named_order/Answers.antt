@@ -1,5 +1,5 @@
 use Rattle.clap.specs.Words.{found_of, rows_of}
-use Rattle.word_orders.proofs.OtherName.{other_name}
+use Rattle.cli_orders.proofs.OtherName.{other_name}
 use Rattle.bp_words.proofs.read.named_order.Goals as goal
 
 pub returns-in_default-clause-refused : goal.returns-in_default-clause-refused

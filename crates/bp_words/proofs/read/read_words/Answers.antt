@@ -1,11 +1,11 @@
 use Rattle.std.proofs.Common.{◌≡◌, ◌∙◌, sym, ap, subst, List, Option, map, string_bytes}
 use Rattle.clap.specs.Words.{App, Row, Text, is_simple, subcommand_rows_of, subcommand_of}
-use Rattle.word_orders.specs.CommandLine.{command_line}
-use Rattle.word_orders.specs.Orders.{IsStated}
-use Rattle.word_orders.proofs.Line.{line_is_simple}
-use Rattle.word_orders.proofs.Refusal.{error_refused}
-use Rattle.word_orders.proofs.Stated.{in_range_if_ok, order_if_ok}
-use Rattle.word_orders.proofs.Taken.{refused_words}
+use Rattle.cli_orders.specs.CommandLine.{command_line}
+use Rattle.cli_orders.specs.Orders.{IsStated}
+use Rattle.cli_orders.proofs.Line.{line_is_simple}
+use Rattle.cli_orders.proofs.Refusal.{error_refused}
+use Rattle.cli_orders.proofs.Stated.{in_range_if_ok, order_if_ok}
+use Rattle.cli_orders.proofs.Taken.{refused_words}
 use Rattle.bp_words.proofs.read.read_words.Goals as goal
 
 -- words that are not refused give an order, which the subcommand would state

@@ -1,6 +1,6 @@
 use Rattle.std.proofs.Common.{refl, rules}
 use Rattle.clap.specs.Words.{found_of, rows_of}
-use Rattle.word_orders.proofs.Needs.{not_there, solve_needs}
+use Rattle.cli_orders.proofs.Needs.{not_there, solve_needs}
 use Rattle.bp_words.proofs.read.solve_order.Goals as goal
 
 -- what is lacking is in no such order

@@ -1,4 +1,4 @@
-use Rattle.cert_form.specs.Sketch.{tree_of}
+use Rattle.cert_format.specs.Sketch.{tree_of}
 use Rattle.cert_check.proofs.Wholes.{point_rejected}
 use Rattle.cert_check.proofs.judge.check.Goals as goal
 

@@ -1,11 +1,11 @@
 use Rattle.std.proofs.Common.{List, [], Result, subst, sym, Err}
 use Rattle.bp_theory.specs.declared.Cut.{Cut}
 use Rattle.bp_theory.specs.declared.Row.{Row}
-use Rattle.cert_form.specs.Sketch.{tree_of}
+use Rattle.cert_format.specs.Sketch.{tree_of}
 use Rattle.round_cut.specs.Several.{AreCutsOver}
-use Rattle.line_check.specs.Cutting.{JudgesCuts}
-use Rattle.line_check.specs.declared.place.Rejection.{Rejection}
-use Rattle.line_check.proofs.Heads.{cuts_over}
+use Rattle.cert_line_check.specs.Cutting.{JudgesCuts}
+use Rattle.cert_line_check.specs.declared.place.Rejection.{Rejection}
+use Rattle.cert_line_check.proofs.Heads.{cuts_over}
 use Rattle.cert_check.proofs.Wholes.{cut_rejected}
 use Rattle.cert_check.proofs.judge.judge_behind.Goals as goal
 

@@ -1,11 +1,11 @@
 use Rattle.std.proofs.Common.{◌≡◌, ◌+◌, sym, ap, subst, ◌∙◌, length, arith}
 use Rattle.bp_theory.specs.declared.Claim.{Claim}
-use Rattle.cert_form.specs.Sketch.{tree_of}
-use Rattle.cert_form.specs.Written.{certificate}
+use Rattle.cert_format.specs.Sketch.{tree_of}
+use Rattle.cert_format.specs.Written.{certificate}
 use Rattle.cert_check.specs.Judging.{IsJudgedWithin, IsTrueIfAccepted, verdict_of}
 use Rattle.cert_check.specs.declared.judge.Judged.{Judged}
-use Rattle.line_check.proofs.CutLines.{rows_many}
-use Rattle.line_check.proofs.Heads.{few_lines, heads_end}
+use Rattle.cert_line_check.proofs.CutLines.{rows_many}
+use Rattle.cert_line_check.proofs.Heads.{few_lines, heads_end}
 use Rattle.cert_check.proofs.Wholes.{judged_so}
 use Rattle.cert_check.proofs.judge.judge_nodes.Goals as goal
 

@@ -3,11 +3,11 @@ use Rattle.std.specs.Prelude.{IfOk}
 use Rattle.bp_theory.specs.Blocking.{Blocking}
 use Rattle.bp_theory.specs.Judgement.{tree_lines}
 use Rattle.bp_theory.specs.declared.Cut.{Cut}
-use Rattle.cert_form.specs.Sketch.{tree_of}
+use Rattle.cert_format.specs.Sketch.{tree_of}
 use Rattle.round_cut.specs.Several.{AreCutsOver}
-use Rattle.line_check.specs.Cutting.{blocking_over, HasCuts}
-use Rattle.line_check.specs.Judging.{JudgesLines, ProofsFit}
-use Rattle.line_check.proofs.Heads.{cuts_over, without_cuts, same_blocking, no_cuts, judged_there_too, goes_fit}
+use Rattle.cert_line_check.specs.Cutting.{blocking_over, HasCuts}
+use Rattle.cert_line_check.specs.Judging.{JudgesLines, ProofsFit}
+use Rattle.cert_line_check.proofs.Heads.{cuts_over, without_cuts, same_blocking, no_cuts, judged_there_too, goes_fit}
 use Rattle.cert_check.proofs.judge.judge_over.Goals as goal
 
 pub judge_root-requires-clause-fits : goal.judge_root-requires-clause-fits

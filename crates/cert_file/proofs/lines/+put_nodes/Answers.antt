@@ -1,10 +1,10 @@
 use Rattle.std.proofs.Common.{Bool, Bor, List, ℕ, ℤ, Err, Ok, sym, ap, subst, ◌∙◌}
 use Rattle.std.specs.Prelude.{IsTrue}
 use Rattle.search_laws.specs.Grove.{certificate_tree}
-use Rattle.grove_parts.specs.Trees.{tree_of}
-use Rattle.grove_parts.specs.declared.tree.Tree.{Tree}
-use Rattle.cert_form.specs.Text.{Two}
-use Rattle.cert_form.specs.Plain.{tree_text}
+use Rattle.open_nodes.specs.Trees.{tree_of}
+use Rattle.open_nodes.specs.declared.tree.Tree.{Tree}
+use Rattle.cert_format.specs.Text.{Two}
+use Rattle.cert_format.specs.Plain.{tree_text}
 use Rattle.cert_write.specs.Changes.{changing_nodes, last_mults}
 use Rattle.cert_file.specs.Appends.{Appends}
 use Rattle.cert_file.proofs.Appending.{fork_stopped, low_stopped, fork_added}

@@ -1,9 +1,9 @@
 use Rattle.std.proofs.Common.{Bool, Bor, List, ℕ, ℤ, Err, Ok, sym, ap, subst, ◌∙◌}
 use Rattle.std.specs.Prelude.{IsTrue}
-use Rattle.cert_form.specs.Sketch.{tree_of as sketched}
-use Rattle.cert_form.specs.declared.sketch.Sketch.{Sketch}
-use Rattle.cert_form.specs.Text.{Two}
-use Rattle.cert_form.specs.Plain.{tree_text}
+use Rattle.cert_format.specs.Sketch.{tree_of as sketched}
+use Rattle.cert_format.specs.declared.sketch.Sketch.{Sketch}
+use Rattle.cert_format.specs.Text.{Two}
+use Rattle.cert_format.specs.Plain.{tree_text}
 use Rattle.cert_write.specs.Changes.{changing_nodes, last_mults}
 use Rattle.cert_file.specs.Appends.{Appends}
 use Rattle.cert_file.proofs.Appending.{fork_stopped, low_stopped, fork_added}

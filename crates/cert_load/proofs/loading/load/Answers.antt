@@ -1,7 +1,7 @@
 use Rattle.std.proofs.Common.{◌≡◌, ◌∙◌, refl, sym, ap, subst, None, Some, Option, ℕ}
 use Rattle.search_laws.specs.GroveFacts.{IsSearch}
-use Rattle.cert_form.specs.Kept.{certificate_of}
-use Rattle.grove_parts.specs.Trees as growing
+use Rattle.cert_format.specs.Kept.{certificate_of}
+use Rattle.open_nodes.specs.Trees as growing
 use Rattle.tree_load.specs.Rooms.{rooms, FindsDeep, root_line}
 use Rattle.cert_load.proofs.Reaching.{feasible_point, same_cost, searched_of, few_made, depth_low, loaded_of, few_steps}
 use Rattle.cert_load.proofs.loading.load.Goals as goal

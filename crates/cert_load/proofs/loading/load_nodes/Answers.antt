@@ -1,9 +1,9 @@
 use Rattle.std.proofs.Common.{◌≡◌, refl, sym, ap, subst, ◌∙◌, None, Option, ℕ}
 use Rattle.bp_theory.specs.Trees.{Tree as theory}
-use Rattle.cert_form.specs.Kept.{certificate_of}
-use Rattle.cert_form.specs.Sketch.{tree_of}
-use Rattle.grove_parts.specs.Trees as growing
-use Rattle.grove_parts.specs.declared.tree.Tree.{Tree}
+use Rattle.cert_format.specs.Kept.{certificate_of}
+use Rattle.cert_format.specs.Sketch.{tree_of}
+use Rattle.open_nodes.specs.Trees as growing
+use Rattle.open_nodes.specs.declared.tree.Tree.{Tree}
 use Rattle.tree_load.specs.Rooms.{rooms, FindsDeep, root_line}
 use Rattle.tree_load.specs.Nodes.{MayLoad}
 use Rattle.cert_load.specs.Loadings.{IsLoadedTree}

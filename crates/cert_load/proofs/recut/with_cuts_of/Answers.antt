@@ -1,7 +1,7 @@
 use Rattle.std.proofs.Common.{◌≡◌, ◌∙◌, sym, subst, List}
 use Rattle.bp_theory.specs.declared.Cut.{Cut}
 use Rattle.block_program.specs.Cuts.{KeepsCuts}
-use Rattle.cert_form.specs.Kept.{certificate_of}
+use Rattle.cert_format.specs.Kept.{certificate_of}
 use Rattle.round_cut.proofs.PlainCuts.{kept_over}
 use Rattle.round_cut.proofs.SeveralLemmas.{kept_is_not_at_fault}
 use Rattle.cert_load.proofs.CutPrograms.{is_with_cuts}

@@ -1,11 +1,11 @@
 use Rattle.std.proofs.Common.{Bool, sym, subst}
 use Rattle.std.specs.Prelude.{[], codes, IsTrue}
-use Rattle.cert_form.specs.Fault.{IsText}
+use Rattle.cert_format.specs.Fault.{IsText}
 use Rattle.cert_text.specs.Programs.{frame_for}
-use Rattle.cert_form.specs.Kept.{kept_cert}
-use Rattle.cert_form.specs.Sketch.{tree_of as sketched}
-use Rattle.cert_form.specs.Text.{Two}
-use Rattle.cert_form.specs.Plain.{version_with, tree_text}
+use Rattle.cert_format.specs.Kept.{kept_cert}
+use Rattle.cert_format.specs.Sketch.{tree_of as sketched}
+use Rattle.cert_format.specs.Text.{Two}
+use Rattle.cert_format.specs.Plain.{version_with, tree_text}
 use Rattle.cert_write.specs.Changes.{changing_nodes}
 use Rattle.cert_stream.proofs.Streaming.{head_failed, put_anew}
 use Rattle.cert_file.proofs.Appending.{stopped_before, added_on}

@@ -3,9 +3,9 @@ use Rattle.std.specs.Prelude.{[], codes, IsTrue}
 use Rattle.bp_model.specs.Named.{NamedProgram}
 use Rattle.search_laws.specs.Grove.{certificate_tree}
 use Rattle.branch_tree.specs.Groves.{GroveState, IsStanding}
-use Rattle.grove_parts.specs.Trees.{tree_of}
-use Rattle.cert_form.specs.Text.{Two}
-use Rattle.cert_form.specs.Plain.{tree_text}
+use Rattle.open_nodes.specs.Trees.{tree_of}
+use Rattle.cert_format.specs.Text.{Two}
+use Rattle.cert_format.specs.Plain.{tree_text}
 use Rattle.cert_write.specs.Changes.{changing_nodes}
 use Rattle.cert_text.specs.Outcomes.{claim_of}
 use Rattle.cert_file.proofs.Appending.{stopped_before, added_on}

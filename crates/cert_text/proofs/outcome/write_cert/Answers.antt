@@ -3,7 +3,7 @@ use Rattle.std.specs.Prelude.{unwrap_or, []}
 use Rattle.bp_model.specs.Named.{NamedProgram}
 use Rattle.search_laws.specs.Grove.{certificate_tree}
 use Rattle.branch_tree.specs.Groves.{GroveState, IsStanding}
-use Rattle.grove_parts.specs.Trees.{tree_of}
+use Rattle.open_nodes.specs.Trees.{tree_of}
 use Rattle.cert_write.specs.Changes.{changing_nodes}
 use Rattle.cert_text.specs.Outcomes.{grove_of, claim_of, point_of}
 use Rattle.cert_write.proofs.CutTexts.{written_text}

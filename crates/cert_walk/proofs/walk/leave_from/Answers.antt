@@ -1,8 +1,8 @@
 use Rattle.std.proofs.Common.{[], ◌∷◌, Result, subst}
 use Rattle.bp_theory.specs.Judgement.{leaf_line}
-use Rattle.line_check.specs.Judging.{JudgesLines}
-use Rattle.line_check.specs.declared.place.NodePlace.{NodePlace}
-use Rattle.line_check.specs.declared.place.Stop.{Stop}
+use Rattle.cert_line_check.specs.Judging.{JudgesLines}
+use Rattle.cert_line_check.specs.declared.place.NodePlace.{NodePlace}
+use Rattle.cert_line_check.specs.declared.place.Stop.{Stop}
 use Rattle.cert_walk.proofs.Walking.{left_ended, left_at}
 use Rattle.cert_walk.proofs.walk.leave_from.Goals as goal
 

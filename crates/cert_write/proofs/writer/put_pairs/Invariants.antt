@@ -1,6 +1,6 @@
 use Rattle.std.proofs.Common.{◌≡◌, ◌++◌, take}
 use Rattle.std.specs.List.{flat_map}
-use Rattle.cert_form.specs.Plain.{pair_text}
+use Rattle.cert_format.specs.Plain.{pair_text}
 use Rattle.cert_write.proofs.writer.put_pairs.Given as goal
 
 abbrev pub invariant-loop-pair : goal.invariant-loop-pair

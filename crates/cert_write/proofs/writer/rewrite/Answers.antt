@@ -1,10 +1,10 @@
 use Rattle.std.proofs.Common.{◌∙◌, sym, ap, subst, List, ℕ, ℤ, ◌++◌, []}
 use Rattle.bp_theory.specs.declared.Cut.{Cut}
-use Rattle.cert_form.specs.Fault.{IsText}
-use Rattle.cert_form.specs.Plain.{plain_text, version_with}
-use Rattle.cert_form.specs.Sketch.{tree_of}
+use Rattle.cert_format.specs.Fault.{IsText}
+use Rattle.cert_format.specs.Plain.{plain_text, version_with}
+use Rattle.cert_format.specs.Sketch.{tree_of}
 use Rattle.cert_write.specs.Changes.{changing_nodes}
-use Rattle.cert_form.specs.Kept.{kept_cert}
+use Rattle.cert_format.specs.Kept.{kept_cert}
 use Rattle.cert_write.proofs.ChangeText.{rewritten}
 use Rattle.cert_write.proofs.writer.rewrite.Goals as goal
 

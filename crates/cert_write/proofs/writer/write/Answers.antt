@@ -1,8 +1,8 @@
 use Rattle.std.proofs.Common.{◌∙◌, ap, List, [], ℕ, ◌++◌}
-use Rattle.cert_form.proofs.PlainProof.{plain_lem}
-use Rattle.cert_form.specs.Text.{One}
-use Rattle.cert_form.specs.Plain.{plain_text}
-use Rattle.cert_form.specs.Sketch.{tree_of}
+use Rattle.cert_format.proofs.PlainProof.{plain_lem}
+use Rattle.cert_format.specs.Text.{One}
+use Rattle.cert_format.specs.Plain.{plain_text}
+use Rattle.cert_format.specs.Sketch.{tree_of}
 use Rattle.cert_write.proofs.writer.write.Goals as goal
 
 pub returns : goal.returns

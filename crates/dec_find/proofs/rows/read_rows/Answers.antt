@@ -1,10 +1,10 @@
 use Rattle.std.proofs.Common.{◌≡◌, ◌≤◌, ℕ, List, length, [], ◌∷◌, ◌++◌, arith, sym, subst, take, Option, None, Some, Ok, refl, ◌∙◌}
-use Rattle.dec_tokens.specs.Cut.{tokens}
-use Rattle.dec_tokens.specs.Scan.{tokens_at, token_in}
-use Rattle.dec_words.specs.Rows.{words_in, word_fault}
-use Rattle.dec_words.specs.Listing.{Takes}
-use Rattle.dec_words.specs.declared.fault.RowsKind.{RowsKind}
-use Rattle.dec_words.proofs.RowsLemmas.{stands_first, stands_more, stands_fault, stands_last, seen_room}
+use Rattle.dec_syntax.specs.Cut.{tokens}
+use Rattle.dec_syntax.specs.Scan.{tokens_at, token_in}
+use Rattle.dec_write.specs.Rows.{words_in, word_fault}
+use Rattle.dec_write.specs.Listing.{Takes}
+use Rattle.dec_write.specs.declared.fault.RowsKind.{RowsKind}
+use Rattle.dec_write.proofs.RowsLemmas.{stands_first, stands_more, stands_fault, stands_last, seen_room}
 use Rattle.dec_find.proofs.rows.read_rows.Goals as goal
 
 pub loop-word-init : goal.loop-word-init

@@ -1,6 +1,6 @@
 use Rattle.std.proofs.Common.{◌≡◌, ◌-◌, length}
-use Rattle.dec_tokens.specs.Scan.{StandsIn, tokens_at}
-use Rattle.dec_words.specs.Listing.{StandsBefore}
+use Rattle.dec_syntax.specs.Scan.{StandsIn, tokens_at}
+use Rattle.dec_write.specs.Listing.{StandsBefore}
 use Rattle.dec_find.proofs.rows.read_rows.Given as goal
 
 abbrev pub invariant-loop-word : goal.invariant-loop-word

@@ -1,7 +1,7 @@
 use Rattle.std.proofs.Common.{◌≤◌, ℕ, List, arith, sym, subst}
 use Rattle.dec_read.specs.Reading.{ReadsDecomposition}
-use Rattle.dec_words.proofs.TextLemmas.{text_reads, writable}
-use Rattle.dec_words.proofs.LengthLemmas.{text_short}
+use Rattle.dec_write.proofs.TextLemmas.{text_reads, writable}
+use Rattle.dec_write.proofs.LengthLemmas.{text_short}
 use Rattle.dec_find.proofs.text.dec_text.Goals as goal
 
 pub returns-clause-text : goal.returns-clause-text

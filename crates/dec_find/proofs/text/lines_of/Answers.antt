@@ -1,8 +1,8 @@
 use Rattle.std.proofs.Common.{◌≡◌, ◌<◌, ◌≤◌, ℕ, List, [], ◌∷◌, ◌++◌, take, length, arith, refl, sym, ◌∙◌, ap, subst, Option, Some}
 use Rattle.std.specs.Prelude.{slice_get}
 use Rattle.std.specs.List.{zip}
-use Rattle.dec_words.specs.Text.{AreLines}
-use Rattle.dec_words.proofs.TextLemmas.{lines_next, zip_all}
+use Rattle.dec_write.specs.Text.{AreLines}
+use Rattle.dec_write.proofs.TextLemmas.{lines_next, zip_all}
 use Rattle.dec_find.proofs.text.lines_of.Goals as goal
 
 pub loop-row-preserved : goal.loop-row-preserved

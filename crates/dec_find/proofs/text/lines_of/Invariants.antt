@@ -1,6 +1,6 @@
 use Rattle.std.proofs.Common.{◌≡◌, ◌<◌, ℕ, take, length}
 use Rattle.std.specs.List.{zip}
-use Rattle.dec_words.specs.Text.{AreLines}
+use Rattle.dec_write.specs.Text.{AreLines}
 use Rattle.dec_find.proofs.text.lines_of.Given as goal
 
 abbrev pub invariant-loop-row : goal.invariant-loop-row

@@ -1,8 +1,8 @@
 use Rattle.std.proofs.Common.{◌≡◌, ◌<◌, ℕ, true, List, [], Bool, Option, length, get_or, arith, refl, sym, ◌∙◌, ap, subst}
 use Rattle.bp_theory.specs.Decomposition.{Decomposition}
-use Rattle.row_blocks.specs.Joined.{IsFound}
-use Rattle.row_blocks.specs.Forest.{AreMarks, IsTied}
-use Rattle.row_blocks.proofs.FoundLemmas.{same_parts}
+use Rattle.dec_components.specs.Joined.{IsFound}
+use Rattle.dec_components.specs.Forest.{AreMarks, IsTied}
+use Rattle.dec_components.proofs.FoundLemmas.{same_parts}
 use Rattle.dec_find.proofs.trees.find.Goals as goal
 
 pub returns-then-found-gt-MOST_BLOCKS-clause-many : goal.returns-then-found-gt-MOST_BLOCKS-clause-many

@@ -1,6 +1,6 @@
 -- A dealt point in which the copies agree is given, and no other.
 use Rattle.std.proofs.Common.{refl, sym, subst, true≢false}
-use Rattle.column_deals.specs.Deals.{HaveNumbers}
+use Rattle.column_assignment.specs.Deals.{HaveNumbers}
 use Rattle.disagg.proofs.spreading.agreed_point.Goals as goal
 
 pub returns-then-not-copies_agree : goal.returns-then-not-copies_agree

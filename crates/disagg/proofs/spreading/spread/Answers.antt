@@ -3,8 +3,8 @@ use Rattle.std.proofs.Common.{◌≡◌, ap, subst, ◌∙◌, ℕ, ◌<◌, [],
 use Rattle.std.specs.Prelude.{ℤ, MatchOption}
 use Rattle.bp_theory.specs.Program.{value_at}
 use Rattle.search_laws.specs.Spread.{class_at, rank, IsSpread}
-use Rattle.column_deals.specs.Deals.{IsSpreadable, HaveNumbers, point_at}
-use Rattle.column_deals.proofs.SpreadLemmas.{spread_is, copies_have}
+use Rattle.column_assignment.specs.Deals.{IsSpreadable, HaveNumbers, point_at}
+use Rattle.column_assignment.proofs.SpreadLemmas.{spread_is, copies_have}
 use Rattle.disagg.proofs.spreading.spread.Goals as goal
 
 -- what follows for each case of what may be there

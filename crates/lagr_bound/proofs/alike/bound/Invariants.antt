@@ -1,6 +1,6 @@
 use Rattle.std.proofs.Common.{◌≡◌, ◌≤◌, map}
 use Rattle.lagr_bound.specs.Bounded.{AreKnown, AreTold}
-use Rattle.block_forms.specs.Told.{told_point}
+use Rattle.block_pricers.specs.Told.{told_point}
 use Rattle.block_pricers.specs.Works.{forms_of}
 use Rattle.lagr_bound.proofs.PartLemmas.{HasParts}
 use Rattle.lagr_bound.proofs.alike.bound.Given as goal

@@ -4,13 +4,13 @@ use Rattle.std.specs.Int.{w128}
 use Rattle.std.proofs.lemmas.Int.{ints}
 use Rattle.bp_theory.specs.Bound.{IsPart}
 use Rattle.search_laws.specs.Spread.{block_at, class_at}
-use Rattle.pricing.specs.declared.Priced.TheVariants.{Least}
-use Rattle.block_forms.specs.Told.{told_point}
+use Rattle.pricing_problem.specs.declared.Priced.TheVariants.{Least}
+use Rattle.block_pricers.specs.Told.{told_point}
 use Rattle.std.proofs.lemmas.List.{length-map}
-use Rattle.block_forms.specs.Forms.{BlockForm, form_with, forms_in}
+use Rattle.block_pricers.specs.Forms.{BlockForm, form_with, forms_in}
 use Rattle.block_pricers.specs.Works.{forms_of, priced_at}
 use Rattle.lagr_bound.proofs.PartLemmas.{price_is_part, best_point}
-use Rattle.block_forms.proofs.FormLemmas.{point_fits}
+use Rattle.block_pricers.proofs.FormLemmas.{point_fits}
 use Rattle.lagr_bound.proofs.SharedLemmas.{known_of, known_part, known_new, known_skip, first_there, told_new, none_is, if_not_least}
 use Rattle.block_pricers.proofs.WorkLemmas.{known_wide, told_wide}
 use Rattle.lagr_bound.specs.Bounded.{AreKnown, AreTold}

@@ -5,8 +5,8 @@ use Rattle.std.proofs.lemmas.Int.{ints}
 use Rattle.bp_theory.specs.Bound.{IsPart}
 use Rattle.search_laws.specs.Spread.{block_at}
 use Rattle.lagr_bound.specs.declared.bounded.Bounded.TheVariants.{Whole}
-use Rattle.block_forms.specs.Told.{told_point}
-use Rattle.proof_costs.proofs.Magnitude.{bound_small}
+use Rattle.block_pricers.specs.Told.{told_point}
+use Rattle.reduced_costs.proofs.Magnitude.{bound_small}
 use Rattle.lagr_bound.proofs.PartLemmas.{HasParts, no_parts, one_part_more, parts_small, all_parts, endless_is, never_otherwise}
 use Rattle.lagr_bound.proofs.bounded.sum_bound.Goals as goal
 

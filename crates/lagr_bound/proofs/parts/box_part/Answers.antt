@@ -4,9 +4,9 @@ use Rattle.std.specs.Int.{w128}
 use Rattle.std.proofs.lemmas.Int.{ints}
 use Rattle.bp_theory.specs.Bound.{IsPart}
 use Rattle.search_laws.specs.Spread.{block_at}
-use Rattle.proof_costs.specs.Sizes.{IsSmallBlock, block_least}
-use Rattle.proof_costs.proofs.Magnitude.{blocks_small, proof_small}
-use Rattle.proof_costs.proofs.FillLemmas.{no_block}
+use Rattle.reduced_costs.specs.Sizes.{IsSmallBlock, block_least}
+use Rattle.reduced_costs.proofs.Magnitude.{blocks_small, proof_small}
+use Rattle.reduced_costs.proofs.FillLemmas.{no_block}
 use Rattle.lagr_bound.proofs.PartLemmas.{box_is_part}
 use Rattle.lagr_bound.proofs.parts.box_part.Goals as goal
 

@@ -3,9 +3,9 @@ use Rattle.std.specs.Prelude.{ℤ}
 use Rattle.std.specs.Int.{w128}
 use Rattle.std.proofs.lemmas.Int.{ints}
 use Rattle.bp_theory.specs.Blocking.{Block}
-use Rattle.proof_costs.specs.Sizes.{IsSmallBlock, block_least}
-use Rattle.proof_costs.proofs.Magnitude.{bound_small, blocks_small, proof_small}
-use Rattle.proof_costs.proofs.Steps.{bound_more, bound_is, bound_within}
+use Rattle.reduced_costs.specs.Sizes.{IsSmallBlock, block_least}
+use Rattle.reduced_costs.proofs.Magnitude.{bound_small, blocks_small, proof_small}
+use Rattle.reduced_costs.proofs.Steps.{bound_more, bound_is, bound_within}
 use Rattle.lagr_bound.proofs.plain.box_bound.Goals as goal
 
 abbrev none : Block

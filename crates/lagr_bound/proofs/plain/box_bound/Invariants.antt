@@ -2,7 +2,7 @@ use Rattle.std.proofs.Common.{◌≡◌, take}
 use Rattle.std.specs.Prelude.{◌+ℤ◌}
 use Rattle.bp_theory.specs.Sums.{sum_of}
 use Rattle.bp_theory.specs.Bound.{base}
-use Rattle.proof_costs.specs.Sizes.{block_least}
+use Rattle.reduced_costs.specs.Sizes.{block_least}
 use Rattle.lagr_bound.proofs.plain.box_bound.Given as goal
 
 abbrev pub invariant-loop-number : goal.invariant-loop-number

@@ -1,8 +1,8 @@
 -- A variable is noted once.
 use Rattle.std.proofs.Common.{◌≡◌, ℕ, List, true, false, sym, ◌∙◌, ap}
 use Rattle.std.proofs.lemmas.Bool.{cond-true, cond-false, MatchBool-at_true, MatchBool-at_false}
-use Rattle.lp_tree.specs.Tree.{Name}
-use Rattle.lp_meaning.specs.Meaning.{has_name}
+use Rattle.lp_syntax.specs.Tree.{Name}
+use Rattle.lp_semantics.specs.Meaning.{has_name}
 use Rattle.lp_read.specs.declared.notes.Notes.{Notes}
 use Rattle.lp_read.proofs.NameLists.{absent_has, present_has}
 use Rattle.lp_read.proofs.notes.add_variable.Goals as goal

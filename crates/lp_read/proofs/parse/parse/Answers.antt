@@ -1,6 +1,6 @@
 -- All symbols are read, or the first fault stands.
 use Rattle.std.proofs.Common.{map}
-use Rattle.lp_tree.specs.TreeIn.{symbol_in}
+use Rattle.lp_syntax.specs.TreeIn.{symbol_in}
 use Rattle.lp_read.specs.Parsing.{IsParseFault}
 use Rattle.lp_read.proofs.ReadAll.{handed, at_start, goes_on, stops, finished, unfinished}
 use Rattle.lp_read.proofs.parse.parse.Goals as goal

@@ -1,6 +1,6 @@
 -- The symbols so far are read and noted.
 use Rattle.std.proofs.Common.{map}
-use Rattle.lp_tree.specs.TreeIn.{symbol_in}
+use Rattle.lp_syntax.specs.TreeIn.{symbol_in}
 use Rattle.lp_read.specs.Noted.{HaveRoom}
 use Rattle.lp_read.specs.Parsing.{IsRead}
 use Rattle.lp_read.proofs.parse.parse.Given as goal

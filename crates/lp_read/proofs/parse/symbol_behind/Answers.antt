@@ -1,6 +1,6 @@
 -- The symbol behind is the first of the rest.
 use Rattle.std.proofs.Common.{◌+◌}
-use Rattle.lp_tree.specs.TreeIn.{symbol_in}
+use Rattle.lp_syntax.specs.TreeIn.{symbol_in}
 use Rattle.lp_read.proofs.ReadOn.{first_from, none_from}
 use Rattle.lp_read.proofs.parse.symbol_behind.Goals as goal
 

@@ -1,9 +1,9 @@
 -- The symbols of the tokens are the text's.
 use Rattle.std.proofs.Common.{List, map, ap, subst, sym, ◌∙◌}
 use Rattle.lp_token.specs.declared.LpKind.{LpKind}
-use Rattle.lp_tree.specs.Tree.{Symbol}
-use Rattle.lp_tree.specs.TreeIn.{symbol_in}
-use Rattle.lp_meaning.specs.Reading.{line_of, HasLpTextFault}
+use Rattle.lp_syntax.specs.Tree.{Symbol}
+use Rattle.lp_syntax.specs.TreeIn.{symbol_in}
+use Rattle.lp_semantics.specs.Reading.{line_of, HasLpTextFault}
 use Rattle.lp_read.specs.Parsing.{IsParsed}
 use Rattle.lp_read.proofs.ReadTree.{token_refused, end_refused}
 use Rattle.lp_read.proofs.read.read_tokens.Goals as goal

@@ -1,6 +1,6 @@
 -- A tree's model is its text's, and so is its first fault.
 use Rattle.std.proofs.Common.{None, Some}
-use Rattle.lp_tree.specs.TreeIn.{tree_in}
+use Rattle.lp_syntax.specs.TreeIn.{tree_in}
 use Rattle.lp_read.proofs.ReadTree.{refusal, text_of, means, variable_refused, objective_refused, row_refused}
 use Rattle.lp_read.proofs.read.read_tree.Goals as goal
 

@@ -4,9 +4,9 @@ use Rattle.std.specs.Int.{w128}
 use Rattle.std.proofs.lemmas.Int.{to_z-of_z}
 use Rattle.search_laws.specs.declared.Column.{Column}
 use Rattle.search_laws.specs.Master.{column_price, AreConvex, gap, short}
-use Rattle.master_measure.specs.Restricted.{Restricted}
-use Rattle.master_measure.proofs.Steps.{passed}
-use Rattle.master_measure.proofs.Bounds.{price_small}
+use Rattle.master_gap.specs.Restricted.{Restricted}
+use Rattle.master_gap.proofs.Steps.{passed}
+use Rattle.master_gap.proofs.Bounds.{price_small}
 use Rattle.master_lp.proofs.Near.{near_best}
 use Rattle.master_lp.proofs.measure.measured.Goals as goal
 

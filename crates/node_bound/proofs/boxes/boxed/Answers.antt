@@ -6,7 +6,7 @@ use Rattle.bp_theory.specs.Bound.{IsBound, plain_proof}
 use Rattle.bp_theory.specs.declared.Proof.{Proof}
 use Rattle.search_laws.specs.GroveFacts.{IsSoundProof}
 use Rattle.search_laws.specs.Verdicts.{every_block}
-use Rattle.hint_pools.proofs.EveryBlock.{every_small}
+use Rattle.node_memory.proofs.EveryBlock.{every_small}
 use Rattle.node_bound.proofs.BoxLemmas.{boxes_are_points}
 use Rattle.node_bound.proofs.Leaves.{plain_sound}
 use Rattle.node_bound.proofs.Strong.{whole_is_strong, reached_at_one}

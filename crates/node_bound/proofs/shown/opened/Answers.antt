@@ -5,7 +5,7 @@ use Rattle.std.proofs.lemmas.Int.{ints}
 use Rattle.bp_theory.specs.Bound.{IsBound}
 use Rattle.bp_theory.specs.declared.Proof.{Proof}
 use Rattle.search_laws.specs.Verdicts.{every_block}
-use Rattle.hint_pools.proofs.EveryBlock.{every_small}
+use Rattle.node_memory.proofs.EveryBlock.{every_small}
 use Rattle.node_bound.proofs.Strong.{whole_is_strong, reached_at_one}
 use Rattle.node_bound.proofs.shown.opened.Goals as goal
 

@@ -5,9 +5,9 @@ use Rattle.bp_theory.specs.Decomposition.{ProofRow, proof_rows}
 use Rattle.bp_theory.specs.Cuts.{cut_row}
 use Rattle.bp_theory.specs.declared.Row.{Row}
 use Rattle.block_program.specs.Blocked.{BlockedProgram}
-use Rattle.round_sums.specs.Cutting.{HasCutFault, HasFittingSigns, IsCutOver, IsEarlierCut}
-use Rattle.round_sums.specs.Rows.{program_of, rows_in}
-use Rattle.round_sums.specs.declared.rows.Rows.{Rows}
+use Rattle.cut_sums.specs.Cutting.{HasCutFault, HasFittingSigns, IsCutOver, IsEarlierCut}
+use Rattle.cut_sums.specs.Rows.{program_of, rows_in}
+use Rattle.cut_sums.specs.declared.rows.Rows.{Rows}
 use Rattle.round_cut.proofs.cut.cut_row.Goals as goal
 
 -- the program, the rows that a cut may name and the earlier cuts

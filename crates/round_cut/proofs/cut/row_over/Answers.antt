@@ -5,16 +5,16 @@ use Rattle.std.proofs.lemmas.Int.{ints}
 use Rattle.bp_theory.specs.Cuts.{CombinesWell}
 use Rattle.bp_theory.specs.declared.Term.{Term}
 use Rattle.bp_model.specs.Tidy.{as_term}
-use Rattle.round_sums.specs.Rows.{program_of, rows_in, row_in, sum_in, AreEntries}
+use Rattle.cut_sums.specs.Rows.{program_of, rows_in, row_in, sum_in, AreEntries}
 use Rattle.std.proofs.Common.{true, false, refl}
 use Rattle.std.proofs.lemmas.Result.{IfOk-weaker}
 use Rattle.bp_theory.specs.Sums.{round_up}
 use Rattle.bp_theory.specs.Program.{IsFeasible, KeepsActivity, MeetsRow}
 use Rattle.bp_theory.specs.Cuts.{cut_row}
-use Rattle.round_sums.specs.Bounded.{row_from, IsRowFrom}
-use Rattle.round_sums.specs.Cutting.{HasFittingSigns, IsEarlierCut}
-use Rattle.round_sums.proofs.CutLemmas.{above_within, coefs_below, cut_met, fault_is, later_cut, row_of_entries}
-use Rattle.round_sums.proofs.SizeLemmas.{entries_are}
+use Rattle.cut_sums.specs.Bounded.{row_from, IsRowFrom}
+use Rattle.cut_sums.specs.Cutting.{HasFittingSigns, IsEarlierCut}
+use Rattle.cut_sums.proofs.CutLemmas.{above_within, coefs_below, cut_met, fault_is, later_cut, row_of_entries}
+use Rattle.cut_sums.proofs.SizeLemmas.{entries_are}
 use Rattle.round_cut.proofs.cut.row_over.Goals as goal
 
 pub signs_fit-requires-clause-entries : goal.signs_fit-requires-clause-entries

@@ -1,6 +1,6 @@
 use Rattle.std.proofs.Common.{◌≡◌, ◌+◌, ◌*◌, OnOk, inl, inr, refl, subst, arith}
-use Rattle.round_sums.specs.PlainSteps.{AreFirstBelow}
-use Rattle.round_sums.specs.Rows.{program_of}
+use Rattle.cut_sums.specs.PlainSteps.{AreFirstBelow}
+use Rattle.cut_sums.specs.Rows.{program_of}
 use Rattle.round_cut.proofs.plain.add_both.Goals as goal
 
 pub add_cut-requires : goal.add_cut-requires

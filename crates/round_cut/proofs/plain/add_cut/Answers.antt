@@ -1,8 +1,8 @@
 use Rattle.std.proofs.Common.{◌+◌, ℕ, sym, subst, arith}
 use Rattle.std.specs.Prelude.{ℤ}
-use Rattle.round_sums.specs.PlainSteps.{rank_of, AreFirstBelow, IsPlainOf}
-use Rattle.round_sums.specs.Rows.{program_of}
-use Rattle.round_sums.proofs.PlainLemmas.{full_below, none_of, one_more_below}
+use Rattle.cut_sums.specs.PlainSteps.{rank_of, AreFirstBelow, IsPlainOf}
+use Rattle.cut_sums.specs.Rows.{program_of}
+use Rattle.cut_sums.proofs.PlainLemmas.{full_below, none_of, one_more_below}
 use Rattle.round_cut.proofs.plain.add_cut.Goals as goal
 
 pub returns-then-len-most : goal.returns-then-len-most

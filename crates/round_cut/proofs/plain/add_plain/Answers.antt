@@ -1,13 +1,13 @@
 use Rattle.std.proofs.Common.{◌≡◌, ◌∙◌, List, [], false, true, refl, sym, ap, subst}
 use Rattle.bp_theory.specs.Decomposition.{ProofRow, proof_rows}
 use Rattle.bp_theory.specs.declared.Row.{Row}
-use Rattle.round_sums.specs.Cutting.{IsWhole}
-use Rattle.round_sums.specs.Plain.{Sharpens}
-use Rattle.round_sums.specs.PlainSteps.{SharpensRow}
-use Rattle.round_sums.specs.Rows.{program_of, rows_in}
-use Rattle.round_sums.specs.declared.rows.Rows.{Rows}
-use Rattle.round_sums.proofs.RowLemmas.{bounded_there}
-use Rattle.round_sums.proofs.PlainLemmas.{none_of_row, plain_at, row_whole}
+use Rattle.cut_sums.specs.Cutting.{IsWhole}
+use Rattle.cut_sums.specs.Plain.{Sharpens}
+use Rattle.cut_sums.specs.PlainSteps.{SharpensRow}
+use Rattle.cut_sums.specs.Rows.{program_of, rows_in}
+use Rattle.cut_sums.specs.declared.rows.Rows.{Rows}
+use Rattle.cut_sums.proofs.RowLemmas.{bounded_there}
+use Rattle.cut_sums.proofs.PlainLemmas.{none_of_row, plain_at, row_whole}
 use Rattle.round_cut.proofs.plain.add_plain.Goals as goal
 
 -- rows without earlier cuts

@@ -1,7 +1,7 @@
 use Rattle.std.proofs.Common.{◌≡◌, ◌+◌, ◌*◌, sym, subst, arith}
-use Rattle.round_sums.specs.PlainSteps.{AreFirstBelow}
-use Rattle.round_sums.specs.Rows.{program_of}
-use Rattle.round_sums.proofs.PlainLemmas.{none_below}
+use Rattle.cut_sums.specs.PlainSteps.{AreFirstBelow}
+use Rattle.cut_sums.specs.Rows.{program_of}
+use Rattle.cut_sums.proofs.PlainLemmas.{none_below}
 use Rattle.round_cut.proofs.plain.cuts_below.Goals as goal
 
 pub loop-number-init : goal.loop-number-init

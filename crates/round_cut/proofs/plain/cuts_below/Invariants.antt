@@ -1,6 +1,6 @@
 use Rattle.std.proofs.Common.{◌*◌}
-use Rattle.round_sums.specs.PlainSteps.{AreFirstBelow}
-use Rattle.round_sums.specs.Rows.{program_of}
+use Rattle.cut_sums.specs.PlainSteps.{AreFirstBelow}
+use Rattle.cut_sums.specs.Rows.{program_of}
 use Rattle.round_cut.proofs.plain.cuts_below.Given as goal
 
 abbrev pub invariant-loop-number : goal.invariant-loop-number

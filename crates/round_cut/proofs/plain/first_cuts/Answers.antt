@@ -4,11 +4,11 @@ use Rattle.std.proofs.lemmas.List.Elements.{All-nil}
 use Rattle.bp_theory.specs.declared.Row.{Row}
 use Rattle.bp_model.specs.Named.{NamedProgram}
 use Rattle.block_program.specs.Blocked.{BlockedProgram}
-use Rattle.round_sums.specs.Cutting.{IsEarlierCut}
-use Rattle.round_sums.specs.Plain.{AreFirstPlain}
-use Rattle.round_sums.specs.PlainSteps.{AreFirstBelow}
-use Rattle.round_sums.specs.Rows.{program_of}
-use Rattle.round_sums.proofs.PlainLemmas.{first_plain}
+use Rattle.cut_sums.specs.Cutting.{IsEarlierCut}
+use Rattle.cut_sums.specs.Plain.{AreFirstPlain}
+use Rattle.cut_sums.specs.PlainSteps.{AreFirstBelow}
+use Rattle.cut_sums.specs.Rows.{program_of}
+use Rattle.cut_sums.proofs.PlainLemmas.{first_plain}
 use Rattle.round_cut.proofs.plain.first_cuts.Goals as goal
 
 pub make-rows-requires : goal.make-rows-requires

@@ -4,10 +4,10 @@ use Rattle.std.proofs.lemmas.Result.{IfOk-weaker}
 use Rattle.bp_theory.specs.Program.{KeepsActivity}
 use Rattle.bp_theory.specs.Decomposition.{proof_rows}
 use Rattle.bp_theory.specs.declared.Row.{Row}
-use Rattle.round_sums.specs.declared.fault.CutFault.TheVariants.{NoMemory}
-use Rattle.round_sums.specs.PlainSteps.{IsPlainOf}
-use Rattle.round_sums.specs.Rows.{program_of, rows_in}
-use Rattle.round_sums.specs.declared.rows.Rows.{Rows}
+use Rattle.cut_sums.specs.declared.fault.CutFault.TheVariants.{NoMemory}
+use Rattle.cut_sums.specs.PlainSteps.{IsPlainOf}
+use Rattle.cut_sums.specs.Rows.{program_of, rows_in}
+use Rattle.cut_sums.specs.declared.rows.Rows.{Rows}
 use Rattle.round_cut.proofs.PlainCuts.{lone_over, plain_is, plain_none, refused}
 use Rattle.round_cut.proofs.plain.plain_cut.Goals as goal
 

@@ -1,8 +1,8 @@
 use Rattle.std.proofs.Common.{ℕ, refl}
 use Rattle.std.specs.Prelude.{ℤ, pos}
 use Rattle.std.proofs.lemmas.List.Elements.{All-more}
-use Rattle.round_sums.specs.Cutting.{IsWhole}
-use Rattle.round_sums.specs.Rows.{row_in}
+use Rattle.cut_sums.specs.Cutting.{IsWhole}
+use Rattle.cut_sums.specs.Rows.{row_in}
 use Rattle.round_cut.proofs.rules.are_whole.Goals as goal
 
 pub loop-mult-preserved : goal.loop-mult-preserved

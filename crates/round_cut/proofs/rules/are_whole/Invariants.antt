@@ -1,7 +1,7 @@
 use Rattle.std.proofs.Common.{take}
 use Rattle.std.specs.Prelude.{All}
-use Rattle.round_sums.specs.Cutting.{IsWhole}
-use Rattle.round_sums.specs.Rows.{row_in}
+use Rattle.cut_sums.specs.Cutting.{IsWhole}
+use Rattle.cut_sums.specs.Rows.{row_in}
 use Rattle.round_cut.proofs.rules.are_whole.Given as goal
 
 abbrev pub invariant-loop-mult : goal.invariant-loop-mult

@@ -3,9 +3,9 @@ use Rattle.std.specs.Prelude.{ℤ, pos, unsigned_abs}
 use Rattle.std.specs.List.Sorted.{IsStrictlyIncreasing}
 use Rattle.bp_theory.specs.Decomposition.{ProofRow, no_row, proof_rows}
 use Rattle.bp_theory.specs.Limits.{greatest_divisor}
-use Rattle.round_sums.specs.Cutting.{IsWhole}
-use Rattle.round_sums.specs.Rows.{rows_in}
-use Rattle.round_sums.proofs.RowLemmas.{same_rows}
+use Rattle.cut_sums.specs.Cutting.{IsWhole}
+use Rattle.cut_sums.specs.Rows.{rows_in}
+use Rattle.cut_sums.proofs.RowLemmas.{same_rows}
 use Rattle.round_cut.proofs.rules.keeps_rules.Goals as goal
 
 pub returns-then-cut-eq0 : goal.returns-then-cut-eq0

@@ -3,7 +3,7 @@ use Rattle.bp_theory.specs.Decomposition.{proof_rows}
 use Rattle.bp_theory.specs.Cuts.{cut_row}
 use Rattle.bp_theory.specs.declared.Cut.{Cut}
 use Rattle.bp_theory.specs.declared.Row.{Row}
-use Rattle.round_sums.specs.Cutting.{HasCutFault, HasFittingSigns, IsCutOver, IsEarlierCut}
+use Rattle.cut_sums.specs.Cutting.{HasCutFault, HasFittingSigns, IsCutOver, IsEarlierCut}
 use Rattle.round_cut.specs.Several.{AreRowsOfCuts}
 use Rattle.round_cut.proofs.SeveralLemmas.{no_rows_yet, next_few, next_over, next_rows, fault_at}
 use Rattle.round_cut.proofs.several.rows_of.Goals as goal

@@ -2,7 +2,7 @@ use Rattle.std.proofs.Common.{sym, subst, Option, List, ℕ, Bor}
 use Rattle.std.specs.Option.{option_map}
 use Rattle.search_outcome.specs.Outcomes.{IsSaved, IsPartOf, AsBeforeOr}
 use Rattle.search_outcome.proofs.Outcomes.{is_saved, is_part}
-use Rattle.bp_front.specs.Answers.{FilesStand}
+use Rattle.frontend.specs.Answers.{FilesStand}
 use Rattle.search_outcome.proofs.told.save.Goals as goal
 
 pub returns-in-Some-clause-saved : goal.returns-in-Some-clause-saved

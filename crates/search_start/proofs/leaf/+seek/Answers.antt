@@ -1,7 +1,7 @@
 use Rattle.std.proofs.Common.{◌≡◌, ◌∙◌, ap, arith, rules, ◌++◌, ◌∷◌, [], List}
 use Rattle.search_laws.specs.declared.Side.{Side}
 use Rattle.search_laws.specs.declared.Side.TheVariants.{Low, High}
-use Rattle.cert_form.specs.Sketch.{tree_of}
+use Rattle.cert_format.specs.Sketch.{tree_of}
 use Rattle.search_start.proofs.Paths.{low_there, high_there, passed_by, popped}
 use Rattle.search_start.proofs.leaf.+seek.Goals as goal
 

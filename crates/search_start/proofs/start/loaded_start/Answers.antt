@@ -5,7 +5,7 @@ use Rattle.cert_text.specs.Programs.{GoesWith}
 use Rattle.cert_load.proofs.CutPrograms.{goes_along}
 use Rattle.bp_report.specs.Refusals.{from_refusal}
 use Rattle.cert_load.specs.Loadings.{LoadsCert}
-use Rattle.cert_form.specs.Kept.{certificate_of}
+use Rattle.cert_format.specs.Kept.{certificate_of}
 use Rattle.search_start.proofs.Beginning.{start_deep}
 use Rattle.search_start.proofs.start.loaded_start.Goals as goal
 

@@ -2,8 +2,8 @@ use Rattle.std.proofs.Common.{◌≡◌, ◌∙◌, refl, sym, ap, subst, ℕ, L
 use Rattle.std.proofs.lemmas.Result.{IfOk-weaker}
 use Rattle.bp_theory.specs.Trees.{Tree}
 use Rattle.search_laws.specs.declared.Side.{Side}
-use Rattle.cert_form.specs.Kept.{certificate_of}
-use Rattle.cert_form.specs.Sketch.{tree_of}
+use Rattle.cert_format.specs.Kept.{certificate_of}
+use Rattle.cert_format.specs.Sketch.{tree_of}
 use Rattle.search_start.specs.Leaves.{open_path, IsWorkedOn}
 use Rattle.search_start.specs.Starts.{IsReady, StartsOf, RefusesStart, CanBegin}
 use Rattle.search_start.proofs.Beginning.{start_ready, ready_can, start_without}

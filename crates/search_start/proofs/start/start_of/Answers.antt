@@ -1,6 +1,6 @@
 use Rattle.std.proofs.Common.{◌≡◌, ◌∙◌, refl, ap, ℕ, List, Err}
 use Rattle.cert_text.specs.Programs.{ReadsFor}
-use Rattle.cert_form.specs.declared.fault.CertKind.{CertKind}
+use Rattle.cert_format.specs.declared.fault.CertKind.{CertKind}
 use Rattle.bp_report.specs.Refusals.{cert_refusal}
 use Rattle.search_start.specs.Starts.{faulty}
 use Rattle.search_start.proofs.Beginning.{text_starts}

@@ -2,7 +2,7 @@ use Rattle.std.proofs.Common.{◌∙◌, sym, ap, subst, ◌+◌, List, length, 
 use Rattle.std.proofs.Math.IntN.{ℤ}
 use Rattle.std.specs.Prelude.{Option, IfSome, IfNone, sum_by, ◌^◌, ◌<◌}
 use Rattle.bp_theory.specs.declared.Span.{Span}
-use Rattle.pricing.specs.Form.{term_size, row_size}
+use Rattle.pricing_problem.specs.Form.{term_size, row_size}
 use Rattle.bp_theory.specs.declared.Row.{Row}
 use Rattle.bp_theory.specs.declared.Term.{Term}
 use Rattle.state_graph.specs.Columns.{AreCoefs}

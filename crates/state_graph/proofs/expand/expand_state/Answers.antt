@@ -4,7 +4,7 @@ use Rattle.std.specs.Int.{w64}
 use mir.Val.{of_z, to_z}
 use Rattle.std.proofs.lemmas.Int.{ints}
 use Rattle.bp_theory.specs.Program.{IsWithin}
-use Rattle.pricing.proofs.Passed.{passed_short}
+use Rattle.pricing_problem.proofs.Passed.{passed_short}
 use Rattle.state_graph.specs.Expansions.{IsBuilt}
 use Rattle.state_graph.proofs.ExpandLaws.{built_state}
 use Rattle.state_graph.proofs.expand.expand_state.Goals as goal

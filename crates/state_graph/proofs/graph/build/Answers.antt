@@ -1,7 +1,7 @@
 use Rattle.std.proofs.Common.{◌≡◌, ◌<◌, ◌*◌, sym, subst, List, [], length, inl, inr}
 use Rattle.std.specs.Prelude.{Option, IfSome, IfNone, All, ◌⊎◌}
 use Rattle.bp_theory.specs.declared.Span.{Span}
-use Rattle.pricing.specs.Form.{HasShortEnds}
+use Rattle.pricing_problem.specs.Form.{HasShortEnds}
 use Rattle.state_graph.specs.Layers.{spans_in, AreLayersOf, IsRoot}
 use Rattle.state_graph.specs.Limits.{most_coefs, HasLongSpan, HasManyArcs, HasManyNodes}
 use Rattle.state_graph.specs.Expansions.{IsEndState, IsRight}

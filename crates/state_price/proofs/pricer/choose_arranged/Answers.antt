@@ -4,8 +4,8 @@ use Rattle.std.specs.Bool.{OnTrue}
 use Rattle.bp_theory.specs.Program.{IsInside}
 use Rattle.bp_theory.specs.Bound.{IsPoint}
 use Rattle.bp_theory.specs.declared.Span.{Span}
-use Rattle.var_order.specs.Orders.{spans_by, numbers_by}
-use Rattle.var_order.specs.declared.order.Order.{Order}
+use Rattle.variable_order.specs.Orders.{spans_by, numbers_by}
+use Rattle.variable_order.specs.declared.order.Order.{Order}
 use Rattle.state_price.proofs.WayLaws.{way_back}
 use Rattle.state_price.proofs.pricer.choose_arranged.Goals as goal
 

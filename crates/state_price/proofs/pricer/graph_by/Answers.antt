@@ -1,9 +1,9 @@
 use Rattle.std.proofs.Common.{◌∙◌, sym, subst, List, length, arith}
 use Rattle.bp_theory.specs.declared.Span.{Span}
 use Rattle.bp_theory.specs.declared.Row.{Row}
-use Rattle.pricing.specs.Form.{IsForm}
-use Rattle.var_order.specs.Orders.{rows_by}
-use Rattle.var_order.proofs.OrderLaws.{form_by}
+use Rattle.pricing_problem.specs.Form.{IsForm}
+use Rattle.variable_order.specs.Orders.{rows_by}
+use Rattle.variable_order.proofs.OrderLaws.{form_by}
 use Rattle.state_price.proofs.pricer.graph_by.Goals as goal
 
 pub build-requires : goal.build-requires

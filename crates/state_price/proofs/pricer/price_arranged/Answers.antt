@@ -2,11 +2,11 @@ use Rattle.std.proofs.Common.{◌≡◌, ◌∙◌, sym, ap, subst, ◌≤◌, �
 use Rattle.std.proofs.Math.IntN.{ℤ}
 use Rattle.std.specs.Prelude.{MatchOption}
 use Rattle.bp_theory.specs.declared.Span.{Span}
-use Rattle.pricing.specs.Form.{cost_size, IsPriceable}
-use Rattle.pricing.specs.Priced.{IsCheapest, HasNoPoint}
-use Rattle.var_order.specs.Orders.{rows_by, spans_by, numbers_by}
-use Rattle.var_order.specs.declared.order.Order.{Order}
-use Rattle.var_order.proofs.OrderLaws.{size_by, priceable_by, answer_back}
+use Rattle.pricing_problem.specs.Form.{cost_size, IsPriceable}
+use Rattle.pricing_problem.specs.Priced.{IsCheapest, HasNoPoint}
+use Rattle.variable_order.specs.Orders.{rows_by, spans_by, numbers_by}
+use Rattle.variable_order.specs.declared.order.Order.{Order}
+use Rattle.variable_order.proofs.OrderLaws.{size_by, priceable_by, answer_back}
 use Rattle.state_price.proofs.pricer.price_arranged.Goals as goal
 
 pub price_zone-least-requires-clause-sizes : goal.price_zone-least-requires-clause-sizes

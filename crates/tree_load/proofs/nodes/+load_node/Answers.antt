@@ -1,10 +1,10 @@
 use Rattle.std.proofs.Common.{◌≡◌, ◌<◌, sym, ap, subst, arith}
 use Rattle.bp_theory.specs.Trees.{Tree, split}
 use Rattle.search_laws.specs.Grove.{GrowingTree}
-use Rattle.cert_form.specs.Sketch.{tree_of}
-use Rattle.cert_form.specs.declared.sketch.Sketch.{Sketch}
-use Rattle.grove_parts.specs.Trees as growing
-use Rattle.line_check.proofs.Lines.{nodes, fewer_nodes}
+use Rattle.cert_format.specs.Sketch.{tree_of}
+use Rattle.cert_format.specs.declared.sketch.Sketch.{Sketch}
+use Rattle.open_nodes.specs.Trees as growing
+use Rattle.cert_line_check.proofs.Lines.{nodes, fewer_nodes}
 use Rattle.tree_load.specs.Nodes.{MayLoad, IsLoadedNode}
 use Rattle.tree_load.proofs.Descent.{may_low, may_high, may_shut, may_open, loaded_fork, can_go_back}
 use Rattle.tree_load.proofs.nodes.+load_node.Goals as goal

@@ -1,5 +1,5 @@
-use Rattle.cert_form.specs.Sketch.{tree_of}
-use Rattle.line_check.proofs.Lines.{nodes}
+use Rattle.cert_format.specs.Sketch.{tree_of}
+use Rattle.cert_line_check.proofs.Lines.{nodes}
 use Rattle.tree_load.proofs.nodes.+load_node.Given as goal
 
 -- the nodes of the tree

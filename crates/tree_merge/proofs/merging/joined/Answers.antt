@@ -2,7 +2,7 @@
 use Rattle.std.proofs.Common.{◌≡◌, subst}
 use Rattle.std.specs.Prelude.{IfOk}
 use Rattle.search_laws.specs.Grove.{GrowingTree}
-use Rattle.grove_parts.specs.Trees.{tree_of}
+use Rattle.open_nodes.specs.Trees.{tree_of}
 use Rattle.tree_merge.specs.Merging.{merged, shut_by}
 use Rattle.tree_merge.proofs.merging.joined.Goals as goal
 

@@ -2,8 +2,8 @@ use Rattle.std.proofs.Common.{◌≡◌, ◌∙◌, sym, subst}
 use Rattle.search_laws.specs.Grove.{GrowingTree}
 use Rattle.search_laws.specs.GroveFacts.{IsSearch}
 use Rattle.branch_tree.specs.Adopted.{point_in}
-use Rattle.grove_parts.specs.Trees.{tree_of}
-use Rattle.grove_parts.specs.declared.tree.Tree.{Tree}
+use Rattle.open_nodes.specs.Trees.{tree_of}
+use Rattle.open_nodes.specs.declared.tree.Tree.{Tree}
 use Rattle.std.proofs.Common.{ap, refl}
 use Rattle.tree_merge.specs.Laws.{merged_by}
 use Rattle.tree_merge.specs.Merges.{cost_in, cheaper_of}

@@ -1,5 +1,5 @@
 use Rattle.std.proofs.Common.{sym, subst}
-use Rattle.load_table.specs.Taken.{IsTaken}
+use Rattle.knapsack_table.specs.Taken.{IsTaken}
 use Rattle.block_pricers.specs.Pricers.{rows_of, spans_of, IsFitting}
 use Rattle.block_pricers.specs.declared.pricers.BlockPricer.{BlockPricer}
 use Rattle.block_pricers.proofs.pricers.BlockPricer.cells.Goals as goal

@@ -5,13 +5,13 @@ use Rattle.bp_theory.specs.Bound.{spans_of}
 use Rattle.bp_theory.specs.Trees.{IsZone}
 use Rattle.bp_theory.specs.Blocking.{Block, Copy}
 use Rattle.bp_theory.specs.declared.Span.{Span}
-use Rattle.block_forms.specs.Forms.{BlockForm, form_at}
+use Rattle.block_pricers.specs.Forms.{BlockForm, form_at}
 use Rattle.block_pricers.specs.Desks.{form_of}
-use Rattle.proof_costs.proofs.Magnitude.{vars_there}
-use Rattle.proof_costs.proofs.FillLemmas.{no_block}
-use Rattle.block_forms.proofs.FormLemmas.{form_in_at}
+use Rattle.reduced_costs.proofs.Magnitude.{vars_there}
+use Rattle.reduced_costs.proofs.FillLemmas.{no_block}
+use Rattle.block_pricers.proofs.FormLemmas.{form_in_at}
 use Rattle.block_pricers.proofs.DeskLemmas.{seats_many, seat_form}
-use Rattle.proof_costs.proofs.FillLemmas.{zone_of_block}
+use Rattle.reduced_costs.proofs.FillLemmas.{zone_of_block}
 use Rattle.block_pricers.proofs.work.Work.choose.Goals as goal
 
 pub choose_at-requires-clause-same_block : goal.choose_at-requires-clause-same_block

@@ -2,12 +2,12 @@ use Rattle.std.proofs.Common.{◌∙◌, sym, ap, ◌<◌, List, Option, Some, m
 use Rattle.std.proofs.Math.IntN.{ℤ}
 use Rattle.std.proofs.lemmas.List.{length-map, map-set}
 use Rattle.block_pricers.specs.Desks.{form_of}
-use Rattle.block_forms.specs.Told.{told_point, room_of}
-use Rattle.block_forms.specs.Forms.{form_at}
+use Rattle.block_pricers.specs.Told.{told_point, room_of}
+use Rattle.block_pricers.specs.Forms.{form_at}
 use Rattle.block_pricers.specs.Works.{forms_of}
-use Rattle.block_forms.proofs.FormLemmas.{map-set_alike}
+use Rattle.block_pricers.proofs.FormLemmas.{map-set_alike}
 use Rattle.block_pricers.proofs.WorkLemmas.{priced_is}
-use Rattle.block_forms.proofs.SeatLemmas.{told_many, room_at}
+use Rattle.block_pricers.proofs.SeatLemmas.{told_many, room_at}
 use Rattle.block_pricers.proofs.work.Work.keep.Goals as goal
 
 pub tell-requires : goal.tell-requires

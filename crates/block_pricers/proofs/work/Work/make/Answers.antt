@@ -1,6 +1,6 @@
 use Rattle.std.proofs.Common.{refl, ◌∙◌, sym, ap, ℕ, List, length, map, arith}
 use Rattle.std.proofs.lemmas.List.{length-map}
-use Rattle.block_forms.specs.Forms.{BlockForm, form_at, form_with, forms_in, span_count}
+use Rattle.block_pricers.specs.Forms.{BlockForm, form_at, form_with, forms_in, span_count}
 use Rattle.block_pricers.proofs.DeskLemmas.{tables_where_taken}
 use Rattle.block_pricers.proofs.WorkLemmas.{made_forms, made_there}
 use Rattle.block_pricers.proofs.work.Work.make.Goals as goal

@@ -2,9 +2,9 @@ use Rattle.std.proofs.Common.{◌≡◌, ◌+◌, ◌∙◌, ap, subst, arith, r
 use Rattle.std.specs.Prelude.{ℤ}
 use Rattle.std.proofs.lemmas.Int.{ints}
 use Rattle.search_laws.specs.Grove.{fork_at}
-use Rattle.grove_parts.specs.Queues.{queue_of, IsParted}
+use Rattle.open_nodes.specs.Queues.{queue_of, IsParted}
 use Rattle.branch_tree.proofs.Standing.{fork_there, fork_free, fork_fits, fork_whole, fork_kept, fork_from_queue}
-use Rattle.grove_parts.specs.Trees.{tree_of}
+use Rattle.open_nodes.specs.Trees.{tree_of}
 use Rattle.branch_tree.proofs.grove.Grove.fork.Goals as goal
 
 pub fork_leaf-requires-clause-there : goal.fork_leaf-requires-clause-there

@@ -2,7 +2,7 @@ use Rattle.std.proofs.Common.{◌≡◌, subst, sym, ap, rules, arith, to_z, of_
 use Rattle.std.specs.Prelude.{ℤ}
 use Rattle.search_laws.specs.Grove.{live_bounds}
 use Rattle.search_laws.specs.GroveFacts.{IsLeastOf}
-use Rattle.grove_parts.specs.Trees.{tree_of}
+use Rattle.open_nodes.specs.Trees.{tree_of}
 use Rattle.branch_tree.proofs.Standing.{least_is_first, none_is_live}
 use Rattle.branch_tree.proofs.grove.Grove.least.Goals as goal
 

@@ -1,5 +1,5 @@
 use Rattle.std.proofs.Common.{arith}
-use Rattle.grove_parts.specs.Trees.{tree_of}
+use Rattle.open_nodes.specs.Trees.{tree_of}
 use Rattle.branch_tree.proofs.Standing.{shut_whole, shut_counts, shut_kept}
 use Rattle.branch_tree.proofs.grove.Grove.shut.Goals as goal
 

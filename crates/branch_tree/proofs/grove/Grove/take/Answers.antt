@@ -1,5 +1,5 @@
 use Rattle.std.proofs.Common.{refl}
-use Rattle.grove_parts.specs.Trees.{tree_of}
+use Rattle.open_nodes.specs.Trees.{tree_of}
 use Rattle.branch_tree.proofs.Standing.{next_turn, none_is_live, first_is_short, kept_turn, standing_of}
 use Rattle.branch_tree.proofs.grove.Grove.take.Goals as goal
 

@@ -1,5 +1,5 @@
 use Rattle.std.proofs.Common.{refl}
-use Rattle.grove_parts.specs.Trees.{tree_of}
+use Rattle.open_nodes.specs.Trees.{tree_of}
 use Rattle.branch_tree.proofs.Standing.{kept_turn, standing_of}
 use Rattle.branch_tree.proofs.TurnPlaces.{live_at_end, entry_is_short, turn_at_place}
 use Rattle.branch_tree.proofs.grove.Grove.take_at.Goals as goal

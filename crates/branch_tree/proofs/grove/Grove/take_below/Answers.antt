@@ -1,5 +1,5 @@
 use Rattle.std.proofs.Common.{refl}
-use Rattle.grove_parts.specs.Trees.{tree_of}
+use Rattle.open_nodes.specs.Trees.{tree_of}
 use Rattle.branch_tree.proofs.Standing.{kept_turn, standing_of}
 use Rattle.branch_tree.proofs.Below.{none_live, below_is_short, turn_below}
 use Rattle.branch_tree.proofs.grove.Grove.take_below.Goals as goal

@@ -1,6 +1,6 @@
 use Rattle.std.proofs.Common.{◌≡◌, ℕ, List, ◌++◌, take, Ok, Err, refl, sym, ap, subst, append-nil, arith}
 use Rattle.std.proofs.lemmas.List.{take_all}
-use Rattle.cert_read.proofs.Feeding.{joined}
+use Rattle.cert_parser.proofs.Feeding.{joined}
 use Rattle.cert_stream.specs.Checks.{ChecksFor, answer_by}
 use Rattle.cert_stream.proofs.Stepping.{fault_stays, fed_on, still_by, kept_by}
 use Rattle.cert_stream.proofs.Waiting.{tells_seen}

@@ -1,6 +1,6 @@
 use Rattle.std.proofs.Common.{◌+◌, Option, Some, Ok, ap, subst, refl, ◌∙◌}
-use Rattle.cert_lines.specs.Telling.{Tells}
-use Rattle.cert_lines.specs.declared.lines.Event.{Event}
+use Rattle.cert_parser.specs.Telling.{Tells}
+use Rattle.cert_parser.specs.declared.lines.Event.{Event}
 use Rattle.cert_stream.specs.declared.checker.Checker.{Checker}
 use Rattle.cert_stream.proofs.Stepping.{Reads, faults_on, quiet_on, event_on, made_on, made_same}
 use Rattle.cert_stream.proofs.checker.Checker.step.Goals as goal

@@ -2,9 +2,9 @@ use Rattle.std.proofs.Common.{◌≤◌, List, Option, None, Some, Result, Ok, E
 use Rattle.std.proofs.lemmas.Bool.{true≢false}
 use Rattle.bp_theory.specs.Decomposition.{proof_rows}
 use Rattle.bp_theory.specs.declared.Row.{Row}
-use Rattle.round_sums.specs.Cutting.{IsCutOver}
-use Rattle.line_check.specs.Cutting.{JudgesCut}
-use Rattle.line_check.specs.declared.place.Rejection.{Rejection}
+use Rattle.cut_sums.specs.Cutting.{IsCutOver}
+use Rattle.cert_line_check.specs.Cutting.{JudgesCut}
+use Rattle.cert_line_check.specs.declared.place.Rejection.{Rejection}
 use Rattle.cert_walk.specs.Cuttings.{cuts_by}
 use Rattle.cert_walk.proofs.CutFacts.{cutting_more}
 use Rattle.cert_walk.proofs.Walking.{cut_many, cut_unjudged, cut_ended, cut_at}

@@ -1,5 +1,5 @@
 use Rattle.std.proofs.Common.{◌∙◌, sym}
-use Rattle.load_table.proofs.FormLaws.{cells_are}
+use Rattle.knapsack_table.proofs.FormLaws.{cells_are}
 use Rattle.knap_price.proofs.pricer.KnapPlan.cells.Goals as goal
 
 pub returns : goal.returns

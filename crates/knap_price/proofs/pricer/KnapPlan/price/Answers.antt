@@ -1,6 +1,6 @@
 use Rattle.std.proofs.Common.{◌≤◌, subst}
-use Rattle.load_table.specs.Rooms.{count_of}
-use Rattle.load_table.proofs.FormLaws.{cells_are}
+use Rattle.knapsack_table.specs.Rooms.{count_of}
+use Rattle.knapsack_table.proofs.FormLaws.{cells_are}
 use Rattle.knap_price.proofs.pricer.KnapPlan.price.Goals as goal
 
 pub price_zone-requires-clause-cells : goal.price_zone-requires-clause-cells

@@ -1,8 +1,8 @@
 use Rattle.std.proofs.Common.{refl, sym, subst, ◌<◌, ℕ, List, take, length}
 use Rattle.std.specs.Prelude.{All}
 use Rattle.bp_theory.specs.declared.Span.{Span}
-use Rattle.depth_search.specs.Reach.{IsNarrowed}
-use Rattle.depth_search.proofs.DivisorLaws.{unallowed}
+use Rattle.enumeration.specs.Reach.{IsNarrowed}
+use Rattle.enumeration.proofs.DivisorLaws.{unallowed}
 use Rattle.search_price.proofs.pricer.SearchPricerPricer.price.Goals as goal
 
 pub returns-then-is_missed-clause-answer : goal.returns-then-is_missed-clause-answer

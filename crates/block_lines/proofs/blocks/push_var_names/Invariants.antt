@@ -1,8 +1,0 @@
-use Rattle.std.proofs.Common.{◌≡◌, ◌++◌, map, take}
-use Rattle.dec_words.specs.Text.{spaced}
-use Rattle.block_lines.specs.Blocks.{name_of}
-use Rattle.block_lines.proofs.blocks.push_var_names.Given as goal
-
--- the names so far
-abbrev pub invariant-loop-var : goal.invariant-loop-var
-invariant-loop-var l = l.text.items ≡ l.initial.text.items ++ spaced (map (name_of l.m.names) (take l.var-index l.vars))

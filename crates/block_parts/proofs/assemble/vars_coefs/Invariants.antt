@@ -1,6 +1,0 @@
-use Rattle.std.proofs.Common.{◌≡◌, take, map}
-use Rattle.block_parts.specs.Source.{copy_in}
-use Rattle.block_parts.proofs.assemble.vars_coefs.Given as goal
-
-abbrev pub invariant-loop-var : goal.invariant-loop-var
-invariant-loop-var l = l.all.items ≡ map (λ v. (copy_in l.source l.block v).coefs) (take l.var-index l.vars)

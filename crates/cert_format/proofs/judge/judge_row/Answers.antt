@@ -1,0 +1,8 @@
+use Rattle.std.proofs.Common.{sym, ◌∙◌, arith}
+use Rattle.cert_format.proofs.LowRows.{named_low}
+use Rattle.cert_format.proofs.judge.judge_row.Goals as goal
+
+pub overflow_cast-result : goal.overflow_cast-result
+overflow_cast-result c =
+    let low = named_low c.args.frame.now c.args.cuts c.args.value (sym c.is_named.ensures ∙ c.if-is_named.true) in
+    omega (arith, low, c.args.frame.now.few_rows)

@@ -1,5 +1,0 @@
-use Rattle.cert_lines.proofs.LineFacts.{any_highs}
-use Rattle.cert_lines.proofs.lines.Lines.after_word.Goals as goal
-
-pub returns-in-Values-default-clause-highs : goal.returns-in-Values-default-clause-highs
-returns-in-Values-default-clause-highs c = any_highs c.args.self.now c.begin_tree.new.self c.begin_tree.result c.begin_tree.ensures.highs

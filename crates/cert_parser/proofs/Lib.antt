@@ -1,0 +1,11 @@
+pub mod Finishing
+pub mod WordSteps
+pub mod ReaderSteps
+pub mod Bytes
+pub mod Leaving
+pub mod Reaching
+pub mod StageWords
+pub mod LineFacts
+pub mod Telling
+pub mod ReaderFacts
+pub mod Feeding

@@ -1,0 +1,26 @@
+use Rattle.std.proofs.Common.{◌∙◌, ap, List, ℕ, ℤ}
+use Rattle.bp_theory.specs.declared.Picked.TheVariants.{Every}
+use Rattle.cert_format.specs.Cert.{changed}
+use Rattle.cert_format.specs.Stages.{leaf_of}
+use Rattle.cert_format.specs.Versions.{had_behind}
+use Rattle.cert_format.specs.Written.{written_claim, written_proof}
+use Rattle.cert_parser.proofs.LineFacts.{leaf_behind}
+use Rattle.cert_parser.proofs.lines.Lines.end_every.Goals as goal
+
+pub returns-clause-place : goal.returns-clause-place
+returns-clause-place c =
+    let r = c.args.self.now in
+    let had = r.had.pairs.items in
+    let mults = c.in_ok-mults.mults in
+    let changes = c.in_ok-mults.ensures.mults ∙ ap (λ (ps : List (ℕ × ℤ)). changed had ps) c.as_slice.ensures in
+    let next = c.in_ok-mults.ensures.had ∙ ap (λ (ps : List (ℕ × ℤ)). had_behind r.version had ps) c.as_slice.ensures in
+    let tree = leaf_of r.is_open (written_proof (record { scale = r.scale; mults = mults; picked = Every })) in
+    λ above root cuts n highs.
+    c.leave_leaf.ensures.place above root tree cuts n (record { depth = highs.depth; highs = highs.highs; cuts = highs.cuts; few = highs.few })
+    ∙ leaf_behind r.version (written_claim r.claim r.point) cuts above r.is_open r.scale Every had r.mults c.next.new.self.pairs.items mults changes next
+
+pub returns-clause-highs : goal.returns-clause-highs
+returns-clause-highs c =
+    let r = c.args.self.now in
+    let tree = leaf_of r.is_open (written_proof (record { scale = r.scale; mults = c.in_ok-mults.mults; picked = Every })) in
+    λ above cuts highs. c.leave_leaf.ensures.highs above tree cuts (record { depth = highs.depth; highs = highs.highs; cuts = highs.cuts; few = highs.few })

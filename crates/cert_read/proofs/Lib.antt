@@ -1,2 +1,0 @@
-pub mod ReaderFacts
-pub mod Feeding

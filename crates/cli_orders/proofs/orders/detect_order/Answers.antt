@@ -1,0 +1,20 @@
+use Rattle.std.proofs.Common.{refl, rules}
+use Rattle.clap.specs.Words.{found_of, rows_of}
+use Rattle.cli_orders.proofs.Needs.{not_there, detect_needs}
+use Rattle.cli_orders.proofs.orders.detect_order.Goals as goal
+
+-- what is lacking is in no such order
+pub returns-in_err-rows-clause-refused : goal.returns-in_err-rows-clause-refused
+returns-in_err-rows-clause-refused c = λ e order has.
+    let needs = detect_needs (rows_of (found_of c.args.detect.now)) order has in
+    not_there _ (c.given.ensures.refused (search (rules, e))) needs.list
+
+pub returns-in_err-lp-clause-refused : goal.returns-in_err-lp-clause-refused
+returns-in_err-lp-clause-refused c = λ e order has.
+    let needs = detect_needs (rows_of (found_of c.args.detect.now)) order has in
+    c.pair_of.ensures.refused (search (rules, e)) needs.pair needs.files
+
+pub returns-clause-order : goal.returns-clause-order
+returns-clause-order c =
+    let pair = c.in_ok-lp.ensures.files in
+    (refl, pair.lp, c.in_ok-rows.ensures.value, pair.dec)

@@ -1,0 +1,12 @@
+pub mod ClaimProof
+pub mod NodeCount
+pub mod OpenProof
+pub mod OneText
+pub mod MergeOneAnswer
+pub mod StopProof
+pub mod WrittenProof
+pub mod JoinProof
+pub mod MigrateOneAnswer
+pub mod Lifted
+pub mod Alike
+pub mod Streamed

@@ -1,0 +1,4 @@
+mod ShowOneAnswer
+pub mod DetectOneAnswer
+pub mod Lifted
+pub mod Proposed

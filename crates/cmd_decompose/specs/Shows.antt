@@ -1,0 +1,23 @@
+-- What `show` answers.
+use Rattle.std.specs.Prelude.{◌≡◌, ℕ, Bool, List, Option}
+use Rattle.bp_shelf.specs.Shelf.{Files}
+use Rattle.block_program.specs.Blocked.{BlockedProgram}
+use Rattle.block_class.specs.Classes.{Grouping, AreSameClasses}
+use Rattle.bp_report.specs.Report.{show_report_with}
+use Rattle.frontend.specs.Answers.{AnswersFront}
+use Rattle.frontend.specs.declared.ending.Reply.{Reply}
+
+-- what a program in blocks is answered by `show`: its sizes, its classes at the root and, where they are wanted, its blocks
+pub record ShowsBlocked (blocks : Bool) (b : BlockedProgram) (status : ℕ) (report : List ℕ) : Type 0 where
+  pub classes : Grouping
+  pub same : AreSameClasses b.named.program.spans b.blocking classes
+  pub done : status ≡ 0
+  pub printed : report ≡ show_report_with b classes blocks
+
+-- what `show` answers
+abbrev pub AnswersShow : Files → (lp : List ℕ) → (dec : Option (List ℕ)) → (blocks : Bool) → (status : ℕ) → (report : List ℕ) → Type 0
+AnswersShow files lp dec blocks status report = AnswersFront files lp dec (Unit {0}) (ShowsBlocked blocks) status report
+
+-- the reply to `show`
+abbrev pub RepliesShow : (blocks : Bool) → BlockedProgram → Reply → Type 0
+RepliesShow blocks b reply = ShowsBlocked blocks b reply.status reply.report.items

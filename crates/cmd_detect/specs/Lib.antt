@@ -1,3 +1,0 @@
--- Other crates cite all of these.
-pub mod Detects
-pub mod Files

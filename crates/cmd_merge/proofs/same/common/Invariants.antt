@@ -1,8 +1,0 @@
-use Rattle.std.proofs.Common.{◌≡◌, ◌≤◌, ◌-◌, length, take}
-use Rattle.cmd_merge.proofs.same.common.Given as goal
-
-abbrev pub decreases-loop-count : goal.decreases-loop-count
-decreases-loop-count l = length l.one - l.count
-
-abbrev pub invariant-loop-count : goal.invariant-loop-count
-invariant-loop-count l = (l.count ≤ length l.one) × (l.count ≤ length l.other) × (take l.count l.one ≡ take l.count l.other)

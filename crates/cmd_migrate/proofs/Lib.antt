@@ -1,4 +1,0 @@
-pub mod OneAnswer
-pub mod Lifted
-pub mod Alike
-pub mod Streamed

@@ -1,5 +1,0 @@
-use Rattle.cmd_migrate.proofs.Alike.{read_alike, judged_alike}
-use Rattle.cmd_migrate.proofs.migrated_texts_are_alike.Goals as goal
-
-pub returns : goal.returns
-returns c = record { read = read_alike; judged = judged_alike }

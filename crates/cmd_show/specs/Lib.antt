@@ -1,2 +1,0 @@
--- Other crates cite Shows.
-pub mod Shows

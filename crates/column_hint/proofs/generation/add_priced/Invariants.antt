@@ -1,5 +1,0 @@
-use Rattle.hint_pools.specs.Pools.{AreMadeFor}
-use Rattle.column_hint.proofs.generation.add_priced.Given as goal
-
-abbrev pub invariant-loop-class : goal.invariant-loop-class
-invariant-loop-class l = AreMadeFor l.b l.pools

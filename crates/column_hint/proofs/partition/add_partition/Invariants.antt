@@ -1,5 +1,0 @@
-use Rattle.hint_pools.specs.Pools.{AreMadeFor}
-use Rattle.column_hint.proofs.partition.add_partition.Given as goal
-
-abbrev pub invariant-loop-offset : goal.invariant-loop-offset
-invariant-loop-offset l = AreMadeFor l.b l.pools

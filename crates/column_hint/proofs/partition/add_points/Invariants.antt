@@ -1,5 +1,0 @@
-use Rattle.hint_pools.specs.Pools.{AreMadeFor}
-use Rattle.column_hint.proofs.partition.add_points.Given as goal
-
-abbrev pub invariant-loop-point : goal.invariant-loop-point
-invariant-loop-point l = AreMadeFor l.b l.pools

@@ -1,5 +1,0 @@
-use Rattle.hint_pools.specs.Pools.{AreMadeFor}
-use Rattle.column_hint.proofs.partition.price_as_bounds.Given as goal
-
-abbrev pub invariant-loop : goal.invariant-loop
-invariant-loop l = AreMadeFor l.b l.pools

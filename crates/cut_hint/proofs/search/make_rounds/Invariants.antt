@@ -1,6 +1,0 @@
-use Rattle.std.proofs.Common.{All}
-use Rattle.round_sums.specs.Cutting.{IsEarlierCut}
-use Rattle.cut_hint.proofs.search.make_rounds.Given as goal
-
-abbrev pub invariant-loop : goal.invariant-loop
-invariant-loop l = All (IsEarlierCut l.b.named.program) l.rows.items

@@ -1,2 +1,0 @@
--- Other crates cite Taken.
-pub mod Taken

@@ -1,6 +1,0 @@
-use Rattle.std.proofs.Common.{◌≡◌}
-use Rattle.dec_beside.proofs.MarkLemmas.{marked_below}
-use Rattle.dec_beside.proofs.marked.numbers_of.Given as goal
-
-abbrev pub invariant-loop-row : goal.invariant-loop-row
-invariant-loop-row l = l.rows.items ≡ marked_below l.marks l.row

@@ -1,0 +1,25 @@
+// What the blocks that master rows leave are refused for.
+ghost use Rattle.std.specs.Prelude.{◌≡◌};
+ghost use Rattle.dec_components.specs.declared.fault.FindFault.TheVariants as found;
+
+use std::alloc::AllocError;
+use thiserror::Error;
+
+/// Why master rows leave no decomposition.
+#[derive(Clone, Copy, Debug, PartialEq, Eq, Error)]
+pub enum FindFault {
+    /// More than 4,096 blocks result.
+    #[error("more than 4096 blocks")]
+    Blocks,
+    /// Want of memory.
+    #[error("want of memory")]
+    NoMemory,
+}
+
+impl From<AllocError> for FindFault {
+    ghost from_gives = { λ _ fault. fault ≡ found.NoMemory };
+
+    fn from(_: AllocError) -> Self {
+        FindFault::NoMemory
+    }
+}

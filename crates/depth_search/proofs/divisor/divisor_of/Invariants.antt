@@ -1,5 +1,0 @@
-use Rattle.depth_search.proofs.DivisorLaws.{IsDivisorOfFirst}
-use Rattle.depth_search.proofs.divisor.divisor_of.Given as goal
-
-abbrev pub invariant-loop-term : goal.invariant-loop-term
-invariant-loop-term l = IsDivisorOfFirst l.terms l.term-index l.divisor

@@ -1,6 +1,0 @@
-use Rattle.std.proofs.Common.{◌≡◌, take}
-use Rattle.bp_theory.specs.Bound.{box_least}
-use Rattle.depth_search.proofs.start.least_cost.Given as goal
-
-abbrev pub invariant-loop-k : goal.invariant-loop-k
-invariant-loop-k l = l.sum ≡ box_least (take l.k l.zone) l.costs

@@ -1,0 +1,5 @@
+use Rattle.node_memory.specs.Pools.{AreMadeFor}
+use Rattle.diving.proofs.dives.take_all.Given as goal
+
+abbrev pub invariant-loop : goal.invariant-loop
+invariant-loop l = AreMadeFor l.b l.pools

@@ -1,5 +1,0 @@
-use Rattle.graph_pass.proofs.PairLaws.{IsLaid}
-use Rattle.graph_pass.proofs.pairs.pairs_in.Given as goal
-
-abbrev pub invariant-loop-k : goal.invariant-loop-k
-invariant-loop-k l = IsLaid l.graph.wide l.graph.steps.items l.lists.items l.k l.nodes

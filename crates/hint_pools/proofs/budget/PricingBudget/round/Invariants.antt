@@ -1,6 +1,0 @@
-use Rattle.std.proofs.Common.{◌≡◌}
-use Rattle.block_pricers.specs.Works.{forms_of}
-use Rattle.hint_pools.proofs.budget.PricingBudget.round.Given as goal
-
-abbrev pub invariant-loop : goal.invariant-loop
-invariant-loop l = forms_of l.self.work ≡ forms_of l.fn.self.work

@@ -1,5 +1,0 @@
-use Rattle.hint_pools.specs.Pools.{AreMadeFor}
-use Rattle.hint_pools.proofs.pools.Pools.add_all_priced.Given as goal
-
-abbrev pub invariant-loop-class : goal.invariant-loop-class
-invariant-loop-class l = AreMadeFor l.b l.self

@@ -1,6 +1,0 @@
-use Rattle.std.proofs.Common.{◌≡◌, drop}
-use Rattle.load_table.specs.Tables.{worth_size}
-use Rattle.load_table.proofs.short.size_of.Given as goal
-
-abbrev pub invariant-loop-k : goal.invariant-loop-k
-invariant-loop-k l = l.sum ≡ worth_size (drop l.k l.items)

@@ -1,6 +1,0 @@
-use Rattle.load_table.specs.Choices.{IsChosen}
-use Rattle.load_table.specs.Tables.{short_no_way, row_from}
-use Rattle.load_table.proofs.short_choice.choose.Given as goal
-
-abbrev pub invariant-loop-weight : goal.invariant-loop-weight
-invariant-loop-weight l = IsChosen short_no_way (row_from l.cells l.start) l.row l.base l.weight l.best

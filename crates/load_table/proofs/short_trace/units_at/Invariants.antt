@@ -1,6 +1,0 @@
-use Rattle.std.proofs.Common.{◌<◌, ℕ}
-use Rattle.load_table.specs.Tables.{row_from, Follows}
-use Rattle.load_table.proofs.short_trace.units_at.Given as goal
-
-abbrev pub invariant-loop-units : goal.invariant-loop-units
-invariant-loop-units l = (u : ℕ) → u < l.units → Follows l.item (row_from l.cells l.above) l.weight (row_from l.cells l.here l.weight) u → ⊥

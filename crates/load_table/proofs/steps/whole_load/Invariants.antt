@@ -1,6 +1,0 @@
-use Rattle.std.proofs.Common.{◌≡◌, drop}
-use Rattle.load_table.specs.Tables.{full_load}
-use Rattle.load_table.proofs.steps.whole_load.Given as goal
-
-abbrev pub invariant-loop-k : goal.invariant-loop-k
-invariant-loop-k l = l.sum ≡ full_load (drop l.k l.items)

@@ -1,5 +1,0 @@
--- A word behind the names ends their section.
-use Rattle.lp_grammar.proofs.from_generals.Goals as goal
-
-pub returns-in-Word : goal.returns-in-Word
-returns-in-Word c = λ text. rw c.in-Word.is (c.behind_part.ensures text)

@@ -1,0 +1,7 @@
+-- What isn't a colon is read behind a sum of that name.
+use Rattle.lp_syntax.specs.TreeIn.{name_in}
+use Rattle.lp_parser.proofs.Steps.{no_label}
+use Rattle.lp_parser.proofs.objective.from_name.Goals as goal
+
+pub returns-in_default : goal.returns-in_default
+returns-in_default c = λ text. rw (no_label text c.args.maximises (name_in text c.args.name) c.args.symbol c.in_default.not-Colon) (search (c.from_sum.ensures text, c.lone.ensures.first, c.lone.ensures.more, c.new-signs.ensures))

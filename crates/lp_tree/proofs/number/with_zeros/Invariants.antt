@@ -1,6 +1,0 @@
-use Rattle.std.proofs.Common.{◌≡◌, ◌*◌, ◌^◌}
-use Rattle.lp_tree.specs.Worth.{capped}
-use Rattle.lp_tree.proofs.number.with_zeros.Given as goal
-
-abbrev pub invariant-loop-zero : goal.invariant-loop-zero
-invariant-loop-zero l = l.grown ≡ capped (l.value * 10 ^ l._zero)

@@ -1,5 +1,0 @@
-use Rattle.bp_theory.specs.Trees.{IsZone}
-use Rattle.point_hint.proofs.narrowing.narrow.Given as goal
-
-abbrev pub invariant-loop-span : goal.invariant-loop-span
-invariant-loop-span l = IsZone l.b.named.program.spans l.narrow

@@ -1,5 +1,0 @@
-use Rattle.pricing.proofs.ZoneLaws.{ArePartsBelow}
-use Rattle.pricing.proofs.checks.is_zone.Given as goal
-
-abbrev pub invariant-loop-k : goal.invariant-loop-k
-invariant-loop-k l = ArePartsBelow l.spans l.zone l.k

@@ -1,7 +1,0 @@
-use Rattle.std.proofs.Common.{◌≡◌, ◌-◌, ◌^◌, drop}
-use Rattle.std.specs.Prelude.{min}
-use Rattle.pricing.specs.Form.{cost_size}
-use Rattle.pricing.proofs.checks.size_of_costs.Given as goal
-
-abbrev pub invariant-loop-k : goal.invariant-loop-k
-invariant-loop-k l = l.sum ≡ min (cost_size (drop l.k l.zone) (drop l.k l.costs)) (2 ^ 128 - 1)

@@ -1,7 +1,0 @@
-use Rattle.std.proofs.Common.{◌≡◌, take}
-use Rattle.bp_theory.specs.Sums.{sum_of}
-use Rattle.proof_costs.specs.Sizes.{copy_least}
-use Rattle.proof_costs.proofs.boxes.box_least.Given as goal
-
-abbrev pub invariant-loop-place : goal.invariant-loop-place
-invariant-loop-place l = l.sum ≡ sum_of (copy_least l.zone l.proof) (take l.place l.block.block.copies)

@@ -1,2 +1,0 @@
--- Words of contracts here alone.
-pub mod Fitting

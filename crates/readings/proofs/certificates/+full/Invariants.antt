@@ -1,4 +1,0 @@
-use Rattle.readings.proofs.certificates.+full.Given as goal
-
-abbrev pub decreases-full : goal.decreases-full
-decreases-full l = l.depth

@@ -1,0 +1,4 @@
+pub mod Pieces
+pub mod LinkRows
+pub mod BlockRows
+pub mod PointLines

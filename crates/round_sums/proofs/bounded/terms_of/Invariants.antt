@@ -1,6 +1,0 @@
-use Rattle.std.proofs.Common.{◌≡◌, take, map}
-use Rattle.bp_model.specs.Tidy.{as_term}
-use Rattle.round_sums.proofs.bounded.terms_of.Given as goal
-
-abbrev pub invariant-loop-coef : goal.invariant-loop-coef
-invariant-loop-coef l = l.terms.items ≡ map as_term (take l.coef-index l.coefs)

@@ -1,7 +1,0 @@
-use Rattle.std.proofs.Common.{◌≡◌, ◌++◌, take}
-use Rattle.search_lines.specs.Searches.{variable_lines}
-use Rattle.search_lines.proofs.searches.push_point.Given as goal
-
--- the lines of the variables so far
-abbrev pub invariant-loop-var : goal.invariant-loop-var
-invariant-loop-var l = l.text.items ≡ l.initial.text.items ++ variable_lines l.m.names (take l.var l.point)
