@@ -1,5 +1,5 @@
-//! What proofs show of a live leaf's zone, and what follows: bounds with the proofs that show them, by pricing or by boxes,
-//! proofs that a zone has no point, zones of one point, and a leaf shut or forked by its bound and a known cost. It asks for
+//! What proofs show of an open node's zone, and what follows: bounds with the proofs that show them, by pricing or by boxes,
+//! proofs that a zone has no point, zones of one point, and a node shut or forked by its bound and a known cost. It asks for
 //! no hints: the model judges points that it is given, and exact bounds judge multipliers.
 #![tactic(auto)]
 

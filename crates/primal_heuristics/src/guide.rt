@@ -32,7 +32,8 @@ pub enum Order {
     Scarce,
 }
 
-/// More of a variable is wanted for a great mean and a small reduced cost at multipliers by row.
+/// More of a variable is wanted for a great mean, in units, and a small reduced cost at multipliers by row at the greatest
+/// scale.
 pub fn guide_of(
     alloc: Global,
     b: &Blocked,
@@ -52,7 +53,8 @@ pub fn guide_of(
     })
 }
 
-/// More of a variable is wanted for a small reduced cost at multipliers by row, and rows with few open spans come first.
+/// More of a variable is wanted for a small reduced cost at multipliers by row at the greatest scale, and rows with few open
+/// spans come first.
 pub fn plain_guide(alloc: Global, b: &Blocked, mults: &[i64]) -> Result<Guide, AllocError> {
     let costs = dense_costs(alloc, b)?;
     let mut wants = reduced_costs(alloc, b, mults, costs.as_slice())?;
