@@ -21,7 +21,7 @@ const ROUNDS: u32 = 138;
 /// How many pivots a round may take.
 const ROUND_PIVOTS: u32 = 5_000;
 
-/// By how many units a bound may be below the master's cost and count as equal.
+/// By how many units a bound may be below the restricted master's cost and count as equal.
 const NEAR: i128 = 64;
 
 /// The mean magnitude of multipliers over the width of their box.
@@ -80,7 +80,7 @@ enum Step {
     Ended,
 }
 
-/// The mean magnitude of multipliers, in ones.
+/// The mean magnitude, in ones, of multipliers by row at the greatest scale.
 pub fn mean_mult(b: &Blocked, mults: &[i64]) -> f64 {
     let mut sum = 0.0;
     let mut many = 0.0;
@@ -97,9 +97,9 @@ pub fn mean_mult(b: &Blocked, mults: &[i64]) -> f64 {
     }
 }
 
-/// Rounds of master and pricing in a zone from a centre, which becomes that of the best bound there: the master after
-/// the last one, with a solution that may miss rows. There is none where a block has no point, or no master can be
-/// made.
+/// Rounds of master and pricing in a zone from a centre, which becomes that of the best bound there: the restricted
+/// master after the last one, with a solution that may miss rows. There is none where a block has no point, or no
+/// restricted master can be made.
 pub fn generate_columns(
     alloc: Global,
     node: NodeContext,
@@ -195,7 +195,8 @@ fn begin(
     }
 }
 
-// Prices the centre, and begins the master with the pools' columns and the centre's points; whether there is a bound.
+// Prices the centre, and begins the restricted master with the pools' columns and the centre's points; whether there
+// is a bound.
 fn begin_at(
     alloc: Global,
     node: NodeContext,
@@ -238,7 +239,7 @@ struct Solved {
 }
 
 impl Generation {
-    // Solves the master and writes its multipliers; none where its cost is reached, or no pivot may be made.
+    // Solves the restricted master and writes its multipliers; none where its cost is reached, or no pivot may be made.
     fn solve_master(
         &mut self,
         alloc: Global,
@@ -259,7 +260,7 @@ impl Generation {
 }
 
 impl Solved {
-    // Whether the master meets its rows, and a centre's bound reaches its cost.
+    // Whether the restricted master meets its rows, and a centre's bound reaches its cost.
     fn is_reached(&self, centre: &Centre) -> bool {
         self.is_whole && is_near(centre.value, self.cost)
     }
@@ -330,9 +331,9 @@ fn add_partition_if_asked(
     add_partition(alloc, node, pools, &mut all.master, mults, round)
 }
 
-// Ends a round: generation ends where the known cost is reached, where no column is new and the master meets its rows with no box
-// round its multipliers (in a box the slack of a row may be cheaper than columns that are not there yet), or where the bound reaches
-// the master's cost; else the box moves.
+// Ends a round: generation ends where the incumbent's cost is reached, where no column is new and the restricted
+// master meets its rows with no box round its multipliers (in a box the slack of a row may be cheaper than columns
+// that are not there yet), or where the bound reaches the restricted master's cost; else the box moves.
 fn end_round(
     centre: &Centre,
     all: &mut Generation,
@@ -381,7 +382,7 @@ fn units(number: f64) -> i128 {
     i128::from(saturating_f64_to_i64(at_scale(number)))
 }
 
-// Whether a bound rounded up reaches the master's cost rounded up.
+// Whether a bound rounded up reaches the restricted master's cost rounded up.
 fn is_near(value: i128, cost: i128) -> bool {
     round_up(value) >= round_up(cost.saturating_sub(NEAR))
 }

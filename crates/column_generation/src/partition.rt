@@ -42,7 +42,8 @@ struct Member {
     many: u32,
 }
 
-/// Adds columns of partitions at multipliers by row, the classes in turn from one that depends on the round.
+/// Adds columns of partitions at multipliers by row at the greatest scale, the classes in turn from one that depends on the
+/// round.
 pub fn add_partition(
     alloc: Global,
     node: NodeContext,
@@ -348,7 +349,7 @@ fn take(block: &Block, point: &[i64], sides: &mut Vec<Side>) -> bool {
     takes
 }
 
-// Adds points of a block to its pool and to the master.
+// Adds points of a block to its pool and to the restricted master.
 fn add_points(
     alloc: Global,
     b: &Blocked,

@@ -30,8 +30,8 @@ pub fn gives_several(b: &Blocked, pools: &Pools, block: u32) -> bool
     block < b.blocks() && pools.budget.work.ranks(block)
 }
 
-/// Adds points beside the cheapest ones, of each class of several blocks that has them those of least reduced cost below zero;
-/// how many columns are new.
+/// Adds points beside the cheapest ones at multipliers by row at the greatest scale: of each class of several blocks that has
+/// such, those of least reduced cost below zero. How many columns are new.
 pub fn add_several(
     alloc: Global,
     node: NodeContext,

@@ -116,7 +116,8 @@ pub struct Subgradient {
     failures: u32,
 }
 
-/// Multipliers with a great bound in a leaf's zone, from the leaf's.
+/// Multipliers with a great dual bound in a node's zone by subgradient steps from those of the node's proof. A dual bound that
+/// reaches the incumbent's cost ends the steps.
 pub fn take_steps(
     alloc: Global,
     node: NodeContext,
@@ -220,7 +221,7 @@ fn go_on(
     Ok(true)
 }
 
-// The state before the first pricing, with the leaf's multipliers.
+// The state before the first pricing, with the node's multipliers.
 fn make(
     alloc: Global,
     b: &Blocked,
@@ -251,7 +252,7 @@ fn make(
     Ok(steps)
 }
 
-// Gives the state its lists: the leaf's multipliers, the lower ends of the spans, and sums of 0.
+// Gives the state its lists: the node's multipliers, the lower ends of the spans, and sums of 0.
 fn fill(
     alloc: Global,
     b: &Blocked,
@@ -271,7 +272,7 @@ fn fill(
     Ok(())
 }
 
-/// The leaf's multipliers by row at the greatest scale.
+/// The node's multipliers by row at the greatest scale.
 pub fn leaf_mults(alloc: Global, b: &Blocked, turn: &Turn) -> Result<Vec<i64>, AllocError> {
     let mut mults = Vec::from_elem(alloc, 0i64, b.named_rows() as usize)?;
     for mult in turn.proof.mults.as_slice() {
@@ -298,7 +299,7 @@ fn at_full_scale(mult: &i64, scale: u32) -> i64 {
     clipped(quotient(product(mult, &i64::from(MAX_SCALE)), i128::from(scale)))
 }
 
-// Prices the leaf's multipliers; whether there is a bound.
+// Prices the node's multipliers; whether there is a bound.
 fn begin(
     alloc: Global,
     node: NodeContext,
@@ -374,7 +375,7 @@ fn first_gain(b: &Blocked, depth: u32, aim_part: i128, value: &i128) -> i128 {
     }
 }
 
-/// Whether the bound reaches the known cost.
+/// Whether the bound reaches the incumbent's cost.
 pub fn reaches(steps: &Subgradient) -> bool {
     is_reached(steps.value, steps.known)
 }

@@ -1,4 +1,4 @@
-// The bases of leaves that were forked, for the leaves below them.
+// The bases of nodes that were forked, for the nodes below them.
 use dual_simplex::Basis;
 use search_laws::Side;
 use std::alloc::Global;
@@ -39,12 +39,12 @@ impl Bases {
         }
     }
 
-    /// The forked leaf of a key.
+    /// The forked node of a key.
     pub fn get(&self, key: u64) -> Option<&Forked> {
         self.forked.get(&key)
     }
 
-    /// Notes that one of the two leaves below a forked leaf came; behind the second its basis is forgotten.
+    /// Notes that one of the two nodes below a forked node came; behind the second its basis is forgotten.
     pub fn spend(&mut self, key: u64) {
         let is_last = match self.forked.get_mut(&key) {
             None => false,
@@ -60,7 +60,7 @@ impl Bases {
         }
     }
 
-    /// Keeps a forked leaf. Where there is no room, others are forgotten.
+    /// Keeps a forked node. Where there is no room, others are forgotten.
     pub fn keep(&mut self, key: u64, forked: Forked) -> Result<(), std::alloc::AllocError> {
         let size = forked.basis.size();
         for _ in 0..self.forked.len() {

@@ -1,11 +1,11 @@
 // Reliability branching: variables whose gains are not yet known well are tried by a few iterations on both sides
 // (Achterberg, Koch and Martin, Branching rules revisited, 2005).
-use crate::relaxation::{Fraction, LoneLeaves};
+use crate::relaxation::{CompactRelaxation, Fraction};
 use bp_theory::Span;
 use dual_simplex::{Effort, End, Range};
 use std::alloc::AllocError;
 
-// How many gains of each side make a variable well known, how many variables are tried at a leaf, how many iterations a
+// How many gains of each side make a variable well known, how many variables are tried at a node, how many iterations a
 // try may take, and after how many variables without a better one the search ends.
 const RELIABLE: u32 = 4;
 
@@ -27,7 +27,7 @@ struct Tried {
     is_shut: bool,
 }
 
-impl LoneLeaves {
+impl CompactRelaxation {
     /// The variable to split at, of those with fractional values, where the relaxation's objective is given.
     pub(crate) fn choose(
         &mut self,

@@ -1,6 +1,6 @@
 // Points by rounding and by dives: one variable after another is rounded, with the relaxation solved anew in between.
 use crate::numbers::{floor_in, nearest_in, span_at};
-use crate::relaxation::{Fraction, LoneLeaves};
+use crate::relaxation::{CompactRelaxation, Fraction};
 use block_program::Blocked;
 use bp_theory::Span;
 use dual_simplex::{Basis, Effort, End};
@@ -78,7 +78,7 @@ struct Dive {
     failures: u32,
 }
 
-impl LoneLeaves {
+impl CompactRelaxation {
     /// Offers the point of the values rounded to the nearest whole numbers.
     pub(crate) fn round(
         &self,

@@ -1,7 +1,7 @@
 // Whole multipliers of rows: those of the relaxation's optimum at the greatest scale, and those that show that there is
 // no point.
 use crate::numbers::product;
-use crate::relaxation::LoneLeaves;
+use crate::relaxation::CompactRelaxation;
 use crate::rows::row_of;
 use basis_factor::{place, put};
 use block_program::{Blocked, MAX_MULTIPLIER, MAX_SCALE};
@@ -21,7 +21,7 @@ const MOST: f64 = 1.0995e12;
 // The part of the greatest number below which numbers of a ray count as 0.
 const NOTHING: f64 = 1e-7;
 
-impl LoneLeaves {
+impl CompactRelaxation {
     /// The multipliers of the basis by row at the greatest scale.
     pub(crate) fn scaled(&self, alloc: Global, b: &Blocked) -> Result<Vec<i64>, AllocError> {
         let scale = nearest_u64_to_f64(u64::from(MAX_SCALE));

@@ -1,7 +1,8 @@
-//! The linear relaxation of the compact model, all rows and cuts without a decomposition, at nodes of programs whose blocks have no
-//! rows: multipliers by a dual simplex that begins with the parent's basis, multipliers that show that a node is empty,
-//! points by rounding and dives, and reliability branching (T. Achterberg, T. Koch and A. Martin, Branching rules revisited,
-//! 2005). Nothing here decides: exact bounds judge multipliers, and the model judges points.
+//! The linear relaxation of the compact model, all rows and cuts without a decomposition, at nodes of programs whose
+//! blocks have no rows: multipliers by a dual simplex that begins with the parent's basis, multipliers that show that
+//! a node is empty, points by rounding and dives, and reliability branching (T. Achterberg, T. Koch and A. Martin,
+//! Branching rules revisited, 2005). Nothing here decides: exact bounds judge multipliers, and the model judges
+//! points.
 #![tactic(auto)]
 
 mod bases;
@@ -9,7 +10,7 @@ mod branch;
 mod compact;
 mod dive;
 mod empty;
-mod leaf;
+mod node;
 mod numbers;
 mod propagate;
 mod relaxation;
@@ -18,5 +19,5 @@ mod scores;
 
 pub use compact::relaxation_of;
 pub use empty::at_scale;
-pub use leaf::LoneHint;
-pub use relaxation::{LoneLeaves, has_no_block_rows};
+pub use node::CompactHint;
+pub use relaxation::{CompactRelaxation, has_no_block_rows};

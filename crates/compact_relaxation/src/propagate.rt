@@ -1,6 +1,6 @@
 // Spans narrowed by rows, one by one: for dives alone.
 use crate::numbers::product;
-use crate::relaxation::LoneLeaves;
+use crate::relaxation::CompactRelaxation;
 use block_program::Blocked;
 use bp_theory::{Row, Sense, Span};
 use std::alloc::AllocError;
@@ -8,7 +8,7 @@ use std::alloc::AllocError;
 // How many rows may be looked at.
 const MOST_ROWS: usize = 1 << 14;
 
-impl LoneLeaves {
+impl CompactRelaxation {
     /// Narrows spans by the rows of a variable, and then by those of what changed; whether a row can't be met.
     pub(crate) fn is_empty_behind(
         &mut self,

@@ -1,4 +1,4 @@
-// The relaxation of a program's rows, and what is kept from leaf to leaf.
+// The relaxation of a program's rows, and what is kept from node to node.
 ghost use Rattle.std.specs.Prelude.{IsTrue};
 ghost use Rattle.compact_relaxation.specs.Rowless.{AreRowless};
 
@@ -14,7 +14,7 @@ use std::alloc::{AllocError, Global};
 use std::num::nearest_i64_to_f64;
 
 // How much work an iteration may take in all, in numbers of the relaxation, and the least and greatest count of
-// iterations of a leaf.
+// iterations of a node.
 const WORK: u64 = 1 << 31;
 
 const LEAST_ITERATIONS: u64 = 500;
@@ -26,7 +26,7 @@ pub const SLACK: f64 = 1e-4;
 
 /// The relaxation of a program's rows and cuts, with what is kept from node to node. Kept bases take 64 MB at most;
 /// the rest grows with the program alone.
-pub struct LoneLeaves {
+pub struct CompactRelaxation {
     /// The relaxation, at the basis of the last node.
     pub(crate) lp: Lp,
     /// The bases of the nodes that were forked.
@@ -59,9 +59,9 @@ pub struct LoneLeaves {
     pub(crate) is_queued: Vec<bool>,
 }
 
-impl Drop for LoneLeaves {
+impl Drop for CompactRelaxation {
     fn drop(self) {
-        let LoneLeaves {
+        let CompactRelaxation {
             lp: _,
             bases: _,
             scores: _,
@@ -93,9 +93,9 @@ pub fn has_no_block_rows(b: &Blocked) -> bool
     true
 }
 
-impl LoneLeaves {
-    /// The relaxation of a program's rows and cuts, where nothing is known of leaves.
-    pub fn make(alloc: Global, b: &Blocked) -> Result<LoneLeaves, AllocError> {
+impl CompactRelaxation {
+    /// The relaxation of a program's rows and cuts, where nothing is known of nodes.
+    pub fn make(alloc: Global, b: &Blocked) -> Result<CompactRelaxation, AllocError> {
         let model = b.model();
         let vars = model.vars() as usize;
         let scores = Scores::make(alloc, vars)?;
@@ -107,7 +107,7 @@ impl LoneLeaves {
         let most = most_iterations(b, cuts.as_slice());
         // What takes most comes last: no call behind it fails, so nothing has to let it go.
         let lp = relaxation_of(alloc, b)?;
-        Ok(LoneLeaves {
+        Ok(CompactRelaxation {
             lp,
             bases: Bases::make(alloc),
             scores,
@@ -126,7 +126,7 @@ impl LoneLeaves {
         })
     }
 
-    /// Takes the spans of a leaf.
+    /// Takes the spans of a node.
     pub(crate) fn set_spans(&mut self, spans: &[Span]) {
         for (var, span) in spans.iter().enumerate() {
             self.lp.set_span(var, &range_of_span(span));
@@ -255,7 +255,7 @@ fn is_above(value: f64, cutoff: Option<f64>) -> bool {
     }
 }
 
-// How many iterations a leaf's relaxation may take.
+// How many iterations a node's relaxation may take.
 fn most_iterations(b: &Blocked, cuts: &[Row]) -> u32 {
     let model = b.model();
     let mut size = u64::from(model.rows()).saturating_add(u64::from(model.vars()));

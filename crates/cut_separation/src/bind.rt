@@ -63,7 +63,8 @@ impl Front {
     }
 }
 
-/// The cuts that bind, and those that these were made of, with the numbers that they then have. Flags are by the places of rows.
+/// The cuts that bind, and those that these were made of, with the numbers that they then have. Flags are by the
+/// places of rows.
 pub fn bound_cuts(
     alloc: Global,
     front: Front,

@@ -9,8 +9,8 @@ use bp_theory::Cut;
 use round_cut::{MOST_CUTS, rows_of_cuts, with_others};
 use std::alloc::{AllocError, Global};
 
-/// The cuts of a program in blocks, and behind these what the search finds, so many in all at most; its own alone where it has as
-/// many. The program may have them in place of its own.
+/// The cuts of a program in blocks, and behind these what the search finds, so many in all at most; its own alone
+/// where it has as many. The program may have them in place of its own.
 pub fn choose(alloc: Global, b: &Blocked, most: u32) -> Result<Vec<Cut>, AllocError>
     ensures { IfOk result (λ cuts. GoesOn b.now.named.program b.now.dec b.now.cuts most cuts.items) }
 {

@@ -81,7 +81,8 @@ struct Columns<'a> {
     master: &'a RestrictedMaster,
 }
 
-/// The root of a program from multipliers by row, or from none. There is none where a program has no leaf.
+/// The root of a program from multipliers by row at the greatest scale, or from none. There is none where a program
+/// has no open node.
 pub fn root_of(alloc: Global, b: &Blocked, mults: Vec<i64>) -> Result<Option<Root>, AllocError> {
     let grove = Grove::plant(alloc, b)?;
     let Some(turn) = grove.take(alloc)? else {
@@ -90,7 +91,7 @@ pub fn root_of(alloc: Global, b: &Blocked, mults: Vec<i64>) -> Result<Option<Roo
     root_at(alloc, b, &turn, mults)
 }
 
-// The root of a program, whose zone is that of a leaf.
+// The root of a program, whose zone is that of a node.
 fn root_at(
     alloc: Global,
     b: &Blocked,
@@ -116,10 +117,10 @@ fn root_at(
     }))
 }
 
-// Generates columns from a centre, which becomes that of the best bound. Where generation ends before this bound reaches the cost
-// of its columns, since what it may take is spent, the columns may miss rows, or the bound may be far from what the rows come
-// to: it is made again then, with the columns that there are, from the centre. What the columns come to in the end, where they
-// meet the rows.
+// Generates columns from a centre, which becomes that of the best bound. Where generation ends before this bound
+// reaches the cost of its columns, since what it may take is spent, the columns may miss rows, or the bound may be
+// far from what the rows come to: it is made again then, with the columns that there are, from the centre. What the
+// columns come to in the end, where they meet the rows.
 fn generated(
     alloc: Global,
     node: NodeContext,
@@ -144,7 +145,7 @@ fn generated(
     Ok(None)
 }
 
-// Whether a master meets its rows, and a centre's bound reaches its cost, both rounded up.
+// Whether a restricted master meets its rows, and a centre's bound reaches its cost, both rounded up.
 fn is_reached(master: &RestrictedMaster, centre: &Centre) -> bool {
     let cost = i128::from(saturating_f64_to_i64(master.cost() * UNITS));
     !master.is_short() && round_up(centre.value) >= round_up(cost.saturating_sub(NEAR))
@@ -174,7 +175,7 @@ fn first_centre(
     })
 }
 
-// What the columns of a master come to, where they meet the rows.
+// What the columns of a restricted master come to, where they meet the rows.
 fn solved(
     alloc: Global,
     node: NodeContext,
@@ -207,7 +208,7 @@ struct Lists {
 }
 
 impl<'a> Columns<'a> {
-    // A column of the master by its number, where it is there.
+    // A column of the restricted master by its number, where it is there.
     fn member(&self, number: usize) -> Option<Member<'a>> {
         match self.master.column(number) {
             Some(found) => match self.pools.column(found.place) {
@@ -321,8 +322,8 @@ impl<'a> Columns<'a> {
         }
     }
 
-    // The values of the variables' first copies where a relaxation gives columns weights, those of a class dealt out evenly to its
-    // blocks.
+    // The values of the variables' first copies where a relaxation gives columns weights, those of a class dealt out
+    // evenly to its blocks.
     fn values_at(&self, alloc: Global, relaxation: &Relaxation) -> Result<Vec<f64>, AllocError> {
         let spans = self.b.model().spans();
         let mut values: Vec<f64> = spans.iter().map(low_of).collect(alloc)?;
@@ -336,7 +337,8 @@ impl<'a> Columns<'a> {
         Ok(values)
     }
 
-    // Adds what a column with a weight has above the lower ends of spans to the values, in equal parts by the blocks of its class.
+    // Adds what a column with a weight has above the lower ends of spans to the values, in equal parts by the blocks
+    // of its class.
     fn deal_out(&self, member: &Member<'a>, weight: f64, values: &mut [f64]) {
         if member.class >= self.classes.len() || weight <= 0.0 {
             return;

@@ -1,6 +1,6 @@
-// Cuts from single rows over their coefficients (G. Cornuejols and M. Dawande, A class of hard small 0-1 programs, 1999, use
-// such of knapsacks): to a multiple of a row those equations with coefficients 1 and -1 are added that leave least to be lost by
-// rounding, so that a variable near its upper end counts as the rest of its equation.
+// Cuts from single rows over their coefficients (G. Cornuejols and M. Dawande, A class of hard small 0-1 programs,
+// 1999, use such of knapsacks): to a multiple of a row those equations with coefficients 1 and -1 are added that
+// leave least to be lost by rounding, so that a variable near its upper end counts as the rest of its equation.
 use crate::numbers::remainder;
 use crate::state::{Fit, Side, State};
 use crate::trial::Trial;

@@ -45,8 +45,8 @@ fn scatter(numbers: &mut [f64], cut: &Found, is_there: bool) {
     }
 }
 
-// Whether a cut, whose coefficients are given by variable and the square of their length, is almost parallel to one of others that
-// are taken.
+// Whether a cut, whose coefficients are given by variable and the square of their length, is almost parallel to one
+// of others that are taken.
 fn is_parallel_to_one(numbers: &[f64], square: f64, others: &[Found]) -> bool {
     for other in others {
         if other.is_taken {

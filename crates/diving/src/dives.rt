@@ -1,6 +1,6 @@
-// Dives for a point by columns: columns of great weight are fixed in blocks of their classes, all spans are tightened,
-// and the master of the rest is settled again with a few rounds of pricing. A hint, which the model judges. (Joncour,
-// Michel, Sadykov, Sverdlov and Vanderbeck, Column generation based primal heuristics, 2010.)
+// Dives for a point by columns: columns of great weight are fixed in blocks of their classes, all spans are
+// tightened, and the restricted master of the rest is settled again with a few rounds of pricing. A hint, which the
+// model judges. (Joncour, Michel, Sadykov, Sverdlov and Vanderbeck, Column generation based primal heuristics, 2010.)
 ghost use Rattle.std.specs.Prelude.{◌≡◌, length};
 ghost use Rattle.node_memory.specs.Pools.{AreMadeFor};
 
@@ -93,8 +93,8 @@ impl Dive {
     }
 }
 
-/// A dive in a zone from a master's solution, given up where the bound reaches the known cost. The master then stands
-/// as before, but for new columns.
+/// A dive in a zone from a restricted master's solution, given up where the bound reaches the incumbent's cost. The
+/// restricted master then stands as before, but for new columns.
 pub fn dive_by_columns(
     alloc: Global,
     node: NodeContext,

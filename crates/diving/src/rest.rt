@@ -1,4 +1,4 @@
-// What is left of a master in a dive: columns that don't fit are switched off, and rounds of pricing settle it.
+// What is left of a restricted master in a dive: columns that don't fit are switched off, and rounds of pricing settle it.
 ghost use Rattle.std.specs.Prelude.{◌≡◌, ◌<◌, length};
 ghost use Rattle.bp_theory.specs.Trees.{IsZone};
 ghost use Rattle.block_class.specs.Classes.{AreSameClasses};

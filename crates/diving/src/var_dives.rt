@@ -1,5 +1,5 @@
 // Dives for a point by variables, for classes of one block each, where a column is too coarse a step: all variables
-// that the master holds at a whole number above their lower end, and the most decided one between, go up, and the
+// that the restricted master holds at a whole number above their lower end, and the most decided one between, go up, and the
 // master of the rest is settled again. A hint, which the model judges.
 ghost use Rattle.std.specs.Prelude.{◌≡◌, ◌<◌, length};
 ghost use Rattle.node_memory.specs.Pools.{AreMadeFor};
@@ -44,12 +44,13 @@ struct Rise {
 struct Means {
     // By variable, the mean of the columns of its first copy.
     means: Vec<f64>,
-    // By class of the node, the number of a column of the master that has all the weight of a block.
+    // By class of the node, the number of a column of the restricted master that has all the weight of a block.
     wholes: Vec<Option<usize>>,
 }
 
-/// A dive in a zone from a master's solution: a point, where it reached one. It is given up where the bound reaches the
-/// known cost. A seed moves the order of variables. The master then stands as before, but for new columns.
+/// A dive in a zone from a restricted master's solution: a point, where it reached one. It is given up where the
+/// bound reaches the incumbent's cost. A seed moves the order of variables. The restricted master then stands as
+/// before, but for new columns.
 pub fn dive_by_variables(
     alloc: Global,
     node: NodeContext,

@@ -15,7 +15,7 @@ use branch_tree::Turn;
 use lagr_bound::box_bound;
 use std::alloc::{AllocError, Global};
 
-/// The bound that a leaf's own proof shows, or that of all boxes without multipliers, where it is greater.
+/// The bound that a node's own proof shows, or that of all boxes without multipliers, where it is greater.
 pub fn boxed(alloc: Global, b: &Blocked, turn: &Turn) -> Result<Shown, AllocError>
     requires turn { IsTurn b.now turn.now }
     requires rowless { AreRowless b.now.blocking }
@@ -47,7 +47,7 @@ pub fn raised_by_box(b: &Blocked, zone: &Zone, shown: Shown, proof: Proof) -> Sh
     raised_to(b, zone, shown, proof, whole)
 }
 
-/// The proof of multipliers by row at scale 0, where they are given and show that a zone has no point.
+/// The proof of whole multipliers by row, which it takes at scale 0, where they are given and show that a zone has no point.
 pub fn shown_empty(
     alloc: Global,
     b: &Blocked,

@@ -1,4 +1,4 @@
-// Which variable a leaf is forked at, and where.
+// Which variable a node is forked at, and where.
 ghost use Rattle.std.specs.Prelude.{◌≡◌, ◌<◌, ◌≤◌, ◌^◌, ◌<ℤ◌, ◌≤ℤ◌, ◌↔◌, length, IsTrue, MatchOption};
 ghost use Rattle.bp_theory.specs.Digits.{middle};
 ghost use Rattle.bp_theory.specs.Trees.{IsProper};

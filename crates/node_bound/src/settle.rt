@@ -1,4 +1,4 @@
-// A point that is told, and a leaf shut or forked by its bound and a known cost.
+// A point that is told, and a node shut or forked by its bound and a known cost.
 ghost use Rattle.std.specs.Prelude.{◌≡◌, ◌<ℤ◌, IfSome};
 ghost use Rattle.branch_tree.specs.Turns.{IsTurn};
 ghost use Rattle.search_laws.specs.GroveFacts.{best_cost};
@@ -44,7 +44,7 @@ pub fn cheaper(b: &Blocked, point: &Option<Items<i64>>, best: Option<i64>) -> Op
     }
 }
 
-/// What is done with a leaf of a zone with an open variable: it is shut where the bound reaches the known cost, and
+/// What is done with a node of a zone with an open variable: it is shut where the bound reaches the known cost, and
 /// else forked.
 pub fn settled(
     b: &Blocked,
@@ -67,7 +67,7 @@ pub fn settled(
     }
 }
 
-// A leaf forked in a variable's span: at a number, or the nearest that leaves both parts one, and from depth 64 on at
+// A node forked in a variable's span: at a number, or the nearest that leaves both parts one, and from depth 64 on at
 // the middle.
 fn forked(b: &Blocked, turn: &Turn, shown: Shown, known: Option<i64>, var: u32, at: i64) -> Next
     requires turn { IsTurn b.now turn.now }

@@ -42,7 +42,7 @@ pub struct Scaled {
     pub full: Proof,
 }
 
-/// What pricing every block shows of a leaf's zone.
+/// What pricing every block shows of a node's zone.
 #[derive(Drop)]
 pub enum Opening {
     /// A block has no point there: a proof that the zone has none.
@@ -51,7 +51,7 @@ pub enum Opening {
     Open(Shown),
 }
 
-/// What pricing every block shows of a leaf's zone: that it has no point, or a bound no less than the leaf's own. Where the
+/// What pricing every block shows of a node's zone: that it has no point, or a bound no less than the node's own. Where the
 /// pricing of a block is cut, it is left out from then on.
 pub fn opened(
     alloc: Global,
@@ -85,7 +85,7 @@ pub fn opened(
     }
 }
 
-/// The proofs of multipliers by row, which price the blocks that hints price.
+/// The proofs of multipliers by row at the greatest scale, which price the blocks that heuristics price.
 pub fn at_both_scales(
     alloc: Global,
     budget: &PricingBudget,
@@ -97,7 +97,7 @@ pub fn at_both_scales(
     })
 }
 
-/// The bound that a leaf's own proof shows.
+/// The bound that a node's own proof shows.
 pub fn inherited(alloc: Global, b: &Blocked, turn: &Turn) -> Result<Shown, AllocError>
     requires { IsTurn b.now turn.now }
     ensures { IfOk result (λ shown. IsShown b.now.blocking turn.now.zone turn.now.bound shown.proof

@@ -1,4 +1,4 @@
-// The verdict on a leaf.
+// The verdict on a node.
 ghost use Rattle.std.specs.Prelude.{◌<◌, ◌^◌, unsigned_abs, IfOk, IfSome};
 ghost use Rattle.block_class.specs.Classes.{AreSameClasses};
 ghost use Rattle.branch_tree.specs.Turns.{IsTurn};
@@ -7,7 +7,7 @@ ghost use Rattle.search_laws.specs.Verdicts.{IsVerdict, IsThorough};
 ghost use Rattle.node_bound.specs.Shown.{IsShown, IsOpen, ShutsOff};
 ghost use Rattle.node_bound.specs.Openings.{IsStrong};
 
-use crate::lone::lone_points;
+use crate::compact::compact_points;
 use crate::raise::strongest;
 use block_class::Classes;
 use block_program::Blocked;
@@ -21,8 +21,8 @@ use node_bound::{
 use node_heuristics::{Hint, NodeContext, Pools, hinted, unreached};
 use std::alloc::{AllocError, Global};
 
-/// The verdict on a live leaf: a point that is feasible and cheaper than the best cost, where one was found, and what is
-/// done with the leaf. It is shut by a proof that settles its zone against the cheaper of the two costs, or forked with a
+/// The verdict on an open node: a point that is feasible and cheaper than the best cost, where one was found, and what is
+/// done with the node. It is shut by a proof that settles its zone against the cheaper of the two costs, or forked with a
 /// bound below it. A zone of one point is always shut, and from depth 64 on a fork is at the middle of its span.
 pub fn evaluate(
     alloc: Global,
@@ -73,7 +73,7 @@ fn many_points(
         });
     }
     if has_no_block_rows(b) {
-        return lone_points(alloc, b, turn, best, pools, var);
+        return compact_points(alloc, b, turn, best, pools, var);
     }
     let classes = Classes::of(alloc, b, &turn.zone)?;
     let is_even = pools.begin(alloc, b)?;
@@ -89,7 +89,7 @@ fn many_points(
     }
 }
 
-// The proof that a leaf's zone has no point, where a master row is seen to have none there.
+// The proof that a node's zone has no point, where a master row is seen to have none there.
 fn missed(alloc: Global, b: &Blocked, turn: &Turn) -> Result<Option<Proof>, AllocError>
     requires { IsTurn b.now turn.now }
     ensures { IfOk result (λ found. IfSome found (ShutsOff b.now.blocking turn.now.zone)) }
@@ -166,7 +166,7 @@ fn searched(
     Ok(Verdict { point, next })
 }
 
-// A proof that a leaf's zone has no point, where no point is known and multipliers show it.
+// A proof that a node's zone has no point, where no point is known and multipliers show it.
 fn left_empty(
     alloc: Global,
     b: &Blocked,

@@ -3,8 +3,8 @@
 //! points, and exact bounds judge the multipliers.
 #![tactic(auto)]
 
+mod compact;
 mod leaf;
-mod lone;
 mod raise;
 
 pub use leaf::evaluate;

@@ -1,4 +1,4 @@
-// Bounds raised by the proofs of a leaf's multipliers.
+// Bounds raised by the proofs of a node's multipliers.
 ghost use Rattle.std.specs.Prelude.{◌≡◌, ◌<◌, ◌^◌, ◌≤ℤ◌, ℤ, unsigned_abs};
 ghost use Rattle.bp_theory.specs.Trees.{IsZone};
 ghost use Rattle.block_class.specs.Classes.{AreSameClasses};

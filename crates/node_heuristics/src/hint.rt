@@ -1,4 +1,4 @@
-// What is searched for in a leaf's zone: multipliers, a point, and a split. All are hints.
+// What is searched for in a node's zone: multipliers, a point, and a split. All are hints.
 ghost use Rattle.std.specs.Prelude.{◌≡◌, ◌<◌, IfOk, All, length};
 ghost use Rattle.node_memory.specs.Pools.{AreMadeFor};
 ghost use Rattle.search_laws.specs.declared.UsedColumn.{UsedColumn as AUsed};
@@ -50,10 +50,10 @@ pub struct Search {
     pub is_even: bool,
 }
 
-/// Multipliers with a great bound in a leaf's zone, a point that is cheaper than the best cost, where one was found,
+/// Multipliers with a great bound in a node's zone, a point that is cheaper than the best cost, where one was found,
 /// and a split of the linking variable on which the columns agree least, or else of the variable that the columns, or
 /// the mean of the priced points, leave farthest from whole.
-/// Dives keep columns without numbers for last at every other leaf.
+/// Dives keep columns without numbers for last at every other node.
 pub fn hinted(
     alloc: Global,
     node: NodeContext,
@@ -134,7 +134,7 @@ pub fn first_incumbent(
     Ok(incumbent)
 }
 
-// The known cost, or else one above that of each point of the leaf's spans: a bound that reaches it shows that there is
+// The incumbent's cost, or else one above that of each point of the node's spans: a bound that reaches it shows that there is
 // none.
 fn limit_of(b: &Blocked, turn: &Turn, known: Option<i64>) -> Option<i64> {
     match known {
@@ -163,8 +163,8 @@ fn probed_point(
     search_point(alloc, b, turn, &guide, known)
 }
 
-// Column generation from a centre, where columns serve and the centre has a bound. There is no master where the bound
-// reaches what is known, before or after.
+// Column generation from a centre, where columns serve and the centre has a bound. There is no restricted master
+// where the bound reaches what is known, before or after.
 fn generated(
     alloc: Global,
     node: NodeContext,
@@ -214,7 +214,7 @@ fn search_columns(
     points_and_split(alloc, node, pools, turn, master, used, search)
 }
 
-// Points from a master whose columns these are that are used, and the split that they want.
+// Points from a restricted master whose columns these are that are used, and the split that they want.
 fn points_and_split(
     alloc: Global,
     node: NodeContext,

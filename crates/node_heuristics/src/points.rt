@@ -1,4 +1,4 @@
-// Points from the columns of a leaf's master: exchanges between identical blocks, dives by columns, each mended by
+// Points from the columns of a node's restricted master: exchanges between identical blocks, dives by columns, each mended by
 // exchanges where it fails, dives by variables where each block differs, and a search that the mean of the columns
 // guides.
 ghost use Rattle.node_memory.specs.Pools.{AreMadeFor};
@@ -98,7 +98,7 @@ fn deal(b: &Blocked, home: u32, block: &Block, point: &[i64], part: i64, mean: &
     }
 }
 
-/// Takes points from a master's columns while the bound doesn't reach what is known.
+/// Takes points from a restricted master's columns while the bound doesn't reach what is known.
 pub fn find_points(
     alloc: Global,
     node: NodeContext,
@@ -160,7 +160,7 @@ fn dive_single(
     Ok(())
 }
 
-// Dives by columns: with the master's weights, and then with others. Where one fails, its columns seed exchanges.
+// Dives by columns: with the restricted master's weights, and then with others. Where one fails, its columns seed exchanges.
 fn dive_alike(
     alloc: Global,
     node: NodeContext,

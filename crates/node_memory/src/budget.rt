@@ -20,10 +20,10 @@ const MOST_CUTS: u32 = 4;
 /// How often multipliers are priced until no pricing is cut.
 const MOST_ROUNDS: u32 = 5;
 
-/// How often hints of a leaf may price.
+/// How often the heuristics of a node may price.
 const MOST_PRICES: u32 = 400;
 
-/// After how many leaves it is forgotten which blocks' pricing was cut.
+/// After how many nodes it is forgotten which blocks' pricing was cut.
 const MEMORY: u32 = 32;
 
 /// The pricers of a program's blocks, and what the heuristics of nodes may price with them.
@@ -77,7 +77,7 @@ impl PricingBudget {
         })
     }
 
-    /// Begins with another leaf: hints price all blocks, as often as a leaf's may.
+    /// Begins with another node: hints price all blocks, as often as a node's may.
     pub fn begin(&mut self)
         ensures { self.new.work ≡ self.old.work }
     {
@@ -95,8 +95,9 @@ impl PricingBudget {
         self.left == 0
     }
 
-    /// The bound of multipliers by row at the greatest scale in a zone, with a point by copies that reaches it but for the
-    /// blocks that are left out, whose numbers stay. There is none where a block has no point, or no price is left.
+    /// The dual bound of multipliers by row at the greatest scale in a node's zone, in units, with a point by copies
+    /// that reaches it but for the blocks that are left out, whose numbers stay. There is none where a block has no
+    /// point, or no price is left.
     pub fn round(
         &mut self,
         alloc: Global,
@@ -138,7 +139,7 @@ impl PricingBudget {
     }
 
     /// Whether a proof has a bound in a zone, within a cap for each block. The points that reach it are told then. No price
-    /// of the leaf's is spent.
+    /// of the node's is spent.
     pub(crate) fn has_bound(&mut self, node: NodeContext, proof: &Proof, cap: Cap) -> bool
         requires made_for { forms_of self.old.work ≡ forms_in node.program.now }
         ensures made_for { forms_of self.new.work ≡ forms_of self.old.work }
@@ -241,7 +242,7 @@ impl PricingBudget {
         Ok(())
     }
 
-    /// The first block whose pricing was cut at a leaf before and may be cut again.
+    /// The first block whose pricing was cut at a node before and may be cut again.
     pub fn first_wide(
         &self,
         alloc: Global,

@@ -1,4 +1,4 @@
-// What a search keeps from leaf to leaf: the pricers, and the points that they gave, as columns.
+// What a search keeps from node to node: the pricers, and the points that they gave, as columns.
 ghost use Rattle.std.specs.Prelude.{◌≡◌, ◌<◌, IfOk, All, length};
 ghost use Rattle.block_pricers.specs.Forms.{forms_in};
 ghost use Rattle.block_pricers.specs.Works.{forms_of};
@@ -11,7 +11,7 @@ use block_class::Classes;
 use block_program::{Blocked, Zone};
 use bp_theory::Proof;
 use col_pool::{Column, Pool, Store};
-use compact_relaxation::{LoneLeaves, has_no_block_rows};
+use compact_relaxation::{CompactRelaxation, has_no_block_rows};
 use pricing_problem::Cap;
 use std::alloc::{AllocError, Global};
 
@@ -26,7 +26,7 @@ pub struct Pools {
     /// The pools of columns, one for each class of blocks at the root.
     pub stores: Vec<Store>,
     /// The compact relaxation, where no block has rows.
-    pub lone: Option<LoneLeaves>,
+    pub compact: Option<CompactRelaxation>,
     /// By block, the number of its class at the root: that of its pool.
     homes: Vec<u32>,
     /// How many numbers were offered to the pools since they were last emptied.
@@ -40,7 +40,7 @@ impl Drop for Pools {
         let Pools {
             budget: _,
             stores: _,
-            lone: _,
+            compact: _,
             homes: _,
             size: _,
             leaves: _,
@@ -71,15 +71,15 @@ impl Pools {
         Ok(Pools {
             budget,
             stores: stores_of(alloc, b, &classes)?,
-            lone: lone_leaves(alloc, b)?,
+            compact: compact_of(alloc, b)?,
             homes: homes_of(alloc, b, &classes)?,
             size: 0,
             leaves: 0,
         })
     }
 
-    /// Begins with another leaf: its hints price all blocks, and pools that have grown too large are emptied. Tells
-    /// whether an even number of leaves came before.
+    /// Begins with another node: its hints price all blocks, and pools that have grown too large are emptied. Tells
+    /// whether an even number of nodes came before.
     pub fn begin(&mut self, alloc: Global, b: &Blocked) -> Result<bool, AllocError>
         requires made_for { AreMadeFor b.now self.old }
         ensures made_for { AreMadeFor b.now self.new }
@@ -93,9 +93,9 @@ impl Pools {
         Ok(self.leaves % 2 == 1)
     }
 
-    /// The bound of multipliers by row at the greatest scale in a zone, with a point by copies that reaches it but for the
-    /// blocks that are left out, whose numbers stay. There is none where a block has no point, or the leaf's prices are
-    /// spent.
+    /// The dual bound of multipliers by row at the greatest scale in a node's zone, in units, with a point by copies
+    /// that reaches it but for the blocks that are left out, whose numbers stay. There is none where a block has no
+    /// point, or the node's prices are spent.
     pub fn price(
         &mut self,
         alloc: Global,
@@ -110,7 +110,7 @@ impl Pools {
     }
 
     /// Whether a proof has a bound in a zone, within a cap for each block. The points that reach it are told then. No price
-    /// of the leaf's is spent.
+    /// of the node's is spent.
     pub fn has_bound(&mut self, node: NodeContext, proof: &Proof, cap: Cap) -> bool
         requires made_for { AreMadeFor node.program.now self.old }
         ensures made_for { AreMadeFor node.entry.program.now self.new }
@@ -218,9 +218,9 @@ impl Pools {
 }
 
 // The relaxation of a program's rows, where its blocks have none.
-fn lone_leaves(alloc: Global, b: &Blocked) -> Result<Option<LoneLeaves>, AllocError> {
+fn compact_of(alloc: Global, b: &Blocked) -> Result<Option<CompactRelaxation>, AllocError> {
     if has_no_block_rows(b) {
-        Ok(Some(LoneLeaves::make(alloc, b)?))
+        Ok(Some(CompactRelaxation::make(alloc, b)?))
     } else {
         Ok(None)
     }

@@ -144,7 +144,7 @@ impl Lines {
         }
     }
 
-    /// A row's multiplier.
+    /// A row's multiplier, in ones.
     pub fn mult(&self, program: &ColumnProgram, row: u32) -> f64 {
         let (first, many) = self.of_row(row);
         let mut mult = 0.0;
@@ -165,7 +165,8 @@ impl Lines {
         }
     }
 
-    /// Lets multipliers be within a width of others by row, and no farther than a penalty.
+    /// Lets multipliers be within a width of others, by row at the greatest scale, and no farther than a penalty. Width and
+    /// penalty are in ones.
     pub fn stay_near(&self, program: &mut ColumnProgram, mults: &[i64], width: f64, penalty: f64) {
         for (place, line) in self.lines.iter().enumerate() {
             let centre = self.centre(line, mults);

@@ -1,5 +1,6 @@
-// The restricted master of a zone: the master rows, link rows and cuts less what the blocks of one point take, the classes of the other
-// blocks, and columns of these. What a row misses costs a penalty, which keeps its multiplier in a range.
+// The restricted master of a zone: the master rows, link rows and cuts less what the blocks of one point take, the
+// classes of the other blocks, and columns of these. What a row misses costs a penalty, which keeps its multiplier in
+// a range.
 use crate::lines::{Lines, at_scale, place_of};
 use crate::program::{ColumnProgram, Mark};
 use basis_factor::Entry;
@@ -20,7 +21,7 @@ const ALIKE_TIMES: usize = 4;
 /// How many pivots one solution may take.
 const MOST_PIVOTS: u32 = 5_000;
 
-/// How many pivots times lines the solutions of a leaf may take.
+/// How many pivots times lines the solutions of a node may take.
 const MOST_WORK: u64 = 1 << 22;
 
 // What stands for no line and no class.
@@ -149,8 +150,8 @@ fn without_columns(
 }
 
 impl RestrictedMaster {
-    /// The restricted master of a zone without columns, where missing a row by one costs a penalty. There is none
-    /// without rows or classes.
+    /// The restricted master of a node's zone without columns, where missing a row by one costs a penalty, in ones. There
+    /// is none without rows or classes that aren't settled.
     pub fn make(
         alloc: Global,
         node: NodeContext,
@@ -178,8 +179,8 @@ impl RestrictedMaster {
         Ok(Some(master))
     }
 
-    /// Adds the pools' columns inside the zone, of each class those of least reduced cost, and begins with the first of
-    /// each.
+    /// Adds the pools' columns inside the zone, of each class those of least reduced cost at multipliers by row at the
+    /// greatest scale, and begins with the first of each.
     pub fn begin(
         &mut self,
         alloc: Global,
@@ -258,7 +259,7 @@ impl RestrictedMaster {
         Ok(true)
     }
 
-    /// Adds a column of a class of the zone, if its reduced cost is below zero; whether it is new.
+    /// Adds a column of a class of the zone, if its reduced cost at the multipliers at hand is below zero; whether it is new.
     pub fn add_if_better(
         &mut self,
         alloc: Global,
@@ -284,7 +285,7 @@ impl RestrictedMaster {
         self.set_class_penalties();
     }
 
-    /// Keeps multipliers near others by row from now on: within a width.
+    /// Keeps multipliers near others, by row at the greatest scale, from now on: within a width, in ones.
     pub fn stay_near(&mut self, mults: &[i64], width: f64) {
         self.lines
             .stay_near(&mut self.program, mults, width, self.penalty);
@@ -311,7 +312,7 @@ impl RestrictedMaster {
         }
     }
 
-    /// Solves by at most so many pivots, within what a leaf's solutions may take.
+    /// Solves by at most so many pivots, within what a node's solutions may take.
     pub fn solve(&mut self, alloc: Global, most: u32) -> Result<(), AllocError> {
         let most = self.pivots_left(most);
         let before = self.program.pivots();
@@ -366,7 +367,7 @@ impl RestrictedMaster {
         missed > MISSED
     }
 
-    /// The cost of the columns by their weights with that of the blocks of one point.
+    /// The cost of the columns by their weights with the constant and that of the blocks of one point, in ones.
     pub fn cost(&self) -> f64 {
         let mut cost = nearest_i64_to_f64(primal_heuristics::whole(self.settled));
         for number in 0..self.columns.len() {
@@ -446,7 +447,7 @@ impl RestrictedMaster {
         self.program.is_off(place_of(number))
     }
 
-    // The master's number of a class of the zone.
+    // The restricted master's number of a class of the zone.
     fn number(&self, class: u32) -> u32 {
         match self.numbers.get(class as usize) {
             None => NONE,

@@ -202,7 +202,7 @@ impl ColumnProgram {
         }
     }
 
-    /// A row's multiplier.
+    /// A row's multiplier, in ones.
     pub fn mult(&self, row: usize) -> f64 {
         at(self.mults.as_slice(), row)
     }

@@ -7,7 +7,7 @@ use Rattle.search_laws.specs.declared.Next.TheVariants.{Shut}
 use Rattle.node_bound.specs.Shown.{ShutsOff}
 use Rattle.node_bound.proofs.Leaves.{off_settles, verdict_is}
 use Rattle.node_bound.proofs.Strong.{more_is_strong}
-use Rattle.node_eval.proofs.lone.lone_points.Goals as goal
+use Rattle.node_eval.proofs.compact.compact_points.Goals as goal
 
 pub settled-next-requires-clause-shown : goal.settled-next-requires-clause-shown
 settled-next-requires-clause-shown c = c.raised_by_box-shown.ensures.shown c.args.turn.now.bound c.in_ok-shown.ensures.shown

@@ -1,4 +1,4 @@
-// The verdict on a leaf of a program whose blocks have no rows: each block's box is all of its points.
+// The verdict on a node of a program whose blocks have no rows: each block's box is all of its points.
 ghost use Rattle.std.specs.Prelude.{IfOk};
 ghost use Rattle.branch_tree.specs.Turns.{IsTurn};
 ghost use Rattle.compact_relaxation.specs.Rowless.{AreRowless};
@@ -8,15 +8,15 @@ ghost use Rattle.node_bound.specs.Shown.{IsOpen};
 
 use block_program::Blocked;
 use branch_tree::{Next, Turn, Verdict};
-use compact_relaxation::LoneHint;
+use compact_relaxation::CompactHint;
 use node_bound::{
     better_point, boxed, by_scaled, cheaper, open_or, raised_by_box, settled, shown_empty,
 };
-use node_heuristics::{Pools, lone_hinted};
+use node_heuristics::{Pools, compact_hint};
 use std::alloc::{AllocError, Global};
 
 /// The verdict on a zone with an open variable of a program whose blocks have no rows.
-pub fn lone_points(
+pub fn compact_points(
     alloc: Global,
     b: &Blocked,
     turn: &Turn,
@@ -35,14 +35,14 @@ pub fn lone_points(
     ensures made_for { AreMadeFor b.now pools.new }
 {
     let shown = boxed(alloc, b, turn)?;
-    let LoneHint {
+    let CompactHint {
         mults,
         scale,
         emptying,
         point: found,
         var: wanted,
         at,
-    } = lone_hinted(alloc, b, pools, turn, best)?;
+    } = compact_hint(alloc, b, pools, turn, best)?;
     let point = better_point(b, found, best);
     let known = cheaper(b, &point, best);
     if let Some(proof) = shown_empty(alloc, b, &turn.zone, emptying)? {

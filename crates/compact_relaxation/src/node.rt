@@ -1,9 +1,9 @@
-// What is searched for in a leaf's zone.
+// What is searched for in a node's zone.
 use crate::bases::{Forked, key_of};
 use crate::branch::widest;
 use crate::dive::{Found, manner_of};
 use crate::numbers::{floor_in, span_at};
-use crate::relaxation::{LoneLeaves, Relaxed};
+use crate::relaxation::{CompactRelaxation, Relaxed};
 use block_program::{Blocked, MAX_SCALE};
 use bp_theory::Span;
 use branch_tree::Turn;
@@ -27,7 +27,7 @@ const NEAR: f64 = 1e-5;
 
 /// What the relaxation of a node gives. Nothing is promised of it.
 #[derive(Drop)]
-pub struct LoneHint {
+pub struct CompactHint {
     /// Multipliers by row that proofs may name, at the greatest scale, 1,048,576.
     pub mults: Vec<i64>,
     /// The scale at which they show as much.
@@ -64,20 +64,20 @@ struct Optimum<'a> {
     basis: &'a Basis,
 }
 
-impl LoneLeaves {
-    /// Hints for a leaf, where the best cost may be known.
+impl CompactRelaxation {
+    /// Hints for a node, where the best cost may be known.
     pub fn hint(
         &mut self,
         alloc: Global,
         b: &Blocked,
         turn: &Turn,
         best: Option<i64>,
-    ) -> Result<LoneHint, AllocError> {
+    ) -> Result<CompactHint, AllocError> {
         let spans = turn.zone.spans();
         let parent = self.begin(turn)?;
         let relaxed = self.relax(best)?;
         let (var, at) = widest(spans);
-        let mut hint = LoneHint {
+        let mut hint = CompactHint {
             mults: self.scaled(alloc, b)?,
             scale: MAX_SCALE,
             emptying: None,
@@ -105,7 +105,7 @@ impl LoneLeaves {
         turn: &Turn,
         relaxed: &Relaxed,
         best: Option<i64>,
-        hint: &mut LoneHint,
+        hint: &mut CompactHint,
     ) -> Result<(), AllocError> {
         let spans = turn.zone.spans();
         let wanted = self.wanted(relaxed, best);
@@ -143,7 +143,7 @@ impl LoneLeaves {
         Ok(found)
     }
 
-    // Takes a leaf's spans and the basis of the leaf above.
+    // Takes a node's spans and the basis of the node above.
     fn begin(&mut self, turn: &Turn) -> Result<Option<Parent>, AllocError> {
         self.set_spans(turn.zone.spans());
         self.leaves = self.leaves.wrapping_add(1);
@@ -171,7 +171,7 @@ impl LoneLeaves {
         Ok(parent)
     }
 
-    // Notes by how much the bound rose from the leaf above.
+    // Notes by how much the bound rose from the node above.
     fn note_gain(&mut self, parent: Option<Parent>, value: f64) {
         let Some(parent) = parent else {
             return;
@@ -230,7 +230,7 @@ impl LoneLeaves {
         self.go_back(turn.zone.spans(), &basis)
     }
 
-    // Dives so many times from an optimum, until what is found shuts the leaf.
+    // Dives so many times from an optimum, until what is found shuts the node.
     fn dive_from(
         &mut self,
         alloc: Global,
@@ -283,14 +283,14 @@ impl LoneLeaves {
         Ok(())
     }
 
-    // Chooses the split, and keeps the basis for the leaves below.
+    // Chooses the split, and keeps the basis for the nodes below.
     fn split(
         &mut self,
         alloc: Global,
         turn: &Turn,
         relaxed: &Relaxed,
         known: Option<i64>,
-        hint: &mut LoneHint,
+        hint: &mut CompactHint,
     ) -> Result<(), AllocError> {
         let fractions = self.fractions(alloc)?;
         let objective = self.lp.objective();
