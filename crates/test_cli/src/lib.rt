@@ -6,6 +6,6 @@
 #[cfg(test)]
 mod lines;
 #[cfg(test)]
-mod notes;
+mod note_lines;
 #[cfg(test)]
 mod tables;

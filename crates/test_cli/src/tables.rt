@@ -1,5 +1,5 @@
 // Tables of lines, and which are otherwise than written.
-use crate::{lines, notes};
+use crate::{lines, note_lines};
 use std::alloc::{AllocError, Global};
 use std::fmt::Write;
 use std::process::Abort;
@@ -34,7 +34,7 @@ fn add_wrong(
 ) -> Result<bool, AllocError> {
     match table {
         Table::Lines => lines::add_wrong(alloc, all, line),
-        Table::Notes => notes::add_wrong(alloc, all, line),
+        Table::Notes => note_lines::add_wrong(alloc, all, line),
     }
 }
 
