@@ -70,19 +70,41 @@ remember() { # NAME WORDS
     mkdir -p "$memory" && part=$(mktemp "$memory/$1.XXXXXX") && echo "$2" >"$part" && mv -f "$part" "$memory/$1"
 } 2>/dev/null
 
-# Prints the checksum over the sources at hand: the one that is remembered, where their sizes and newest time are those of
-# then.
+# Sets `looked_at` to the folders and files whose files' state is remembered together with the checksum over the sources.
+list_looked_at() {
+    local it folder
+    read_crates
+    looked_at=(crates.txt HANDLES release/common.sh)
+    for it in "${crates[@]}"; do
+        for folder in "crates/$it"/{src,specs,proofs}/; do
+            [ -d "$folder" ] && looked_at+=("$folder")
+        done
+    done
+}
+
+# Prints a checksum over what the system knows of these files without reading them: name, inode, mode, size, time of change.
+# The system itself sets the time of change, to now: a copy that keeps size and time of the old file has a new one.
+state_of() ( # FILES AND FOLDERS
+    set -o pipefail
+    LC_ALL=C ls -LRUinc --time-style=+%s.%N -- "$@" 2>/dev/null | sha256sum
+)
+
+# Returns whether none of these files was changed in that second or later, so that each change from then on gives a new time.
+stand_since() { # SECOND FILES AND FOLDERS
+    local newest
+    newest=$(du -Lcs --time=ctime --time-style=+%s -- "${@:2}" 2>/dev/null)
+    read -r _ newest _ <<<"${newest##*$'\n'}"
+    [ "${newest:-$1}" -lt "$1" ]
+}
+
+# Prints the checksum over the sources at hand: the one that is remembered, where the state of their files is that of then.
 sum_at_hand() (
     cd "$top" || exit
-    read_crates
-    folders=()
-    for it in "${crates[@]}"; do
-        folders+=("crates/$it"/{src,specs,proofs}/)
-    done
-    state=$(du -bcs --time --time-style=+%s%N crates.txt HANDLES release/common.sh "${folders[@]}" 2>/dev/null)
-    state=${state##*$'\n'}
-    { read -r then && read -r sum; } 2>/dev/null <"$memory/sum" && [ "$then" = "${state:-none}" ] && echo "$sum" && return
-    sum=$(sum_of_sources) && remember sum "$state"$'\n'"$sum"
+    list_looked_at
+    printf -v now '%(%s)T' -1
+    state=$(state_of "${looked_at[@]}") || { sum_of_sources; return; }
+    { read -r then && read -r sum; } 2>/dev/null <"$memory/sum" && [ "$then" = "$state" ] && echo "$sum" && return
+    sum=$(sum_of_sources) && stand_since "$now" "${looked_at[@]}" && remember sum "$state"$'\n'"$sum"
     echo "$sum"
 )
 
@@ -106,7 +128,16 @@ is_whole() { # PROGRAM
     [ -f "$1" ] && [ -f "$record" ] && [ "$(told "$record" program)" = "$(sum_of_program "$1")" ]
 }
 
-# Returns whether the program was built from the sources of that checksum.
+# Returns whether a record has its three lines, and no other.
+is_plain() { # RECORD
+    local word lines=()
+    for word in kit sources program; do
+        lines+=("$word $(told "$1" "$word")")
+    done
+    printf '%s\n' "${lines[@]}" | cmp -s - "$1"
+}
+
+# Returns whether the record says that the program was built from the sources of that checksum.
 is_of() { # PROGRAM SUM
     local record=${1%/*}/SOURCES
     [ -f "$record" ] && [ "$(told "$record" sources)" = "$2" ]
@@ -119,22 +150,24 @@ write_record() { # PROGRAM SUM
         printf '%s\n' "kit $kit" "sources $2" "program $sum" >"${1%/*}/SOURCES"
 }
 
-# Returns whether the program runs on this machine: asked for a file that is not there, it ends with 11.
+# Returns whether the program, which is the one that its record names, runs on this machine: asked for a file that is not
+# there, it ends with 11.
 runs_here() { # PROGRAM
-    [ "$memory/runs" -nt "$1" ] && return
+    local sum then
+    sum=$(told "${1%/*}/SOURCES" program)
+    { read -r then; } 2>/dev/null <"$memory/runs" && [ "$then" = "$sum" ] && return
     "$1" solve '' </dev/null >/dev/null 2>&1
     case $? in
-    11) remember runs yes ;;
+    11) remember runs "$sum" ;;
     9) ;;
     *) return 1 ;;
     esac
 }
 
-# Sets `program` to the one to run: the one that was proved and built here, if it is of the sources at hand; else the
-# released one. Returns 1 where neither is there, and 126 where the released one cannot be run.
-choose_program() {
-    local sum
-    sum=$(sum_at_hand)
+# Sets `program` to the one to run: the one that was proved and built here, if it is of the sources of that checksum; else
+# the released one. Returns 1 where neither is there, and 126 where the released one cannot be run.
+choose_program() { # SUM
+    local sum=$1
     program=$built
     [ -x "$built" ] && is_of "$built" "$sum" && is_whole "$built" && return
     program=$released
@@ -150,7 +183,7 @@ choose_program() {
         return 126
     fi
     is_of "$released" "$sum" ||
-        complain "this is the released program, which was proved from other sources than those here: ./prove proves and builds these"
+        complain "the released program is not of the sources here (their checksums differ): ./prove proves and builds these"
     return 0
 }
 

@@ -1,7 +1,7 @@
 #!/usr/bin/env bash
 # Tries ./bprice, ./prove, the gate's check, release/make.sh and `make install` as a new user meets them: on small clones
-# in a temporary folder whose name has a space, with no commands but bash and coreutils on the PATH, and a stand-in for rt
-# where one is needed. The program that is tried is the one named, or release/bprice. Prints each fault and a count.
+# in a temporary folder whose name has a space, with no commands but bash and coreutils on the PATH, and git and a stand-in for
+# rt where they are needed. The program that is tried is the one named, or release/bprice. Prints each fault and a count.
 set -u
 
 here=$(cd "$(dirname "$(readlink -f "${BASH_SOURCE[0]}")")/.." && pwd)
@@ -17,9 +17,10 @@ failed=0
 
 # Nothing but these can be found by what is tried: bash, and of coreutils what the scripts use.
 mkdir "$room/bin" "$room/user" "$room/kit"
-for it in bash cat chmod cmp cp cut dirname du head install mkdir mktemp mv readlink rm sha256sum sort touch uname; do
+for it in bash cat chmod cmp cp cut dirname du env head install ls mkdir mktemp mv readlink rm sha256sum sort touch uname; do
     ln -s "$(command -v "$it")" "$room/bin/$it"
 done
+ln -s "$(command -v git)" "$room/kit/git"
 
 # A stand-in for rt: it builds the program of the room, and ends as the file `ended` says; or it adds to the sources.
 cat >"$room/kit/rt" <<'END'
@@ -106,19 +107,27 @@ holds() {
 }
 
 report=$'optimal 8\nx 2\ny 1'
-other='proved from other sources than those here'
+other='is not of the sources here (their checksums differ)'
 
 first() {
     bare "$clone/bprice" solve "$clone/examples/first.lp"
+}
+
+# Waits until what was changed so far may be remembered.
+settle() {
+    sleep 1.1
 }
 
 # A first run, from elsewhere.
 fresh 'a clone'
 first
 expect 'the first run' 0 "$report" 0
-holds 'the first run remembers nothing' [ -s "$clone/release/out/sum" ]
+settle
 first
 expect 'the second run' 0 "$report" 0
+holds 'the second run remembers nothing' [ -s "$clone/release/out/sum" ]
+first
+expect 'the third run' 0 "$report" 0
 cp "$clone/examples/first.lp" "$room/user/own.lp"
 bare ../'a clone'/bprice solve own.lp --cert own.cert
 expect 'relative names' 0 "$report" 0
@@ -136,8 +145,10 @@ expect 'words that are no command line' 2 'refused words' 2 'bprice: --steps wan
 # Files that would be written over what is read.
 cp "$room/user/own.lp" "$room/user/kept.lp"
 ln -s own.lp "$room/user/linked.lp"
+ln -s new.lp "$room/user/to-new.lp"
 for it in 'solve own.lp --cert own.lp' 'solve --cert=./own.lp own.lp' 'solve linked.lp --cert own.lp' 'solve own.lp --dec linked.lp --cert own.lp' \
     'detect own.lp linked.lp own.lp' 'propose own.lp linked.lp' 'gen 1 2 linked.lp own.lp' 'gen 1 2 new.lp new.lp' \
+    'gen 1 2 new.lp ./new.lp' 'gen 1 2 new.lp to-new.lp' 'merge own.lp own.cert own.cert own.lp' \
     'migrate own.lp own.cert own.lp' 'migrate own.lp own.cert linked.lp --dec own.lp'; do
     bare "$clone/bprice" $it
     expect "a file that is read and written: $it" 125 '' 1 'would be written'
@@ -147,6 +158,8 @@ bare "$clone/bprice" solve own.lp --from own.cert --cert own.cert
 expect 'one certificate to go on from and to write' 0 "$report" 0
 bare "$clone/bprice" migrate own.lp own.cert own.cert
 expect 'one certificate to read and to write' 0 'migrated 1' 0
+bare "$clone/bprice" gen 1 2 new.lp new.dec
+expect 'two files to write' 0 'made variables 8 rows 6' 0
 bare "$clone/bprice" solve -- own.lp --cert own.lp
 expect 'words behind two dashes' 2 'refused words' 2 'is one word too many for solve'
 
@@ -158,7 +171,8 @@ done
 bare "$clone/bprice" help demo
 expect 'help of a command' 2 'refused words' 2 'usage: bprice demo SEED SIZE'
 bare "$clone/bprice" --version
-expect 'the version' 2 'refused words' 4 'kit of the test'
+expect 'the version' 2 'refused words' 5 'kit of the test'
+expect 'the version, the checksum' 2 'refused words' 5 "here $(. "$clone/release/common.sh" && sum_of_sources)"
 
 # Two runs at once.
 fresh 'two at once'
@@ -202,6 +216,53 @@ expect 'what the proof does not read' 0 "$report" 0
 sed -i 's/^low:$/low: itoa/' "$clone/crates.txt"
 first
 expect 'a crate that stands on another' 0 "$report" 1 "$other"
+
+# Sources that change, and keep size and time.
+fresh kept
+file=$clone/crates/low/specs/Low.antt
+cp -p "$file" "$room/old"
+sed 's/^a/x/' "$file" >"$room/new"
+touch -r "$file" "$room/new"
+settle
+first
+holds 'files that keep size and time, before' [ -s "$clone/release/out/sum" ]
+cp -p "$room/new" "$file"
+first
+expect 'another file that keeps size and time' 0 "$report" 1 "$other"
+cp -p "$room/old" "$file"
+settle
+first
+expect 'that file as it was' 0 "$report" 0
+mv "$room/new" "$file"
+first
+expect 'another file moved there' 0 "$report" 1 "$other"
+for it in {1..20}; do
+    rm -f "$clone/release/out/sum"
+    printf -v second '%(%s)T' -1
+    touch "$file"
+    first
+    printf -v later '%(%s)T' -1
+    [ "$second" = "$later" ] && break
+done
+holds 'a file that was changed within the second is remembered' [ ! -e "$clone/release/out/sum" ]
+holds 'a change within the second is taken for older' bash -c '. "$1/release/common.sh"; ! stand_since "$2" "$3"' - "$clone" "$second" "$file"
+holds 'a change before the second is not' bash -c '. "$1/release/common.sh"; stand_since "$2" "$3"' - "$clone" $((second + 9)) "$file"
+
+# Files of which the system tells nothing are read.
+ln -s missing "$clone/crates/low/src/broken.rt"
+settle
+rm -f "$clone/release/out/sum"
+first
+expect 'a link to nowhere' 0 "$report" 1 "$other"
+holds 'files of which nothing is told are remembered' [ ! -e "$clone/release/out/sum" ]
+rm "$clone/crates/low/src/broken.rt"
+
+# The version is told from the sources, not from what is remembered of them.
+(cd "$clone" && . release/common.sh && list_looked_at && remember sum "$(state_of "${looked_at[@]}")"$'\n'"$(told release/SOURCES sources)")
+first
+expect 'a memory that is false' 0 "$report" 0
+bare "$clone/bprice" --version
+expect 'the version in spite of it' 2 'refused words' 6 "$other"
 
 # A release that cannot be run.
 fresh faulty
@@ -282,12 +343,40 @@ expect 'neither is of the sources' 0 "$report" 1 "$other"
 
 # The gate's check.
 gate() {
-    with_rt "$clone/release/gate.sh" "$(. "$clone/release/common.sh" && sum_of_sources)"
+    with_rt "$clone/release/gate.sh" "$(at_hand)"
 }
+
+# Prints the checksum over the sources of the clone.
+at_hand() {
+    (. "$clone/release/common.sh" && sum_of_sources)
+}
+
+# Has the stand-in for rt build the program from the sources of the clone, as the gate does.
+build() {
+    (cd "$clone" && PATH=$room/kit:$PATH rt ci >/dev/null)
+}
+
+# Commits all that stands in the clone.
+commit() {
+    [ -d "$clone/.git" ] || git -C "$clone" init -q
+    printf '%s\n' out/ >"$clone/.gitignore"
+    git -C "$clone" add -A &&
+        git -C "$clone" -c user.name=test -c user.email=test@example.com -c commit.gpgsign=false commit -q --allow-empty -m state &&
+        head=$(git -C "$clone" rev-parse HEAD)
+}
+
+# Puts a script in place of the released program, and its checksum and these lines into its record.
+forge() { # KIT SOURCES
+    printf '#!/bin/sh\necho optimal 9\n' >"$clone/release/bprice"
+    printf '%s\n' "kit $1" "sources $2" "program $(sha256sum <"$clone/release/bprice" | cut -d ' ' -f 1)" >"$clone/release/SOURCES"
+}
+
+whole='release: it is the program that the gate built from these sources'
+foreign='release: release/bprice is not the program that the gate built from the sources of release/SOURCES'
 fresh gate
-(cd "$clone" && PATH=$room/kit:$PATH rt ci >/dev/null)
+build
 gate
-expect 'the gate' 0 'release: it is the program that the gate built from these sources' 0
+expect 'the gate' 0 "$whole" 0
 first
 expect 'what the gate built' 0 "$report" 0
 with_rt "$clone/release/gate.sh" other
@@ -297,23 +386,115 @@ gate
 expect 'the gate, a release that SOURCES does not name' 1 'release: release/bprice is not the program that release/SOURCES names' 0
 record
 gate
-expect 'the gate, a foreign release' 1 'release: release/bprice is not the program that the gate built from the sources of release/SOURCES' 0
-echo 'another kit' >"$room/kit/version"
+expect 'the gate, a foreign release' 1 "$foreign" 0
+forge 'kit of the test' "$(at_hand)"
 gate
-expect 'the gate, another kit' 0 'release: it was proved from these sources with another kit; release/make.sh renews it' 0
-echo 'kit of the test' >"$room/kit/version"
+expect 'the gate, a script' 1 "$foreign" 0
+cp "$program" "$clone/release/bprice"
+record
+echo 'proved twice' >>"$clone/release/SOURCES"
+gate
+expect 'the gate, a line more' 1 'release: release/SOURCES has not the three lines of a record' 0
+record
+chmod -x "$clone/release/bprice"
+gate
+expect 'the gate, no run bit' 1 'release: release/bprice may not be run' 0
+chmod +x "$clone/release/bprice"
+sed -i 's/^kit .*/kit rattle-kit-13e/' "$clone/release/SOURCES"
+gate
+expect 'the gate, another kit' 1 \
+    'release: release/SOURCES names another kit than the one at hand, kit of the test; release/make.sh renews it' 0
+
+# The gate's check of a release of older sources: it is found in the history, or the gate fails.
+none='release: release/SOURCES is not of these sources, and no commit in the history has this release'
+fresh older
+build
+gone='release: release/SOURCES is not of these sources, and there is no history to look for others in:'
+forge 'kit of the test' 00
+gate
+expect 'the gate, no repository' 1 "$gone git knows no repository here" 0
+cp "$program" "$clone/release/bprice"
+record
+commit
+began=$head
+old=$(at_hand)
+forge rattle-kit-13e 00
+gate
+expect 'the gate, a script of no sources' 1 "$none" 0
+commit
+gate
+expect 'the gate, a script of no sources that was committed' 1 \
+    "release: neither commit $head, which has this release, nor one before it in the history has the sources of release/SOURCES" 0
+git -C "$clone" checkout -q "$began" -- release
+gate
+expect 'the gate, the release given back' 0 "$whole" 0
+commit
+given_back=$head
+found="release: commit $given_back has it and its sources, which are not these; release/make.sh renews it"
 printf 'x' >>"$clone/crates/low/src/lib.rt"
 gate
-expect 'the gate, older sources' 0 'release: it was proved from other sources than these; release/make.sh renews it' 0
+expect 'the gate, older sources' 0 "$found" 0
+commit
+gate
+expect 'the gate, older sources, all committed' 0 "$found" 0
+with_rt env GIT_DIR="$room/none" GIT_INDEX_FILE="$room/none" "$clone/release/gate.sh" "$(at_hand)"
+expect 'the gate, settings of git' 0 "$found" 0
+forge 'kit of the test' "$old"
+commit
+gate
+expect 'the gate, a script of older sources' 1 \
+    "release: release/SOURCES names another program of the same sources and kit than it does in commit $given_back" 0
+forge 'another kit' "$old"
+gate
+expect 'the gate, a script of older sources and another kit' 1 "$none" 0
+mv "$clone/.git" "$room/history"
+git -C "$room" init -q
+gate
+expect 'the gate, within another repository' 1 "$gone git knows no repository here" 0
+rm -rf "$room/.git"
+mv "$room/history" "$clone/.git"
+mv "$room/kit/git" "$room/git"
+gate
+expect 'the gate, no git' 1 "$gone there is no git" 0
+mv "$room/git" "$room/kit/git"
+
+# A release that was made of sources before those that it came with, and clones that lack the history.
+fresh behind
+commit
+older=$head
+of_older=$(at_hand)
+printf 'x' >>"$clone/crates/low/src/lib.rt"
+commit
+sed -i "s/^kit .*/kit before/; s/^sources .*/sources $of_older/" "$clone/release/SOURCES"
+commit
+brought=$head
+printf 'x' >>"$clone/crates/low/src/lib.rt"
+echo 'an edit more' >"$clone/crates/low/must-fail/two.edit"
+commit
+build
+gate
+expect 'the gate, sources before the release' 0 \
+    "release: commit $brought has it, and commit $older has its sources, which are not these; release/make.sh renews it" 0
+git clone -q --depth 1 "file://$clone" "$room/shallow"
+clone=$room/shallow
+build
+gate
+expect 'the gate, a shallow clone' 1 \
+    "release: neither commit $head, which has this release, nor one before it in the history has the sources of release/SOURCES, of which this clone is shallow (git fetch --unshallow)" 0
+
+# The release made anew.
+fresh anew
+build
+printf 'x' >>"$clone/crates/low/src/lib.rt"
 with_rt "$clone/release/make.sh"
 holds 'make.sh failed' [ "$ended" -eq 0 ]
 gate
-expect 'the gate, after make.sh' 0 'release: it is the program that the gate built from these sources' 0
+expect 'the gate, after make.sh' 0 "$whole" 0
 printf 'x' >>"$clone/crates/low/src/lib.rt"
 with_rt "$clone/release/make.sh" "$clone/crates/bprice/out/bprice"
 holds 'make.sh of a named program failed' [ "$ended" -eq 0 ]
 gate
-expect 'the gate, after make.sh of a named program' 0 'release: it is the program that the gate built from these sources' 0
+expect 'the gate, after make.sh of a named program' 0 "$whole" 0
 cp "$clone/release/SOURCES" "$room/SOURCES"
 printf 'x' >>"$clone/crates/low/src/lib.rt"
 echo 1 >"$room/kit/ended"

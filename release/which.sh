@@ -4,7 +4,7 @@ set -u
 
 . "$(dirname "$(readlink -f "${BASH_SOURCE[0]}")")/common.sh"
 
-choose_program
+choose_program "$(sum_of_sources)"
 case $? in
 0) echo "$program" ;;
 1)

@@ -22,7 +22,15 @@ part_words() {
     done
 }
 
-# Tells on standard error of a file that would be written and is also another of the named files, links followed.
+# Returns whether two names are of one file, links followed, or would be where neither is there yet.
+are_one_file() { # NAME NAME
+    local place
+    [ "$1" = "$2" ] || [ "$1" -ef "$2" ] || {
+        ! [ -e "$1" ] && ! [ -e "$2" ] && place=$(readlink -f -- "$1") && [ "$place" = "$(readlink -f -- "$2")" ]
+    }
+}
+
+# Tells on standard error of a file that would be written and is also another of the named files.
 stop_on_shared_files() { # WORDS..
     local -a places read=() written=()
     local -A given
@@ -38,7 +46,7 @@ stop_on_shared_files() { # WORDS..
     esac
     for at in "${!written[@]}"; do
         for it in "${read[@]}" "${written[@]:at + 1}"; do
-            if [ -n "$it" ] && { [ "$it" = "${written[at]}" ] || [ "$it" -ef "${written[at]}" ]; }; then
+            if [ -n "$it" ] && are_one_file "$it" "${written[at]}"; then
                 complain "${written[at]} would be written, and is the same file as $it: nothing was started"
                 return 1
             fi
@@ -46,8 +54,13 @@ stop_on_shared_files() { # WORDS..
     done
 }
 
-# Tells on standard error which sources the program was proved from, where the words ask for its version; the program refuses
-# them, and tells its usage and what is wrong with words by itself.
-tell_version() { # WORDS..
-    [ "${1-}" != --version ] || cat "$(dirname "$program")/SOURCES" >&2 2>/dev/null
+# Prints the checksum over the sources at hand: the one that is remembered, or computed anew where the words ask for the version.
+sum_for() { # WORDS..
+    if [ "${1-}" = --version ]; then sum_of_sources; else sum_at_hand; fi
+}
+
+# Tells on standard error what the record beside the program says of it, and the checksum over the sources at hand, where the
+# words ask for the version; the program refuses them, and tells its usage and what is wrong with words by itself.
+tell_version() { # SUM WORDS..
+    [ "${2-}" != --version ] || { cat "${program%/*}/SOURCES" 2>/dev/null && echo "here $1"; } >&2
 }

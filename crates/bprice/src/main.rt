@@ -5,10 +5,8 @@
 mod named;
 
 use bp_cli::run;
-use bp_real::{
-    FileShelf, Files, HostDisk, Obstacle, OutSink, Watched, WatchedSink, find_obstacle,
-};
-use bp_words::read_words;
+use bp_real::{FileShelf, Files, HostDisk, Obstacle, OutSink, Watched, WatchedSink, find_obstacle};
+use bp_words::{Order, WordFault, read_words};
 use named::files_of;
 use notes::{explain, explain_obstacle};
 use std::io::{ErrorKind, Write};
@@ -18,6 +16,9 @@ use std::{env, io};
 
 // The status of a run that is not begun.
 const NOT_BEGUN: u8 = 125;
+
+// The status where there was no memory to read the words.
+const NO_MEMORY: u8 = 9;
 
 // The words that the program was called with, its own name first.
 fn words_of<R: Env + AllocGlobal>(rt: &R) -> io::Result<Vec<String>> {
@@ -59,12 +60,9 @@ fn run_words(rt: &HostRuntime, words: &[String]) -> u8 {
     ended.status
 }
 
-// Whether files stand in the way of a run on these words, which is told. Words that are no command line name none.
-fn is_stopped(rt: &HostRuntime, words: &[String]) -> bool {
-    let Ok(order) = read_words(rt.alloc(), words) else {
-        return false;
-    };
-    match find_obstacle(rt, &files_of(&order)) {
+// Whether files stand in the way of what is ordered, which is told.
+fn is_stopped(rt: &HostRuntime, order: &Order) -> bool {
+    match find_obstacle(rt, &files_of(order)) {
         Some(found) => {
             put_obstacle(rt, &found);
             true
@@ -73,10 +71,16 @@ fn is_stopped(rt: &HostRuntime, words: &[String]) -> bool {
     }
 }
 
-// Runs on these words, unless files stand in the way.
+// Runs on these words, unless files stand in the way. Words that are no command line name none.
 fn start(rt: &HostRuntime, words: &[String]) -> u8 {
-    if is_stopped(rt, words) {
-        return NOT_BEGUN;
+    match read_words(rt.alloc(), words) {
+        Ok(order) => {
+            if is_stopped(rt, &order) {
+                return NOT_BEGUN;
+            }
+        }
+        Err(WordFault::Refused) => {}
+        Err(WordFault::NoMemory) => return NO_MEMORY,
     }
     run_words(rt, words)
 }
@@ -86,7 +90,7 @@ fn main(rt: HostRuntime) -> ExitCode {
         Ok(words) => start(&rt, &words),
         // Words that are no text are no command line.
         Err(fault) if fault.kind() == ErrorKind::InvalidData => run_words(&rt, &[]),
-        Err(_) => 9,
+        Err(_) => NO_MEMORY,
     };
     ExitCode::from(status)
 }
