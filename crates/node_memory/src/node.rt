@@ -1,6 +1,8 @@
 // Where the heuristics of a node work.
 ghost use Rattle.bp_theory.specs.Trees.{IsZone};
 ghost use Rattle.block_class.specs.Classes.{AreSameClasses};
+ghost use Rattle.node_memory.specs.Nodes.{AllZip-prop};
+ghost use Rattle.std.proofs.Props.{props};
 
 use block_class::Classes;
 use block_program::{Blocked, Zone};
@@ -16,5 +18,5 @@ pub struct NodeContext<'a> {
     /// The zone: a span for each variable of the program, within the program's own.
     pub zone: &'a Zone,
     ghost same: { AreSameClasses zone.now program.now.blocking classes.now },
-    ghost inside: { IsZone program.now.named.program.spans zone.now },
+    ghost inside: { IsZone program.now.named.program.spans zone.now } by { Prim.hlevel (AllZip-prop, props) },
 }
