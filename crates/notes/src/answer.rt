@@ -59,16 +59,20 @@ fn is_search(words: &[String]) -> bool {
 
 // The answer that the first lines of a certificate tell.
 fn answer_of(lines: &str) -> Answer<'_> {
-    let mut claim = "";
-    let mut point = "";
+    Answer {
+        claim: line_with(lines, "claim"),
+        point: line_with(lines, "point"),
+    }
+}
+
+// The first line that begins with a word, or an empty one.
+fn line_with<'a>(lines: &'a str, word: &str) -> &'a str {
     for line in lines.lines() {
-        match word_at(line, 0) {
-            "claim" => claim = line,
-            "point" => point = line,
-            _ => {}
+        if word_at(line, 0) == word {
+            return line;
         }
     }
-    Answer { claim, point }
+    ""
 }
 
 // Puts the lines of a report that tell a claim.
