@@ -356,4 +356,8 @@ def test_command(tmp_path):
     assert told("model.lp", "none.cert") == ("", 11)
     assert told("model.lp", ".") == ("", 7)
     assert told("model.lp", "model.cert", "--dec", "model.dec", "--states", "2") == ("unknown 4\n", 10)
-    assert len(TOOL.read_text(encoding="ascii").splitlines()) <= 400
+    assert told("model.lp", "model.cert", "--dec", "model.dec", "--seconds", "60") == ("accepted optimal 2\n", 0)
+    assert told("model.lp", "model.cert", "--dec", "model.dec", "--seconds", "0.000001") == ("not judged\n", 12)
+    for wrong in ("0", "-1", "nan", "inf", "1e300", "soon"):
+        assert told("model.lp", "model.cert", "--seconds", wrong) == ("", 2)
+    assert len(TOOL.read_text(encoding="ascii").splitlines()) <= 450
