@@ -70,7 +70,7 @@ model += 3 * x
 model += 2 * x <= 9
 print(pulp.LpStatus[model.solve(BPRICE_CMD(msg=False))], pulp.value(x))
 """
-    assert told(sys.executable, "-c", script) == ("Optimal 4.0\n", 0)
+    assert told(sys.executable, "-c", script) == ("Optimal 4\n", 0)
 
 
 def test_without_the_program_a_tool_says_so(tmp_path):
