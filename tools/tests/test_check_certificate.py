@@ -12,6 +12,7 @@ from conftest import TOP, load_tool, run
 
 TOOL = TOP / "tools" / "check_certificate.py"
 checker = load_tool(TOOL)
+CERTIFICATES = load_tool(TOP / "farm" / "certificates.py")
 STATUS = {"accepted": 0, "refused": 3, "rejected": 6}
 PROGRAM_ALONE = re.compile(r"refused (lp [0-9]+ (limit|activity)|dec 0 limit|dec [0-9]+ unknown-var|blocks (var-place \S+|links))\n")
 EXAMPLES = [
@@ -332,6 +333,29 @@ def test_mutated_certificates(room, seed, example):
         own_dec = dec if base is not written[2] else None
         report = room.agree(lp, mutated(draw, base), own_dec)
         kinds.add(report.split(" ")[0])
+    assert kinds == {"accepted", "rejected", "refused"}
+
+
+def in_version_1(cert):
+    """The same certificate of version 2 in version 1, where each leaf has all its multipliers."""
+    lines, had = cert.splitlines(keepends=True), {}
+    for place, line in enumerate(lines):
+        if line.startswith((b"leaf ", b"open ")):
+            lines[place], had = CERTIFICATES.standing(line, had)
+    return b"".join([b"bpcert 1\n", *lines[1:]])
+
+
+@pytest.mark.parametrize("is_plain", [True, False])
+def test_mutated_searches(room, is_plain):
+    """Trees of some dozens of nodes, with many multipliers that change from leaf to leaf."""
+    draw, kinds = random.Random(52), set()
+    run("gen", 2, 14, "lp", "dec", cwd=room.path)
+    lp, dec = (room.path / "lp").read_bytes(), None if is_plain else (room.path / "dec").read_bytes()
+    written = [solved(room, lp, dec, steps) for steps in (9, 40)]
+    for cert in [*written, *map(in_version_1, written)]:
+        assert room.agree(lp, cert, dec).startswith("accepted ")
+        for _ in range(25):
+            kinds.add(room.agree(lp, mutated(draw, cert), dec).split(" ")[0])
     assert kinds == {"accepted", "rejected", "refused"}
 
 
