@@ -343,7 +343,7 @@ def test_one_search_that_ends_first_is_taken(plan, tmp_path):
     told, status, noise = farm(lp, tmp_path / "dir", "--second-check", 60, program=slow, steps=None)
     assert (told.split("\n", 1)[0], status) == (first, 0), noise
     assert "one search has closed the tree" in noise and "check_certificate.py answers accepted" in (tmp_path / "dir" / "log").read_text()
-    assert told == run("solve", lp)[0] and accepted(tmp_path / "dir", lp) == first and not worked(tmp_path / "dir")
+    assert told == run("solve", lp)[0] and accepted(tmp_path / "dir", lp) == first and "handed out" not in (tmp_path / "dir" / "log").read_text()
 
 
 def test_a_second_check_has_a_limit(plan, tmp_path):
