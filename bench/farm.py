@@ -7,7 +7,7 @@
     BPRICE=program bench/farm.py    another program than ./bprice
 
 A NAME is one of bench/models.py, with `:plain` behind it without its decomposition. The machine should have four idle cores. Each farm's
-certificate is judged by `check` and by tools/check_certificate.py, as farm/run does. Seconds are those until the certificate is written, as for one
+certificate is judged by `check`. Seconds are those until the certificate is written, as for one
 search; `Accepted` are those until `check` has accepted it. Steps are those of all processes, with what was done twice. It ends with status 1 where an
 answer is wrong. WORKERS=4 in the environment measures farms of 4 workers alone.
 """

@@ -96,7 +96,8 @@ class Places:
 def main():
     farm, clock = load(HERE.parent / "farm" / "run"), Clock()
     farm.time = clock
-    farm.engine = lambda name, folder, workers, hosts, options, is_dry: Places(farm, clock, pathlib.Path(folder), workers)
+    farm.engine = lambda name, processes, workers, hosts, options, is_dry: Places(farm, clock, processes.folder, workers)
+    sys.argv += ["--alone", "0"]  # a search beside the others would be reckoned as the driver's own work
     sys.exit(farm.main())
 
 

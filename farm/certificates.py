@@ -1,17 +1,25 @@
 """What the driver knows of certificates: the tree, the part of it that a process begins with, and how what it brings back is put into the tree.
-It reads both versions of the text, and judges nothing. What is done with is kept as it was written, in version 2, where a leaf's line says what
+It reads versions 1 and 2 of the text, and judges nothing but whether a text has their form: then whatever it says can be put into a tree and written
+again, and `check` tells whether it is valid. What is done with is kept as it was written, in version 2, where a leaf's line says what
 it changes of the multipliers of the leaf before; the rest, line by line, as version 1 has it, where each line stands by itself."""
 import heapq
 import re
 from typing import NamedTuple
 
 TRIVIAL = b"open 1 rows 0 priced 0\n"  # an open leaf with no multipliers
+DEEPEST = 8_256  # splits above a node, as docs/FORMATS.md has it
+COUNT, NUMBER = rb"(?:0|[1-9][0-9]{0,9})", rb"(?:0|-?[1-9][0-9]{0,18})"
+CLAIM = re.compile(rb"claim (?:optimal (?P<optimal>N)|infeasible|bound N(?: value (?P<value>N))?)\n".replace(b"N", NUMBER))
+POINT = re.compile(rb"point(?: N)*\n".replace(b"N", NUMBER))
+NODE = re.compile(rb"split C N\n|(?:leaf|open) C (?:rows|change) C(?: C N)* priced (?:all|C(?: C)*)\n".replace(b"N", NUMBER).replace(b"C", COUNT))
 
 
 def given(line):
-    """What a leaf's line gives or changes, by row, and where its multipliers end among its words."""
+    """What a leaf's line gives or changes, by row, and where its multipliers end among its words. ValueError: it has more or fewer than it counts."""
     words = line.split(b" ")
     behind = 4 + 2 * int(words[3])
+    if behind >= len(words) or words[behind] != b"priced":
+        raise ValueError("a count is wrong")
     return zip(words[4:behind:2], words[5:behind:2]), words, behind
 
 
@@ -72,11 +80,22 @@ class Head(NamedTuple):
 
 
 def read_head(name):
+    """The same of a file. ValueError: it is none."""
     with open(name, "rb") as text:
-        lines = text.read().splitlines(keepends=True)
-    claim = lines[1][6:-1].decode("ascii")
-    has_point = value_in(claim) is not None
-    return Head(lines[0], claim, lines[2] if has_point else b"", lines, 3 if has_point else 2)
+        return parse_head(text.read())
+
+
+def parse_head(text):
+    """The certificate of a text. ValueError: it has not the form of one."""
+    lines = text.splitlines(keepends=True)
+    claim = CLAIM.fullmatch(lines[1]) if len(lines) > 3 and lines[0] in (b"bpcert 1\n", b"bpcert 2\n") else None
+    if claim is None or lines[-1] != b"end\n":
+        raise ValueError("no certificate")
+    has_point = claim["optimal"] is not None or claim["value"] is not None
+    begin = 3 if has_point else 2
+    if has_point and not POINT.fullmatch(lines[2]) or not all(map(NODE.fullmatch, lines[begin:-1])):
+        raise ValueError("no certificate")
+    return Head(lines[0], lines[1][6:-1].decode("ascii"), lines[2] if has_point else b"", lines, begin)
 
 
 def head_steps(head):
@@ -235,7 +254,7 @@ class Tree:
 
 def read_part(lines, had, top):
     """The tree of lines of version 2 that come behind these multipliers: done, or, where something is open, the lines of version 1 by their ways.
-    None where the lines are no tree."""
+    None where the lines are no tree, or one that is too deep."""
     wanted, first, first_rows, rows = 1, None, {}, dict(had)
     for place, line in enumerate(lines):
         if wanted == 0:
@@ -258,6 +277,8 @@ def read_part(lines, had, top):
             ways += [2 * way + 1, 2 * way]
         else:
             line, had = standing(line, had)
+        if way.bit_length() > DEEPEST + 1:
+            return None
         found[way] = line
     return found
 

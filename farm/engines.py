@@ -41,11 +41,12 @@ class Parallel:
     AHEAD = 200  # at most so many jobs wait, and no more than are worked on: parallel reads lines as it needs them, from a pipe
     SHORTEST, LONGEST = 3.0, 60.0  # seconds of a job
     PULSE = 0.5  # seconds from one idle line to the next
+    ENDING = 3.0  # seconds that parallel may take to end, with what it has put on other machines
 
-    def __init__(self, folder, workers, hosts, is_dry):
-        self.folder, self.workers, self.hosts, self.is_dry = folder, workers, hosts, is_dry
+    def __init__(self, processes, workers, hosts, is_dry):
+        self.processes, self.folder, self.workers, self.hosts, self.is_dry = processes, processes.folder, workers, hosts, is_dry
         self.child, self.sent, self.count, self.pulse, self.place, self.has_logged = None, {}, 0, 0.0, 0, False
-        self.log, self.errors = folder / "logs" / "jobs", folder / "logs" / "parallel"
+        self.log, self.errors = self.folder / "logs" / "jobs", self.folder / "logs" / "parallel"
 
     def command(self):
         words = ["parallel", "--will-cite", "--ungroup", "--colsep", "\t", "--joblog", str(self.log)]
@@ -63,7 +64,7 @@ class Parallel:
         self.log.unlink(missing_ok=True)
         with open(self.errors, "ab") as errors:
             try:
-                self.child = subprocess.Popen(self.command(), cwd=self.folder, stdin=subprocess.PIPE, stdout=errors, stderr=errors, start_new_session=True)
+                self.child = self.processes.begin(self.command(), stdin=subprocess.PIPE, stdout=errors, stderr=errors)
             except FileNotFoundError:
                 raise EngineFault("GNU parallel is not installed") from None
         self.sent, self.count, self.place, self.has_logged = {}, 0, 0, False
@@ -123,7 +124,7 @@ class Parallel:
         if not is_done:
             self.child.terminate()
         try:
-            self.child.communicate(timeout=30)
+            self.child.communicate(timeout=self.ENDING)
         except subprocess.TimeoutExpired:
             self.child.kill()
             self.child.wait()
@@ -196,6 +197,5 @@ class Slurm:
             self.cancel([] if is_done else sorted({task.split("_")[0] for task in self.out}))
 
 
-def engine(name, folder, workers, hosts, options, is_dry):
-    folder = pathlib.Path(folder)
-    return Parallel(folder, workers, hosts, is_dry) if name == "parallel" else Slurm(folder, workers, options, is_dry)
+def engine(name, processes, workers, hosts, options, is_dry):
+    return Parallel(processes, workers, hosts, is_dry) if name == "parallel" else Slurm(processes.folder, workers, options, is_dry)

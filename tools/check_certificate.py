@@ -2,16 +2,19 @@
 """Judges a certificate without bprice: it prints what `bprice check` prints, and was written from docs/FORMATS.md alone. All its numbers
 are exact. A block that a leaf prices is solved variable by variable, over the sums that its rows can still have.
 
-    tools/check_certificate.py LP CERT [--dec DEC] [--states N]
+    tools/check_certificate.py LP CERT [--dec DEC] [--states N] [--seconds S]
 
-`accepted CLAIM` has status 0, `refused ..` 3, `rejected LINE KIND` 6; a file that can't be read 7, one that is not there 11. Where a block
-takes more than N states (5,000,000 without the option) it prints `unknown LINE`, with status 10: then a greater N may judge the certificate.
-The limits on sizes of models and a decomposition's lists of variables are not looked at: no claim rests on these."""
+`accepted CLAIM` has status 0, `refused ..` 3, `rejected LINE KIND` 6; a file that can't be read 7, one that is not there 11. Where a block takes more
+than N states (5,000,000 without the option) it prints `unknown LINE`, status 10: a greater N may judge the certificate. After S seconds, and at Ctrl-C,
+it prints `not judged`, status 12. The limits on sizes of models and a decomposition's lists of variables are not looked at: no claim rests on these."""
 import argparse
+import functools
 import math
+import operator
 import re
+import signal
 import sys
-from collections import Counter, namedtuple
+from collections import Counter, deque, namedtuple
 
 LARGEST, BLOCKS, DEPTH, CUTS, SCALE, MULTIPLIER = 2**62 - 1, 4_096, 8_256, 256, 2**20, 2**40
 INFINITE = 2**200  # all sums of finite numbers are below 2^116
@@ -26,9 +29,10 @@ TOKEN = re.compile(rb"(?P<blank>[ \t\r]+|\\[^\n]*)|(?P<line>\n)|(?P<number>([0-9
 SECTION = re.compile(rb"(?i:(?:subject|such|lazy|user)[ \t\r]+)?" + NAME + rb"(?![" + LETTER + rb"0-9.]|[ \t]*:)")
 ONCE, NAMING, LISTS = "NBLOCKS CONSDEFAULTMASTER PRESOLVED".split(), "BLOCK BLOCKCONSS BLOCKVARS".split(), "MASTERCONSS MASTERVARS LINKINGVARS".split()
 INTEGER, SPELLED = re.compile(rb"-?[0-9]+"), re.compile(rb"0|-?[1-9][0-9]*")
+PAIRS = re.compile(rb"(?:0|[1-9][0-9]{0,12})(?: [1-9][0-9]{0,12} (?:0|-?[1-9][0-9]{0,12}))*(?![0-9])")  # no multiplier has more than thirteen digits
 Row = namedtuple("Row", "terms sides")  # terms: a coefficient for each variable; sides: the least and the greatest sum
 Token, Block = namedtuple("Token", "kind value line"), namedtuple("Block", "variables rows")
-Node = namedtuple("Node", "line word number at rows priced")  # number: a split's variable, or a leaf's scale
+Node = namedtuple("Node", "line word number at rows priced")  # number: a split's variable, or a leaf's scale; rows: multipliers
 
 
 class Stop(Exception):
@@ -56,12 +60,8 @@ def cut(text):
     """The tokens of an LP text. The kind of a section word is its section; signs are 1 and -1, comparisons `<`, `>` and `=`."""
     tokens, at, line, section = [], 0, 1, None
     while at < len(text) and section != "end":
-        found = TOKEN.match(text, at)
-        need(found, "refused lp", line, "bad-byte")
+        need(found := TOKEN.match(text, at), "refused lp", line, "bad-byte")
         at, kind, value = found.end(), found.lastgroup, found.group().decode("latin-1")
-        if kind in ("line", "blank"):
-            line += kind == "line"
-            continue
         if kind == "name":
             need(len(value) <= 255, "refused lp", line, "long-name")
             word = (not tokens or tokens[-1].line < line) and SECTION.match(text, found.start())
@@ -72,7 +72,8 @@ def cut(text):
                 kind, value = "number", INFINITE
         elif kind in ("number", "sign", "compare"):
             value = whole(value, section == "bounds") if kind == "number" else {"+": 1, "-": -1}.get(value) or value.strip("=") or "="
-        tokens.append(Token(kind, value, line))
+        line += kind == "line"
+        tokens += [Token(kind, value, line)] * (kind not in ("line", "blank"))
     return tokens + [Token("none", None, line)] * 2
 
 
@@ -218,37 +219,24 @@ def form_blocks(model, block_of, count):
 
 
 class Certificate:
-    """A claim, its point if it has one, its cuts, and the tree's nodes in the order of their lines."""
+    """A claim, its point if it has one, its cuts, and the tree's nodes, which are read one by one in the order of their lines."""
     def __init__(self, text, variables, block_of, blocks):
-        self.text, self.at, self.line, self.block_of, self.cuts, self.nodes, depths, had = text, 0, 1, block_of + [0] * CUTS, [], [], [0], {}
-        version = int(self.take(b"bpcert 1\n", b"bpcert 2\n", b"bpcert 3\n")[7:8])
+        self.text, self.at, self.line, self.block_of, self.cuts = text, 0, 1, block_of + [0] * CUTS, []
+        self.version = int(self.take(b"bpcert 1\n", b"bpcert 2\n", b"bpcert 3\n")[7:8])
         begin, self.word = self.at + len(self.take(b"claim ")), self.take(b"optimal ", b"infeasible", b"bound ")
         self.bound = self.number(LARGEST) if self.word == b"bound " else None
         self.value = self.number(LARGEST) if self.word == b"optimal " or self.word == b"bound " and self.take(b" value ", b"") else None
         self.claim = text[begin:self.at].decode()
         self.take(b"\n")
         self.point = None if self.value is None else self.read_point(variables)
-        while version == 3 and (not self.cuts or text.startswith(b"cut ", self.at)):
+        while self.version == 3 and (not self.cuts or text.startswith(b"cut ", self.at)):
             divisor = self.take(b"cut ") and self.number(SCALE, 1, first_kind=len(self.cuts) == CUTS and "limit")
             self.cuts.append((self.line, divisor, self.take(b" rows ") and self.read_rows({}, SCALE, 0)))
             self.take(b"\n")
-        while depths:
-            line, word, depth = self.line, self.take(b"split ", b"leaf ", b"open "), depths.pop()
-            if word == b"split ":
-                number = self.number(INFINITE, 1, variables, depth > DEPTH and "depth") - 1
-                self.nodes.append(Node(line, word, number, self.take(b" ") and self.number(LARGEST), None, None))
-                depths += [depth + 1] * 2
-            else:
-                scale = self.number(SCALE, 0, first_kind=depth > DEPTH and "depth")
-                had = self.read_rows({} if self.take(b" rows " if version == 1 else b" change ") == b" rows " else had, MULTIPLIER, -1)
-                is_all = self.take(b" priced ") and self.take(b"all", b"")
-                self.nodes.append(Node(line, word, scale, None, had, set(range(blocks) if is_all else self.ascending(blocks))))
-            self.take(b"\n")
-        need(self.take(b"end\n") and self.at == len(text), "refused cert", self.line, "syntax")
+        self.nodes = self.read_nodes(variables, blocks)
 
     def take(self, *words):
-        word = next((word for word in words if self.text.startswith(word, self.at)), None)
-        need(word is not None, "refused cert", self.line, "syntax")
+        need((word := next((word for word in words if self.text.startswith(word, self.at)), None)) is not None, "refused cert", self.line, "syntax")
         self.at, self.line = self.at + len(word), self.line + word.count(b"\n")
         return word
 
@@ -278,95 +266,151 @@ class Certificate:
         return point
 
     def read_rows(self, had, largest, least_block):
-        """The multipliers by row: those before, and another one for each row that is named; none is 0."""
-        rows = dict(had)
-        for row in self.ascending(len(self.block_of) - CUTS + len(self.cuts)):
+        """A multiplier for each row that is named, another one than it had: all at once where all are right, else one by one, to tell the first fault."""
+        many, rows = len(self.block_of) - CUTS + len(self.cuts), {}
+        if found := PAIRS.match(self.text, self.at):
+            count, *numbers = map(int, found[0].split())
+            given = dict(zip([row - 1 for row in numbers[::2]], numbers[1::2]))
+            if 2 * count == len(numbers) == 2 * len(given) and all(map(operator.lt, [-1, *given], [*given, many])) \
+                    and all([least_block <= self.block_of[row] <= 0 for row in given]) and max(map(abs, given.values()), default=0) <= largest \
+                    and not any(map(operator.eq, given.values(), [had.get(row, 0) for row in given])):
+                self.at = found.end()
+                return given
+        for row in self.ascending(many):
             need(least_block <= self.block_of[row] <= 0, "refused cert", self.line, "number")
             rows[row] = self.take(b" ") and self.number(largest)
             need(rows[row] != had.get(row, 0), "refused cert", self.line, "number")
-        return {row: p for row, p in rows.items() if p}
+        return rows
+
+    def read_nodes(self, variables, blocks):
+        """The nodes. In each version a leaf has what it changes of the multipliers of the leaf before, with 0 for a row that has none any more."""
+        depths, had = [0], {}
+        while depths:
+            line, word, depth = self.line, self.take(b"split ", b"leaf ", b"open "), depths.pop()
+            if word == b"split ":
+                number = self.number(INFINITE, 1, variables, depth > DEPTH and "depth") - 1
+                node = Node(line, word, number, self.take(b" ") and self.number(LARGEST), None, None)
+                depths += [depth + 1] * 2
+            else:
+                scale = self.number(SCALE, 0, first_kind=depth > DEPTH and "depth")
+                is_whole = self.take(b" rows " if self.version == 1 else b" change ") == b" rows "
+                rows = dict.fromkeys(had if is_whole else (), 0) | self.read_rows({} if is_whole else had, MULTIPLIER, -1)
+                is_all = self.take(b" priced ") and self.take(b"all", b"")
+                node = Node(line, word, scale, None, rows, range(blocks) if is_all else set(self.ascending(blocks)))
+                had.update(rows)
+            self.take(b"\n")
+            yield node
+        need(self.take(b"end\n") and self.at == len(self.text), "refused cert", self.line, "syntax")
 
 
 class Judge:
+    """Judges one certificate. From leaf to leaf it changes the zone, the multipliers by row, and the rows' sum by these: its side, and by variable."""
     def __init__(self, model, blocks, links, most_states):
-        self.model, self.blocks, self.links, self.most_states, self.known = model, blocks, links, most_states, {}
+        self.model, self.most_states, self.line, self.least = model, most_states, 0, functools.lru_cache(10_000)(self.least)
         self.rows = model.rows + [Row({j: 1}, [0, 0]) for j, _ in links]  # of a link row the term of the first copy; the cuts come behind
+        self.zone, self.multipliers, self.side, self.sums = list(map(tuple, model.spans)), {}, 0, [0] * len(model.costs)
+        link_row = {link: i for i, link in enumerate(links, len(model.rows))}
+        self.alone = [block.variables[0] for block in blocks if block.variables and not block.rows]
+        self.copies = {k: [(j, link_row.get((j, k))) for j in block.variables] for k, block in enumerate(blocks) if block.rows}
+        self.forms = {k: tuple((tuple((c, row.terms[j]) for c, (j, _) in enumerate(copies) if row.terms[j]), tuple(row.sides)) for row in blocks[k].rows)
+                      for k, copies in self.copies.items()}  # the rows of blocks, each with its coefficients by copy
 
     def judge(self, cert):
-        zones, model = [[tuple(span) for span in self.model.spans]], self.model
-        if cert.point is not None:
-            need(all(low <= x <= high for x, (low, high) in zip(cert.point, zones[0])), "rejected 3 point-bound")
-            need(all(row.sides[0] <= sum(a * cert.point[j] for j, a in row.terms.items()) <= row.sides[1] for row in model.rows), "rejected 3 point-row")
-            need(cert.value == model.constant + model.sign * sum(c * x for c, x in zip(model.costs, cert.point)), "rejected 3 value")
-        self.add_cuts(cert.cuts)
-        claimed = cert.value if cert.bound is None else cert.bound
-        for node in cert.nodes:
-            zone = zones.pop()
-            if node.word == b"split ":
-                low, high = zone[node.number]
-                need(low <= node.at < high, "rejected", node.line, "split")
-                zones += [zone[:node.number] + [part] + zone[node.number + 1:] for part in ((node.at + 1, high), (low, node.at))]
-            else:
-                bound = self.bound(node, zone)
-                is_empty = bound > INFINITE // 2 or node.number == 0 and bound > 0
-                need(is_empty if claimed is None else bound > node.number * (model.sign * claimed - 1), "rejected", node.line, "weak")
-                need(node.word == b"leaf " or cert.word == b"bound ", "rejected", node.line, "open")
-
-    def combined(self, rows, line):
-        """The sum of rows, each times its multiplier: its side, and its coefficients by variable."""
-        side, sums = 0, Counter()
-        for row, p in ((self.rows[i], p) for i, p in rows.items()):
-            need(abs(row.sides[p < 0]) != INFINITE, "rejected", line, "sign")
-            side += p * row.sides[p < 0]
-            for j, a in row.terms.items():
-                sums[j] += p * a
-        return side, sums
+        """Tells the first line that is not valid, where all lines can be read."""
+        try:
+            model, point, claimed = self.model, cert.point, cert.value if cert.bound is None else cert.bound
+            if point is not None:
+                need(all(low <= x <= high for x, (low, high) in zip(point, model.spans)), "rejected 3 point-bound")
+                need(all(row.sides[0] <= sum(a * point[j] for j, a in row.terms.items()) <= row.sides[1] for row in model.rows), "rejected 3 point-row")
+                need(cert.value == model.constant + model.sign * sum(c * x for c, x in zip(model.costs, point)), "rejected 3 value")
+            self.add_cuts(cert.cuts)
+            for node, bound in self.bounds(cert.nodes):
+                if bound is not None:
+                    is_empty = bound > INFINITE // 2 or node.number == 0 and bound > 0
+                    need(is_empty if claimed is None else bound > node.number * (model.sign * claimed - 1), "rejected", node.line, "weak")
+                    need(node.word == b"leaf " or cert.word == b"bound ", "rejected", node.line, "open")
+        except Stop:
+            deque(cert.nodes, 0)
+            raise
 
     def add_cuts(self, cuts):
         """The rows of cuts, each divided and rounded up from a sum of rows before it."""
         for line, divisor, rows in cuts:
-            (side, sums), spans = self.combined(rows, line), self.model.spans
+            spans, sums = self.model.spans, Counter()
+            side = sum(self.add(sums, i, 0, p, line) for i, p in rows.items())
             terms = {j: -(-a // divisor) for j, a in sums.items()}
             low = sum(g * spans[j][0] for j, g in terms.items()) - (sum(a * spans[j][0] for j, a in sums.items()) - side) // divisor
             need(abs(low) + sum(abs(g) * max(1, *map(abs, spans[j])) for j, g in terms.items()) <= LARGEST, "rejected", line, "cut")
             self.rows.append(Row(terms, [low, INFINITE]))
 
-    def bound(self, leaf, zone):
-        (side, sums), model = self.combined(leaf.rows, leaf.line), self.model
-        bound, reduced = side + leaf.number * model.sign * model.constant, [leaf.number * cost - sums[j] for j, cost in enumerate(model.costs)]
-        further = {link: leaf.rows.get(i, 0) for i, link in enumerate(self.links, len(model.rows))}  # of copies that are not the first
-        for k, block in enumerate(self.blocks):
-            key = (k, k in leaf.priced, tuple((further.get((j, k), reduced[j]), zone[j]) for j in block.variables))
-            if key not in self.known:
-                self.known[key] = self.least(block.variables, block.rows if k in leaf.priced else [], key[2], leaf.line)
-            bound += self.known[key]
-        return bound
+    def add(self, sums, i, had, p, line):
+        """Has row i count p times in sums by variable where it counted `had` times: what that adds to the sum's side."""
+        (terms, sides), more = self.rows[i], p - had
+        need(not p or abs(sides[p < 0]) != INFINITE, "rejected", line, "sign")
+        for j, a in terms.items():
+            sums[j] += more * a
+        return p * sides[p < 0] - had * sides[had < 0]
 
-    def least(self, variables, rows, priced, line):
-        """The least sum by cost and span over the points that meet the rows, for each state: the rows' sums so far, None if they can't be missed."""
-        def settle(total, row, rest):
-            return None if total is None or row.sides[0] <= total + rest[0] and total + rest[1] <= row.sides[1] else total
-        rests, states = [[(0, 0)] * len(rows)], 0  # what the variables behind each place can add to each row
-        for j, (_, span) in reversed([*zip(variables, priced)]):
-            ends = (sorted(row.terms[j] * end for end in span) for row in rows)
-            rests.append([(rest[0] + end[0], rest[1] + end[1]) for rest, end in zip(rests[-1], ends)])
-        rest = rests.pop()
-        can_meet = all(row.sides[0] <= most and least <= row.sides[1] for row, (least, most) in zip(rows, rest))
-        least_of = {tuple(map(settle, [0] * len(rows), rows, rest)): 0} if can_meet else {}
-        for j, (price, span) in zip(variables, priced):
-            following, rest, column = {}, rests.pop(), [row.terms.get(j, 0) for row in rows]
+    def bounds(self, nodes):
+        """Each node with its bound; a split has none."""
+        to_come = []  # spans of variables that will hold, and between them None for each node that will be read; the last comes first
+        for node in nodes:
+            yield node, None if node.word == b"split " else self.bound(node)
+            if node.word == b"split ":
+                j, (low, high) = node.number, self.zone[node.number]
+                need(low <= node.at < high, "rejected", node.line, "split")
+                to_come += [(j, (low, high)), None, (j, (node.at + 1, high)), None, (j, (low, node.at))]
+            while to_come and (one := to_come.pop()):
+                self.zone[one[0]] = one[1]
+
+    def bound(self, leaf):
+        """The bound of the next leaf, in the zone that the splits above it leave."""
+        self.line = leaf.line
+        for i, p in leaf.rows.items():
+            self.side, self.multipliers[i] = self.side + self.add(self.sums, i, self.multipliers.get(i, 0), p, leaf.line), p
+        prices = [leaf.number * cost - weighed for cost, weighed in zip(self.model.costs, self.sums)]
+        ends = [price * (low if price > 0 else high) for price, (low, high) in zip(prices, self.zone)]
+        bound = self.side + leaf.number * self.model.sign * self.model.constant + sum(map(ends.__getitem__, self.alone))
+        return bound + sum(self.least(self.forms[k] if k in leaf.priced else (), tuple([
+            (prices[j] if row is None else self.multipliers.get(row, 0), *self.zone[j]) for j, row in copies])) for k, copies in self.copies.items())
+
+    def least(self, rows, copies):
+        """The least sum of price times number over the numbers in the copies' spans that meet the rows. First copies are fixed at the end of their span that
+        their price asks for where no row can be missed by that: any numbers that meet the rows do so then too, at no greater sum."""
+        prices, spans, fixed = [price for price, *_ in copies], [span for _, *span in copies], True
+        while fixed:
+            reach = [[sum(a * spans[c][(a > 0) == up] for c, a in terms) for up in (False, True)] for terms, _ in rows]
+            if any(most < sides[0] or sides[1] < least for (least, most), (_, sides) in zip(reach, rows)):
+                return INFINITE
+            rows = [row for row, (least, most) in zip(rows, reach) if least < row[1][0] or row[1][1] < most]
+            kept = [{c for terms, sides in rows for c, a in terms if abs(sides[(a > 0) == up]) != INFINITE} for up in (False, True)]
+            fixed = [(c, up) for c, price in enumerate(prices) for up in (0, 1) if spans[c][0] < spans[c][1] and price * (1, -1)[up] >= 0 and c not in kept[up]]
+            for c, up in fixed:
+                spans[c] = [spans[c][up]] * 2
+        return self.by_states(rows, prices, spans) if rows else sum(price * low for price, (low, _) in zip(prices, spans))
+
+    def by_states(self, rows, prices, spans):
+        """The same, copy by copy, the fixed ones first: for each state, the rows' sums so far, None of one that can't be missed any more, the least cost."""
+        def settle(total, sides, rest):
+            return None if total is None or sides[0] <= total + rest[0] and total + rest[1] <= sides[1] else total
+        sides, coefficients = [own for _, own in rows], [dict(terms) for terms, _ in rows]
+        columns = [[own.get(c, 0) for own in coefficients] for c in range(len(prices))]
+        order, rests, states = sorted(range(len(prices)), key=lambda c: spans[c][0] < spans[c][1]), [[(0, 0)] * len(rows)], 0
+        for c in reversed(order):  # what the copies behind each place can add to each row
+            rests.append([(low + a * spans[c][a < 0], high + a * spans[c][a > 0]) for (low, high), a in zip(rests[-1], columns[c])])
+        least_of = {tuple(map(settle, [0] * len(rows), sides, rests.pop())): 0}
+        for c in order:
+            following, rest, column, price = {}, rests.pop(), columns[c], prices[c]
             for state, cost in least_of.items():
-                low, high = span
-                weighed = [part for part in zip(state, column, rows, rest) if part[0] is not None and part[1]]
-                for total, a, row, (least, most) in weighed:
-                    first, last = ((side - total) * (a // abs(a)) for side in (row.sides[0] - most, row.sides[1] - least)[::a // abs(a)])
+                (low, high), weighed = spans[c], [part for part in zip(state, column, sides, rest) if part[0] is not None and part[1]]
+                for total, a, own, (least, most) in weighed:
+                    first, last = ((side - total) * (a // abs(a)) for side in (own[0] - most, own[1] - least)[::a // abs(a)])
                     low, high = max(low, -(-first // abs(a))), min(high, last // abs(a))
-                picks = range(low, high + 1)
-                if not weighed or not rests:  # then any of them will do
-                    picks = picks[:1] if price >= 0 else picks[-1:]
-                need((states := states + max(0, picks.stop - picks.start)) <= self.most_states, "unknown", line)
+                picks = range(low, high + 1)  # where no row or no other copy is left the cheapest will do
+                picks = picks if weighed and rests else picks[:1] if price >= 0 else picks[-1:]
+                need((states := states + max(0, picks.stop - picks.start)) <= self.most_states, "unknown", self.line)
                 for x in picks:
-                    after = tuple(map(settle, (None if total is None else total + a * x for total, a in zip(state, column)), rows, rest))
+                    after = tuple(map(settle, [None if total is None else total + a * x for total, a in zip(state, column)], sides, rest))
                     following[after] = min(following.get(after, INFINITE), cost + price * x)
             least_of = following
         return min(least_of.values(), default=INFINITE)
@@ -384,16 +428,22 @@ def check(lp, cert, dec=None, most_states=5_000_000):
 
 
 def main():
-    words = argparse.ArgumentParser(description=__doc__.split("\n\n", 1)[0])
-    words.add_argument("lp"), words.add_argument("cert"), words.add_argument("--dec"), words.add_argument("--states", type=int, default=5_000_000)
-    words = words.parse_args()
+    parser = argparse.ArgumentParser(description=__doc__.split("\n\n", 1)[0])
+    parser.add_argument("lp"), parser.add_argument("cert"), parser.add_argument("--dec"), parser.add_argument("--states", type=int, default=5_000_000)
+    parser.add_argument("--seconds", type=float)
+    words = parser.parse_args()
+    words.seconds is None or 0 < words.seconds < INFINITE or parser.error("--seconds: a number above 0")
     try:
-        texts = [open(name, "rb").read() for name in (words.lp, words.cert, words.dec) if name]
+        signal.signal(signal.SIGALRM, signal.default_int_handler)
+        signal.setitimer(signal.ITIMER_REAL, words.seconds or 0)  # 0 is no limit
+        report = check(*(open(name, "rb").read() for name in (words.lp, words.cert, words.dec) if name), most_states=words.states)
+    except KeyboardInterrupt:
+        report = "not judged"
     except OSError as fault:
         print(f"check_certificate.py: {fault}", file=sys.stderr)
         return 11 if isinstance(fault, FileNotFoundError) else 7
-    print(report := check(*texts, most_states=words.states))
-    return {"accepted": 0, "refused": 3, "rejected": 6, "unknown": 10}[report.split(" ", 1)[0]]
+    print(report)
+    return {"accepted": 0, "refused": 3, "rejected": 6, "unknown": 10, "not": 12}[report.split(" ", 1)[0]]
 
 
 if __name__ == "__main__":

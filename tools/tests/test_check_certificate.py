@@ -12,6 +12,7 @@ from conftest import TOP, load_tool, run
 
 TOOL = TOP / "tools" / "check_certificate.py"
 checker = load_tool(TOOL)
+CERTIFICATES = load_tool(TOP / "farm" / "certificates.py")
 STATUS = {"accepted": 0, "refused": 3, "rejected": 6}
 PROGRAM_ALONE = re.compile(r"refused (lp [0-9]+ (limit|activity)|dec 0 limit|dec [0-9]+ unknown-var|blocks (var-place \S+|links))\n")
 EXAMPLES = [
@@ -335,6 +336,29 @@ def test_mutated_certificates(room, seed, example):
     assert kinds == {"accepted", "rejected", "refused"}
 
 
+def in_version_1(cert):
+    """The same certificate of version 2 in version 1, where each leaf has all its multipliers."""
+    lines, had = cert.splitlines(keepends=True), {}
+    for place, line in enumerate(lines):
+        if line.startswith((b"leaf ", b"open ")):
+            lines[place], had = CERTIFICATES.standing(line, had)
+    return b"".join([b"bpcert 1\n", *lines[1:]])
+
+
+@pytest.mark.parametrize("is_plain", [True, False])
+def test_mutated_searches(room, is_plain):
+    """Trees of some dozens of nodes, with many multipliers that change from leaf to leaf."""
+    draw, kinds = random.Random(52), set()
+    run("gen", 2, 14, "lp", "dec", cwd=room.path)
+    lp, dec = (room.path / "lp").read_bytes(), None if is_plain else (room.path / "dec").read_bytes()
+    written = [solved(room, lp, dec, steps) for steps in (9, 40)]
+    for cert in [*written, *map(in_version_1, written)]:
+        assert room.agree(lp, cert, dec).startswith("accepted ")
+        for _ in range(25):
+            kinds.add(room.agree(lp, mutated(draw, cert), dec).split(" ")[0])
+    assert kinds == {"accepted", "rejected", "refused"}
+
+
 @pytest.mark.parametrize("seed, example", enumerate(EXAMPLES))
 def test_mutated_models(room, seed, example):
     lp, cert, dec = map(text_of, example)
@@ -356,4 +380,8 @@ def test_command(tmp_path):
     assert told("model.lp", "none.cert") == ("", 11)
     assert told("model.lp", ".") == ("", 7)
     assert told("model.lp", "model.cert", "--dec", "model.dec", "--states", "2") == ("unknown 4\n", 10)
-    assert len(TOOL.read_text(encoding="ascii").splitlines()) <= 400
+    assert told("model.lp", "model.cert", "--dec", "model.dec", "--seconds", "60") == ("accepted optimal 2\n", 0)
+    assert told("model.lp", "model.cert", "--dec", "model.dec", "--seconds", "0.000001") == ("not judged\n", 12)
+    for wrong in ("0", "-1", "nan", "inf", "1e300", "soon"):
+        assert told("model.lp", "model.cert", "--seconds", wrong) == ("", 2)
+    assert len(TOOL.read_text(encoding="ascii").splitlines()) <= 450

@@ -1,5 +1,8 @@
 """Tests of farm/run: one tree by several processes of this machine, that die, are ended, or bring back what is no certificate."""
+import contextlib
 import os
+import pathlib
+import random
 import re
 import shutil
 import signal
@@ -17,6 +20,7 @@ CREWS = load_tool(TOP / "bench" / "crews.py")
 MODELS = load_tool(TOP / "bench" / "models.py")
 CERTIFICATES = load_tool(TOP / "farm" / "certificates.py")
 ENGINES = load_tool(TOP / "farm" / "engines.py")
+PROCESSES = load_tool(TOP / "farm" / "processes.py")
 pytestmark = pytest.mark.skipif(shutil.which("parallel") is None, reason="GNU parallel is not installed, which runs the farm's processes (Debian: parallel)")
 
 
@@ -113,7 +117,7 @@ def test_workers_look_for_points_while_the_tree_is_planted(tmp_path, pause):
     lp = tmp_path / "lots.lp"
     lp.write_text(MODELS.make("lots-4-6")[0], encoding="ascii")
     slow = stand_in(tmp_path, f'if [ $leaf = 0 ]; then sleep {pause}; fi\nexec PROGRAM "$@"\n')
-    told, status, noise = farm(lp, tmp_path / "dir", program=slow, steps=None)
+    told, status, noise = farm(lp, tmp_path / "dir", "--alone", 0, program=slow, steps=None)
     first = run("solve", lp)[0].split("\n", 1)[0]
     assert (told.split("\n", 1)[0], status) == (first, 0), noise
     assert run("check", lp, tmp_path / "dir" / "tree.cert") == (f"accepted {first}\n", 0)
@@ -144,7 +148,7 @@ def test_workers_that_die_cost_their_steps_alone(plan, tmp_path):
     assert (tmp_path / "dir" / "bprice.leaves").read_text().count("\n") >= 3
 
 
-@pytest.mark.parametrize("lie", ["s/^claim.*/claim optimal 30/", "$ d", "4,$ d", "s/^bpcert.*/bp/", "s/^leaf .*/leaf 1 change 0 priced 0/", "s/^leaf [0-9]*/leaf x/"])
+@pytest.mark.parametrize("lie", ["s/^claim.*/claim bound x/", "s/^leaf .*/leaf 1 change 1 abc 5 priced 0/", "s/^\\(leaf .* change \\)/\\19/", "s/^claim.*/claim optimal 30/", "$ d", "4,$ d", "s/^bpcert.*/bp/", "s/^leaf .*/leaf 1 change 0 priced 0/", "s/^leaf [0-9]*/leaf x/"])
 def test_what_is_no_certificate_is_put_aside(plan, tmp_path, lie):
     """What is wrong is seen at once, as a better point or a text that is none, or once the tree is judged."""
     lp, first = plan
@@ -152,7 +156,66 @@ def test_what_is_no_certificate_is_put_aside(plan, tmp_path, lie):
     told, status, noise = farm(lp, tmp_path / "dir", program=lies)
     assert (told.split("\n", 1)[0], status) == (first, 0), noise
     assert accepted(tmp_path / "dir", lp) == first
+    for name in os.listdir(tmp_path / "dir" / "refused"):
+        assert f"puts aside {name}\n" in (tmp_path / "dir" / "log").read_text()
     assert os.listdir(tmp_path / "dir" / "refused")
+
+
+def mutated(draw, text):
+    """A text with one to three changes: of a byte, a word, a line or a number."""
+    for _ in range(draw.choice((1, 1, 1, 2, 3))):
+        kind, place, lines = draw.randrange(6), draw.randrange(len(text) + 1), text.split(b"\n")
+        if kind == 0:
+            text = text[:place] + bytes([draw.randrange(256)]) + text[place + 1:]
+        elif kind == 1:
+            text = text[:place] + draw.choice((b"", b"x", b" ", b"\n", b"-", b"0", b"9" * 30, b"9" * 5000, b"\xff", b"\r")) + text[place:]
+        elif kind == 2:
+            text = text[:place] + text[place + draw.choice((1, 2, 20)):]
+        elif kind == 3:
+            one, other = draw.sample((b"leaf", b"open", b"split", b"change", b"rows", b"priced", b"bound", b"optimal", b"infeasible", b"value", b"point", b"end", b"1", b"2"), 2)
+            text = text.replace(one, other, draw.choice((1, -1)))
+        elif kind == 4:
+            line = draw.choice(lines)
+            lines.insert(draw.randrange(len(lines)), line) if draw.random() < 0.5 else lines.remove(line)
+            text = b"\n".join(lines)
+        elif numbers := list(re.finditer(rb"-?[0-9]+", text)):
+            found = draw.choice(numbers)
+            text = text[:found.start()] + str(draw.choice((0, 1, -1, 7, 2**31, -2**63, int(found[0]) + 1, -int(found[0])))).encode() + text[found.end():]
+    return text
+
+
+def test_20_000_damaged_pieces(plan, tmp_path):
+    """Whatever bytes come back are refused, or make a tree that can be written and read again. What is refused leaves the tree as it was."""
+    lp, _ = plan
+    bound = int(run("solve", lp, "--steps", 0)[0].split("\n")[1].removeprefix("bound "))
+    run("solve", lp, "--steps", 20, "--cert", tmp_path / "tree")
+    tree, pieces = CERTIFICATES.Tree(tmp_path / "tree"), []
+    counts = CERTIFICATES.count_open(tree)
+    for _, way in CERTIFICATES.cut(CERTIFICATES.free_pieces(counts, set()), counts, 4):
+        for steps in (2, 8, 10**6):
+            text, number = tree.start(bound, way)
+            (tmp_path / "part").write_bytes(text)
+            run("solve", lp, "--from", tmp_path / "part", "--leaf", number, "--steps", steps, "--cert", tmp_path / "new")
+            pieces.append((way, (tmp_path / "new").read_bytes()))
+    draw, count, before = random.Random(52), {"no certificate": 0, "no piece": 0, "put in": 0}, tree.text(tree.claim_of(bound))
+    for number in range(20_000):
+        way, text = draw.choice(pieces)
+        try:
+            head = CERTIFICATES.parse_head(mutated(draw, text))
+        except ValueError:
+            count["no certificate"] += 1
+            continue
+        CERTIFICATES.shows(head.claim, bound), tree.is_better(head, bound), CERTIFICATES.head_steps(head)
+        if tree.put(head, way, bound, is_whole=number % 3 == 0) is None:
+            count["no piece"] += 1
+            assert number % 50 or tree.text(tree.claim_of(bound)) == before
+            continue
+        count["put in"] += 1
+        again = CERTIFICATES.parse_head(tree.text(tree.claim_of(bound)))
+        assert len(again.lines) - again.begin - 1 == tree.steps + len(tree.open) and CERTIFICATES.count_open(tree).get(1, 0) == len(tree.open)
+        tree.outline(bound, set())
+        tree = CERTIFICATES.Tree(tmp_path / "tree")
+    assert min(count.values()) > 500, count
 
 
 def test_bounds_that_are_weaker_than_the_model_s_own_are_put_aside(plan, tmp_path):
@@ -190,7 +253,7 @@ def test_the_end_of_each_job_is_told(tmp_path, workers, jobs):
     work = tmp_path / "work"
     work.write_text("#!/usr/bin/env bash\n[ $2 = 0 ] && exit 0\nsleep 0.0$2\nexit 1\n")
     work.chmod(0o755)
-    parallel, ended, until = ENGINES.Parallel(tmp_path, workers, [], False), [], time.monotonic() + 60
+    parallel, ended, until = ENGINES.Parallel(PROCESSES.Processes(tmp_path), workers, [], False), [], time.monotonic() + 60
     parallel.give([ENGINES.Job("start", str(number), 5, f"new{number}") for number in range(1, jobs + 1)])
     while len(ended) < jobs and time.monotonic() < until:
         ended += [end.job.new for end in parallel.ended()]
@@ -209,6 +272,85 @@ def test_the_time_is_over_and_it_goes_on(plan, tmp_path):
     told, status, _ = farm(lp, tmp_path / "dir")
     assert (told.split("\n", 1)[0], status) == (first, 0)
     assert accepted(tmp_path / "dir", lp) == first
+
+
+SLOW = 'if [[ " $* " == *" --leaf "* ]]; then sleep 0.3; elif [[ " $* " == *" %s "* ]]; then sleep %s; fi\nexec PROGRAM "$@"\n'
+
+
+STAGES = {"before a tree": SLOW % ("--cert", 60), "planting": SLOW % ("64", 60), "checking": SLOW % ("check", 60),
+          "pieces": 'if [ $leaf = 1 ]; then sleep 60; fi\nexec PROGRAM "$@"\n'}
+
+
+@pytest.mark.parametrize("stage, end", [
+    ("before a tree", signal.SIGTERM), ("planting", "time"), ("checking", "time"), ("checking", signal.SIGTERM),
+    ("pieces", "time"), ("pieces", signal.SIGTERM), ("pieces", signal.SIGINT)])
+def test_it_ends_at_each_stage(plan, tmp_path, stage, end):
+    """Whatever takes long then. The certificate that stands is accepted, where there is one, and a later run goes on from it."""
+    lp, first = plan
+    folder, steps = tmp_path / "dir", ["--alone", "0"] if stage == "planting" else ["--steps", "30"]
+    given = [sys.executable, RUN, lp, folder, "--workers", 2, "--bprice", stand_in(tmp_path, STAGES[stage]), *steps, *(["--time", 1.5] if end == "time" else [])]
+    with subprocess.Popen(list(map(str, given)), stdout=subprocess.PIPE, stderr=subprocess.PIPE, text=True) as driver:
+        while end != "time" and not (folder / "driver").exists():
+            time.sleep(0.02)
+        if end != "time":
+            time.sleep(1.0)
+            driver.send_signal(end)
+        begin = time.monotonic()
+        told, noise = driver.communicate(timeout=200)
+    assert driver.returncode == 5 and "Traceback" not in noise, noise
+    assert time.monotonic() - begin < 50
+    assert told.startswith("budget ") or stage == "before a tree" and told == ""
+    assert not running(tmp_path)
+    if (folder / "tree.cert").exists():
+        accepted(folder, lp)
+    told, status, noise = farm(lp, folder)
+    assert (told.split("\n", 1)[0], status) == (first, 0), noise
+    assert accepted(folder, lp) == first
+
+
+def running(folder):
+    """The processes that work in a folder."""
+    found = []
+    for name in filter(str.isdigit, os.listdir("/proc")):
+        with contextlib.suppress(OSError):
+            if pathlib.Path(os.readlink(f"/proc/{name}/cwd")).is_relative_to(folder):
+                found.append(int(name))
+    return found
+
+
+def test_a_driver_ends_the_workers_of_the_one_before(plan, tmp_path):
+    """Of a driver that is killed workers go on; those of others go on then too, wherever they work, and whatever mark they have."""
+    lp, first = plan
+    slow = stand_in(tmp_path, 'if [ $leaf = 1 ]; then sleep 100; fi\nexec PROGRAM "$@"\n')
+    with subprocess.Popen(words(lp, tmp_path / "dir", program=slow), stdout=subprocess.DEVNULL, stderr=subprocess.DEVNULL) as driver:
+        until = time.monotonic() + 60
+        while time.monotonic() < until and not (slow.with_name("program.leaves").exists() or (tmp_path / "dir" / "bprice.leaves").exists()):
+            time.sleep(0.05)
+        driver.send_signal(signal.SIGKILL)
+    left = running(tmp_path / "dir")
+    assert left
+    with subprocess.Popen(["sleep", "100"], cwd=tmp_path / "dir", env={**os.environ, PROCESSES.NAME: "0" * 32}) as stranger:
+        told, status, noise = farm(lp, tmp_path / "dir")
+        assert (told.split("\n", 1)[0], status) == (first, 0), noise
+        assert stranger.poll() is None and running(tmp_path / "dir") == [stranger.pid]
+        stranger.kill()
+    assert accepted(tmp_path / "dir", lp) == first
+
+
+def test_one_search_that_ends_first_is_taken(plan, tmp_path):
+    lp, first = plan
+    slow = stand_in(tmp_path, 'if [[ " $* " == *" --steps "[1-9]* ]]; then sleep 20; fi\nexec PROGRAM "$@"\n')
+    told, status, noise = farm(lp, tmp_path / "dir", "--second-check", 60, program=slow, steps=None)
+    assert (told.split("\n", 1)[0], status) == (first, 0), noise
+    assert "one search has closed the tree" in noise and "check_certificate.py answers accepted" in (tmp_path / "dir" / "log").read_text()
+    assert told == run("solve", lp)[0] and accepted(tmp_path / "dir", lp) == first and "handed out" not in (tmp_path / "dir" / "log").read_text()
+
+
+def test_a_second_check_has_a_limit(plan, tmp_path):
+    lp, first = plan
+    told, status, noise = farm(lp, tmp_path / "dir", "--second-check", 0.000001)
+    assert (told.split("\n", 1)[0], status) == (first, 0)
+    assert "not judged" in noise
 
 
 @pytest.mark.parametrize("seconds", [0.5, 1.0])
