@@ -36,7 +36,8 @@ class Model:
 
     `sense` is "min" or "max". `costs` and `constant` are the objective times `scale`, which is 1 where the objective is whole. `spans` has the
     least and the greatest value of each variable, None where it has none yet. `rows` has each row by its name. `tell` is called with a line
-    of text where a bound is taken from rows.
+    of text where a bound is taken from a row; `taken` has these bounds then: by (variable, 0 for the lower and 1 for the upper end) the row's
+    name, and the ends of other variables that the row needed for it.
     """
 
     ADVICE = {"lower": "give it one", "upper": "give it one"}  # what to do about a bound that is missing
@@ -46,7 +47,7 @@ class Model:
             raise Refused(f"the sense is 'min' or 'max', not {sense!r}")
         self.sense, self.tell = sense, tell or (lambda line: None)
         self.costs, self.constant, self.scale = {}, 0, 1
-        self.spans, self.rows = {}, {}
+        self.spans, self.rows, self.taken = {}, {}, {}
 
     @classmethod
     def read(cls, path):
@@ -123,11 +124,13 @@ class Model:
             for name in endless if endless else row.terms:
                 if len(endless) > 1:
                     break
-                self.tighten(row, name, sign * row.terms[name], side - total + (least[name] or 0))
+                self.tighten(row, name, sign, side - total + (least[name] or 0))
 
-    def tighten(self, row, name, a, room):
-        """`a` times the variable is at most `room`: that gives the bound that is missing."""
-        low, high = self.spans[name]
+    def tighten(self, row, name, sign, room):
+        """The row's term of a variable, times `sign`, is at most `room`: that gives the bound that is missing."""
+        a, (low, high) = sign * row.terms[name], self.spans[name]
+        if self.spans[name][a > 0] is None:
+            self.taken[name, int(a > 0)] = row.name, [(other, int(sign * b < 0)) for other, b in row.terms.items() if other != name]
         if a > 0 and high is None:
             high = room // a
             self.spans[name] = low, high if low is None else max(low, high)
