@@ -168,8 +168,9 @@ class Model:
         if zero is None and self.rows:
             zero, extra = "v1", [" 0 <= v1 <= 0"]
         constant = f" {'-' if self.constant < 0 else '+'} {abs(self.constant)}" if self.constant else ""
+        objective = terms(self.costs) or (f"0 {next(iter(own.values()))}" if own else "")  # some readers of LP texts take no empty objective
         # Each name stands behind another token of its line, so that none is taken for a section's word.
-        lines = ["Maximize" if self.sense == "max" else "Minimize", f" obj: {terms(self.costs)}{constant}", "Subject To"]
+        lines = ["Maximize" if self.sense == "max" else "Minimize", f" obj: {objective}{constant}", "Subject To"]
         lines += [f" {row_names[name]}: {sided(row, terms(row.terms) or f'0 {zero}')}" for name, row in self.rows.items()]
         lines += ["Bounds", *(f" {low} <= {own[name]} <= {high}" for name, (low, high) in self.spans.items()), *extra]
         # As first on its line a name of a list could be a section's word: those are renamed, see TAKEN.
@@ -220,7 +221,7 @@ class Model:
 
     def order(self):
         """The variables' names by their first place in the LP text."""
-        names = dict.fromkeys(self.costs)
+        names = dict.fromkeys(self.costs or list(self.spans)[:1])
         for row in self.rows.values():
             names.update(dict.fromkeys(row.terms or list(self.spans)[:1]))
         return list(dict.fromkeys([*names, *self.spans]))
