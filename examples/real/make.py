@@ -76,19 +76,20 @@ def ulysses16():
     return Problem(model, 6859)
 
 
+def length(order, places):
+    """How long the round trip is from the first place to those of an order, each distance rounded."""
+    return sum(math.floor(math.dist(places[i], places[j]) + 0.5) for i, j in zip((0, *order), (*order, 0)))
+
+
 def p_n16_k8():
     """Eight vehicles and fifteen customers: a variable for each group of customers that a vehicle holds, with its shortest round trip."""
     places, demands = zip(*facts.ROUTING)
-
-    def distance(i, j):
-        return math.floor(math.dist(places[i], places[j]) + 0.5)
     customers, costs, visits = range(1, len(places)), {}, {}
     for size in range(1, len(places)):
         for group in itertools.combinations(customers, size):
             if sum(demands[i] for i in group) <= facts.ROUTING_HOLDS:
-                trips = (zip((0, *order), (*order, 0)) for order in itertools.permutations(group) if order[0] <= order[-1])
                 name = "r" + "_".join(map(str, group))
-                costs[name], visits[name] = min(sum(distance(i, j) for i, j in trip) for trip in trips), group
+                costs[name], visits[name] = min(length(order, places) for order in itertools.permutations(group)), group
     model = bprice.Model("min")
     binaries(model, costs)
     model.set_objective(costs)
