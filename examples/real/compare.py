@@ -55,7 +55,7 @@ def bprice_says(lp, dec):
 def cbc_says(lp):
     report, took = run(["cbc", lp, "-solve"])
     value = re.search(r"Objective value: +(-?[\d.]+)", report)
-    return told("infeasible" if re.search("infeasible", report, re.IGNORECASE) and not value else value and f"{float(value[1]):g}", took)
+    return told("infeasible" if re.search("infeasible", report, re.IGNORECASE) and not value else value and f"{float(value[1]):.0f}", took)
 
 
 def glpk_says(lp, folder):
