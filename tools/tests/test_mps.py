@@ -112,7 +112,7 @@ def test_a_bound_from_a_row():
         read(free(" L r\n", " x cost -1 r 2\n", " RHS r 9\n", "BOUNDS\n FR BND x\n"))[0].text()
 
 
-@pytest.mark.parametrize("head, sense", [("", "min"), ("OBJSENSE\n    MAX\n", "max"), ("OBJSENSE MAXIMIZE\n", "max"), ("OBJSENSE\n MIN\n", "min")])
+@pytest.mark.parametrize("head, sense", [("", "min"), ("OBJSENSE\n    MAX\n", "max"), ("OBJSENSE MAXIMIZE\n", "max"), ("OBJSENSE\nMAX\n", "max"), ("OBJSENSE\n MIN\n", "min")])
 def test_senses(head, sense):
     model, _ = read(free(columns=" x cost 3\n", head=head))
     assert model.sense == sense and model.solve().value == (3 if sense == "max" else 0)

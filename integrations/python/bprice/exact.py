@@ -28,7 +28,7 @@ def exact(number, where):
     :raises Refused: where it is no finite number
     """
     if isinstance(number, numbers.Rational):
-        return fractions.Fraction(number.numerator, number.denominator)
+        return fractions.Fraction(int(number.numerator), int(number.denominator))
     try:
         return fractions.Fraction(number if isinstance(number, (decimal.Decimal, str)) else float.__repr__(float(number)))
     except (TypeError, ValueError, OverflowError) as fault:

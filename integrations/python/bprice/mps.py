@@ -61,6 +61,9 @@ class Reader:
 
     def begin(self, words):
         word = words[0].upper()
+        if self.section == "OBJSENSE" and word in SENSES:  # some writers don't indent it
+            self.take_objsense(words)
+            return
         if word in ("NAME", "ENDATA"):
             self.section, self.is_ended = None, word == "ENDATA"
             return
