@@ -1,5 +1,4 @@
 """The Python package: solving, models as LP texts, what is refused, where the program is found, and the wheel that pip installs."""
-import ensurepip
 import fractions
 import itertools
 import os
@@ -227,6 +226,7 @@ def test_wheel(tmp_path):
 
 def test_pip(tmp_path):
     """`pip install` of the folder, in an environment of its own and without a network. It is the pip that Python brings along."""
+    ensurepip = pytest.importorskip("ensurepip")
     wheels = [*pathlib.Path(ensurepip.__file__).parent.glob("_bundled/pip-*.whl"), *pathlib.Path("/usr/share/python-wheels").glob("pip-*.whl")]
     if not wheels:
         pytest.skip("this Python brings no pip along (Debian: python3-venv)")
