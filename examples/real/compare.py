@@ -28,7 +28,8 @@ matrix = scipy.sparse.csr_matrix((a, (i, j)), shape=(len(model.rows), len(place)
 low, high = ([end if side is None else side for side in sides] for end, sides in ((-numpy.inf, [row.low for row in model.rows.values()]),
                                                                                   (numpy.inf, [row.high for row in model.rows.values()])))
 spans = list(zip(*model.spans.values()))
-answer = scipy.optimize.milp(costs, integrality=numpy.ones(len(place)), bounds=scipy.optimize.Bounds(*spans), constraints=scipy.optimize.LinearConstraint(matrix, low, high))
+rows = scipy.optimize.LinearConstraint(matrix, low, high)
+answer = scipy.optimize.milp(costs, integrality=numpy.ones(len(place)), bounds=scipy.optimize.Bounds(*spans), constraints=rows)
 print("Status", answer.status, "Value", None if answer.fun is None else round(answer.fun if model.sense == "min" else -answer.fun))
 """
 

@@ -91,7 +91,8 @@ def paper_rolls(point):
         at, y = 34.0, 10 + 22 * place
         parts.append(f'<text x="6" y="{y + 13}">{many} x</text><rect x="{at}" y="{y}" width="440" height="18" fill="{PALE}"/>')
         for width in (width for width, times in pattern for _ in range(times)):
-            parts.append(f'<rect x="{at:.1f}" y="{y}" width="{width * scale:.1f}" height="18" fill="{HUES[list(facts.ROLLS).index(width) % 10]}" fill-opacity="0.55" stroke="white"/>'
+            hue = HUES[list(facts.ROLLS).index(width) % len(HUES)]
+            parts.append(f'<rect x="{at:.1f}" y="{y}" width="{width * scale:.1f}" height="18" fill="{hue}" fill-opacity="0.55" stroke="white"/>'
                          f'<text x="{at + 4:.1f}" y="{y + 13}" fill="{INK}">{width}</text>')
             at += width * scale
     return svg(490, 20 + 22 * len(cuts), parts)

@@ -243,13 +243,13 @@ def golfers(players=9, weeks=4):
     """Nine golfers play in threes for four weeks, and nobody meets another twice. The blocks are weeks, which are identical."""
     model, each = bprice.Model("min"), range(1, weeks + 1)
     groups = list(itertools.combinations(range(1, players + 1), 3))
-    binaries(model, ["g{}{}{}_{}".format(*group, week) for week in each for group in groups])
-    blocks = {}
+    names, blocks = {(group, week): "g{}{}{}_{}".format(*group, week) for week in each for group in groups}, {}
+    binaries(model, names.values())
     for pair in itertools.combinations(range(1, players + 1), 2):
-        model.add_row("pair{}{}".format(*pair), {"g{}{}{}_{}".format(*group, week): 1 for week in each for group in groups if set(pair) <= set(group)}, high=1)
+        model.add_row("pair{}{}".format(*pair), {name: 1 for (group, _), name in names.items() if set(pair) <= set(group)}, high=1)
     for week in each:
         for player in range(1, players + 1):
-            model.add_row(f"player{player}_{week}", {"g{}{}{}_{}".format(*group, week): 1 for group in groups if player in group}, 1, 1)
+            model.add_row(f"player{player}_{week}", {names[group, week]: 1 for group in groups if player in group}, 1, 1)
             blocks[f"player{player}_{week}"] = week
     return Problem(model, 0, blocks)
 
@@ -297,8 +297,9 @@ def langford(pairs):
 
 PROBLEMS = {
     "gap_c515_1": gap_c515_1, "ulysses16": ulysses16, "p_n16_k8": p_n16_k8, "paper_rolls": paper_rolls, "knapsack_p08": knapsack_p08,
-    "queen6_6": lambda: queens(6, 8, 7), "queen8_8": lambda: queens(8, 10, 9), "myciel3": myciel3, "steiner27": steiner27, "cars10": cars10, "five_queens": five_queens, "nonogram": nonogram,
-    "golfers9": golfers, "schur14": schur14, "golomb16": golomb, "langford7": lambda: langford(7), "langford6": lambda: langford(6),
+    "queen6_6": lambda: queens(6, 8, 7), "queen8_8": lambda: queens(8, 10, 9), "myciel3": myciel3, "steiner27": steiner27, "cars10": cars10,
+    "five_queens": five_queens, "nonogram": nonogram, "golfers9": golfers, "schur14": schur14, "golomb16": golomb,
+    "langford7": lambda: langford(7), "langford6": lambda: langford(6),
 }
 
 
