@@ -200,7 +200,7 @@ def test_time_and_warm_start(capsys):
     model, x = assignment(30)
     for (i, j), v in x.items():
         v.setInitialValue(int(i == j % 3))
-    started = bprice_pulp.Model(model, print).start()
+    started = bprice_pulp.Model(model, print).start_by_values()
     assert started is None or started.startswith("bpcert 1\nclaim bound ")
     status = model.solve(bprice_pulp.BPRICE_CMD(msg=False, timeLimit=2, gapRel=0.0, warmStart=True))
     assert status in (pulp.LpStatusOptimal, pulp.LpStatusNotSolved)
@@ -215,10 +215,10 @@ def test_start_is_a_certificate():
         for v in x:
             v.setInitialValue(1)
         own = bprice_pulp.Model(model, print)
-        assert checker.check(own.lp().encode(), own.start().encode()).startswith("accepted bound ")
+        assert checker.check(own.text().encode(), own.start_by_values().encode()).startswith("accepted bound ")
         x[3].setInitialValue(3)
         x[0].setInitialValue(3)
-        assert bprice_pulp.Model(model, print).start() is None
+        assert bprice_pulp.Model(model, print).start_by_values() is None
 
 
 def test_time_without_going_on():
