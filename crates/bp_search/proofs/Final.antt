@@ -28,7 +28,7 @@ use Rattle.bp_search.specs.Ends.{given_steps, IsSearched, EndsWithin, IsOutOfSte
 use Rattle.bp_search.proofs.Running.{given_is}
 
 -- the blocking stands for the program
-faithful : (b : BlockedProgram) → IsFormed b → IsFaithful b.named.program b.blocking
+pub faithful : (b : BlockedProgram) → IsFormed b → IsFaithful b.named.program b.blocking
 faithful b formed =
     let p : Program = b.named.program in
     let rows : List Row = cut_rows p b.dec [] b.cuts in
