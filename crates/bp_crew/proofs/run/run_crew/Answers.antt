@@ -51,4 +51,4 @@ returns-clause-goes_on c =
     (λ some. c.in_ok-draw_events.ensures.over some ∙ most)
     c.conclude.ensures.grove c.conclude.ensures.point c.conclude.ensures.events in
     crew_goes_on c.args.b.now c.args.from c.args.workers c.args.order last c.conclude.result.0 c.conclude.result.1.items
-    c.blocks.ensures.formed c.requires.loaded run ends
+    c.blocks-2.ensures.formed c.requires.loaded run ends

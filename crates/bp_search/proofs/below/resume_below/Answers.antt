@@ -23,5 +23,5 @@ returns-clause-ends c =
 pub returns-clause-goes_on : goal.returns-clause-goes_on
 returns-clause-goes_on c =
     goes_on_from c.args.b.now c.args.from.grove c.args.from.best c.kept_from-best.result c.take_steps_below.new.best c.take_steps_below.new.grove c.conclude.result
-    c.blocks.ensures.formed c.requires.loaded c.kept_from-best.ensures c.in_ok-take_steps_below.ensures.running.costs
+    c.blocks-2.ensures.formed c.requires.loaded c.kept_from-best.ensures c.in_ok-take_steps_below.ensures.running.costs
     c.in_ok-take_steps_below.ensures.extends c.in_ok-take_steps_below.ensures.cheaper c.conclude.ensures.grove c.conclude.ensures.point c.conclude.ensures.ends
