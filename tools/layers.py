@@ -26,7 +26,7 @@ ROOMS = {  # a room's title: its colour, and its crates
     "heuristics: nothing proved rests on how good they are": (
         "#eeeeee", "hash_index col_pool exact_simplex master_gap master_lp basis_factor dual_simplex restricted_master compact_relaxation primal_heuristics node_memory column_generation diving cut_separation node_heuristics"),
     "branch and bound": ("#f4cccc", "open_nodes branch_tree node_bound node_eval bp_search crew_steps bp_crew tree_merge"),
-    "certificates": ("#ead1dc", "cert_format cert_parser cert_write cert_text cert_line_check cert_check tree_load cert_load cert_walk cert_file cert_stream"),
+    "certificates": ("#ead1dc", "cert_format cert_parser cert_write cert_text cert_line_check cert_check tree_load cert_load cert_walk cert_input cert_file cert_stream"),
     "files, words and reports": ("#fce5cd", "bp_shelf bp_real notes cli_orders bp_words report_lines bp_report cert_report frontend"),
     "commands": ("#d9d2e9", "search_start search_outcome cmd_solve cmd_check cmd_decompose cmd_certificates cmd_gen cmd_demo bp_cli bprice"),
 }

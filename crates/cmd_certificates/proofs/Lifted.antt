@@ -1,8 +1,7 @@
 -- What a text is answered is answered for its file, and for the files of a run.
-use Rattle.std.proofs.Common.{◌≡◌, ◌∙◌, refl, sym, ap, subst, ℕ, ◌+◌, ◌*◌, ◌-◌, ◌<◌, ◌≤◌, ◌^◌, List, [], length, take, Option, Some, None, Result, Ok, Err, IsSome, IfSome, IfOk, IfErr, IsErrAnd, arith}
+use Rattle.std.proofs.Common.{◌≡◌, ◌∙◌, refl, sym, ap, subst, ℕ, ◌+◌, ◌*◌, ◌-◌, ◌<◌, ◌≤◌, ◌^◌, List, [], length, Option, Some, None, Result, Ok, Err, IfOk, IfErr, IsErrAnd, arith}
 use Rattle.std.specs.Prelude.{min}
-use Rattle.std.proofs.lemmas.List.{take_all}
-use Rattle.bp_shelf.specs.Shelf.{Files, AllShort}
+use Rattle.bp_shelf.specs.Shelf.{Files}
 use Rattle.bp_shelf.specs.declared.shelf.ShelfFault.{ShelfFault}
 use Rattle.bp_shelf.specs.declared.shelf.ShelfFault.TheVariants.{Missing, Failed, NoMemory}
 use Rattle.block_program.specs.Blocked.{BlockedProgram}
@@ -44,17 +43,6 @@ text_read b text cert m short spells beside same told done =
     }
 
 -- ---- a file
-
--- the first bytes of a short file, one fewer than no file may have, are the file
-whole : (all front : List ℕ) → length all < 2 ^ 62 → front ≡ take (2 ^ 62 - 1) all → front ≡ all
-whole all front short is = is ∙ take_all (2 ^ 62 - 1) all (omega (arith, short))
-
-pub read_whole : (files : Files) (name front : List ℕ) → AllShort files → IsSome (files name) → IfSome (files name) (λ all. front ≡ take (2 ^ 62 - 1) all) → Some front ≡ files name
-read_whole files name front short found is_front = by (files name) refl found is_front
-  where
-    by : (file : Option (List ℕ)) → files name ≡ file → IsSome file → IfSome file (λ all. front ≡ take (2 ^ 62 - 1) all) → Some front ≡ files name
-    by None is found is_front = let none : ⊥ = cc in absurd none
-    by (Some all) is found is_front = ap Some (whole all front (short name all is) is_front) ∙ sym is
 
 pub file_read : (files : Files) (lp cert : List ℕ) (dec : Option (List ℕ)) (b : BlockedProgram) (front : List ℕ) (r : Result Migrated Halt) → FilesCome files lp dec (blocked b)
     → Some front ≡ files cert → IfOk r (λ m. ReadsCert b (Some front) m) → IfOk r (λ m. ReadsFiles files lp cert dec m)

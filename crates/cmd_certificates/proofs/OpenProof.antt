@@ -1,9 +1,8 @@
 -- A file, a text and a certificate as a tree to merge.
-use Rattle.std.proofs.Common.{◌≡◌, refl, sym, ap, subst, ◌∙◌, ℕ, ◌-◌, ◌<◌, ◌^◌, List, length, Option, Some, None, Result, Ok, Err, IfOk, IfErr, IfSome, IsSome, IsErrAnd, take, arith}
-use Rattle.std.proofs.lemmas.List.{take_all}
+use Rattle.std.proofs.Common.{◌≡◌, refl, sym, ap, subst, ◌∙◌, ℕ, ◌<◌, ◌^◌, List, length, Some, None, Result, Ok, Err, IfOk, IfErr, IsErrAnd}
 use Rattle.bp_theory.specs.Claims.{IsCertified}
 use Rattle.bp_theory.specs.declared.CheckKind.{CheckKind}
-use Rattle.bp_shelf.specs.Shelf.{Files, AllShort}
+use Rattle.bp_shelf.specs.Shelf.{Files}
 use Rattle.bp_shelf.specs.declared.shelf.ShelfFault.{ShelfFault}
 use Rattle.bp_shelf.specs.declared.shelf.ShelfFault.TheVariants.{Missing, Failed, NoMemory}
 use Rattle.block_program.specs.Blocked.{BlockedProgram}
@@ -64,26 +63,9 @@ text_stopped b text cert (Err stop) spelled stopped = stopped text spelled
 
 -- ---- a file
 
--- the first bytes of a short file, one fewer than no file may have, are the file
-whole : (all front : List ℕ) → length all < 2 ^ 62 → front ≡ take (2 ^ 62 - 1) all → front ≡ all
-whole all front short is = is ∙ take_all (2 ^ 62 - 1) all (omega (arith, short))
-
--- what is read of a file that is there is its text
-record IsRead (files : Files) (name front : List ℕ) : Type 0 where
-  there : files name ≡ Some front
-
-read_of : (files : Files) (name front : List ℕ) → AllShort files → IsSome (files name) → IfSome (files name) (λ all. front ≡ take (2 ^ 62 - 1) all) → IsRead files name front
-read_of files name front short found is_front = by (files name) refl found is_front
-  where
-    by : (file : Option (List ℕ)) → files name ≡ file → IsSome file → IfSome file (λ all. front ≡ take (2 ^ 62 - 1) all) → IsRead files name front
-    by None is found is_front = let none : ⊥ = cc in absurd none
-    by (Some all) is found is_front = record { there = is ∙ ap Some (sym (whole all front (short name all is) is_front)) }
-
-pub file_opened : (files : Files) (b : BlockedProgram) (name front : List ℕ) (r : Result Opened Stop) → AllShort files → IsSome (files name)
-    → IfSome (files name) (λ all. front ≡ take (2 ^ 62 - 1) all) → IfOk r (IsOpenedText b front) → IfOk r (IsOpenedFile files b name)
-file_opened files b name front (Ok from) short found is_front opened =
-    record { text = front; there = (read_of files name front short found is_front).there; opened = opened }
-file_opened files b name front (Err stop) short found is_front opened = tt
+pub file_opened : (files : Files) (b : BlockedProgram) (name text : List ℕ) (r : Result Opened Stop) → files name ≡ Some text → IfOk r (IsOpenedText b text) → IfOk r (IsOpenedFile files b name)
+file_opened files b name text (Ok from) there opened = record { text = text; there = there; opened = opened }
+file_opened files b name text (Err stop) there opened = tt
 
 text_refused : (files : Files) (b : BlockedProgram) (name front : List ℕ) (stop : Stop) → files name ≡ Some front → IsTextStop b front stop → IsStop (RefusesFile files b name) stop
 text_refused files b name front (Refused reply) there refuses = refused front reply.status reply.report.items there refuses
@@ -91,10 +73,9 @@ text_refused files b name front (Stopped Missing) there is = absurd (cc)
 text_refused files b name front (Stopped Failed) there is = tt
 text_refused files b name front (Stopped NoMemory) there is = tt
 
-pub file_stopped : (files : Files) (b : BlockedProgram) (name front : List ℕ) (r : Result Opened Stop) → AllShort files → IsSome (files name)
-    → IfSome (files name) (λ all. front ≡ take (2 ^ 62 - 1) all) → IfErr r (IsTextStop b front) → IfErr r (IsStop (RefusesFile files b name))
-file_stopped files b name front (Ok from) short found is_front stopped = tt
-file_stopped files b name front (Err stop) short found is_front stopped = text_refused files b name front stop (read_of files name front short found is_front).there stopped
+pub file_stopped : (files : Files) (b : BlockedProgram) (name text : List ℕ) (r : Result Opened Stop) → files name ≡ Some text → IfErr r (IsTextStop b text) → IfErr r (IsStop (RefusesFile files b name))
+file_stopped files b name text (Ok from) there stopped = tt
+file_stopped files b name text (Err stop) there stopped = text_refused files b name text stop there stopped
 
 fault_stopped : (files : Files) (b : BlockedProgram) (name : List ℕ) (fault : ShelfFault) → (fault ≡ Missing → files name ≡ None) → IsStop (RefusesFile files b name) (Stopped fault)
 fault_stopped files b name Missing gone = missing (gone refl)

@@ -1,12 +1,14 @@
 // The command `migrate`: the certificate of a file, written anew in version 2, or in version 3 where it has cuts.
 
-ghost use Rattle.std.specs.Prelude.{◌≡◌, ◌≢◌, ◌⊎◌, ℕ, ◌-◌, ◌^◌, List, [], min, IfOk, IfErr, IsTrue, None, Some};
+ghost use Rattle.std.specs.Prelude.{◌≡◌, ◌≢◌, ◌⊎◌, ℕ, ◌-◌, ◌^◌, ◌<◌, List, [], length, min, Err, IfOk, IfErr, IsTrue, None, Some};
 ghost use Rattle.std.specs.Option.{option_map};
 ghost use Rattle.bp_shelf.specs.Shelf.{OthersAsBefore};
 ghost use Rattle.frontend.specs.Halts.{CountsHalted};
 ghost use Rattle.frontend.specs.Answers.{AnswersBy, IsOnly, CutsOff, HasCauses, PutsReport, FailsToWrite};
 ghost use Rattle.frontend.specs.Written.{IsHalt, IsTextHalt};
+ghost use Rattle.block_program.specs.Blocked.{BlockedProgram};
 ghost use Rattle.cert_format.specs.Kept.{kept_cert};
+ghost use Rattle.cert_text.specs.Programs.{ReadsFor};
 ghost use Rattle.cert_format.specs.Nodes.{nodes};
 ghost use Rattle.bp_report.specs.Report.{migrated_report};
 ghost use Rattle.cmd_certificates.specs.Laws.{AreReadAlike, AreJudgedAlike};
@@ -17,13 +19,11 @@ ghost use Rattle.cmd_certificates.specs.Writes.{WritesAnew, WritesMigrated, stop
 use block_program::Blocked;
 use bp_report::{cert_text, migrated_text};
 use bp_shelf::{Shelf, ShelfFault, Sink};
+use cert_input::read_file;
 use cert_stream::{StreamStop, rewrite_stream};
-use cert_text::{Cert, CertFault, read_cert};
-use frontend::{Ended, Halt, Reply, finish, halted, load, read_front};
+use cert_text::{Cert, CertFault};
+use frontend::{Ended, Halt, Reply, finish, halted, load};
 use std::alloc::{AllocError, Global};
-
-// A file is shorter than 2^62 bytes.
-const MAX_FILE: usize = (1 << 62) - 1;
 
 // A certificate that was read for a program in blocks, and the report on it.
 #[derive(Drop)]
@@ -163,22 +163,32 @@ fn load_migrated<F: Shelf>(
     ensures writes { F.write_faults shelf.new ≡ F.write_faults shelf.old }
 {
     let b = load(alloc, shelf, lp, dec)?;
-    let text = read_front(alloc, shelf, cert, MAX_FILE)?;
-    read_text(alloc, b, &text)
+    let read = read_file(alloc, shelf, cert, &b)?;
+    migrated_of(alloc, b, read)
 }
 
-// The certificate of a text, or the text's first fault.
-fn read_text(alloc: Global, b: Blocked, text: &[u8]) -> Result<Migrated, Halt>
-    ensures read { IfOk result (λ m. ReadsCert b (Some text.now) m) }
+// The certificate of a text, of which this was read, or the text's first fault.
+fn migrated_of(alloc: Global, b: Blocked, read: Result<Cert, CertFault>) -> Result<Migrated, Halt>
+    ensures read { (text : List ℕ) → length text < 2 ^ 64 → ReadsFor b text read →
+        IfOk result (λ m. ReadsCert b (Some text) m) }
     ensures done { IfOk result (λ m. m.reply.status ≡ 0) }
-    ensures halted { IfErr result (IsTextHalt (TextMigrates b (Some text.now))) }
+    ensures halted { (text : List ℕ) → ReadsFor b text read →
+        IfErr result (IsTextHalt (TextMigrates b (Some text))) }
 {
-    // For the proof alone: how long `text` can be.
-    let _size = text.len();
-    match read_cert(alloc, text, &b) {
+    match read {
         Ok(cert) => Ok(told(alloc, b, cert)?),
-        Err(CertFault::At { line, kind }) => Err(Halt::Refused(cert_text(alloc, line, kind)?)),
-        Err(CertFault::NoMemory) => Err(Halt::Stopped(ShelfFault::NoMemory)),
+        Err(fault) => Err(faulty_halt(alloc, fault)?),
+    }
+}
+
+// What a text with a fault is refused for.
+fn faulty_halt(alloc: Global, fault: CertFault) -> Result<Halt, AllocError>
+    ensures { (b : BlockedProgram) (text : List ℕ) → ReadsFor b text (Err fault) →
+        IfOk result (IsTextHalt (TextMigrates b (Some text))) }
+{
+    match fault {
+        CertFault::At { line, kind } => Ok(Halt::Refused(cert_text(alloc, line, kind)?)),
+        CertFault::NoMemory => Ok(Halt::Stopped(ShelfFault::NoMemory)),
     }
 }
 

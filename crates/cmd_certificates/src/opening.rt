@@ -1,10 +1,11 @@
 // The certificate of a file as a tree to merge, or why there is none.
-ghost use Rattle.std.specs.Prelude.{◌≡◌, ◌⊎◌, ℕ, List, [], IfOk, IfErr, IsTrue, Some};
+ghost use Rattle.std.specs.Prelude.{◌≡◌, ◌⊎◌, ◌<◌, ◌^◌, ℕ, List, [], length, Err, IfOk, IfErr, IsTrue, Some};
 ghost use Rattle.bp_theory.specs.Claims.{IsCertified};
 ghost use Rattle.bp_shelf.specs.declared.shelf.ShelfFault.TheVariants.{NoMemory};
+ghost use Rattle.block_program.specs.Blocked.{BlockedProgram};
 ghost use Rattle.cert_format.specs.Fault.{IsCertText};
 ghost use Rattle.cert_format.specs.Kept.{certificate_of, kept_cert};
-ghost use Rattle.cert_text.specs.Programs.{GoesWith, frame_for};
+ghost use Rattle.cert_text.specs.Programs.{GoesWith, ReadsFor, frame_for};
 ghost use Rattle.cmd_certificates.specs.Opens.{IsOpenedText, IsOpenedFile, IsLoadedOver, CanJoin, RefusesFile};
 ghost use Rattle.cmd_certificates.specs.Stops.{IsStop, IsTextStop, IsRefusal, CountsStopped};
 ghost use Rattle.cmd_certificates.specs.declared.opening.Stop.TheVariants.{Stopped};
@@ -14,14 +15,12 @@ use bp_report::{cert_text, from_text};
 use bp_shelf::{Shelf, ShelfFault};
 use branch_tree::Loaded;
 use cert_check::{Judged, check as judge};
+use cert_input::read_file;
 use cert_load::{LoadFault, load, with_cuts_of};
 use cert_report::check_text;
-use cert_text::{Cert, CertFault, read_cert};
-use frontend::{Reply, read_front};
+use cert_text::{Cert, CertFault};
+use frontend::Reply;
 use std::alloc::{AllocError, Global};
-
-// A file is shorter than 2^62 bytes.
-const MAX_FILE: usize = (1 << 62) - 1;
 
 /// Why a run ends before anything is merged.
 #[derive(Drop)]
@@ -74,29 +73,42 @@ pub fn open_cert<F: Shelf>(
     ensures cause { CountsStopped (F.read_faults shelf.old) (F.read_faults shelf.new) result }
     ensures writes { F.write_faults shelf.new ≡ F.write_faults shelf.old }
 {
-    let text = read_front(alloc, shelf, name, MAX_FILE)?;
-    open_text(alloc, b, &text)
+    let read = read_file(alloc, shelf, name, b)?;
+    opened_of(alloc, b, read)
 }
 
-// The certificate of a text to merge, or why there is none.
-fn open_text(alloc: Global, b: &Blocked, text: &[u8]) -> Result<Opened, Stop>
+// The certificate of a text to merge, of which this was read, or why there is none.
+fn opened_of(alloc: Global, b: &Blocked, read: Result<Cert, CertFault>) -> Result<Opened, Stop>
     requires uncut { b.now.cuts ≡ [] }
-    ensures opened { IfOk result (IsOpenedText b.now text.now) }
+    requires of_text { (text : List ℕ) × ReadsFor b.now text read × (length text < 2 ^ 64) }
+    requires goes_with { IfOk read (λ cert. GoesWith b.now (certificate_of cert)) }
+    ensures opened { (text : List ℕ) → ReadsFor b.now text read →
+        IfOk result (IsOpenedText b.now text) }
     ensures usable { IfOk result (CanJoin b.now) }
-    ensures stopped { IfErr result (IsTextStop b.now text.now) }
+    ensures stopped { (text : List ℕ) → ReadsFor b.now text read →
+        IfErr result (IsTextStop b.now text) }
     ensures refusals { IfErr result IsRefusal }
 {
-    // For the proof alone: how long `text` can be.
-    let _size = text.len();
     // For the proof alone: `b` is formed.
     let _ = b.blocks();
-    match read_cert(alloc, text, b) {
+    match read {
         Ok(cert) => judged(alloc, b, &cert),
-        Err(CertFault::At { line, kind }) => Err(Stop::Refused(Reply {
+        Err(fault) => Err(faulty_stop(alloc, fault)?),
+    }
+}
+
+// What a text with a fault is refused for.
+fn faulty_stop(alloc: Global, fault: CertFault) -> Result<Stop, AllocError>
+    ensures stopped { (b : BlockedProgram) (text : List ℕ) → ReadsFor b text (Err fault) →
+        IfOk result (IsTextStop b text) }
+    ensures refusals { IfOk result IsRefusal }
+{
+    match fault {
+        CertFault::At { line, kind } => Ok(Stop::Refused(Reply {
             status: 3,
             report: cert_text(alloc, line, kind)?,
         })),
-        Err(CertFault::NoMemory) => Err(Stop::Stopped(ShelfFault::NoMemory)),
+        CertFault::NoMemory => Ok(Stop::Stopped(ShelfFault::NoMemory)),
     }
 }
 

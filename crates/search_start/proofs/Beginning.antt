@@ -1,8 +1,7 @@
 -- The start that a text gives, and that a search may begin there.
-use Rattle.std.proofs.Common.{◌≡◌, ◌∙◌, ◌<◌, ◌^◌, ◌-◌, refl, sym, ap, subst, ℕ, List, Option, Some, None, Result, Ok, Err, IsSome, IfSome, IfOk, take, length, arith}
+use Rattle.std.proofs.Common.{◌≡◌, ◌∙◌, refl, sym, ap, subst, ℕ, List, Option, Some, None, Result, Ok, Err, IfSome, IfOk}
 use Rattle.bp_theory.specs.Claims.{Certificate, IsCertified}
 use Rattle.bp_theory.specs.declared.CheckKind.{CheckKind}
-use Rattle.bp_shelf.specs.Shelf.{Files, AllShort}
 use Rattle.block_program.specs.Blocked.{BlockedProgram}
 use Rattle.search_laws.specs.declared.Side.{Side}
 use Rattle.branch_tree.specs.declared.loaded.Loaded.{Loaded}
@@ -16,11 +15,10 @@ use Rattle.cert_check.specs.Judging.{IsJudged}
 use Rattle.cert_check.specs.declared.judge.Judged.{Judged}
 use Rattle.cert_check.specs.declared.judge.Judged.TheVariants.{Accepted, Rejected, Unknown}
 use Rattle.bp_theory.specs.declared.Claim.{Claim}
-use Rattle.std.proofs.lemmas.List.{take_all}
 use Rattle.cert_report.specs.Certificates.{check_report}
 use Rattle.bp_report.specs.Refusals.{from_refusal, leaf_refusal}
 use Rattle.cmd_check.proofs.Certificates.{kept_point}
-use Rattle.search_start.specs.Starts.{RefusesStart, rejected, too_deep, no_leaf, IsReady, StartsBy, StartsOf, StartsAfresh, HasStart, CanBegin}
+use Rattle.search_start.specs.Starts.{RefusesStart, rejected, too_deep, no_leaf, IsReady, StartsBy, StartsOf, StartsAfresh, CanBegin}
 use Rattle.branch_tree.specs.Loads.{IsLoaded}
 use Rattle.search_start.specs.Leaves.{open_path, IsWorkedOn}
 use Rattle.search_start.specs.declared.start.Start.TheVariants.{Ready, Refused}
@@ -103,16 +101,3 @@ pub text_starts : {E : Type 0} (b : BlockedProgram) (leaf : Option ℕ) (cuts : 
     → IfOk start (StartsOf b leaf cuts cert) → IfOk start (StartsBy b leaf cuts text)
 text_starts b leaf cuts text cert (Ok start) spelled starts = starts text spelled
 text_starts b leaf cuts text cert (Err e) spelled starts = tt
-
--- the first bytes of a short file, one fewer than no file may have, are the file
-whole : (all front : List ℕ) → length all < 2 ^ 62 → front ≡ take (2 ^ 62 - 1) all → front ≡ all
-whole all front short is = is ∙ take_all (2 ^ 62 - 1) all (omega (arith, short))
-
--- the start that the front of a file gives is the file's
-pub front_starts : (files : Files) (name front : List ℕ) (leaf : Option ℕ) (cuts : ℕ) (b : BlockedProgram) (start : Start) → AllShort files → IsSome (files name)
-    → IfSome (files name) (λ all. front ≡ take (2 ^ 62 - 1) all) → StartsBy b leaf cuts front start → HasStart files (Some name) leaf cuts b start
-front_starts files name front leaf cuts b start short found is_front starts = by (files name) refl found is_front
-  where
-    by : (file : Option (List ℕ)) → files name ≡ file → IsSome file → IfSome file (λ all. front ≡ take (2 ^ 62 - 1) all) → HasStart files (Some name) leaf cuts b start
-    by None is found is_front = let none : ⊥ = cc in absurd none
-    by (Some all) is found is_front = (all, is, subst (λ (t : List ℕ). StartsBy b leaf cuts t start) (whole all front (short name all is) is_front) starts)

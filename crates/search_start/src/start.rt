@@ -1,11 +1,12 @@
 // From where a search goes on, and where in its tree it works: the tree of a certificate's file, or the start.
-ghost use Rattle.std.specs.Prelude.{◌≡◌, [], IfOk, IsErrOf, IsTrue, Some};
+ghost use Rattle.std.specs.Prelude.{◌≡◌, ℕ, List, [], Option, Err, IfOk, IsErrOf, IsTrue, Some};
 ghost use Rattle.std.specs.Option.{option_map};
 ghost use Rattle.bp_theory.specs.Claims.{IsCertified};
 ghost use Rattle.bp_shelf.specs.Shelf.{CountsFailed};
 ghost use Rattle.bp_shelf.specs.declared.shelf.ShelfFault.TheVariants.{Missing};
+ghost use Rattle.block_program.specs.Blocked.{BlockedProgram};
 ghost use Rattle.cert_format.specs.Kept.{certificate_of};
-ghost use Rattle.cert_text.specs.Programs.{GoesWith};
+ghost use Rattle.cert_text.specs.Programs.{GoesWith, ReadsFor};
 ghost use Rattle.branch_tree.specs.Loads.{IsLoaded};
 ghost use Rattle.cert_load.specs.Loadings.{IsLoadedOf};
 ghost use Rattle.cert_load.specs.Recut.{with_cuts};
@@ -19,15 +20,13 @@ use bp_shelf::{Shelf, ShelfFault};
 use bp_theory::Items;
 use branch_tree::Loaded;
 use cert_check::{Judged, check as judge};
+use cert_input::read_file;
 use cert_load::{LoadFault, load, with_cuts_of};
 use cert_report::check_text;
-use cert_text::{Cert, CertFault, read_cert};
-use frontend::{Reply, read_front};
+use cert_text::{Cert, CertFault};
+use frontend::Reply;
 use search_laws::Side;
 use std::alloc::{AllocError, Global};
-
-// A file is shorter than 2^62 bytes.
-const MAX_FILE: usize = (1 << 62) - 1;
 
 /// From where a search begins.
 #[derive(Drop)]
@@ -97,29 +96,42 @@ fn begin_from<F: Shelf>(
     ensures cause { CountsFailed (F.read_faults shelf.old) (F.read_faults shelf.new) result }
     ensures writes { F.write_faults shelf.new ≡ F.write_faults shelf.old }
 {
-    let text = read_front(alloc, shelf, name, MAX_FILE)?;
-    Ok(start_of(alloc, b, &text, leaf, cuts)?)
+    let read = read_file(alloc, shelf, name, b)?;
+    Ok(start_of(alloc, b, read, leaf, cuts)?)
 }
 
-// The start that a text gives.
+// The start that a text gives, of which this was read.
 fn start_of(
     alloc: Global,
     b: &Blocked,
-    text: &[u8],
+    read: Result<Cert, CertFault>,
     leaf: Option<u64>,
     cuts: u32,
 ) -> Result<Start, AllocError>
-    requires { b.now.cuts ≡ [] }
-    ensures start { IfOk result (StartsBy b.now leaf cuts text.now) }
+    requires uncut { b.now.cuts ≡ [] }
+    requires goes_with { IfOk read (λ cert. GoesWith b.now (certificate_of cert)) }
+    ensures start { (text : List ℕ) → ReadsFor b.now text read →
+        IfOk result (StartsBy b.now leaf cuts text) }
     ensures usable { IfOk result (CanBegin leaf) }
 {
-    match read_cert(alloc, text, b) {
+    match read {
         Ok(cert) => judged_start(alloc, b, &cert, leaf, cuts),
-        Err(CertFault::At { line, kind }) => Ok(Start::Refused(Reply {
+        Err(fault) => refused_start(alloc, fault),
+    }
+}
+
+// The start of a text with a fault: its refusal.
+fn refused_start(alloc: Global, fault: CertFault) -> Result<Start, AllocError>
+    ensures start { (b : BlockedProgram) (leaf : Option ℕ) (cuts : ℕ) (text : List ℕ) →
+        ReadsFor b text (Err fault) → IfOk result (StartsBy b leaf cuts text) }
+    ensures usable { (leaf : Option ℕ) → IfOk result (CanBegin leaf) }
+{
+    match fault {
+        CertFault::At { line, kind } => Ok(Start::Refused(Reply {
             status: 3,
             report: cert_text(alloc, line, kind)?,
         })),
-        Err(CertFault::NoMemory) => Err(AllocError),
+        CertFault::NoMemory => Err(AllocError),
     }
 }
 
