@@ -176,7 +176,7 @@ def test_parts_of_a_gap(tmp_path, with_blocks):
     proof = explain.Proof(problem, first)
     leaf, _ = next(proof.leaves())
     judge = texts.Judge(proof.read, proof.blocks, proof.links, 5_000_000)
-    assert root == fractions.Fraction(judge.bound(leaf, [tuple(span) for span in proof.read.spans]), leaf.number)
+    assert root == fractions.Fraction(judge.bound(leaf), leaf.number)
     assert first.bound - 1 < root <= answer.value
 
 
