@@ -1,0 +1,2 @@
+pub mod MirProof
+mod Examples
