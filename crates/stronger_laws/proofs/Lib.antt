@@ -1,2 +1,12 @@
 pub mod MirProof
+pub mod RoundingProof
+pub mod WideProof
+pub mod KeepProof
+pub mod AllCutsProof
+pub mod SwapProof
+pub mod SwapPointProof
+pub mod ClassCoverProof
+pub mod ClassPartsProof
+pub mod WideTruthProof
+pub mod StaysProof
 mod Examples

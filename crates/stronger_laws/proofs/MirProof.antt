@@ -335,7 +335,7 @@ row_splits d r x rows h met (m ∷ ms) one = (
 -- ---- the cut's row
 
 -- a remainder that isn't above the full one
-below_full : (o : Option ℕ) (full : ℕ) → IsLowered o full → lowered_to o full ≤ full
+pub below_full : (o : Option ℕ) (full : ℕ) → IsLowered o full → lowered_to o full ≤ full
 below_full None full h = omega arith
 below_full (Some r) full h = omega (arith, h)
 

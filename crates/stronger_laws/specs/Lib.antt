@@ -1,4 +1,10 @@
--- Other crates cite WideRows and Mir. The rest is for contracts here alone.
+-- Other crates cite WideRows, Mir, PricedCuts, AllCuts, Alike, ClassTrees and WideClaims. The rest is for contracts here
+-- alone.
 pub mod WideRows
 pub mod Mir
+pub mod PricedCuts
+pub mod AllCuts
+pub mod Alike
+pub mod ClassTrees
+pub mod WideClaims
 pub mod Laws
