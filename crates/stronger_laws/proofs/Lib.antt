@@ -1,4 +1,5 @@
 pub mod MirProof
+pub mod BoundProof
 pub mod RoundingProof
 pub mod WideProof
 pub mod KeepProof
@@ -9,4 +10,5 @@ pub mod ClassCoverProof
 pub mod ClassPartsProof
 pub mod WideTruthProof
 pub mod StaysProof
+pub mod WideJudgeProof
 mod Examples

@@ -27,7 +27,7 @@ use Rattle.bp_theory.proofs.KeyLaws.{sum_of-by_key}
 use Rattle.bp_theory.proofs.CutProof.{row_activity}
 use Rattle.bp_theory.proofs.DecompositionProof.{below_range, kept_at}
 use Rattle.stronger_laws.specs.WideRows.{HasKnownVariables, IsMet}
-use Rattle.stronger_laws.specs.Mir.{mir_function, slack_side, slack_coefficient, put_back, HasOneSide, IsCombinable, named_side, named_put_back, row_of, weighted_coefficient, weighted_side, summed, is_upper, end_of, at_ends, summed_side, full_remainder, lowered_to, remainder_of, rounded_by, rounded_coefficient, slack_weight, mir_coefficient, mir_low, mir_row, IsLowered, IsFittingMir}
+use Rattle.stronger_laws.specs.Mir.{mir_function, slack_side, put_back, HasOneSide, IsCombinable, named_side, named_put_back, row_of, weighted_coefficient, weighted_side, summed, is_upper, end_of, at_ends, summed_side, full_remainder, lowered_to, remainder_of, rounded_by, rounded_coefficient, slack_weight, mir_coefficient, mir_low, mir_row, IsLowered, IsFittingMir}
 use Rattle.stronger_laws.specs.Laws.{MirShrinks, MirIsMet}
 use Rattle.stronger_laws.specs.declared.MirCut.{MirCut}
 

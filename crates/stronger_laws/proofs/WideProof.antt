@@ -15,11 +15,11 @@ use Rattle.stronger_laws.specs.Laws.{WideIsFaithful}
 use Rattle.stronger_laws.proofs.MirProof.{join}
 
 -- a fact about the parts of a joined list
-left_part : {X : Type 0} (P : X → Type 0) (xs ys : List X) → AllByRecursion P (xs ++ ys) → AllByRecursion P xs
+pub left_part : {X : Type 0} (P : X → Type 0) (xs ys : List X) → AllByRecursion P (xs ++ ys) → AllByRecursion P xs
 left_part P [] ys h = tt
 left_part P (x ∷ xs) ys h = (h.0, left_part P xs ys h.1)
 
-right_part : {X : Type 0} (P : X → Type 0) (xs ys : List X) → AllByRecursion P (xs ++ ys) → AllByRecursion P ys
+pub right_part : {X : Type 0} (P : X → Type 0) (xs ys : List X) → AllByRecursion P (xs ++ ys) → AllByRecursion P ys
 right_part P [] ys h = h
 right_part P (x ∷ xs) ys h = right_part P xs ys h.1
 

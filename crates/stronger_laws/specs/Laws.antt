@@ -1,5 +1,5 @@
 -- The laws over the definitions.
-use Rattle.std.specs.Prelude.{ℕ, ◌<◌, ◌≤◌, ◌≡◌, ◌⊎◌, List, [], length, map, Option, Some, ℤ, pos, ◌≤ℤ◌, ◌<ℤ◌, unsigned_abs, All, Any, slice_index_or}
+use Rattle.std.specs.Prelude.{ℕ, ◌*◌, ◌<◌, ◌≤◌, ◌≡◌, ◌⊎◌, List, [], length, map, Option, Some, ℤ, pos, ◌≤ℤ◌, ◌<ℤ◌, unsigned_abs, All, Any, slice_index_or}
 use Rattle.bp_theory.specs.Program.{Program, IsInside, IsFeasible, MeetsRow, cost}
 use Rattle.bp_theory.specs.Blocking.{Block, Blocking, IsFaithful, AreImplied, AddsUp}
 use Rattle.bp_theory.specs.Decomposition.{Decomposition, ProofRow, no_row, full_row, blocking_of, HasVariablesBelow, IsClosed, HasPlaces}
@@ -7,21 +7,24 @@ use Rattle.bp_theory.specs.Bound.{spans_of, reduced_cost, is_picked, IsPart, IsB
 use Rattle.bp_theory.specs.Cuts.{cut_row, IsFitting}
 use Rattle.bp_theory.specs.Trees.{IsSubzone, IsProper, high_part}
 use Rattle.bp_theory.specs.Claims.{Holds, Empties, Certificate, IsCertified, IsTrueClaim}
+use Rattle.bp_theory.specs.Judgement.{named_value, HasItsPoint}
 use Rattle.bp_theory.specs.declared.Row.{Row}
 use Rattle.bp_theory.specs.declared.Span.{Span}
 use Rattle.bp_theory.specs.declared.Proof.{Proof}
 use Rattle.bp_theory.specs.declared.Cut.{Cut}
 use Rattle.search_laws.specs.Spread.{HasEachRow}
 use Rattle.stronger_laws.specs.WideRows.{wide_rows, blocking_over, wide_blocking, HasKnownVariables, IsMet}
-use Rattle.stronger_laws.specs.Mir.{mir_function, mir_row, row_of, IsCombinable, IsFittingMir}
+use Rattle.stronger_laws.specs.Mir.{mir_function, mir_row, mir_coefficient, mir_low, summed_side, row_of, IsCombinable, IsFittingMir, named_limit, combination_limit}
 use Rattle.stronger_laws.specs.PricedCuts.{priced_row, IsFittingPriced}
 use Rattle.stronger_laws.specs.AllCuts.{any_rows, AreFittingAll}
 use Rattle.stronger_laws.specs.ClassTrees.{ClassTree, class_leaves, HasSoundNodes, IsSoundClassSplit, class_low_part}
 use Rattle.stronger_laws.specs.WideClaims.{WideCertificate, IsWideCertified, as_wide}
+use Rattle.stronger_laws.specs.WideJudgement.{IsFirstWideFault}
 use Rattle.stronger_laws.specs.Alike.{HasDistinctVariables}
 use Rattle.stronger_laws.specs.declared.MirCut.{MirCut}
 use Rattle.stronger_laws.specs.declared.PricedCut.{PricedCut}
 use Rattle.stronger_laws.specs.declared.AnyCut.{AnyCut}
+use Rattle.stronger_laws.specs.declared.WideKind.{WideKind}
 
 -- the rounding function doesn't grow a number's size
 abbrev pub MirShrinks : Type 0
@@ -31,6 +34,16 @@ MirShrinks = (divisor remainder : ℕ) (a : ℤ) → remainder < divisor → uns
 abbrev pub MirIsMet : Type 0
 MirIsMet = (p : Program) (rows : List ProofRow) (cut : MirCut) (x : List ℤ) → All (HasKnownVariables p) rows → All (IsMet x) rows
     → IsFittingMir p rows cut → IsInside p.spans x → MeetsRow x (mir_row p rows cut)
+
+-- the side of a combination is within its limit, and the numbers of a fitting cut's row within twice that
+pub record MirIsBounded : Type 0 where
+  pub side : (p : Program) (rows : List ProofRow) (cut : MirCut) → unsigned_abs (summed_side p rows cut) ≤ combination_limit p rows cut.rows
+  pub coefficient : (p : Program) (rows : List ProofRow) (cut : MirCut) (v : ℕ) → IsFittingMir p rows cut
+      → unsigned_abs (mir_coefficient p rows cut v) ≤ 2 * combination_limit p rows cut.rows
+  pub low : (p : Program) (rows : List ProofRow) (cut : MirCut) → IsFittingMir p rows cut
+      → unsigned_abs (mir_low p rows cut) ≤ 2 * combination_limit p rows cut.rows
+  pub limit : (p : Program) (rows : List ProofRow) (ms : List (ℕ × ℤ)) (u l : ℕ) → All (λ m. unsigned_abs m.1 ≤ u) ms
+      → All (λ m. named_limit p (row_of rows m) ≤ l) ms → combination_limit p rows ms ≤ length ms * (u * l)
 
 -- the blocking in which proofs may name rows of blocks adds up to the program, and where each feasible point meets each
 -- cut it is faithful: so all laws of bounds hold over it
@@ -130,3 +143,12 @@ pub record WideRowsKeep : Type 0 where
 -- a certificate of rounding cuts, master rows and plain splits that is valid stays valid
 abbrev pub CertifiedStays : Type 0
 CertifiedStays = (p : Program) (d : Decomposition) (cert : Certificate) → IsCertified p d cert → IsWideCertified p d (as_wide cert)
+
+-- a certificate with its point is valid, or it has a first fault, not both, and one alone
+pub record WideJudged : Type 0 where
+  pub total : (p : Program) (d : Decomposition) (cert : WideCertificate) → IsProper p.spans → HasItsPoint (named_value cert.claim) cert.point
+      → IsWideCertified p d cert ⊎ ((number : ℕ) × (fault : WideKind) × IsFirstWideFault p d cert number fault)
+  pub not_both : (p : Program) (d : Decomposition) (cert : WideCertificate) (number : ℕ) (fault : WideKind)
+      → IsWideCertified p d cert → IsFirstWideFault p d cert number fault → ⊥
+  pub once : (p : Program) (d : Decomposition) (cert : WideCertificate) (number other : ℕ) (fault otherwise : WideKind)
+      → IsFirstWideFault p d cert number fault → IsFirstWideFault p d cert other otherwise → (number ≡ other) × (fault ≡ otherwise)

@@ -1,5 +1,5 @@
--- Other crates cite WideRows, Mir, PricedCuts, AllCuts, Alike, ClassTrees and WideClaims. The rest is for contracts here
--- alone.
+-- Other crates cite WideRows, Mir, PricedCuts, AllCuts, Alike, ClassTrees, WideClaims and WideJudgement. The rest
+-- is for contracts here alone.
 pub mod WideRows
 pub mod Mir
 pub mod PricedCuts
@@ -7,4 +7,5 @@ pub mod AllCuts
 pub mod Alike
 pub mod ClassTrees
 pub mod WideClaims
+pub mod WideJudgement
 pub mod Laws

@@ -1,10 +1,10 @@
 -- Mixed-integer rounding cuts in whole numbers (Nemhauser and Wolsey, A recursive procedure to generate all cuts for
 -- 0-1 mixed integer programs, 1990; Marchand and Wolsey, Aggregation and mixed integer rounding to solve MIPs, 2001).
-use Rattle.std.specs.Prelude.{◌≡◌, ℕ, ◌<◌, ◌≤◌, Bool, List, length, Option, Some, None, ℤ, pos, negsuc, neg_ℤ, ◌+ℤ◌, ◌-ℤ◌, ◌*ℤ◌, ◌==◌, if◌then◌else◌, slice_index_or, unsigned_abs, All}
+use Rattle.std.specs.Prelude.{◌≡◌, ℕ, ◌*◌, ◌<◌, ◌≤◌, sum_by, Bool, List, length, Option, Some, None, ℤ, pos, negsuc, neg_ℤ, ◌+ℤ◌, ◌-ℤ◌, ◌*ℤ◌, ◌==◌, if◌then◌else◌, slice_index_or, unsigned_abs, All}
 use Rattle.std.specs.List.{range_with_len, list_any}
 use Rattle.std.specs.Int.{int_min, int_div_euclid, int_rem_euclid}
 use Rattle.bp_theory.specs.Sums.{sum_of}
-use Rattle.bp_theory.specs.Program.{Program, span_at}
+use Rattle.bp_theory.specs.Program.{Program, span_at, activity_limit}
 use Rattle.bp_theory.specs.Decomposition.{ProofRow, whole_row, link_row, no_row}
 use Rattle.bp_theory.specs.Cuts.{row_coefficient, terms_of}
 use Rattle.bp_theory.specs.declared.Sense.{Sense}
@@ -27,15 +27,9 @@ slack_side Eq low rhs u = low
 slack_side In low rhs (pos n) = low
 slack_side In low rhs (negsuc n) = rhs
 
--- the coefficient of a row's slack in the sum: the multiplier below an upper side, its negative above a lower one, none
--- at an equation
-abbrev pub slack_coefficient : Sense → ℤ → ℤ
-slack_coefficient Le u = u
-slack_coefficient Ge u = neg_ℤ u
-slack_coefficient Eq u = pos 0
-slack_coefficient In u = neg_ℤ (pos (unsigned_abs u))
-
--- the multiplier of a row by which its rounded slack is put back
+-- the multiplier of a row by which its rounded slack is put back: below an upper side the slack has the multiplier for
+-- coefficient and is the side less the row, above a lower side it has the multiplier's negative and is the row less the
+-- side, and an equation has none
 abbrev pub put_back : (divisor remainder : ℕ) → Sense → ℤ → ℤ
 put_back d r Le u = neg_ℤ (mir_function d r u)
 put_back d r Ge u = mir_function d r (neg_ℤ u)
@@ -160,3 +154,13 @@ pub record IsFittingMir (p : Program) (rows : List ProofRow) (cut : MirCut) : Ty
   pub combines : All (λ m. IsCombinable (row_of rows m)) cut.rows
   pub positive : 0 < remainder_of p rows cut
   pub lowered : IsLowered cut.lowered (full_remainder p rows cut)
+
+-- the greatest size of a row's sides together with that of its sums
+abbrev pub named_limit : Program → ProofRow → ℕ
+named_limit p (whole_row row) = activity_limit p row
+named_limit p (link_row v k) = 0
+named_limit p no_row = 0
+
+-- the same of a combination of rows
+abbrev pub combination_limit : Program → List ProofRow → List (ℕ × ℤ) → ℕ
+combination_limit p rows ms = sum_by (λ m. unsigned_abs m.1 * named_limit p (row_of rows m)) ms

@@ -3,7 +3,7 @@
 //! function with an empty body, which nobody calls.
 #![tactic(auto)]
 
-ghost use Rattle.stronger_laws.specs.Laws.{MirShrinks, MirIsMet, RoundingIsMir, WideIsFaithful, PricedAlike, NamedRowsKeep, WideRowsKeep, PricedIsMet, AllCutsAreMet, ClassSplitCovers, ClassCover, ClassPartsAreZones, WideCertifiedIsTrue, CertifiedStays};
+ghost use Rattle.stronger_laws.specs.Laws.{MirShrinks, MirIsMet, MirIsBounded, RoundingIsMir, WideIsFaithful, PricedAlike, NamedRowsKeep, WideRowsKeep, PricedIsMet, AllCutsAreMet, ClassSplitCovers, ClassCover, ClassPartsAreZones, WideCertifiedIsTrue, CertifiedStays, WideJudged};
 
 use bp_theory::{Cut, Items, Proof, Term};
 
@@ -33,6 +33,21 @@ pub enum AnyCut {
     Priced(PricedCut),
 }
 
+/// What is wrong with a line of a certificate of any cuts, rows and splits.
+#[derive(Clone, Copy)]
+pub enum WideKind {
+    PointBound,
+    PointRow,
+    Value,
+    Split,
+    Class,
+    Sign,
+    Divisor,
+    Weak,
+    Open,
+    Cut,
+}
+
 /// The rounding function doesn't grow a number's size.
 pub fn mir_shrinks()
     ensures { MirShrinks }
@@ -41,6 +56,11 @@ pub fn mir_shrinks()
 /// A point that meets the rows meets the row of a mixed-integer rounding cut over them.
 pub fn mir_is_met()
     ensures { MirIsMet }
+{}
+
+/// The numbers of such a row are within twice the limit of the rows that are combined.
+pub fn mir_is_bounded()
+    ensures { MirIsBounded }
 {}
 
 /// A rounding cut whose multipliers are below the divisor is a mixed-integer rounding cut of remainder 1.
@@ -101,4 +121,9 @@ pub fn wide_certified_is_true()
 /// A valid certificate of rounding cuts, master rows and plain splits stays valid.
 pub fn certified_stays()
     ensures { CertifiedStays }
+{}
+
+/// A certificate of any cuts, rows and splits is valid or has a first fault.
+pub fn wide_judged()
+    ensures { WideJudged }
 {}
