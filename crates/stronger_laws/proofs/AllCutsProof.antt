@@ -1,31 +1,29 @@
 -- Each feasible point meets the rows of cuts of all kinds.
-use Rattle.std.proofs.Common.{◌≡◌, refl, ap, ◌∙◌, ℕ, ◌<◌, not, List, [], ◌∷◌, ◌++◌, map, length, arith}
-use Rattle.std.proofs.Math.IntN.{ℤ, pos, ◌+ℤ◌}
-use Rattle.std.specs.Prelude.{◌≤ℤ◌, All, filter}
-use Rattle.std.specs.List.{AllByRecursion, range_with_len}
+use Rattle.std.proofs.Common.{ℕ, ◌<◌, not, List, [], ◌∷◌, ◌++◌, map, length, arith}
+use Rattle.std.proofs.Math.IntN.{ℤ, pos}
+use Rattle.std.specs.Prelude.{◌≤ℤ◌, All}
+use Rattle.std.specs.List.{range_with_len}
 use Rattle.std.specs.Ordering.{int_eq}
 use Rattle.std.proofs.lemmas.Int.{ints}
-use Rattle.std.proofs.lemmas.List.Elements.{recursion_from_All, All-from_recursion, All-filter, All-map, All-push, All-nil}
-use Rattle.bp_theory.specs.Program.{Program, activity, IsInside, IsFeasible, MeetsRow, cost}
+use Rattle.std.proofs.lemmas.List.Elements.{All-from_recursion, All-filter, All-map, All-push, All-nil}
+use Rattle.bp_theory.specs.Program.{Program, IsFeasible, MeetsRow, cost}
 use Rattle.bp_theory.specs.Blocking.{IsFaithful}
-use Rattle.bp_theory.specs.Decomposition.{Decomposition, proof_rows, full_row, HasVariablesBelow, IsClosed}
-use Rattle.bp_theory.specs.Cuts.{cut_row, rounded, terms_of, term_at}
+use Rattle.bp_theory.specs.Decomposition.{Decomposition, proof_rows, HasVariablesBelow, IsClosed}
+use Rattle.bp_theory.specs.Cuts.{rounded, terms_of, term_at}
 use Rattle.bp_theory.specs.declared.Term.{Term}
 use Rattle.bp_theory.specs.declared.Row.{Row}
-use Rattle.bp_theory.proofs.FaithProof.{adding_up_lem}
 use Rattle.bp_theory.proofs.TruthProof.{holds_is_true}
 use Rattle.bp_theory.proofs.CutProof.{cut_row_met}
 use Rattle.bp_theory.proofs.DecompositionProof.{kept_all, all_met, below_range}
-use Rattle.stronger_laws.specs.WideRows.{wide_rows, wide_blocking, blocking_over}
-use Rattle.stronger_laws.specs.Mir.{mir_row, mir_coefficient}
-use Rattle.stronger_laws.specs.PricedCuts.{with_costs, priced_row, IsFittingPriced}
+use Rattle.stronger_laws.specs.WideRows.{wide_rows, wide_blocking}
+use Rattle.stronger_laws.specs.Mir.{mir_coefficient}
+use Rattle.stronger_laws.specs.PricedCuts.{with_costs}
 use Rattle.stronger_laws.specs.AllCuts.{any_row, IsFittingAny, any_rows, AreFittingAll}
 use Rattle.stronger_laws.specs.Laws.{PricedIsMet, AllCutsAreMet}
-use Rattle.stronger_laws.specs.declared.PricedCut.{PricedCut}
 use Rattle.stronger_laws.specs.declared.AnyCut.{AnyCut}
 use Rattle.stronger_laws.specs.declared.AnyCut.TheVariants.{Rounding, Mir, Priced}
 use Rattle.stronger_laws.proofs.MirProof.{mir_row_met}
-use Rattle.stronger_laws.proofs.WideProof.{wide_known, wide_met, wide_kept, over_adds_up, over_implied, wide_is_faithful_lem}
+use Rattle.stronger_laws.proofs.WideProof.{wide_known, wide_met, wide_is_faithful_lem}
 
 -- a point that is feasible for other costs
 feasible_with : (p : Program) (costs : List Term) (x : List ℤ) → IsFeasible p x → IsFeasible (with_costs p costs) x

@@ -9,15 +9,14 @@ use Rattle.std.proofs.lemmas.Int.{ints, unsigned_abs-mul}
 use Rattle.std.proofs.lemmas.List.Sums.{sum_by-cons}
 use Rattle.std.proofs.lemmas.List.Elements.{recursion_from_All}
 use Rattle.bp_theory.specs.Sums.{sum_of}
-use Rattle.bp_theory.specs.Program.{Program, coefficient, span_at, reach, activity_limit}
+use Rattle.bp_theory.specs.Program.{Program, coefficient, span_at, reach}
 use Rattle.bp_theory.specs.Decomposition.{ProofRow, whole_row, link_row, no_row}
 use Rattle.bp_theory.specs.Cuts.{row_coefficient}
 use Rattle.bp_theory.specs.declared.Span.{Span}
 use Rattle.bp_theory.specs.declared.Term.{Term}
 use Rattle.bp_theory.specs.declared.Sense.{Sense}
 use Rattle.bp_theory.specs.declared.Sense.TheVariants.{Le, Ge, Eq, In}
-use Rattle.bp_theory.specs.declared.Row.{Row}
-use Rattle.stronger_laws.specs.Mir.{mir_function, slack_side, put_back, named_side, named_put_back, row_of, weighted_coefficient, weighted_side, summed, is_upper, end_of, at_ends, summed_side, full_remainder, lowered_to, remainder_of, rounded_by, rounded_coefficient, slack_weight, mir_coefficient, mir_low, IsLowered, IsFittingMir, named_limit, combination_limit}
+use Rattle.stronger_laws.specs.Mir.{mir_function, slack_side, put_back, named_side, named_put_back, row_of, weighted_coefficient, weighted_side, summed, is_upper, end_of, at_ends, summed_side, full_remainder, remainder_of, rounded_by, rounded_coefficient, slack_weight, mir_coefficient, mir_low, IsFittingMir, named_limit, combination_limit}
 use Rattle.stronger_laws.specs.Laws.{MirIsBounded}
 use Rattle.stronger_laws.specs.declared.MirCut.{MirCut}
 use Rattle.stronger_laws.proofs.MirProof.{rest_low, rest_high, below_full, mir_shrinks_lem}

@@ -1,25 +1,25 @@
 -- The leaves of a tree with class splits have each feasible point, or another of the same cost.
 use Rattle.std.proofs.Common.{◌≡◌, ◌≢◌, ◌⊎◌, refl, sym, ap, subst, ◌∙◌, ℕ, zero, suc, ◌+◌, ◌-◌, ◌<◌, ◌≤◌, Bool, true, false, ◌&&◌, List, [], ◌∷◌, ◌++◌, map, length, get_or, Option, arith, length-append, inl, inr, ⊎_elim}
 use Rattle.std.proofs.Math.IntN.{ℤ, pos, ◌+ℤ◌}
-use Rattle.std.specs.Prelude.{◌==◌, ◌≤ℤ◌, ◌<ℤ◌, Any, filter, if◌then◌else◌}
+use Rattle.std.specs.Prelude.{◌≤ℤ◌, ◌<ℤ◌, Any, filter, if◌then◌else◌}
 use Rattle.std.specs.Int.{int_min}
-use Rattle.std.specs.List.{AllByRecursion, range_with_len, list_any}
+use Rattle.std.specs.List.{AllByRecursion, range_with_len}
 use Rattle.std.proofs.lemmas.Bool.{cases_lt}
 use Rattle.std.proofs.lemmas.Bool.Decides.{eqb_tells}
 use Rattle.std.proofs.lemmas.Int.{ints, clamps, by_lt_z}
-use Rattle.std.proofs.lemmas.List.{get_or_append_left, get_or-append_right, get_or_past, get_or-map, length-set, length-map}
+use Rattle.std.proofs.lemmas.List.{get_or_append_left, get_or-append_right, get_or_past, get_or-map, length-set}
 use Rattle.bp_theory.specs.Program.{Program, IsFeasible, IsInside, IsWithin, cost, value_at, span_at}
-use Rattle.bp_theory.specs.Blocking.{Copy, Block, Blocking, AddsUp, IsFaithful}
+use Rattle.bp_theory.specs.Blocking.{Block, Blocking, AddsUp, IsFaithful}
 use Rattle.bp_theory.specs.Decomposition.{place_of}
-use Rattle.bp_theory.specs.Trees.{Leaf, low_part, high_part, IsSoundSplit}
+use Rattle.bp_theory.specs.Trees.{Leaf, low_part, high_part}
 use Rattle.bp_theory.specs.declared.Span.{Span}
 use Rattle.bp_theory.specs.declared.Row.{Row}
-use Rattle.bp_theory.proofs.ZipLaws.{AllZip_at, AllZip-length, AllZip-set, AllZip_from-set, AllZip_at-set}
+use Rattle.bp_theory.proofs.ZipLaws.{AllZip-length, AllZip-set, AllZip_from-set, AllZip_at-set}
 use Rattle.bp_theory.proofs.CoverProof.{split_var_there, low_part_inside, high_part_inside}
 use Rattle.bp_theory.proofs.DecompositionProof.{place_there, var_at_place}
 use Rattle.search_laws.specs.Spread.{block_at, HasEachRow}
 use Rattle.stronger_laws.specs.Alike.{variables_of, HasDistinctVariables, is_among, stands_alone, is_alike, home, sibling, is_member, class_of, siblings}
-use Rattle.stronger_laws.specs.ClassTrees.{ClassTree, shut_leaf, open_leaf, split, class_split, capped, all_capped, class_low_part, IsSoundClassSplit, HasSoundNodes, class_leaves}
+use Rattle.stronger_laws.specs.ClassTrees.{shut_leaf, open_leaf, split, class_split, capped, all_capped, class_low_part, IsSoundClassSplit, class_leaves}
 use Rattle.stronger_laws.specs.Laws.{ClassSplitCovers, ClassCover}
 use Rattle.stronger_laws.proofs.SwapProof.{and_true, alike_tells, partner, swapped_at}
 use Rattle.stronger_laws.proofs.SwapPointProof.{CanSwap, after_swap, partners_there, cost_stays, zone_stays, swap_is_feasible, within_anywhere}

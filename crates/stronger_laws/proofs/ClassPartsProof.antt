@@ -1,17 +1,18 @@
 -- The parts of a class split are zones, and so are the leaves of a tree with such splits.
-use Rattle.std.proofs.Common.{◌≡◌, ◌⊎◌, refl, sym, ap, subst, ◌∙◌, ℕ, zero, suc, ◌<◌, true, ◌&&◌, List, [], ◌∷◌, ◌++◌, map, length, get_or, set, arith, ⊎_elim}
-use Rattle.std.proofs.Math.IntN.{ℤ, pos, ◌+ℤ◌}
-use Rattle.std.specs.Prelude.{◌≤ℤ◌, ◌<ℤ◌, All}
+use Rattle.std.proofs.Common.{◌≡◌, refl, sym, ap, subst, ◌∙◌, ℕ, zero, suc, ◌<◌, true, ◌&&◌, List, [], ◌∷◌, map, length, get_or, set, arith, ⊎_elim}
+use Rattle.std.proofs.Math.IntN.{ℤ, pos}
+use Rattle.std.specs.Prelude.{◌≤ℤ◌, All}
 use Rattle.std.specs.Int.{int_min}
 use Rattle.std.specs.List.{AllByRecursion}
 use Rattle.std.proofs.lemmas.Bool.{cases_lt}
 use Rattle.std.proofs.lemmas.Int.{ints, clamps}
-use Rattle.std.proofs.lemmas.List.{get_or_past, get_or-map, length-map}
+use Rattle.std.proofs.lemmas.List.{get_or_past, get_or-map}
 use Rattle.std.proofs.lemmas.List.Elements.{All-set, All-append, All-weaker, All-from_recursion}
 use Rattle.bp_theory.specs.Program.{span_at}
-use Rattle.bp_theory.specs.Blocking.{Copy, Block, Blocking}
+use Rattle.bp_theory.specs.Blocking.{Copy, Blocking}
 use Rattle.bp_theory.specs.Decomposition.{place_of}
-use Rattle.bp_theory.specs.Trees.{Leaf, low_part, high_part, IsSoundSplit, IsSubspan, IsSubzone, IsProper}
+use Rattle.bp_theory.specs.Classes.{IsSame}
+use Rattle.bp_theory.specs.Trees.{Leaf, low_part, high_part, IsSubspan, IsSubzone, IsProper}
 use Rattle.bp_theory.specs.declared.Span.{Span}
 use Rattle.bp_theory.proofs.ZipLaws.{AllZip-set}
 use Rattle.bp_theory.proofs.ClassProof.{split_shrinks_lem}
@@ -20,7 +21,7 @@ use Rattle.search_laws.specs.Spread.{block_at}
 use Rattle.stronger_laws.specs.Alike.{variables_of, is_among, stands_alone, is_alike, home, sibling, is_member, class_of, siblings}
 use Rattle.stronger_laws.specs.ClassTrees.{ClassTree, shut_leaf, open_leaf, split, class_split, capped, all_capped, class_low_part, IsSoundClassSplit, HasSoundNodes, class_leaves}
 use Rattle.stronger_laws.specs.Laws.{ClassPartsAreZones}
-use Rattle.stronger_laws.proofs.SwapProof.{and_true, alike_tells, AreAlike, fused}
+use Rattle.stronger_laws.proofs.SwapProof.{and_true, alike_tells, fused}
 use Rattle.stronger_laws.proofs.SwapPointProof.{as_many}
 use Rattle.stronger_laws.proofs.ClassCoverProof.{members_there}
 
@@ -92,7 +93,7 @@ sibling_span b zone v k has member =
     let s : Span = record { lo = pos 0; hi = pos 0 } in
     let first = and_true (stands_alone b h) (stands_alone b k && is_alike zone (block_at b h) (block_at b k)) member in
     let second = and_true (stands_alone b k) (is_alike zone (block_at b h) (block_at b k)) first.1 in
-    let alike : AreAlike zone (block_at b h) (block_at b k) = alike_tells zone (block_at b h) (block_at b k) second.1 in
+    let alike : IsSame zone (block_at b h) (block_at b k) = alike_tells zone (block_at b h) (block_at b k) second.1 in
     let spans : map (span_at zone) us ≡ map (span_at zone) ws =
     sym (fused (span_at zone) (λ (c : Copy). c.var) (block_at b h).copies) ∙ alike.spans ∙ fused (span_at zone) (λ (c : Copy). c.var) (block_at b k).copies in
     let there : i < length us = place_there us v has in

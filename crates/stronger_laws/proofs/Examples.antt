@@ -1,29 +1,27 @@
 -- The definitions at small programs, computed.
-use Rattle.std.proofs.Common.{◌≡◌, refl, ℕ, ◌<◌, ◌≤◌, true, false, List, [], ◌∷◌, map, Some, None, arith}
+use Rattle.std.proofs.Common.{◌≡◌, refl, ℕ, false, List, [], ◌∷◌, map, Some, None, arith}
 use Rattle.std.proofs.Math.IntN.{ℤ, pos, negsuc}
 use Rattle.std.proofs.lemmas.List.Elements.{All-from_recursion}
 use Rattle.bp_theory.specs.Program.{Program}
 use Rattle.bp_theory.specs.Blocking.{all_copies, coef_in, row_at}
 use Rattle.bp_theory.specs.Decomposition.{Decomposition, blocking_of}
 use Rattle.bp_theory.specs.Bound.{base, reduced_cost}
-use Rattle.bp_theory.specs.Cuts.{cut_row}
-use Rattle.bp_theory.specs.Trees.{Leaf, high_part}
+use Rattle.bp_theory.specs.Trees.{high_part}
 use Rattle.bp_theory.specs.declared.Span.{Span}
 use Rattle.bp_theory.specs.declared.Term.{Term}
 use Rattle.bp_theory.specs.declared.Sense.{Sense}
 use Rattle.bp_theory.specs.declared.Sense.TheVariants.{Le, Ge, Eq, In}
 use Rattle.bp_theory.specs.declared.Row.{Row}
-use Rattle.bp_theory.specs.declared.Proof.{Proof}
-use Rattle.bp_theory.specs.declared.Picked.TheVariants.{Every, These}
+use Rattle.bp_theory.specs.declared.Picked.TheVariants.{Every}
 use Rattle.stronger_laws.specs.WideRows.{wide_rows, wide_blocking}
-use Rattle.stronger_laws.specs.Mir.{mir_function, full_remainder, mir_row, row_of, IsCombinable, IsFittingMir}
-use Rattle.stronger_laws.specs.PricedCuts.{with_costs, priced_row}
+use Rattle.stronger_laws.specs.Mir.{mir_function, full_remainder, row_of, IsCombinable, IsFittingMir}
+use Rattle.stronger_laws.specs.PricedCuts.{with_costs}
 use Rattle.stronger_laws.specs.AllCuts.{any_row, any_rows}
 use Rattle.stronger_laws.specs.Alike.{home, siblings}
 use Rattle.stronger_laws.specs.ClassTrees.{class_low_part}
 use Rattle.stronger_laws.specs.declared.MirCut.{MirCut}
 use Rattle.stronger_laws.specs.declared.PricedCut.{PricedCut}
-use Rattle.stronger_laws.specs.declared.AnyCut.TheVariants.{Rounding, Mir, Priced}
+use Rattle.stronger_laws.specs.declared.AnyCut.TheVariants.{Mir, Priced}
 
 abbrev span : ℤ → ℤ → Span
 span lo hi = record { lo = lo; hi = hi }

@@ -5,6 +5,7 @@ pub mod WideProof
 pub mod KeepProof
 pub mod AllCutsProof
 pub mod SwapProof
+pub mod AlikeProof
 pub mod SwapPointProof
 pub mod ClassCoverProof
 pub mod ClassPartsProof

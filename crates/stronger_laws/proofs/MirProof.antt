@@ -1,25 +1,21 @@
 -- Mixed-integer rounding cuts are met.
-use Rattle.std.proofs.Common.{◌≡◌, refl, sym, ap, subst, ◌∙◌, ℕ, zero, suc, ◌+◌, ◌-◌, ◌*◌, ◌/◌, ◌<◌, ◌≤◌, Bool, true, false, not, List, [], ◌∷◌, ◌++◌, map, length, get_or, Option, Some, None, arith, ⊎_elim}
+use Rattle.std.proofs.Common.{◌≡◌, refl, sym, ap, subst, ◌∙◌, ℕ, suc, ◌<◌, ◌≤◌, Bool, true, false, not, List, [], ◌∷◌, ◌++◌, map, length, Option, Some, None, arith}
 use Rattle.std.proofs.Math.IntN.{ℤ, pos, negsuc, neg_ℤ, ◌+ℤ◌, ◌-ℤ◌, ◌*ℤ◌, *ℤ_comm, zero-*ℤ, *ℤ-zero}
 use Rattle.std.proofs.Math.Nat.{mul-le-mul_left}
-use Rattle.std.specs.Prelude.{◌≤ℤ◌, ◌<ℤ◌, All, if◌then◌else◌, unsigned_abs, filter}
+use Rattle.std.specs.Prelude.{◌≤ℤ◌, ◌<ℤ◌, if◌then◌else◌, unsigned_abs}
 use Rattle.std.specs.List.{AllByRecursion, range_with_len}
 use Rattle.std.specs.Int.{int_min, int_div_euclid, int_rem_euclid}
 use Rattle.std.specs.Ordering.{int_eq}
-use Rattle.std.proofs.lemmas.Bool.{cases_lt}
 use Rattle.std.proofs.lemmas.Bool.Decides.{Decides-int_eq}
 use Rattle.std.proofs.lemmas.Int.{ints, clamps, by_lt_z}
 use Rattle.std.proofs.lemmas.List.Elements.{recursion_from_All}
-use borrow.Author.Differences.{neg_is, up, down, product_is}
 use Rattle.bp_theory.specs.Sums.{sum_of}
 use Rattle.bp_theory.specs.Program.{Program, value_at, activity, span_at, IsWithin, IsInside, Meets, MeetsRow}
 use Rattle.bp_theory.specs.Decomposition.{ProofRow, whole_row, link_row, no_row}
 use Rattle.bp_theory.specs.Cuts.{row_coefficient, terms_of, term_at}
-use Rattle.bp_theory.specs.declared.Span.{Span}
 use Rattle.bp_theory.specs.declared.Term.{Term}
 use Rattle.bp_theory.specs.declared.Sense.{Sense}
 use Rattle.bp_theory.specs.declared.Sense.TheVariants.{Le, Ge, Eq, In}
-use Rattle.bp_theory.specs.declared.Row.{Row}
 use Rattle.bp_theory.proofs.Whole.{mul-add, add-mul, mul-sub, sub-mul, mul_assoc, le-mul_pos}
 use Rattle.bp_theory.proofs.SumLaws.{sum_of-same, sum_of-add, sum_of-sub, sum_of-zero, sum_of-map, sum_of-filter, mul-sum_of}
 use Rattle.bp_theory.proofs.ZipLaws.{AllZip_at}
@@ -27,7 +23,7 @@ use Rattle.bp_theory.proofs.KeyLaws.{sum_of-by_key}
 use Rattle.bp_theory.proofs.CutProof.{row_activity}
 use Rattle.bp_theory.proofs.DecompositionProof.{below_range, kept_at}
 use Rattle.stronger_laws.specs.WideRows.{HasKnownVariables, IsMet}
-use Rattle.stronger_laws.specs.Mir.{mir_function, slack_side, put_back, HasOneSide, IsCombinable, named_side, named_put_back, row_of, weighted_coefficient, weighted_side, summed, is_upper, end_of, at_ends, summed_side, full_remainder, lowered_to, remainder_of, rounded_by, rounded_coefficient, slack_weight, mir_coefficient, mir_low, mir_row, IsLowered, IsFittingMir}
+use Rattle.stronger_laws.specs.Mir.{mir_function, slack_side, put_back, HasOneSide, IsCombinable, named_side, named_put_back, row_of, weighted_coefficient, weighted_side, summed, is_upper, end_of, at_ends, summed_side, full_remainder, lowered_to, remainder_of, rounded_by, rounded_coefficient, slack_weight, mir_coefficient, mir_row, IsLowered, IsFittingMir}
 use Rattle.stronger_laws.specs.Laws.{MirShrinks, MirIsMet}
 use Rattle.stronger_laws.specs.declared.MirCut.{MirCut}
 

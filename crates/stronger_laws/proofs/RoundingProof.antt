@@ -1,7 +1,7 @@
 -- A rounding cut is a mixed-integer rounding cut of remainder 1 over its rows.
-use Rattle.std.proofs.Common.{◌≡◌, refl, sym, ap, subst, ◌∙◌, ℕ, zero, suc, ◌<◌, not, List, [], ◌∷◌, map, length, get_or, Option, Some, None, arith}
+use Rattle.std.proofs.Common.{◌≡◌, refl, ap, subst, ◌∙◌, ℕ, zero, suc, ◌<◌, not, List, [], ◌∷◌, map, length, arith}
 use Rattle.std.proofs.Math.IntN.{ℤ, pos, negsuc, neg_ℤ, ◌+ℤ◌, ◌-ℤ◌, ◌*ℤ◌, zero-*ℤ, *ℤ-zero}
-use Rattle.std.specs.Prelude.{◌≤ℤ◌, ◌<ℤ◌, All, unsigned_abs, filter}
+use Rattle.std.specs.Prelude.{◌≤ℤ◌, ◌<ℤ◌, unsigned_abs, filter}
 use Rattle.std.specs.List.{AllByRecursion, range_with_len}
 use Rattle.std.specs.Int.{int_min, int_div_euclid, int_rem_euclid}
 use Rattle.std.specs.Ordering.{int_eq}
@@ -11,16 +11,15 @@ use Rattle.bp_theory.specs.Sums.{sum_of, round_up}
 use Rattle.bp_theory.specs.Program.{Program, span_at}
 use Rattle.bp_theory.specs.Decomposition.{ProofRow, whole_row, link_row, no_row}
 use Rattle.bp_theory.specs.Bound.{side, SignFitsSense}
-use Rattle.bp_theory.specs.Cuts.{row_coefficient, row_side, CombinesWell, IsFitting, combined, combined_side, at_lower_ends, rounded, cut_low, cut_row, terms_of, term_at}
+use Rattle.bp_theory.specs.Cuts.{row_coefficient, row_side, CombinesWell, combined, combined_side, at_lower_ends, rounded, cut_low, terms_of, term_at}
 use Rattle.bp_theory.specs.declared.Term.{Term}
 use Rattle.bp_theory.specs.declared.Sense.{Sense}
 use Rattle.bp_theory.specs.declared.Sense.TheVariants.{Le, Ge, Eq, In}
 use Rattle.bp_theory.specs.declared.Row.{Row}
-use Rattle.bp_theory.specs.declared.Cut.{Cut}
 use Rattle.bp_theory.proofs.Whole.{mul-add, le-mul_pos}
-use Rattle.bp_theory.proofs.SumLaws.{sum_of-same, sum_of-zero}
+use Rattle.bp_theory.proofs.SumLaws.{sum_of-same}
 use Rattle.bp_theory.proofs.CutProof.{le-round_up, round_up-le}
-use Rattle.stronger_laws.specs.Mir.{mir_function, slack_side, put_back, HasOneSide, IsCombinable, named_side, named_put_back, row_of, weighted_coefficient, weighted_side, summed, at_ends, summed_side, rounded_coefficient, slack_weight, mir_coefficient, mir_low, mir_row}
+use Rattle.stronger_laws.specs.Mir.{mir_function, slack_side, put_back, HasOneSide, IsCombinable, named_side, named_put_back, row_of, weighted_coefficient, weighted_side, at_ends, summed_side, rounded_coefficient, slack_weight, mir_coefficient, mir_low}
 use Rattle.stronger_laws.specs.Laws.{as_mir, RoundingIsMir}
 use Rattle.stronger_laws.specs.declared.MirCut.{MirCut}
 use Rattle.stronger_laws.proofs.MirProof.{euclid, rest_low, rest_high, same_at_each}

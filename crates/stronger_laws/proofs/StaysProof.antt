@@ -1,6 +1,5 @@
 -- A certificate of rounding cuts, master rows and plain splits that is valid stays valid.
-use Rattle.std.proofs.Common.{◌≡◌, refl, sym, ap, subst, ◌∙◌, ℕ, List, [], ◌∷◌, ◌++◌, map, get_or}
-use Rattle.std.proofs.Math.IntN.{ℤ}
+use Rattle.std.proofs.Common.{◌≡◌, refl, sym, ap, subst, ◌∙◌, List, [], ◌∷◌, ◌++◌, map, get_or}
 use Rattle.std.specs.Prelude.{All, IsTrue}
 use Rattle.bp_theory.specs.Program.{Program, in_sense, KeepsActivity}
 use Rattle.bp_theory.specs.Blocking.{Blocking}
@@ -8,7 +7,7 @@ use Rattle.bp_theory.specs.Decomposition.{Decomposition, proof_rows, blocking_of
 use Rattle.bp_theory.specs.Bound.{SignsFit}
 use Rattle.bp_theory.specs.Cuts.{cut_row, cut_rows, AreFitting}
 use Rattle.bp_theory.specs.Trees.{Tree, shut_leaf, open_leaf, split, Leaf, leaves, low_part, high_part, HasSoundSplits}
-use Rattle.bp_theory.specs.Claims.{Certificate, IsCertified, Shows, MayBeOpen}
+use Rattle.bp_theory.specs.Claims.{Shows, MayBeOpen}
 use Rattle.bp_theory.specs.declared.Span.{Span}
 use Rattle.bp_theory.specs.declared.Row.{Row}
 use Rattle.bp_theory.specs.declared.Cut.{Cut}
@@ -19,7 +18,6 @@ use Rattle.stronger_laws.specs.AllCuts.{any_rows, AreFittingAll}
 use Rattle.stronger_laws.specs.ClassTrees.{class_leaves, HasSoundNodes}
 use Rattle.stronger_laws.specs.WideClaims.{IsWideValid, as_class, as_wide}
 use Rattle.stronger_laws.specs.Laws.{CertifiedStays}
-use Rattle.stronger_laws.specs.declared.AnyCut.{AnyCut}
 use Rattle.stronger_laws.specs.declared.AnyCut.TheVariants.{Rounding}
 use Rattle.stronger_laws.proofs.KeepProof.{wide_rows_keep_lem}
 

@@ -1,7 +1,7 @@
 -- A feasible point with the numbers of two blocks changed is feasible and costs as much.
-use Rattle.std.proofs.Common.{◌≡◌, ◌≢◌, ◌⊎◌, refl, sym, ap, subst, ◌∙◌, ℕ, zero, suc, ◌<◌, ◌≤◌, true, List, [], ◌∷◌, map, length, get_or, Option, Some, None, arith, inl, inr, ⊎_elim}
+use Rattle.std.proofs.Common.{◌≡◌, ◌≢◌, ◌⊎◌, refl, sym, ap, subst, ◌∙◌, ℕ, zero, suc, ◌<◌, true, List, [], ◌∷◌, map, length, get_or, Option, Some, None, arith, inl, inr, ⊎_elim}
 use Rattle.std.proofs.Math.IntN.{ℤ, pos, ◌+ℤ◌, ◌*ℤ◌}
-use Rattle.std.specs.Prelude.{◌==◌, All, Contains}
+use Rattle.std.specs.Prelude.{All, Contains}
 use Rattle.std.specs.List.{AllByRecursion}
 use Rattle.std.proofs.lemmas.Bool.{cases_lt}
 use Rattle.std.proofs.lemmas.Bool.Decides.{eqb_tells}
@@ -10,8 +10,8 @@ use Rattle.std.proofs.lemmas.List.{get_or_past, length-map}
 use Rattle.std.proofs.lemmas.List.Elements.{All-contains, recursion_from_All}
 use Rattle.bp_theory.specs.Sums.{sum_of, dot}
 use Rattle.bp_theory.specs.Program.{Program, IsFeasible, IsInside, IsWithin, Meets, MeetsRow, activity, cost, value_at, span_at}
-use Rattle.bp_theory.specs.Blocking.{Copy, Block, Blocking, AddsUp, IsFaithful, Mirrors, coef_in, restriction, all_copies, copy_activity, copy_cost}
-use Rattle.bp_theory.specs.Bound.{spans_of}
+use Rattle.bp_theory.specs.Blocking.{Copy, Block, Blocking, AddsUp, IsFaithful, Mirrors, coef_in, restriction, all_copies}
+use Rattle.bp_theory.specs.Classes.{IsSame}
 use Rattle.bp_theory.specs.declared.Span.{Span}
 use Rattle.bp_theory.specs.declared.Term.{Term}
 use Rattle.bp_theory.specs.declared.Row.{Row}
@@ -20,7 +20,7 @@ use Rattle.bp_theory.proofs.FaithProof.{activity_of_places}
 use Rattle.bp_theory.proofs.ZipLaws.{AllZip_at, AllZip-length, AllZip-from_places}
 use Rattle.search_laws.specs.Spread.{block_at, HasEachRow}
 use Rattle.stronger_laws.specs.Alike.{variables_of, HasDistinctVariables, stands_alone}
-use Rattle.stronger_laws.proofs.SwapProof.{AreAlike, partner, partner_keeps, AreApart, AreDistinct, distinct_at, alone_apart, apart_back, partners_of_first, partners_of_second, partners_of_other, swapped, length-swapped, swapped_at, swapped_numbers, restriction_by, copies_by_block, swapped_sum, fused}
+use Rattle.stronger_laws.proofs.SwapProof.{partner, partner_keeps, AreApart, distinct_at, alone_apart, apart_back, partners_of_first, partners_of_second, partners_of_other, swapped, length-swapped, swapped_at, swapped_numbers, restriction_by, copies_by_block, swapped_sum, fused}
 
 -- two blocks whose numbers can change places
 pub record CanSwap (b : Blocking) (zone : List Span) (j k : ℕ) : Type 0 where
@@ -29,7 +29,7 @@ pub record CanSwap (b : Blocking) (zone : List Span) (j k : ℕ) : Type 0 where
   pub others : k ≢ j
   pub alone_first : stands_alone b j ≡ true
   pub alone_second : stands_alone b k ≡ true
-  pub alike : AreAlike zone (block_at b j) (block_at b k)
+  pub alike : IsSame zone (block_at b j) (block_at b k)
   pub distinct : HasDistinctVariables b
 
 abbrev pub after_swap : Blocking → ℕ → ℕ → List ℤ → List ℤ
@@ -42,7 +42,7 @@ any_default (x ∷ xs) zero d e l = refl
 any_default (x ∷ xs) (suc k) d e l = any_default xs k d e (omega (arith, l))
 
 -- as many variables
-pub as_many : (zone : List Span) (k l : Block) → AreAlike zone k l → length (variables_of k) ≡ length (variables_of l)
+pub as_many : (zone : List Span) (k l : Block) → IsSame zone k l → length (variables_of k) ≡ length (variables_of l)
 as_many zone k l alike =
     omega (
       arith,

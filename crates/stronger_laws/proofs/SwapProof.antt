@@ -1,32 +1,28 @@
 -- Two blocks that are alike and stand alone can change their numbers: what comes of it is as feasible and costs as much.
-use Rattle.std.proofs.Common.{◌≡◌, ◌≢◌, ◌⊎◌, refl, sym, ap, subst, ◌∙◌, ℕ, zero, suc, ◌+◌, ◌<◌, ◌≤◌, Bool, true, false, not, ◌&&◌, ◌||◌, List, [], ◌∷◌, ◌++◌, map, length, get_or, Option, Some, None, arith, inl, inr, ⊎_elim}
+use Rattle.std.proofs.Common.{◌≡◌, ◌≢◌, refl, sym, ap, ◌∙◌, ℕ, zero, suc, ◌+◌, ◌<◌, ◌≤◌, Bool, true, false, not, ◌&&◌, ◌||◌, List, [], ◌∷◌, map, length, get_or, arith, ⊎_elim}
 use Rattle.std.proofs.Math.IntN.{ℤ, pos, ◌+ℤ◌, ◌-ℤ◌, ◌*ℤ◌}
-use Rattle.std.specs.Prelude.{◌==◌, if◌then◌else◌, All, Contains, filter, option_map}
+use Rattle.std.specs.Prelude.{◌==◌, if◌then◌else◌}
 use Rattle.std.specs.List.{AllByRecursion, AllPairs, range_with_len, list_any}
-use Rattle.std.specs.List.Sorted.{IsStrictlyIncreasing}
 use Rattle.std.specs.Ordering.{int_eq}
-use Rattle.std.proofs.lemmas.Bool.{cases_lt}
 use Rattle.std.proofs.lemmas.Bool.Decides.{eqb_tells, Decides-int_eq}
 use Rattle.std.proofs.lemmas.Int.{ints}
-use Rattle.std.proofs.lemmas.List.{get_or_past}
 use Rattle.std.proofs.lemmas.List.FromFn.{fill_by_all, length-map-range_with_len, get_or-map-range_with_len}
 use Rattle.std.proofs.lemmas.List.Kept.{AllPairs-from_increasing}
-use Rattle.std.proofs.lemmas.List.Elements.{All-contains, All-from_recursion, recursion_from_All}
+use Rattle.std.proofs.lemmas.List.Elements.{recursion_from_All}
 use Rattle.bp_theory.specs.Sums.{sum_of, sum_at, dot}
-use Rattle.bp_theory.specs.Program.{Program, IsFeasible, IsInside, IsWithin, Meets, MeetsRow, activity, cost, value_at, span_at}
-use Rattle.bp_theory.specs.Blocking.{Copy, Block, Blocking, AddsUp, IsFaithful, Mirrors, coef_in, restriction, all_copies, copy_activity, copy_cost}
+use Rattle.bp_theory.specs.Program.{value_at}
+use Rattle.bp_theory.specs.Blocking.{Copy, Block, Blocking, restriction, all_copies}
 use Rattle.bp_theory.specs.Bound.{spans_of}
+use Rattle.bp_theory.specs.Classes.{IsSame}
 use Rattle.bp_theory.specs.declared.Sense.{Sense}
 use Rattle.bp_theory.specs.declared.Sense.TheVariants.{Le, Ge, Eq, In}
 use Rattle.bp_theory.specs.declared.Span.{Span}
 use Rattle.bp_theory.specs.declared.Term.{Term}
 use Rattle.bp_theory.specs.declared.Row.{Row}
 use Rattle.bp_theory.proofs.SumLaws.{sum_of-same, sum_of-add, sum_of-map, sum_of-flat_map, dot-map-map}
-use Rattle.bp_theory.proofs.KeyLaws.{sum_of-pick, sum_of-same_keys}
-use Rattle.bp_theory.proofs.FaithProof.{activity_of_places}
-use Rattle.bp_theory.proofs.ZipLaws.{AllZip_at, AllZip-length, AllZip-from_places}
+use Rattle.bp_theory.proofs.KeyLaws.{sum_of-pick}
 use Rattle.bp_theory.proofs.DecompositionProof.{eqb_itself}
-use Rattle.search_laws.specs.Spread.{block_at, HasEachRow}
+use Rattle.search_laws.specs.Spread.{block_at}
 use Rattle.stronger_laws.specs.Alike.{agree, same_span, same_entry, same_term, same_sense, same_row, is_alike, variables_of, HasDistinctVariables, is_among, shares, stands_alone}
 
 -- ---- tests
@@ -142,14 +138,8 @@ pub fused : {X Y Z : Type 0} (g : Y → Z) (f : X → Y) (xs : List X) → map (
 fused g f [] = refl
 fused g f (x ∷ xs) = ap (λ zs. g (f x) ∷ zs) (fused g f xs)
 
--- what blocks that are alike have in common
-pub record AreAlike (zone : List Span) (k l : Block) : Type 0 where
-  pub costs : map (λ (c : Copy). c.cost) k.copies ≡ map (λ (c : Copy). c.cost) l.copies
-  pub spans : spans_of zone k ≡ spans_of zone l
-  pub coefs : (row : ℕ) → map (λ (c : Copy). coef_in c row) k.copies ≡ map (λ (c : Copy). coef_in c row) l.copies
-  pub rows : k.rows ≡ l.rows
-
-pub alike_tells : (zone : List Span) (k l : Block) → is_alike zone k l ≡ true → AreAlike zone k l
+-- blocks that are alike are the same in the zone
+pub alike_tells : (zone : List Span) (k l : Block) → is_alike zone k l ≡ true → IsSame zone k l
 alike_tells zone k l h =
     let costs : Bool = agree int_eq (map (λ (c : Copy). c.cost) k.copies) (map (λ (c : Copy). c.cost) l.copies) in
     let spans : Bool = agree same_span (spans_of zone k) (spans_of zone l) in

@@ -8,7 +8,7 @@ use Rattle.std.proofs.lemmas.Int.{ints, by_lt_z}
 use Rattle.std.proofs.lemmas.List.Elements.{recursion_from_All, All-from_recursion, All-push, All-nil}
 use Rattle.bp_theory.specs.Program.{Program, span_at, IsWithin, IsInside, MeetsRow, IsFeasible, value, in_sense, KeepsActivity, activity_limit}
 use Rattle.bp_theory.specs.Blocking.{Blocking, row_at}
-use Rattle.bp_theory.specs.Decomposition.{Decomposition, ProofRow, whole_row, link_row, no_row, proof_rows, blocking_of, HasVariablesBelow}
+use Rattle.bp_theory.specs.Decomposition.{Decomposition, ProofRow, whole_row, link_row, no_row, proof_rows}
 use Rattle.bp_theory.specs.Bound.{IsBound, SignFits, SignFitsSense, SignsFit}
 use Rattle.bp_theory.specs.Cuts.{CombinesWell, IsFitting}
 use Rattle.bp_theory.specs.Trees.{Leaf, low_part, high_part, IsSoundSplit, IsProper}
@@ -28,13 +28,13 @@ use Rattle.bp_theory.proofs.LeastLaws.{Decided, le_decided, both_decided, rows_d
 use Rattle.bp_theory.proofs.ShrinkProof.{one_bound_lem}
 use Rattle.bp_theory.proofs.ClassProof.{split_shrinks_lem}
 use Rattle.search_laws.specs.Spread.{block_at}
-use Rattle.stronger_laws.specs.WideRows.{wide_rows, wide_blocking}
+use Rattle.stronger_laws.specs.WideRows.{wide_rows}
 use Rattle.stronger_laws.specs.Mir.{HasOneSide, IsCombinable, row_of, full_remainder, remainder_of, IsLowered, IsFittingMir}
 use Rattle.stronger_laws.specs.AllCuts.{any_row, any_rows, IsFittingAny, AreFittingAll}
 use Rattle.stronger_laws.specs.Alike.{variables_of, is_among, home, siblings}
 use Rattle.stronger_laws.specs.ClassTrees.{ClassTree, shut_leaf, open_leaf, split, class_split, class_low_part, class_leaves, IsSoundClassSplit, HasSoundNodes}
 use Rattle.stronger_laws.specs.WideClaims.{WideCertificate, IsWideCertified}
-use Rattle.stronger_laws.specs.WideJudgement.{Judge, WideLine, point_line, cut_line, split_line, class_line, leaf_line, Passes, AreCombinable, priced_blocking, HasFault, outside, missed, other_value, rounding_sign, mir_row_kind, mir_divisor, priced_unknown, priced_sign, priced_weak, large_cut, unsound, class_unsound, no_class, leaf_sign, weak, open_there, wide_point_lines, wide_cut_lines, class_tree_lines, judge_of, wide_lines, IsFirstWideFault}
+use Rattle.stronger_laws.specs.WideJudgement.{Judge, WideLine, point_line, cut_line, split_line, class_line, leaf_line, Passes, priced_blocking, HasFault, outside, missed, other_value, rounding_sign, mir_row_kind, mir_divisor, priced_unknown, priced_sign, priced_weak, large_cut, unsound, class_unsound, no_class, leaf_sign, weak, open_there, wide_point_lines, wide_cut_lines, class_tree_lines, judge_of, wide_lines, IsFirstWideFault}
 use Rattle.stronger_laws.specs.Laws.{WideJudged}
 use Rattle.stronger_laws.specs.declared.MirCut.{MirCut}
 use Rattle.stronger_laws.specs.declared.PricedCut.{PricedCut}

@@ -1,12 +1,12 @@
 -- The blocking in which proofs may name rows of blocks adds up to the program.
-use Rattle.std.proofs.Common.{◌≡◌, refl, sym, ap, subst, ◌∙◌, ℕ, zero, suc, ◌<◌, Bool, true, false, List, [], ◌∷◌, ◌++◌, map, length, get_or, Option, Some, None, arith}
+use Rattle.std.proofs.Common.{◌≡◌, refl, sym, subst, ◌∙◌, ℕ, ◌<◌, Bool, true, false, List, [], ◌∷◌, ◌++◌, map, length, get_or, Option}
 use Rattle.std.proofs.Math.IntN.{ℤ}
 use Rattle.std.specs.Prelude.{All, Contains, filter, if◌then◌else◌}
 use Rattle.std.specs.List.{AllByRecursion, range_with_len, zip, flat_map}
 use Rattle.std.proofs.lemmas.List.Elements.{recursion_from_All, All-from_recursion, All-map, All-nil, All-contains, All-contains_itself}
 use Rattle.bp_theory.specs.Program.{Program, IsFeasible, MeetsRow}
-use Rattle.bp_theory.specs.Blocking.{Copy, Block, Mirrors, AreImplied, AddsUp, IsFaithful}
-use Rattle.bp_theory.specs.Decomposition.{Decomposition, ProofRow, whole_row, link_row, no_row, proof_row, proof_rows, links_of, full_row, is_block, rows_of, members, is_in, is_first, copy_of, row_with_places, block_of, lone_block, lone_variables, HasVariablesBelow, IsClosed}
+use Rattle.bp_theory.specs.Blocking.{Copy, Mirrors, AreImplied, AddsUp}
+use Rattle.bp_theory.specs.Decomposition.{Decomposition, ProofRow, whole_row, link_row, no_row, proof_row, proof_rows, links_of, full_row, is_block, rows_of, members, is_in, is_first, copy_of, row_with_places, block_of, lone_block, HasVariablesBelow, IsClosed}
 use Rattle.bp_theory.specs.declared.Row.{Row}
 use Rattle.bp_theory.proofs.FaithProof.{adding_up_lem}
 use Rattle.bp_theory.proofs.DecompositionProof.{IsKept, IsMetBy, kept_all, all_met, kept_at, known_members, all_blocks, mirrored_row, costs_add_up, coefs_add_up, get_or-map_past}

@@ -1,5 +1,5 @@
 -- Valid certificates of any cuts, rows and splits make true claims.
-use Rattle.std.proofs.Common.{◌≡◌, refl, sym, ap, subst, ◌∙◌, List, [], map, length, get_or, Option, Some, None, arith}
+use Rattle.std.proofs.Common.{◌≡◌, sym, ap, subst, ◌∙◌, List, [], map, length, get_or, Option, Some, None}
 use Rattle.std.proofs.Math.IntN.{ℤ}
 use Rattle.std.specs.Prelude.{◌≤ℤ◌, All}
 use Rattle.std.proofs.lemmas.List.Elements.{All-nil}
@@ -22,7 +22,7 @@ use Rattle.stronger_laws.specs.WideRows.{wide_blocking}
 use Rattle.stronger_laws.specs.Alike.{HasDistinctVariables}
 use Rattle.stronger_laws.specs.AllCuts.{any_rows}
 use Rattle.stronger_laws.specs.ClassTrees.{ClassTree, class_leaves}
-use Rattle.stronger_laws.specs.WideClaims.{WideCertificate, IsWideValid, IsWideCertified}
+use Rattle.stronger_laws.specs.WideClaims.{WideCertificate, IsWideValid}
 use Rattle.stronger_laws.specs.Laws.{WideCertifiedIsTrue}
 use Rattle.stronger_laws.specs.declared.AnyCut.{AnyCut}
 use Rattle.stronger_laws.proofs.WideProof.{wide_is_faithful_lem}

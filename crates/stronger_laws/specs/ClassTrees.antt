@@ -1,5 +1,5 @@
 -- Branch trees whose splits may be those of a class.
-use Rattle.std.specs.Prelude.{ℕ, ◌<◌, ◌≤◌, ◌+◌, max, IsTrue, true, false, List, [], ◌∷◌, ◌++◌, length, ℤ, slice_set}
+use Rattle.std.specs.Prelude.{ℕ, ◌≤◌, IsTrue, true, false, List, [], ◌∷◌, ◌++◌, length, ℤ, slice_set}
 use Rattle.std.specs.Int.{int_min}
 use Rattle.bp_theory.specs.Program.{span_at}
 use Rattle.bp_theory.specs.Blocking.{Blocking}

@@ -1,10 +1,11 @@
 -- The laws over the definitions.
-use Rattle.std.specs.Prelude.{ℕ, ◌*◌, ◌<◌, ◌≤◌, ◌≡◌, ◌⊎◌, List, [], length, map, Option, Some, ℤ, pos, ◌≤ℤ◌, ◌<ℤ◌, unsigned_abs, All, Any, slice_index_or}
+use Rattle.std.specs.Prelude.{ℕ, ◌*◌, ◌<◌, ◌≤◌, ◌≡◌, ◌⊎◌, List, [], length, map, Option, Some, ℤ, unsigned_abs, IsTrue, All, Any, slice_index_or}
 use Rattle.bp_theory.specs.Program.{Program, IsInside, IsFeasible, MeetsRow, cost}
 use Rattle.bp_theory.specs.Blocking.{Block, Blocking, IsFaithful, AreImplied, AddsUp}
 use Rattle.bp_theory.specs.Decomposition.{Decomposition, ProofRow, no_row, full_row, blocking_of, HasVariablesBelow, IsClosed, HasPlaces}
 use Rattle.bp_theory.specs.Bound.{spans_of, reduced_cost, is_picked, IsPart, IsBound, IsEndless, SignsFit}
 use Rattle.bp_theory.specs.Cuts.{cut_row, IsFitting}
+use Rattle.bp_theory.specs.Classes.{IsSame}
 use Rattle.bp_theory.specs.Trees.{IsSubzone, IsProper, high_part}
 use Rattle.bp_theory.specs.Claims.{Holds, Empties, Certificate, IsCertified, IsTrueClaim}
 use Rattle.bp_theory.specs.Judgement.{named_value, HasItsPoint}
@@ -12,7 +13,7 @@ use Rattle.bp_theory.specs.declared.Row.{Row}
 use Rattle.bp_theory.specs.declared.Span.{Span}
 use Rattle.bp_theory.specs.declared.Proof.{Proof}
 use Rattle.bp_theory.specs.declared.Cut.{Cut}
-use Rattle.search_laws.specs.Spread.{HasEachRow}
+use Rattle.search_laws.specs.Spread.{block_at, HasEachRow}
 use Rattle.stronger_laws.specs.WideRows.{wide_rows, blocking_over, wide_blocking, HasKnownVariables, IsMet}
 use Rattle.stronger_laws.specs.Mir.{mir_function, mir_row, mir_coefficient, mir_low, summed_side, row_of, IsCombinable, IsFittingMir, named_limit, combination_limit}
 use Rattle.stronger_laws.specs.PricedCuts.{priced_row, IsFittingPriced}
@@ -20,7 +21,7 @@ use Rattle.stronger_laws.specs.AllCuts.{any_rows, AreFittingAll}
 use Rattle.stronger_laws.specs.ClassTrees.{ClassTree, class_leaves, HasSoundNodes, IsSoundClassSplit, class_low_part}
 use Rattle.stronger_laws.specs.WideClaims.{WideCertificate, IsWideCertified, as_wide}
 use Rattle.stronger_laws.specs.WideJudgement.{IsFirstWideFault}
-use Rattle.stronger_laws.specs.Alike.{HasDistinctVariables}
+use Rattle.stronger_laws.specs.Alike.{is_alike, HasDistinctVariables}
 use Rattle.stronger_laws.specs.declared.MirCut.{MirCut}
 use Rattle.stronger_laws.specs.declared.PricedCut.{PricedCut}
 use Rattle.stronger_laws.specs.declared.AnyCut.{AnyCut}
@@ -71,6 +72,14 @@ pub record AllCutsAreMet : Type 0 where
       → All (λ cut. HasVariablesBelow (length p.spans) cut.terms) (any_rows p d [] cuts)
   pub met : (p : Program) (d : Decomposition) (cuts : List AnyCut) (x : List ℤ) → IsClosed p → AreFittingAll p d [] cuts
       → IsFeasible p x → All (MeetsRow x) (any_rows p d [] cuts)
+
+-- the test of two blocks tells whether they are the same in a zone
+pub record AlikeTells : Type 0 where
+  pub same : (zone : List Span) (k l : Block) → IsTrue (is_alike zone k l) → IsSame zone k l
+  pub alike : (p : Program) (d : Decomposition) (cuts : List Row) (zone : List Span) (j k : ℕ)
+      → j < length (blocking_of p d cuts).blocks → k < length (blocking_of p d cuts).blocks
+      → IsSame zone (block_at (blocking_of p d cuts) j) (block_at (blocking_of p d cuts) k)
+      → IsTrue (is_alike zone (block_at (blocking_of p d cuts) j) (block_at (blocking_of p d cuts) k))
 
 -- a feasible point of the zone of a sound class split, or another of the same cost, lies in one of the parts
 abbrev pub ClassSplitCovers : Type 0

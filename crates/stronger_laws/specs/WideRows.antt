@@ -1,6 +1,6 @@
 -- Rows that stronger proofs may name: each row of the program by its own number, those of blocks too, then the link
 -- rows and the cuts with the numbers that they have beside master rows alone.
-use Rattle.std.specs.Prelude.{ℕ, List, ◌++◌, map, length, Option, ℤ, All, option_map}
+use Rattle.std.specs.Prelude.{List, ◌++◌, map, length, ℤ, option_map}
 use Rattle.std.specs.List.{range_with_len, zip, flat_map}
 use Rattle.bp_theory.specs.Program.{Program, MeetsRow}
 use Rattle.bp_theory.specs.Blocking.{Blocking, sides_of}

@@ -3,7 +3,7 @@
 //! function with an empty body, which nobody calls.
 #![tactic(auto)]
 
-ghost use Rattle.stronger_laws.specs.Laws.{MirShrinks, MirIsMet, MirIsBounded, RoundingIsMir, WideIsFaithful, PricedAlike, NamedRowsKeep, WideRowsKeep, PricedIsMet, AllCutsAreMet, ClassSplitCovers, ClassCover, ClassPartsAreZones, WideCertifiedIsTrue, CertifiedStays, WideJudged};
+ghost use Rattle.stronger_laws.specs.Laws.{MirShrinks, MirIsMet, MirIsBounded, RoundingIsMir, WideIsFaithful, PricedAlike, NamedRowsKeep, WideRowsKeep, PricedIsMet, AllCutsAreMet, AlikeTells, ClassSplitCovers, ClassCover, ClassPartsAreZones, WideCertifiedIsTrue, CertifiedStays, WideJudged};
 
 use bp_theory::{Cut, Items, Proof, Term};
 
@@ -96,6 +96,11 @@ pub fn priced_is_met()
 /// Each feasible point meets the row of each fitting cut, whatever its kind.
 pub fn all_cuts_are_met()
     ensures { AllCutsAreMet }
+{}
+
+/// The test of two blocks tells whether they are the same in a zone.
+pub fn alike_tells()
+    ensures { AlikeTells }
 {}
 
 /// A feasible point, or another of the same cost, lies in one of the parts of a class split.
