@@ -13,3 +13,4 @@ pub mod WideTruthProof
 pub mod StaysProof
 pub mod WideJudgeProof
 mod Examples
+mod Worked
