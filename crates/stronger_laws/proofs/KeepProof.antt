@@ -111,7 +111,7 @@ parts_alike zone proof k (b ∷ bs) (c ∷ cs) (v ∷ vs) alike parts =
 
 -- ---- sides
 
-row_at_by : (p : Program) (d : Decomposition) (rows : List ProofRow) (i : ℕ)
+pub row_at_by : (p : Program) (d : Decomposition) (rows : List ProofRow) (i : ℕ)
     → row_at (blocking_over p d rows) i ≡ option_map sides_of (full_row (get_or rows i no_row))
 row_at_by p d rows i =
     get_or-map_past (option_map sides_of) (map full_row rows) i None ∙ ap (option_map sides_of) (get_or-map_past full_row rows i no_row)

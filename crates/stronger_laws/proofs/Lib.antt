@@ -3,6 +3,7 @@ pub mod BoundProof
 pub mod RoundingProof
 pub mod WideProof
 pub mod KeepProof
+pub mod FurtherProof
 pub mod AllCutsProof
 pub mod SwapProof
 pub mod AlikeProof

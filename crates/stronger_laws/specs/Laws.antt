@@ -1,5 +1,5 @@
 -- The laws over the definitions.
-use Rattle.std.specs.Prelude.{ℕ, ◌*◌, ◌<◌, ◌≤◌, ◌≡◌, ◌⊎◌, List, [], length, map, Option, Some, ℤ, unsigned_abs, IsTrue, All, Any, slice_index_or}
+use Rattle.std.specs.Prelude.{ℕ, ◌*◌, ◌<◌, ◌≤◌, ◌≡◌, ◌⊎◌, List, [], ◌++◌, length, map, Option, Some, ℤ, unsigned_abs, IsTrue, All, Any, slice_index_or}
 use Rattle.bp_theory.specs.Program.{Program, IsInside, IsFeasible, MeetsRow, cost}
 use Rattle.bp_theory.specs.Blocking.{Block, Blocking, IsFaithful, AreImplied, AddsUp}
 use Rattle.bp_theory.specs.Decomposition.{Decomposition, ProofRow, no_row, full_row, blocking_of, HasVariablesBelow, IsClosed, HasPlaces}
@@ -59,6 +59,17 @@ pub record WideIsFaithful : Type 0 where
       → All (λ cut. HasVariablesBelow (length p.spans) cut.terms) cuts
       → ((x : List ℤ) → IsFeasible p x → All (MeetsRow x) cuts)
       → IsFaithful p (wide_blocking p d cuts)
+
+-- the rows that a proof names are the same in two lists
+abbrev pub NamesStay : List ProofRow → List ProofRow → Proof → Type 0
+NamesStay rows more proof = All (λ m. slice_index_or rows m.0 no_row ≡ slice_index_or more m.0 no_row) proof.mults
+
+-- further cuts leave the rows that a proof names, and their rows come behind those of the cuts before them
+pub record FurtherCutsStay : Type 0 where
+  pub names : (p : Program) (d : Decomposition) (cuts more : List Row) (proof : Proof) → SignsFit (wide_blocking p d cuts) proof
+      → NamesStay (wide_rows p d cuts) (wide_rows p d (cuts ++ more)) proof
+  pub rows : (p : Program) (d : Decomposition) (cuts further : List AnyCut)
+      → (more : List Row) × (any_rows p d [] (cuts ++ further) ≡ any_rows p d [] cuts ++ more)
 
 -- each feasible point meets the row of a priced cut behind cuts that each feasible point meets
 abbrev pub PricedIsMet : Type 0
@@ -120,10 +131,6 @@ as_mir cut = record { divisor = cut.q; lowered = Some 1; rows = cut.rows; upper 
 abbrev pub RoundingIsMir : Type 0
 RoundingIsMir = (p : Program) (rows : List ProofRow) (cut : Cut) → IsFitting rows cut → All (λ m. IsCombinable (row_of rows m)) cut.rows
     → All (λ m. unsigned_abs m.1 < cut.q) cut.rows → mir_row p rows (as_mir cut) ≡ cut_row p rows cut
-
--- the rows that a proof names are the same in two lists
-abbrev pub NamesStay : List ProofRow → List ProofRow → Proof → Type 0
-NamesStay rows more proof = All (λ m. slice_index_or rows m.0 no_row ≡ slice_index_or more m.0 no_row) proof.mults
 
 -- blocks of equal rows, spans and reduced costs, and picked alike, have the same least reduced cost
 abbrev pub PricedAlike : Type 0

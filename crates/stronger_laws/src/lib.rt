@@ -3,7 +3,7 @@
 //! function with an empty body, which nobody calls.
 #![tactic(auto)]
 
-ghost use Rattle.stronger_laws.specs.Laws.{MirShrinks, MirIsMet, MirIsBounded, RoundingIsMir, WideIsFaithful, PricedAlike, NamedRowsKeep, WideRowsKeep, PricedIsMet, AllCutsAreMet, AlikeTells, ClassSplitCovers, ClassCover, ClassPartsAreZones, WideCertifiedIsTrue, CertifiedStays, WideJudged};
+ghost use Rattle.stronger_laws.specs.Laws.{MirShrinks, MirIsMet, MirIsBounded, RoundingIsMir, WideIsFaithful, PricedAlike, NamedRowsKeep, WideRowsKeep, FurtherCutsStay, PricedIsMet, AllCutsAreMet, AlikeTells, ClassSplitCovers, ClassCover, ClassPartsAreZones, WideCertifiedIsTrue, CertifiedStays, WideJudged};
 
 use bp_theory::{Cut, Items, Proof, Term};
 
@@ -86,6 +86,11 @@ pub fn named_rows_keep()
 /// What a proof shows beside master rows alone it shows where proofs may name rows of blocks too.
 pub fn wide_rows_keep()
     ensures { WideRowsKeep }
+{}
+
+/// Further cuts leave the rows that a proof names.
+pub fn further_cuts_stay()
+    ensures { FurtherCutsStay }
 {}
 
 /// Each feasible point meets the row of a priced cut.
