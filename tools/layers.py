@@ -18,7 +18,7 @@ PICTURE = TOP / "docs/pictures/layers.svg"
 WIDTH, LEFT = 1040, 270  # of the picture, and of the layers' names, in pixels
 BOX, GAP, LETTER = 24, 8, 7.1  # the height of a box, what is between boxes and lines, and the width of a letter in it
 ROOMS = {  # a room's title: its colour, and its crates
-    "theory: definitions and laws": ("#fff3c4", "bp_theory search_laws"),
+    "theory: definitions and laws": ("#fff3c4", "bp_theory search_laws stronger_laws"),
     "texts and models": ("#d9ead3", "lp_token lp_syntax lp_parser bp_model name_table lp_semantics lp_read dec_syntax dec_read dec_components dec_write dec_find dec_propose bp_gen"),
     "blocks and cuts": ("#cfe2f3", "block_program block_build block_form cut_sums round_cut block_class column_assignment disagg"),
     "pricing problems and dual bounds": (
