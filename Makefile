@@ -7,9 +7,12 @@ PREFIX = /usr/local
 at = $(DESTDIR)$(PREFIX)
 completions = $(at)/share/bash-completion/completions
 lib = $(at)/share/bprice
-tools = $(wildcard tools/bprice-run tools/bprice-draw tools/check_certificate.py farm/run farm/work farm/*.py integrations/pulp/bprice_pulp.py)
-links = bprice-run:tools/bprice-run bprice-draw:tools/bprice-draw bprice-check-certificate:tools/check_certificate.py bprice-farm:farm/run
-folders = integrations/pulp/__pycache__ integrations/pulp integrations tools farm release .
+tools = $(wildcard tools/bprice-run tools/bprice_plans.py tools/bprice-explain tools/bprice-draw tools/check_certificate.py farm/run farm/work farm/*.py \
+    integrations/pulp/bprice_pulp.py integrations/python/bprice/*.py)
+links = bprice-run:tools/bprice-run bprice-explain:tools/bprice-explain bprice-draw:tools/bprice-draw bprice-check-certificate:tools/check_certificate.py \
+    bprice-farm:farm/run
+modules = tools/__pycache__ integrations/pulp/__pycache__ integrations/python/bprice/__pycache__
+folders = $(modules) integrations/pulp integrations/python/bprice integrations/python integrations tools farm release .
 
 help:
 	@echo 'make install PREFIX=/usr/local, make uninstall PREFIX=/usr/local'
@@ -30,7 +33,7 @@ uninstall:
 ifneq ($(tools),)
 	for link in $(links); do rm -f "$(at)/bin/$${link%%:*}"; done
 	for file in $(tools) release/which.sh bprice; do rm -f "$(lib)/$$file"; done
-	rm -f "$(lib)"/integrations/pulp/__pycache__/bprice_pulp.*.pyc
+	for folder in $(modules); do rm -f "$(lib)/$$folder"/*.pyc; done
 	for folder in $(folders); do [ ! -d "$(lib)/$$folder" ] || rmdir --ignore-fail-on-non-empty "$$(readlink -f "$(lib)/$$folder")"; done
 endif
 

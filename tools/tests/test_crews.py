@@ -2,7 +2,7 @@
 from conftest import TOP, load_tool
 
 crews = load_tool(TOP / "bench" / "crews.py")
-WORKED = TOP / "crates" / "worked"
+WORKED = TOP / "crates" / "test_scripts"
 
 
 def test_script_of_the_gate():

@@ -13,6 +13,9 @@ pytestmark = pytest.mark.skipif(shutil.which("make") is None or subprocess.run([
                                 reason="make is not installed, or there is no program to install")
 ENVIRONMENT = {name: value for name, value in os.environ.items() if name not in ("BPRICE", "MAKEFLAGS", "MAKELEVEL", "MFLAGS")}
 MODEL = TOP / "examples" / "cutting-stock"
+TOOLS = [TOP / "tools" / name for name in ("bprice-run", "bprice_plans.py", "bprice-explain", "bprice-draw", "check_certificate.py")] + [
+    TOP / "farm" / "run", TOP / "farm" / "work", *(TOP / "farm").glob("*.py"), TOP / "integrations" / "pulp" / "bprice_pulp.py",
+    *(TOP / "integrations" / "python" / "bprice").glob("*.py")]
 
 
 def told(*words):
@@ -40,6 +43,11 @@ def test_program_and_search(place, tmp_path):
     told_by_program = told(place / "bin" / "bprice", "solve", MODEL / "model.lp")
     assert told_by_program[0].startswith("optimal 2\n")
     assert told(place / "bin" / "bprice-run", MODEL / "model.lp", "--cert", tmp_path / "cert") == told_by_program
+
+
+def test_explanation(place, tmp_path):
+    told_by_tool = told(place / "bin" / "bprice-explain", MODEL / "model.lp")
+    assert told_by_tool[0].startswith("optimal 2\n") and told_by_tool[1] == 0
 
 
 def test_checker(place):
@@ -90,7 +98,7 @@ def test_what_is_taken_away(tmp_path, stage):
     for file in own:
         file.write_text("of somebody else\n")
     make("install", *words)
-    assert len(files(usr)) == 3 + 10 + 2 + 4 + len(own)
+    assert len(files(usr)) == 3 + len(TOOLS) + 2 + 5 + len(own)
     assert not os.path.isabs(os.readlink(usr / "bin" / "bprice-farm")) and (usr / "bin" / "bprice-farm").exists()
     make("uninstall", *words)
     assert files(usr) == sorted(str(file.relative_to(usr)) for file in own)
