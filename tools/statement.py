@@ -173,6 +173,16 @@ class Code(Scope):
         raise Unknown(f"{self.path.relative_to(TOP)}: {name} is used from no crate")
 
 
+MOST_SAID = 300  # characters of what a row says; the whole stands beside the definition
+
+
+def shortened(says):
+    """What a row says of a definition: the beginning that fits, up to the end of a clause."""
+    if len(says) <= MOST_SAID:
+        return says
+    return says[:max(says.rfind(mark, 0, MOST_SAID) for mark in (", ", "; ", ": "))] + " .."
+
+
 def code_with(crate, beginning):
     """The file of a crate that has a line with this beginning, and what stands from there to the next line that closes it."""
     for path in sorted((TOP / "crates" / crate / "src").glob("*.rt")):
@@ -248,7 +258,7 @@ def table(definitions, sentences):
         lines += ["", f"### `{file}`", "", f"{size_of(those)}.", "", "| Line | Definition | Says |", "|---|---|---|"]
         for it in sorted(those, key=lambda it: it.line):
             says = it.comment.replace("|", "\\|") or sentences.of(it)
-            lines.append(f"| {it.line} | `{it.name}` | {says} |")
+            lines.append(f"| {it.line} | `{it.name}` | {shortened(says)} |")
     return [*lines, ""]
 
 
