@@ -16,6 +16,7 @@ mod search;
 mod shifts;
 mod start;
 mod steps;
+mod subproblem;
 
 pub use caps::{prefixes, visits_under};
 pub use columns::Entry;
@@ -28,3 +29,4 @@ pub use order::set_order;
 pub use relax::Relaxed;
 pub use search::explore;
 pub use start::{begin, least_cost};
+pub use subproblem::Subproblem;

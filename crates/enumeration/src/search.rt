@@ -12,8 +12,8 @@ use crate::dive::{Dive, Visits};
 use crate::form::Form;
 use crate::frame::{Frame, Node};
 use crate::moves::may_improve;
-use crate::relax::Relaxed;
 use crate::steps::{is_upward, place_step};
+use crate::subproblem::Subproblem;
 use bp_theory::Span;
 
 /// Copies the lower ends of spans.
@@ -61,50 +61,52 @@ fn is_same(a: &Span, b: &Span) -> bool
 fn enter(
     dive: &mut Dive,
     frames: &mut Vec<Frame>,
-    form: &Form,
-    zone: &[Span],
-    costs: &[i128],
-    relaxed: &Relaxed,
+    problem: &Subproblem,
     order: &[usize],
     level: usize,
 ) -> Option<bool>
-    requires priceable { IsPriceable form.now.spans.items zone.now costs.now }
-    requires relaxed { IsRelaxed form.now.spans.items form.now.rows.items zone.now costs.now
-        relaxed.now }
-    requires tracked { IsTracked form.now.rows.items zone.now costs.now dive.old }
-    requires paid { IsPaid relaxed.now dive.old }
-    requires order { All (λ v. v < length zone.now) order.now }
+    requires priceable { IsPriceable problem.now.form.now.spans.items problem.now.zone.now
+        problem.now.costs.now }
+    requires relaxed { IsRelaxed problem.now.form.now.spans.items problem.now.form.now.rows.items
+        problem.now.zone.now problem.now.costs.now problem.now.relaxed.now }
+    requires tracked { IsTracked problem.now.form.now.rows.items problem.now.zone.now
+        problem.now.costs.now dive.old }
+    requires paid { IsPaid problem.now.relaxed.now dive.old }
+    requires order { All (λ v. v < length problem.now.zone.now) order.now }
     requires frames { length order.now ≤ vec_len frames.old }
     requires level { level < length order.now }
-    requires can { All (CanMeetRow dive.old.zone.items) form.now.rows.items }
-    requires below { IsBelow form.now.rows.items zone.now costs.now relaxed.now.costs.items
-        order.now frames.old.items dive.old.best level dive.old.zone.items }
+    requires can { All (CanMeetRow dive.old.zone.items) problem.now.form.now.rows.items }
+    requires below { IsBelow problem.now.form.now.rows.items problem.now.zone.now
+        problem.now.costs.now problem.now.relaxed.now.costs.items order.now frames.old.items
+        dive.old.best level dive.old.zone.items }
     ensures frames { vec_len frames.new ≡ vec_len frames.old }
-    ensures tracked { IsTracked form.now.rows.items zone.now costs.now dive.new }
-    ensures paid { IsPaid relaxed.now dive.new }
+    ensures tracked { IsTracked problem.now.form.now.rows.items problem.now.zone.now
+        problem.now.costs.now dive.new }
+    ensures paid { IsPaid problem.now.relaxed.now dive.new }
     ensures kept { IsKept dive.old dive.new }
-    ensures stays { IfNone result (IsBelow form.now.rows.items zone.now costs.now
-        relaxed.now.costs.items order.now frames.new.items dive.new.best level dive.new.zone.items) }
-    ensures covered { IfNone result (AllCovered form.now.rows.items dive.new.zone.items costs.now
-        dive.new.best) }
-    ensures left { IfNone result (left_behind zone.now order.now frames.new.items level ≡
-        left_behind zone.now order.now frames.old.items level) }
-    ensures below { IfSome result (λ alive. IsBelow form.now.rows.items zone.now costs.now
-        relaxed.now.costs.items order.now frames.new.items dive.new.best (suc level)
-        dive.new.zone.items) }
-    ensures opened { IfSome result (λ alive. IsOpen form.now.rows.items dive.new.zone.items
-        costs.now dive.new.best alive) }
-    ensures less { IfSome result (λ alive. left_from zone.now order.now frames.new.items (suc level)
-        < left_from zone.now order.now frames.old.items level) }
+    ensures stays { IfNone result (IsBelow problem.now.form.now.rows.items problem.now.zone.now
+        problem.now.costs.now problem.now.relaxed.now.costs.items order.now frames.new.items
+        dive.new.best level dive.new.zone.items) }
+    ensures covered { IfNone result (AllCovered problem.now.form.now.rows.items dive.new.zone.items
+        problem.now.costs.now dive.new.best) }
+    ensures left { IfNone result (left_behind problem.now.zone.now order.now frames.new.items level
+        ≡ left_behind problem.now.zone.now order.now frames.old.items level) }
+    ensures below { IfSome result (λ alive. IsBelow problem.now.form.now.rows.items
+        problem.now.zone.now problem.now.costs.now problem.now.relaxed.now.costs.items order.now
+        frames.new.items dive.new.best (suc level) dive.new.zone.items) }
+    ensures opened { IfSome result (λ alive. IsOpen problem.now.form.now.rows.items
+        dive.new.zone.items problem.now.costs.now dive.new.best alive) }
+    ensures less { IfSome result (λ alive. left_from problem.now.zone.now order.now frames.new.items
+        (suc level) < left_from problem.now.zone.now order.now frames.old.items level) }
 {
     let var = order[level];
-    if !is_same(&dive.zone[var], &zone[var]) {
+    if !is_same(&dive.zone[var], &problem.zone[var]) {
         frames[level] = Frame::Passed;
         return Some(true);
     }
-    let up = is_upward(&relaxed.costs[var], &costs[var]);
+    let up = is_upward(&problem.relaxed.costs[var], &problem.costs[var]);
     frames[level] = Frame::At(up, 0);
-    place_step(dive, form, zone, costs, relaxed, var, up, 0)
+    place_step(dive, problem, var, up, 0)
 }
 
 /// Goes from behind a node below a level to the next node below it, and tells whether a cheaper point may be left
@@ -112,47 +114,51 @@ fn enter(
 fn go_on(
     dive: &mut Dive,
     frames: &mut Vec<Frame>,
-    form: &Form,
-    zone: &[Span],
-    costs: &[i128],
-    relaxed: &Relaxed,
+    problem: &Subproblem,
     order: &[usize],
     level: usize,
 ) -> Option<bool>
-    requires priceable { IsPriceable form.now.spans.items zone.now costs.now }
-    requires relaxed { IsRelaxed form.now.spans.items form.now.rows.items zone.now costs.now
-        relaxed.now }
-    requires tracked { IsTracked form.now.rows.items zone.now costs.now dive.old }
-    requires paid { IsPaid relaxed.now dive.old }
-    requires order { All (λ v. v < length zone.now) order.now }
+    requires priceable { IsPriceable problem.now.form.now.spans.items problem.now.zone.now
+        problem.now.costs.now }
+    requires relaxed { IsRelaxed problem.now.form.now.spans.items problem.now.form.now.rows.items
+        problem.now.zone.now problem.now.costs.now problem.now.relaxed.now }
+    requires tracked { IsTracked problem.now.form.now.rows.items problem.now.zone.now
+        problem.now.costs.now dive.old }
+    requires paid { IsPaid problem.now.relaxed.now dive.old }
+    requires order { All (λ v. v < length problem.now.zone.now) order.now }
     requires frames { length order.now ≤ vec_len frames.old }
     requires level { level < length order.now }
-    requires below { IsBelow form.now.rows.items zone.now costs.now relaxed.now.costs.items
-        order.now frames.old.items dive.old.best (suc level) dive.old.zone.items }
-    requires covered { AllCovered form.now.rows.items dive.old.zone.items costs.now dive.old.best }
+    requires below { IsBelow problem.now.form.now.rows.items problem.now.zone.now
+        problem.now.costs.now problem.now.relaxed.now.costs.items order.now frames.old.items
+        dive.old.best (suc level) dive.old.zone.items }
+    requires covered { AllCovered problem.now.form.now.rows.items dive.old.zone.items
+        problem.now.costs.now dive.old.best }
     ensures frames { vec_len frames.new ≡ vec_len frames.old }
-    ensures tracked { IsTracked form.now.rows.items zone.now costs.now dive.new }
-    ensures paid { IsPaid relaxed.now dive.new }
+    ensures tracked { IsTracked problem.now.form.now.rows.items problem.now.zone.now
+        problem.now.costs.now dive.new }
+    ensures paid { IsPaid problem.now.relaxed.now dive.new }
     ensures kept { IsKept dive.old dive.new }
-    ensures left { IfNone result (IsBelow form.now.rows.items zone.now costs.now
-        relaxed.now.costs.items order.now frames.new.items dive.new.best level dive.new.zone.items) }
-    ensures covered { IfNone result (AllCovered form.now.rows.items dive.new.zone.items costs.now
-        dive.new.best) }
-    ensures fewer { IfNone result (left_behind zone.now order.now frames.new.items level ≤
-        left_behind zone.now order.now frames.old.items (suc level)) }
-    ensures below { IfSome result (λ alive. IsBelow form.now.rows.items zone.now costs.now
-        relaxed.now.costs.items order.now frames.new.items dive.new.best (suc level)
-        dive.new.zone.items) }
-    ensures opened { IfSome result (λ alive. IsOpen form.now.rows.items dive.new.zone.items
-        costs.now dive.new.best alive) }
-    ensures no_more { IfSome result (λ alive. left_from zone.now order.now frames.new.items
-        (suc level) ≤ left_behind zone.now order.now frames.old.items (suc level)) }
+    ensures left { IfNone result (IsBelow problem.now.form.now.rows.items problem.now.zone.now
+        problem.now.costs.now problem.now.relaxed.now.costs.items order.now frames.new.items
+        dive.new.best level dive.new.zone.items) }
+    ensures covered { IfNone result (AllCovered problem.now.form.now.rows.items dive.new.zone.items
+        problem.now.costs.now dive.new.best) }
+    ensures fewer { IfNone result (left_behind problem.now.zone.now order.now frames.new.items level
+        ≤ left_behind problem.now.zone.now order.now frames.old.items (suc level)) }
+    ensures below { IfSome result (λ alive. IsBelow problem.now.form.now.rows.items
+        problem.now.zone.now problem.now.costs.now problem.now.relaxed.now.costs.items order.now
+        frames.new.items dive.new.best (suc level) dive.new.zone.items) }
+    ensures opened { IfSome result (λ alive. IsOpen problem.now.form.now.rows.items
+        dive.new.zone.items problem.now.costs.now dive.new.best alive) }
+    ensures no_more { IfSome result (λ alive. left_from problem.now.zone.now order.now
+        frames.new.items (suc level) ≤ left_behind problem.now.zone.now order.now frames.old.items
+        (suc level)) }
 {
     match frames[level] {
         Frame::Passed => None,
         Frame::At(up, step) => {
             frames[level] = Frame::At(up, step + 1);
-            place_step(dive, form, zone, costs, relaxed, order[level], up, step + 1)
+            place_step(dive, problem, order[level], up, step + 1)
         }
     }
 }
@@ -162,39 +168,44 @@ fn go_on(
 fn next_behind(
     dive: &mut Dive,
     frames: &mut Vec<Frame>,
-    form: &Form,
-    zone: &[Span],
-    costs: &[i128],
-    relaxed: &Relaxed,
+    problem: &Subproblem,
     order: &[usize],
     from: usize,
 ) -> Option<Node>
-    requires priceable { IsPriceable form.now.spans.items zone.now costs.now }
-    requires relaxed { IsRelaxed form.now.spans.items form.now.rows.items zone.now costs.now
-        relaxed.now }
-    requires tracked { IsTracked form.now.rows.items zone.now costs.now dive.old }
-    requires paid { IsPaid relaxed.now dive.old }
-    requires order { All (λ v. v < length zone.now) order.now }
+    requires priceable { IsPriceable problem.now.form.now.spans.items problem.now.zone.now
+        problem.now.costs.now }
+    requires relaxed { IsRelaxed problem.now.form.now.spans.items problem.now.form.now.rows.items
+        problem.now.zone.now problem.now.costs.now problem.now.relaxed.now }
+    requires tracked { IsTracked problem.now.form.now.rows.items problem.now.zone.now
+        problem.now.costs.now dive.old }
+    requires paid { IsPaid problem.now.relaxed.now dive.old }
+    requires order { All (λ v. v < length problem.now.zone.now) order.now }
     requires frames { length order.now ≤ vec_len frames.old }
     requires from { from ≤ length order.now }
-    requires below { IsBelow form.now.rows.items zone.now costs.now relaxed.now.costs.items
-        order.now frames.old.items dive.old.best from dive.old.zone.items }
-    requires covered { AllCovered form.now.rows.items dive.old.zone.items costs.now dive.old.best }
+    requires below { IsBelow problem.now.form.now.rows.items problem.now.zone.now
+        problem.now.costs.now problem.now.relaxed.now.costs.items order.now frames.old.items
+        dive.old.best from dive.old.zone.items }
+    requires covered { AllCovered problem.now.form.now.rows.items dive.old.zone.items
+        problem.now.costs.now dive.old.best }
     ensures frames { vec_len frames.new ≡ vec_len frames.old }
-    ensures tracked { IsTracked form.now.rows.items zone.now costs.now dive.new }
-    ensures paid { IsPaid relaxed.now dive.new }
+    ensures tracked { IsTracked problem.now.form.now.rows.items problem.now.zone.now
+        problem.now.costs.now dive.new }
+    ensures paid { IsPaid problem.now.relaxed.now dive.new }
     ensures kept { IsKept dive.old dive.new }
-    ensures next { IfSome result (λ node. IsAt form.now.rows.items zone.now costs.now
-        relaxed.now.costs.items order.now frames.new.items dive.new node) }
-    ensures no_more { IfSome result (λ node. left_from zone.now order.now frames.new.items
-        node.level ≤ left_behind zone.now order.now frames.old.items from) }
-    ensures zone { IfNone result (dive.new.zone.items ≡ zone.now) }
-    ensures all { IfNone result (AllCovered form.now.rows.items zone.now costs.now dive.new.best) }
+    ensures next { IfSome result (λ node. IsAt problem.now.form.now.rows.items problem.now.zone.now
+        problem.now.costs.now problem.now.relaxed.now.costs.items order.now frames.new.items
+        dive.new node) }
+    ensures no_more { IfSome result (λ node. left_from problem.now.zone.now order.now
+        frames.new.items node.level ≤ left_behind problem.now.zone.now order.now frames.old.items
+        from) }
+    ensures zone { IfNone result (dive.new.zone.items ≡ problem.now.zone.now) }
+    ensures all { IfNone result (AllCovered problem.now.form.now.rows.items problem.now.zone.now
+        problem.now.costs.now dive.new.best) }
 {
     let mut level = from;
     while level > 0 {
         level -= 1;
-        if let Some(alive) = go_on(dive, frames, form, zone, costs, relaxed, order, level) {
+        if let Some(alive) = go_on(dive, frames, problem, order, level) {
             return Some(Node {
                 level: level + 1,
                 alive,
@@ -209,50 +220,53 @@ fn next_behind(
 fn next_after(
     dive: &mut Dive,
     frames: &mut Vec<Frame>,
-    form: &Form,
-    zone: &[Span],
-    costs: &[i128],
-    relaxed: &Relaxed,
+    problem: &Subproblem,
     order: &[usize],
     node: &Node,
 ) -> Option<Node>
-    requires priceable { IsPriceable form.now.spans.items zone.now costs.now }
-    requires relaxed { IsRelaxed form.now.spans.items form.now.rows.items zone.now costs.now
-        relaxed.now }
-    requires tracked { IsTracked form.now.rows.items zone.now costs.now dive.old }
-    requires paid { IsPaid relaxed.now dive.old }
-    requires order { All (λ v. v < length zone.now) order.now }
+    requires priceable { IsPriceable problem.now.form.now.spans.items problem.now.zone.now
+        problem.now.costs.now }
+    requires relaxed { IsRelaxed problem.now.form.now.spans.items problem.now.form.now.rows.items
+        problem.now.zone.now problem.now.costs.now problem.now.relaxed.now }
+    requires tracked { IsTracked problem.now.form.now.rows.items problem.now.zone.now
+        problem.now.costs.now dive.old }
+    requires paid { IsPaid problem.now.relaxed.now dive.old }
+    requires order { All (λ v. v < length problem.now.zone.now) order.now }
     requires frames { length order.now ≤ vec_len frames.old }
-    requires at_node { IsAt form.now.rows.items zone.now costs.now relaxed.now.costs.items order.now
-        frames.old.items dive.old node.now }
-    requires reached { IsReached form.now.rows.items zone.now costs.now dive.old.best
-        dive.old.point.items }
+    requires at_node { IsAt problem.now.form.now.rows.items problem.now.zone.now
+        problem.now.costs.now problem.now.relaxed.now.costs.items order.now frames.old.items
+        dive.old node.now }
+    requires reached { IsReached problem.now.form.now.rows.items problem.now.zone.now
+        problem.now.costs.now dive.old.best dive.old.point.items }
     ensures frames { vec_len frames.new ≡ vec_len frames.old }
-    ensures tracked { IsTracked form.now.rows.items zone.now costs.now dive.new }
-    ensures paid { IsPaid relaxed.now dive.new }
+    ensures tracked { IsTracked problem.now.form.now.rows.items problem.now.zone.now
+        problem.now.costs.now dive.new }
+    ensures paid { IsPaid problem.now.relaxed.now dive.new }
     ensures no_worse { IsNoWorse dive.old.best dive.new.best }
-    ensures reached { IsReached form.now.rows.items zone.now costs.now dive.new.best
-        dive.new.point.items }
-    ensures next { IfSome result (λ next. IsAt form.now.rows.items zone.now costs.now
-        relaxed.now.costs.items order.now frames.new.items dive.new next) }
-    ensures less { IfSome result (λ next. left_from zone.now order.now frames.new.items next.level <
-        left_from zone.now order.now frames.old.items node.now.level) }
-    ensures zone { IfNone result (dive.new.zone.items ≡ zone.now) }
-    ensures all { IfNone result (AllCovered form.now.rows.items zone.now costs.now dive.new.best) }
+    ensures reached { IsReached problem.now.form.now.rows.items problem.now.zone.now
+        problem.now.costs.now dive.new.best dive.new.point.items }
+    ensures next { IfSome result (λ next. IsAt problem.now.form.now.rows.items problem.now.zone.now
+        problem.now.costs.now problem.now.relaxed.now.costs.items order.now frames.new.items
+        dive.new next) }
+    ensures less { IfSome result (λ next. left_from problem.now.zone.now order.now frames.new.items
+        next.level < left_from problem.now.zone.now order.now frames.old.items node.now.level) }
+    ensures zone { IfNone result (dive.new.zone.items ≡ problem.now.zone.now) }
+    ensures all { IfNone result (AllCovered problem.now.form.now.rows.items problem.now.zone.now
+        problem.now.costs.now dive.new.best) }
 {
     if !node.alive {
-        return next_behind(dive, frames, form, zone, costs, relaxed, order, node.level);
+        return next_behind(dive, frames, problem, order, node.level);
     }
     if node.level == order.len() {
-        record(dive, form, zone, costs);
-        return next_behind(dive, frames, form, zone, costs, relaxed, order, node.level);
+        record(dive, problem.form, problem.zone, problem.costs);
+        return next_behind(dive, frames, problem, order, node.level);
     }
-    match enter(dive, frames, form, zone, costs, relaxed, order, node.level) {
+    match enter(dive, frames, problem, order, node.level) {
         Some(alive) => Some(Node {
             level: node.level + 1,
             alive,
         }),
-        None => next_behind(dive, frames, form, zone, costs, relaxed, order, node.level),
+        None => next_behind(dive, frames, problem, order, node.level),
     }
 }
 
@@ -262,45 +276,46 @@ pub fn explore(
     dive: &mut Dive,
     visits: &mut Visits,
     frames: &mut Vec<Frame>,
-    form: &Form,
-    zone: &[Span],
-    costs: &[i128],
-    relaxed: &Relaxed,
+    problem: &Subproblem,
     order: &[usize],
     alive: bool,
 ) -> bool
-    requires priceable { IsPriceable form.now.spans.items zone.now costs.now }
-    requires relaxed { IsRelaxed form.now.spans.items form.now.rows.items zone.now costs.now
-        relaxed.now }
-    requires tracked { IsTracked form.now.rows.items zone.now costs.now dive.old }
-    requires paid { IsPaid relaxed.now dive.old }
-    requires order { All (λ v. v < length zone.now) order.now }
+    requires priceable { IsPriceable problem.now.form.now.spans.items problem.now.zone.now
+        problem.now.costs.now }
+    requires relaxed { IsRelaxed problem.now.form.now.spans.items problem.now.form.now.rows.items
+        problem.now.zone.now problem.now.costs.now problem.now.relaxed.now }
+    requires tracked { IsTracked problem.now.form.now.rows.items problem.now.zone.now
+        problem.now.costs.now dive.old }
+    requires paid { IsPaid problem.now.relaxed.now dive.old }
+    requires order { All (λ v. v < length problem.now.zone.now) order.now }
     requires frames { length order.now ≤ vec_len frames.old }
-    requires narrowed { IsNarrowed zone.now order.now 0 dive.old.zone.items }
-    requires whole { dive.old.zone.items ≡ zone.now }
-    requires can { OnTrue alive (All (CanMeetRow dive.old.zone.items) form.now.rows.items) }
-    requires covered { OnFalse alive (AllCovered form.now.rows.items dive.old.zone.items costs.now
-        dive.old.best) }
-    requires reached { IsReached form.now.rows.items zone.now costs.now dive.old.best
-        dive.old.point.items }
+    requires narrowed { IsNarrowed problem.now.zone.now order.now 0 dive.old.zone.items }
+    requires whole { dive.old.zone.items ≡ problem.now.zone.now }
+    requires can { OnTrue alive (All (CanMeetRow dive.old.zone.items)
+        problem.now.form.now.rows.items) }
+    requires covered { OnFalse alive (AllCovered problem.now.form.now.rows.items dive.old.zone.items
+        problem.now.costs.now dive.old.best) }
+    requires reached { IsReached problem.now.form.now.rows.items problem.now.zone.now
+        problem.now.costs.now dive.old.best dive.old.point.items }
     ensures capped { visits.new.capped ≡ visits.old.capped }
     ensures cut { OnFalse result (IsTrue visits.old.capped) }
     ensures frames { vec_len frames.new ≡ vec_len frames.old }
-    ensures tracked { IsTracked form.now.rows.items zone.now costs.now dive.new }
-    ensures paid { IsPaid relaxed.now dive.new }
+    ensures tracked { IsTracked problem.now.form.now.rows.items problem.now.zone.now
+        problem.now.costs.now dive.new }
+    ensures paid { IsPaid problem.now.relaxed.now dive.new }
     ensures zone { OnTrue result (dive.new.zone.items ≡ dive.old.zone.items) }
-    ensures covered { OnTrue result (AllCovered form.now.rows.items dive.old.zone.items costs.now
-        dive.new.best) }
+    ensures covered { OnTrue result (AllCovered problem.now.form.now.rows.items dive.old.zone.items
+        problem.now.costs.now dive.new.best) }
     ensures no_worse { OnTrue result (IsNoWorse dive.old.best dive.new.best) }
-    ensures reached { OnTrue result (IsReached form.now.rows.items zone.now costs.now dive.new.best
-        dive.new.point.items) }
+    ensures reached { OnTrue result (IsReached problem.now.form.now.rows.items problem.now.zone.now
+        problem.now.costs.now dive.new.best dive.new.point.items) }
 {
     let mut next = Some(Node { level: 0, alive });
     while let Some(node) = next {
         if visits.is_spent() {
             return false;
         }
-        next = next_after(dive, frames, form, zone, costs, relaxed, order, &node);
+        next = next_after(dive, frames, problem, order, &node);
     }
     true
 }

@@ -14,6 +14,7 @@ use crate::dive::Dive;
 use crate::form::Form;
 use crate::moves::{may_improve, may_undercut, place, place_value};
 use crate::relax::Relaxed;
+use crate::subproblem::Subproblem;
 use bp_theory::Span;
 
 /// How many numbers a span has.
@@ -89,49 +90,72 @@ fn is_over(dive: &Dive, relaxed: &Relaxed, cost: &i128, up: bool) -> bool
 /// tried, it gives the variable its whole span back.
 pub fn place_step(
     dive: &mut Dive,
-    form: &Form,
-    zone: &[Span],
-    costs: &[i128],
-    relaxed: &Relaxed,
+    problem: &Subproblem,
     var: usize,
     up: bool,
     step: u64,
 ) -> Option<bool>
-    requires priceable { IsPriceable form.now.spans.items zone.now costs.now }
-    requires relaxed { IsRelaxed form.now.spans.items form.now.rows.items zone.now costs.now
-        relaxed.now }
-    requires tracked { IsTracked form.now.rows.items zone.now costs.now dive.old }
-    requires paid { IsPaid relaxed.now dive.old }
-    requires there { var < length zone.now }
-    requires can { All (CanMeetRow (slice_set dive.old.zone.items var (span_at zone.now var)))
-        form.now.rows.items }
-    requires follows { Follows up (slice_index_or relaxed.now.costs.items var (pos 0)) }
-    requires covered { AreCoveredTo form.now.rows.items (slice_set dive.old.zone.items var (span_at
-        zone.now var)) costs.now up (span_at zone.now var) var step dive.old.best }
-    ensures tracked { IsTracked form.now.rows.items zone.now costs.now dive.new }
-    ensures paid { IsPaid relaxed.now dive.new }
+    requires priceable { IsPriceable problem.now.form.now.spans.items problem.now.zone.now
+        problem.now.costs.now }
+    requires relaxed { IsRelaxed problem.now.form.now.spans.items problem.now.form.now.rows.items
+        problem.now.zone.now problem.now.costs.now problem.now.relaxed.now }
+    requires tracked { IsTracked problem.now.form.now.rows.items problem.now.zone.now
+        problem.now.costs.now dive.old }
+    requires paid { IsPaid problem.now.relaxed.now dive.old }
+    requires there { var < length problem.now.zone.now }
+    requires can { All (CanMeetRow (slice_set dive.old.zone.items var (span_at problem.now.zone.now
+        var))) problem.now.form.now.rows.items }
+    requires follows { Follows up (slice_index_or problem.now.relaxed.now.costs.items var (pos 0)) }
+    requires covered { AreCoveredTo problem.now.form.now.rows.items (slice_set dive.old.zone.items
+        var (span_at problem.now.zone.now var)) problem.now.costs.now up (span_at
+        problem.now.zone.now var) var step dive.old.best }
+    ensures tracked { IsTracked problem.now.form.now.rows.items problem.now.zone.now
+        problem.now.costs.now dive.new }
+    ensures paid { IsPaid problem.now.relaxed.now dive.new }
     ensures kept { IsKept dive.old dive.new }
-    ensures step { IfSome result (λ goes_on. step < width (span_at zone.now var)) }
+    ensures step { IfSome result (λ goes_on. step < width (span_at problem.now.zone.now var)) }
     ensures zone { IfSome result (λ goes_on. dive.new.zone.items ≡ slice_set dive.old.zone.items var
-        (single (step_value up (span_at zone.now var) step))) }
+        (single (step_value up (span_at problem.now.zone.now var) step))) }
     ensures yes { IfSome result (λ goes_on. OnTrue goes_on (All (CanMeetRow dive.new.zone.items)
-        form.now.rows.items)) }
-    ensures no { IfSome result (λ goes_on. OnFalse goes_on (AllCovered form.now.rows.items
-        dive.new.zone.items costs.now dive.new.best)) }
+        problem.now.form.now.rows.items)) }
+    ensures no { IfSome result (λ goes_on. OnFalse goes_on (AllCovered
+        problem.now.form.now.rows.items dive.new.zone.items problem.now.costs.now dive.new.best)) }
     ensures whole { IfNone result (dive.new.zone.items ≡ slice_set dive.old.zone.items var (span_at
-        zone.now var)) }
-    ensures covered { IfNone result (AllCovered form.now.rows.items dive.new.zone.items costs.now
-        dive.new.best) }
+        problem.now.zone.now var)) }
+    ensures covered { IfNone result (AllCovered problem.now.form.now.rows.items dive.new.zone.items
+        problem.now.costs.now dive.new.best) }
 {
-    let whole = zone[var];
+    let whole = problem.zone[var];
     if step >= count_of(&whole) {
-        give_back(dive, form, zone, costs, relaxed, var);
+        give_back(
+            dive,
+            problem.form,
+            problem.zone,
+            problem.costs,
+            problem.relaxed,
+            var,
+        );
         return None;
     }
     let value = value_at(&whole, up, step);
-    let goes_on = place_value(dive, form, zone, costs, relaxed, var, &value);
-    if !goes_on && is_over(dive, relaxed, &costs[var], up) {
-        give_back(dive, form, zone, costs, relaxed, var);
+    let goes_on = place_value(
+        dive,
+        problem.form,
+        problem.zone,
+        problem.costs,
+        problem.relaxed,
+        var,
+        &value,
+    );
+    if !goes_on && is_over(dive, problem.relaxed, &problem.costs[var], up) {
+        give_back(
+            dive,
+            problem.form,
+            problem.zone,
+            problem.costs,
+            problem.relaxed,
+            var,
+        );
         return None;
     }
     Some(goes_on)

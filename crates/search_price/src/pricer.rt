@@ -5,7 +5,7 @@ ghost use Rattle.enumeration.specs.Sizes.{HasPlaces};
 use block_program::Block;
 use bp_theory::Span;
 use enumeration::{
-    Dive, Form, Frame, Multipliers, Relaxed, begin, explore, least_cost, rows_can_meet, set_order,
+    Dive, Form, Frame, Multipliers, Relaxed, Subproblem, begin, explore, least_cost, rows_can_meet, set_order,
     visits_under,
 };
 use pricing_problem::{Cap, Priced, Pricer};
@@ -94,14 +94,17 @@ impl Pricer for SearchPricer {
             &self.relaxed.costs,
         );
         let mut visits = visits_under(cap, zone);
+        let problem = Subproblem {
+            form: &self.form,
+            zone,
+            costs,
+            relaxed: &self.relaxed,
+        };
         if !explore(
             &mut self.dive,
             &mut visits,
             &mut self.frames,
-            &self.form,
-            zone,
-            costs,
-            &self.relaxed,
+            &problem,
             &self.order[..open],
             alive,
         ) {

@@ -10,14 +10,14 @@ abbrev pub invariant-loop-next : goal.invariant-loop-next
 invariant-loop-next l = record {
   capped : l.visits.capped ≡ l.fn.visits.capped;
   frames : vec_len l.frames ≡ vec_len l.fn.frames;
-  tracked : IsTracked l.form.rows.items l.zone l.costs l.dive;
-  paid : IsPaid l.relaxed l.dive;
-  reached : IsReached l.form.rows.items l.zone l.costs l.dive.best l.dive.point.items;
+  tracked : IsTracked l.problem.form.now.rows.items l.problem.zone.now l.problem.costs.now l.dive;
+  paid : IsPaid l.problem.relaxed.now l.dive;
+  reached : IsReached l.problem.form.now.rows.items l.problem.zone.now l.problem.costs.now l.dive.best l.dive.point.items;
   no_worse : IsNoWorse l.fn.dive.best l.dive.best;
-  next : IfSome l.next (λ node. IsAt l.form.rows.items l.zone l.costs l.relaxed.costs.items l.order l.frames.items l.dive node);
-  zone : IfNone l.next (l.dive.zone.items ≡ l.zone);
-  all : IfNone l.next (AllCovered l.form.rows.items l.zone l.costs l.dive.best);
+  next : IfSome l.next (λ node. IsAt l.problem.form.now.rows.items l.problem.zone.now l.problem.costs.now l.problem.relaxed.now.costs.items l.order l.frames.items l.dive node);
+  zone : IfNone l.next (l.dive.zone.items ≡ l.problem.zone.now);
+  all : IfNone l.next (AllCovered l.problem.form.now.rows.items l.problem.zone.now l.problem.costs.now l.dive.best);
 }
 
 abbrev pub decreases-loop-next : goal.decreases-loop-next
-decreases-loop-next l = left_ahead l.zone l.order l.frames.items l.next
+decreases-loop-next l = left_ahead l.problem.zone.now l.order l.frames.items l.next

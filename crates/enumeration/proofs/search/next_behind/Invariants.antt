@@ -8,12 +8,12 @@ abbrev pub invariant-loop-level : goal.invariant-loop-level
 invariant-loop-level l = record {
   level : l.level ≤ l.from;
   frames : vec_len l.frames ≡ vec_len l.fn.frames;
-  tracked : IsTracked l.form.rows.items l.zone l.costs l.dive;
-  paid : IsPaid l.relaxed l.dive;
+  tracked : IsTracked l.problem.form.now.rows.items l.problem.zone.now l.problem.costs.now l.dive;
+  paid : IsPaid l.problem.relaxed.now l.dive;
   kept : IsKept l.fn.dive l.dive;
-  below : IsBelow l.form.rows.items l.zone l.costs l.relaxed.costs.items l.order l.frames.items l.dive.best l.level l.dive.zone.items;
-  covered : AllCovered l.form.rows.items l.dive.zone.items l.costs l.dive.best;
-  fewer : left_behind l.zone l.order l.frames.items l.level ≤ left_behind l.zone l.order l.fn.frames.items l.from;
+  below : IsBelow l.problem.form.now.rows.items l.problem.zone.now l.problem.costs.now l.problem.relaxed.now.costs.items l.order l.frames.items l.dive.best l.level l.dive.zone.items;
+  covered : AllCovered l.problem.form.now.rows.items l.dive.zone.items l.problem.costs.now l.dive.best;
+  fewer : left_behind l.problem.zone.now l.order l.frames.items l.level ≤ left_behind l.problem.zone.now l.order l.fn.frames.items l.from;
 }
 
 abbrev pub decreases-loop-level : goal.decreases-loop-level
