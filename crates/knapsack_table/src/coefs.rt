@@ -35,8 +35,8 @@ pub fn coefs_of(alloc: Global, terms: &[Term], spans: &[Span]) -> Result<Vec<i12
     Ok(coefs)
 }
 
-/// How far the upper end of a span is above the lower.
-fn gap_of(span: &Span) -> u64
+/// How far the upper end of a span is above the lower, 0 where it isn't.
+pub fn gap_of(span: &Span) -> u64
     ensures { result ≡ int_gap span.now.lo span.now.hi }
 {
     if span.hi <= span.lo {

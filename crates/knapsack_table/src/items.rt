@@ -1,10 +1,10 @@
 // Items that are loaded unit by unit.
 ghost use Rattle.std.specs.Prelude.{◌≡◌, ◌<◌, ◌≤◌, ◌^◌, ◌*◌, ◌≤ℤ◌, ℕ, neg_ℤ, unsigned_abs};
-ghost use Rattle.std.specs.Int.{int_gap};
 ghost use Rattle.bp_theory.specs.Program.{reach};
 ghost use Rattle.pricing_problem.specs.Form.{HasShortEnds};
 ghost use Rattle.knapsack_table.specs.Loads.{item_of, number_of};
 
+use crate::coefs::gap_of;
 use bp_theory::Span;
 
 /// A variable of a row: the weight of a unit, how many units there are, and what a unit costs.
@@ -13,14 +13,6 @@ pub struct Item {
     pub weight: u64,
     pub width: u64,
     pub cost: i128,
-}
-
-/// How far the upper end of a span is above the lower.
-fn gap_of(span: &Span) -> u64
-    requires { span.now.lo ≤ℤ span.now.hi }
-    ensures { result ≡ int_gap span.now.lo span.now.hi }
-{
-    span.hi.abs_diff(span.lo)
 }
 
 /// A number with its sign turned.

@@ -7,6 +7,7 @@ mod cells;
 mod coefs;
 mod form;
 mod items;
+mod knapsack;
 mod narrow;
 mod pick;
 mod price;

@@ -8,13 +8,13 @@ ghost use Rattle.knapsack_table.specs.Rooms.{count_of};
 ghost use Rattle.knapsack_table.specs.Tables.{cell_at, worth_size};
 
 use crate::cells::Cells;
-use crate::items::Item;
+use crate::knapsack::Knapsack;
 use crate::short::{self, are_short};
 use crate::steps::choose;
 use crate::table::fill;
 use crate::trace::trace;
 use crate::{short_choice, short_trace};
-use bp_theory::{Row, Span};
+use bp_theory::Row;
 
 /// The cost at a place.
 fn cost_at(cells: &[i128], place: usize) -> i128
@@ -37,36 +37,35 @@ fn short_cost_at(cells: &[i64], place: usize) -> i128
 fn pick_long(
     cells: &mut Vec<i128>,
     point: &mut Vec<i64>,
-    items: &[Item],
-    coefs: &[i128],
-    zone: &[Span],
-    costs: &[i128],
+    knapsack: &Knapsack,
     row: &Row,
     base: &i128,
     top: usize,
 ) -> Option<i128>
-    requires point { vec_len point.old ≡ length zone.now }
-    requires coefs { length coefs.now ≡ length zone.now }
-    requires costs { length costs.now ≡ length zone.now }
-    requires proper { IsProper zone.now }
-    requires short { All HasShortEnds zone.now }
-    requires items { items.now ≡ items_of coefs.now zone.now costs.now }
-    requires heavy { All (λ item. 0 < item.width → 0 < item.weight) items.now }
-    requires small { All (λ item. item.weight * item.width ≤ 2 ^ 20) items.now }
-    requires cost { worth_size items.now ≤ 2 ^ 117 }
+    requires point { vec_len point.old ≡ length knapsack.now.zone.now }
+    requires coefs { length knapsack.now.coefs.now ≡ length knapsack.now.zone.now }
+    requires costs { length knapsack.now.costs.now ≡ length knapsack.now.zone.now }
+    requires proper { IsProper knapsack.now.zone.now }
+    requires short { All HasShortEnds knapsack.now.zone.now }
+    requires items { knapsack.now.items.now ≡ items_of knapsack.now.coefs.now knapsack.now.zone.now
+        knapsack.now.costs.now }
+    requires heavy { All (λ item. 0 < item.width → 0 < item.weight) knapsack.now.items.now }
+    requires small { All (λ item. item.weight * item.width ≤ 2 ^ 20) knapsack.now.items.now }
+    requires cost { worth_size knapsack.now.items.now ≤ 2 ^ 117 }
     requires base { unsigned_abs base.now ≤ 2 ^ 116 }
     requires top { top ≤ 2 ^ 20 }
-    requires room { (length zone.now + 1) * (top + 1) ≤ vec_len cells.old }
+    requires room { (length knapsack.now.zone.now + 1) * (top + 1) ≤ vec_len cells.old }
     ensures cells { vec_len cells.new ≡ vec_len cells.old }
-    ensures point { vec_len point.new ≡ length zone.now }
-    ensures picked { MatchOption result (HasNoLoad items.now row.now base.now top)
-        (λ v. IsPicked items.now row.now base.now top coefs.now zone.now costs.now point.new.items v) }
+    ensures point { vec_len point.new ≡ length knapsack.now.zone.now }
+    ensures picked { MatchOption result (HasNoLoad knapsack.now.items.now row.now base.now top)
+        (λ v. IsPicked knapsack.now.items.now row.now base.now top knapsack.now.coefs.now
+        knapsack.now.zone.now knapsack.now.costs.now point.new.items v) }
 {
-    let last = zone.len() * (top + 1);
-    fill(cells, items, top);
+    let last = knapsack.zone.len() * (top + 1);
+    fill(cells, knapsack.items, top);
     match choose(cells, last, row, base, top) {
         Some(weight) => {
-            trace(point, cells, items, coefs, zone, costs, top, weight);
+            trace(point, cells, knapsack, top, weight);
             Some(cost_at(cells, last + weight))
         }
         None => None,
@@ -77,36 +76,35 @@ fn pick_long(
 fn pick_short(
     cells: &mut Vec<i64>,
     point: &mut Vec<i64>,
-    items: &[Item],
-    coefs: &[i128],
-    zone: &[Span],
-    costs: &[i128],
+    knapsack: &Knapsack,
     row: &Row,
     base: &i128,
     top: usize,
 ) -> Option<i128>
-    requires point { vec_len point.old ≡ length zone.now }
-    requires coefs { length coefs.now ≡ length zone.now }
-    requires costs { length costs.now ≡ length zone.now }
-    requires proper { IsProper zone.now }
-    requires short { All HasShortEnds zone.now }
-    requires items { items.now ≡ items_of coefs.now zone.now costs.now }
-    requires heavy { All (λ item. 0 < item.width → 0 < item.weight) items.now }
-    requires small { All (λ item. item.weight * item.width ≤ 2 ^ 20) items.now }
-    requires cost { worth_size items.now ≤ 2 ^ 59 }
+    requires point { vec_len point.old ≡ length knapsack.now.zone.now }
+    requires coefs { length knapsack.now.coefs.now ≡ length knapsack.now.zone.now }
+    requires costs { length knapsack.now.costs.now ≡ length knapsack.now.zone.now }
+    requires proper { IsProper knapsack.now.zone.now }
+    requires short { All HasShortEnds knapsack.now.zone.now }
+    requires items { knapsack.now.items.now ≡ items_of knapsack.now.coefs.now knapsack.now.zone.now
+        knapsack.now.costs.now }
+    requires heavy { All (λ item. 0 < item.width → 0 < item.weight) knapsack.now.items.now }
+    requires small { All (λ item. item.weight * item.width ≤ 2 ^ 20) knapsack.now.items.now }
+    requires cost { worth_size knapsack.now.items.now ≤ 2 ^ 59 }
     requires base { unsigned_abs base.now ≤ 2 ^ 116 }
     requires top { top ≤ 2 ^ 20 }
-    requires room { (length zone.now + 1) * (top + 1) ≤ vec_len cells.old }
+    requires room { (length knapsack.now.zone.now + 1) * (top + 1) ≤ vec_len cells.old }
     ensures cells { vec_len cells.new ≡ vec_len cells.old }
-    ensures point { vec_len point.new ≡ length zone.now }
-    ensures picked { MatchOption result (HasNoLoad items.now row.now base.now top)
-        (λ v. IsPicked items.now row.now base.now top coefs.now zone.now costs.now point.new.items v) }
+    ensures point { vec_len point.new ≡ length knapsack.now.zone.now }
+    ensures picked { MatchOption result (HasNoLoad knapsack.now.items.now row.now base.now top)
+        (λ v. IsPicked knapsack.now.items.now row.now base.now top knapsack.now.coefs.now
+        knapsack.now.zone.now knapsack.now.costs.now point.new.items v) }
 {
-    let last = zone.len() * (top + 1);
-    short::fill(cells, items, top);
+    let last = knapsack.zone.len() * (top + 1);
+    short::fill(cells, knapsack.items, top);
     match short_choice::choose(cells, last, row, base, top) {
         Some(weight) => {
-            short_trace::trace(point, cells, items, coefs, zone, costs, top, weight);
+            short_trace::trace(point, cells, knapsack, top, weight);
             Some(short_cost_at(cells, last + weight))
         }
         None => None,
@@ -117,54 +115,33 @@ fn pick_short(
 pub fn pick(
     cells: &mut Cells,
     point: &mut Vec<i64>,
-    items: &[Item],
-    coefs: &[i128],
-    zone: &[Span],
-    costs: &[i128],
+    knapsack: &Knapsack,
     row: &Row,
     base: &i128,
     top: usize,
 ) -> Option<i128>
-    requires point { vec_len point.old ≡ length zone.now }
-    requires coefs { length coefs.now ≡ length zone.now }
-    requires costs { length costs.now ≡ length zone.now }
-    requires proper { IsProper zone.now }
-    requires short { All HasShortEnds zone.now }
-    requires items { items.now ≡ items_of coefs.now zone.now costs.now }
-    requires heavy { All (λ item. 0 < item.width → 0 < item.weight) items.now }
-    requires small { All (λ item. item.weight * item.width ≤ 2 ^ 20) items.now }
-    requires cost { worth_size items.now ≤ 2 ^ 117 }
+    requires point { vec_len point.old ≡ length knapsack.now.zone.now }
+    requires coefs { length knapsack.now.coefs.now ≡ length knapsack.now.zone.now }
+    requires costs { length knapsack.now.costs.now ≡ length knapsack.now.zone.now }
+    requires proper { IsProper knapsack.now.zone.now }
+    requires short { All HasShortEnds knapsack.now.zone.now }
+    requires items { knapsack.now.items.now ≡ items_of knapsack.now.coefs.now knapsack.now.zone.now
+        knapsack.now.costs.now }
+    requires heavy { All (λ item. 0 < item.width → 0 < item.weight) knapsack.now.items.now }
+    requires small { All (λ item. item.weight * item.width ≤ 2 ^ 20) knapsack.now.items.now }
+    requires cost { worth_size knapsack.now.items.now ≤ 2 ^ 117 }
     requires base { unsigned_abs base.now ≤ 2 ^ 116 }
     requires top { top ≤ 2 ^ 20 }
-    requires room { (length zone.now + 1) * (top + 1) ≤ count_of cells.old }
+    requires room { (length knapsack.now.zone.now + 1) * (top + 1) ≤ count_of cells.old }
     ensures cells { count_of cells.new ≡ count_of cells.old }
-    ensures point { vec_len point.new ≡ length zone.now }
-    ensures picked { MatchOption result (HasNoLoad items.now row.now base.now top)
-        (λ v. IsPicked items.now row.now base.now top coefs.now zone.now costs.now point.new.items v) }
+    ensures point { vec_len point.new ≡ length knapsack.now.zone.now }
+    ensures picked { MatchOption result (HasNoLoad knapsack.now.items.now row.now base.now top)
+        (λ v. IsPicked knapsack.now.items.now row.now base.now top knapsack.now.coefs.now
+        knapsack.now.zone.now knapsack.now.costs.now point.new.items v) }
 {
-    if are_short(items) {
-        pick_short(
-            &mut cells.short,
-            point,
-            items,
-            coefs,
-            zone,
-            costs,
-            row,
-            base,
-            top,
-        )
+    if are_short(knapsack.items) {
+        pick_short(&mut cells.short, point, knapsack, row, base, top)
     } else {
-        pick_long(
-            &mut cells.long,
-            point,
-            items,
-            coefs,
-            zone,
-            costs,
-            row,
-            base,
-            top,
-        )
+        pick_long(&mut cells.long, point, knapsack, row, base, top)
     }
 }

@@ -6,6 +6,7 @@ ghost use Rattle.knapsack_table.specs.Rooms.{HasRoom, form_room, count_of};
 
 use crate::cells::Cells;
 use crate::form::{Form, Table};
+use crate::knapsack::Knapsack;
 use crate::narrow::narrow;
 use crate::pick::pick;
 use crate::steps::{product_sum, set_items, top_of, whole_load};
@@ -34,17 +35,13 @@ fn price_table(
     let base_cost = product_sum(costs, &table.point, zone);
     let row = &form.rows[0];
     let top = top_of(row, &base, whole_load(&table.items));
-    match pick(
-        cells,
-        &mut table.point,
-        &table.items,
-        &form.coefs,
+    let knapsack = Knapsack {
+        items: &table.items,
+        coefs: &form.coefs,
         zone,
         costs,
-        row,
-        &base,
-        top,
-    ) {
+    };
+    match pick(cells, &mut table.point, &knapsack, row, &base, top) {
         Some(least) => Some(plus(&base_cost, &least)),
         None => None,
     }

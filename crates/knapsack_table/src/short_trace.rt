@@ -6,8 +6,8 @@ ghost use Rattle.knapsack_table.specs.Loads.{items_of, point_of};
 ghost use Rattle.knapsack_table.specs.Tables.{short_no_way, short_far, cell_at, row_from, row_at, Reaches, AreRows, AreBounded, Follows, worth_size};
 
 use crate::items::{Item, number_with};
+use crate::knapsack::Knapsack;
 use crate::short::{cost_of, plus};
-use bp_theory::Span;
 
 /// Whether a cell comes by so many units from the row above.
 fn follows(cells: &[i64], above: usize, weight: usize, cell: &i64, item: &Item, units: u64) -> bool
@@ -51,40 +51,37 @@ fn units_at(cells: &[i64], here: usize, above: usize, item: &Item, weight: usize
 }
 
 /// Writes the point of a load that the cell of a weight in the last row stands for.
-pub fn trace(
-    point: &mut Vec<i64>,
-    cells: &[i64],
-    items: &[Item],
-    coefs: &[i128],
-    zone: &[Span],
-    costs: &[i128],
-    top: usize,
-    weight: usize,
-)
-    requires point { vec_len point.old ≡ length zone.now }
-    requires coefs { length coefs.now ≡ length zone.now }
-    requires costs { length costs.now ≡ length zone.now }
-    requires proper { IsProper zone.now }
-    requires short { All HasShortEnds zone.now }
-    requires items { items.now ≡ items_of coefs.now zone.now costs.now }
-    requires heavy { All (λ item. 0 < item.width → 0 < item.weight) items.now }
-    requires small { All (λ item. item.weight * item.width ≤ 2 ^ 20) items.now }
-    requires cost { worth_size items.now ≤ 2 ^ 59 }
-    requires room { (length zone.now + 1) * (top + 1) ≤ length cells.now }
-    requires rows { AreRows short_far items.now top (row_at cells.now top) }
+pub fn trace(point: &mut Vec<i64>, cells: &[i64], knapsack: &Knapsack, top: usize, weight: usize)
+    requires point { vec_len point.old ≡ length knapsack.now.zone.now }
+    requires coefs { length knapsack.now.coefs.now ≡ length knapsack.now.zone.now }
+    requires costs { length knapsack.now.costs.now ≡ length knapsack.now.zone.now }
+    requires proper { IsProper knapsack.now.zone.now }
+    requires short { All HasShortEnds knapsack.now.zone.now }
+    requires items { knapsack.now.items.now ≡ items_of knapsack.now.coefs.now knapsack.now.zone.now
+        knapsack.now.costs.now }
+    requires heavy { All (λ item. 0 < item.width → 0 < item.weight) knapsack.now.items.now }
+    requires small { All (λ item. item.weight * item.width ≤ 2 ^ 20) knapsack.now.items.now }
+    requires cost { worth_size knapsack.now.items.now ≤ 2 ^ 59 }
+    requires room { (length knapsack.now.zone.now + 1) * (top + 1) ≤ length cells.now }
+    requires rows { AreRows short_far knapsack.now.items.now top (row_at cells.now top) }
     requires weight { weight ≤ top }
-    requires way { row_at cells.now top (length zone.now) weight <ℤ short_no_way }
-    ensures { (us : List ℕ) × Reaches items.now us weight
-        (row_at cells.now top (length zone.now) weight) ×
-        (point.new.items ≡ point_of coefs.now zone.now costs.now us) }
+    requires way { row_at cells.now top (length knapsack.now.zone.now) weight <ℤ short_no_way }
+    ensures { (us : List ℕ) × Reaches knapsack.now.items.now us weight (row_at cells.now top (length
+        knapsack.now.zone.now) weight) × (point.new.items ≡ point_of knapsack.now.coefs.now
+        knapsack.now.zone.now knapsack.now.costs.now us) }
 {
     let mut left = weight;
-    let mut here = zone.len() * (top + 1);
-    for k in 0..zone.len() {
+    let mut here = knapsack.zone.len() * (top + 1);
+    for k in 0..knapsack.zone.len() {
         let above = here - (top + 1);
-        let units = units_at(cells, here, above, &items[k], left);
-        point[k] = number_with(&coefs[k], &zone[k], &costs[k], units);
-        left -= (items[k].weight * units) as usize;
+        let units = units_at(cells, here, above, &knapsack.items[k], left);
+        point[k] = number_with(
+            &knapsack.coefs[k],
+            &knapsack.zone[k],
+            &knapsack.costs[k],
+            units,
+        );
+        left -= (knapsack.items[k].weight * units) as usize;
         here = above;
     }
 }

@@ -36,7 +36,7 @@ fn relax(cells: &mut [i128], start: usize, weight: usize, shift: usize, gain: &i
 }
 
 /// What so many units cost.
-fn cost_of(cost: &i128, units: u64) -> i128
+pub fn cost_of(cost: &i128, units: u64) -> i128
     requires units { units < 2 ^ 31 }
     requires small { unsigned_abs cost.now * units ≤ 2 ^ 118 }
     ensures value { result ≡ cost.now *ℤ pos units }

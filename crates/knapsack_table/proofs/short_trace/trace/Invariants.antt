@@ -7,9 +7,9 @@ use Rattle.knapsack_table.proofs.short_trace.trace.Given as goal
 
 abbrev pub invariant-loop-k : goal.invariant-loop-k
 invariant-loop-k l = record {
-  many : vec_len l.point ≡ length l.zone;
-  here : l.here ≡ (length l.zone - l.k) * (l.top + 1);
+  many : vec_len l.point ≡ length l.knapsack.zone.now;
+  here : l.here ≡ (length l.knapsack.zone.now - l.k) * (l.top + 1);
   below : l.left ≤ l.weight;
-  way : (us : List ℕ) × IsTraced l.items (row_at l.cells l.top) l.weight l.k l.left us
-      × ((i : ℕ) → i < l.k → get_or l.point.items i (pos 0) ≡ number_of (get_or l.coefs i (pos 0)) (span_at l.zone i) (get_or l.costs i (pos 0)) (get_or us i 0));
+  way : (us : List ℕ) × IsTraced l.knapsack.items.now (row_at l.cells l.top) l.weight l.k l.left us
+      × ((i : ℕ) → i < l.k → get_or l.point.items i (pos 0) ≡ number_of (get_or l.knapsack.coefs.now i (pos 0)) (span_at l.knapsack.zone.now i) (get_or l.knapsack.costs.now i (pos 0)) (get_or us i 0));
 }
