@@ -15,5 +15,5 @@ pub use crate::cut::cut_row;
 pub use crate::plain::first_cuts;
 pub use crate::rules::keeps_rules;
 pub use crate::several::with_cuts;
-pub use cut_sums::{CutFault, MAX_DIVISOR};
-pub use taken::{MOST_CUTS, copies_of, extended, one_list, row_of_cut, rows_of_cuts, with_others};
+pub use cut_sums::{CutFault, MAX_DIVISOR, copies_of};
+pub use taken::{MOST_CUTS, extended, one_list, row_of_cut, rows_of_cuts, with_others};

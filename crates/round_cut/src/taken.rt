@@ -10,7 +10,8 @@ ghost use Rattle.round_cut.specs.Taken.{HasFirstOf, IsRefused, IsTaken};
 
 use crate::{CutFault, cut_row, keeps_rules};
 use block_program::Blocked;
-use bp_theory::{Cut, Items, Row};
+use bp_theory::{Cut, Row};
+use cut_sums::copies_of;
 use std::alloc::{AllocError, Global};
 
 /// How many cuts there may be.
@@ -70,29 +71,6 @@ pub fn rows_of_cuts(
         }
     }
     Ok(Some(rows))
-}
-
-/// Copies of cuts.
-pub fn copies_of(alloc: Global, cuts: &[Cut]) -> Result<Vec<Cut>, AllocError>
-    ensures { IfOk result (λ copies. copies.items ≡ cuts.now) }
-{
-    let mut copies = Vec::with_capacity(alloc, cuts.len())?;
-    for cut in cuts {
-        let copy = copy_of(alloc, cut)?;
-        copies.push(copy)?;
-    }
-    Ok(copies)
-}
-
-// A copy of a cut.
-fn copy_of(alloc: Global, cut: &Cut) -> Result<Cut, AllocError>
-    ensures { IfOk result (λ copy. copy ≡ cut.now) }
-{
-    let rows = cut.rows.as_slice().to_vec(alloc)?;
-    Ok(Cut {
-        q: cut.q,
-        rows: Items::from_vec(rows),
-    })
 }
 
 /// Cuts, of which these are the rows, and behind them the first of others, in their order and as many as can be: until there
