@@ -2,18 +2,13 @@
 ghost use Rattle.std.specs.Prelude.{◌<◌, length};
 
 use block_program::Block;
-use primal_heuristics::{UNIT, at, product};
 use std::alloc::{AllocError, Global};
 
 /// The reduced cost of the copy at a place of a block.
 pub fn reduced_cost(block: &Block, place: u32, mults: &[i64]) -> i128
     requires { place < length block.now.block.copies }
 {
-    let mut cost = i128::from(block.costs()[place as usize]).saturating_mul(UNIT);
-    for entry in block.master(place) {
-        cost = cost.saturating_sub(product(&entry.1, &at(mults, entry.0 as usize)));
-    }
-    cost
+    primal_heuristics::reduced_cost(block.costs()[place as usize], block.master(place), mults)
 }
 
 /// The reduced costs of a block's copies.

@@ -2,6 +2,7 @@
 ghost use Rattle.std.specs.Prelude.{◌<◌, length};
 
 use crate::reach::{at, product, put, quotient};
+use crate::residuals::UNIT;
 use block_program::{Blocked, MAX_SCALE};
 use std::alloc::{AllocError, Global};
 
@@ -95,6 +96,16 @@ pub fn dense_costs(alloc: Global, b: &Blocked) -> Result<Vec<i64>, AllocError> {
         put(costs.as_mut_slice(), term.var as usize, term.coef);
     }
     Ok(costs)
+}
+
+/// The reduced cost of what has this cost, in ones, and these coefficients by row, at multipliers by row: both the
+/// multipliers and the reduced cost are at the greatest scale. A sum that 128 bits don't hold stays at their end.
+pub fn reduced_cost(cost: i64, coefs: &[(u32, i64)], mults: &[i64]) -> i128 {
+    let mut reduced = i128::from(cost).saturating_mul(UNIT);
+    for coef in coefs {
+        reduced = reduced.saturating_sub(product(&coef.1, &at(mults, coef.0 as usize)));
+    }
+    reduced
 }
 
 /// The reduced cost of each variable at multipliers by row, at the greatest scale.

@@ -19,7 +19,7 @@ mod spans;
 pub use copies::{copy_count, copy_place, has_further_rows, is_first_copy, linking_vars};
 pub use entries::Entries;
 pub use exchanges::improve_point;
-pub use guide::{Guide, Order, dense_costs, guide_of, plain_guide, reduced_costs};
+pub use guide::{Guide, Order, dense_costs, guide_of, plain_guide, reduced_cost, reduced_costs};
 pub use incumbent::{Incumbent, feasible_cost, is_below, is_reached};
 pub use narrowing::{is_one_point, narrow};
 pub use packing::{Alike, Moves, pack};

@@ -9,7 +9,7 @@ use bp_theory::Span;
 use col_pool::Column;
 use hash_index::NumberSet;
 use node_memory::{NodeContext, Place, Pools, is_settled as is_settled_block};
-use primal_heuristics::{at, product};
+use primal_heuristics::{product, reduced_cost};
 use std::alloc::{AllocError, Global};
 use std::num::{nearest_i64_to_f64, saturating_f64_to_i64};
 
@@ -549,20 +549,11 @@ fn ranked(
     let spans = block_spans(alloc, b.block(block), zone.spans())?;
     for id in pool.within(spans.as_slice()) {
         if let Some(column) = pools.column(Place { home, id }) {
-            ranked.push((reduced(column, mults), id))?;
+            ranked.push((reduced_cost(column.cost, column.acts.as_slice(), mults), id))?;
         }
     }
     ranked.sort()?;
     Ok(ranked)
-}
-
-// A column's cost in units less what multipliers by row pay for it.
-fn reduced(column: &Column, mults: &[i64]) -> i128 {
-    let mut cost = i128::from(column.cost).saturating_mul(primal_heuristics::UNIT);
-    for act in column.acts.as_slice() {
-        cost = cost.saturating_sub(product(&act.1, &at(mults, act.0 as usize)));
-    }
-    cost
 }
 
 /// A block's spans of those of all variables.
