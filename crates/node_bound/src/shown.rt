@@ -17,7 +17,7 @@ use block_program::{Blocked, MAX_SCALE, Zone, fits, signs_fit};
 use bp_theory::Proof;
 use branch_tree::{Turn, proof_copy};
 use lagr_bound::{Bounded, Work, bound, box_bound, round};
-use node_memory::{MOST_VISITS, PricingBudget};
+use node_memory::{MOST_VISITS, NodeContext, PricingBudget};
 use pricing_problem::Cap;
 use std::alloc::{AllocError, Global};
 
@@ -156,39 +156,24 @@ pub fn emptied(
 }
 
 /// The first of two proofs that is sound at scale 0 and shows that a zone has no point.
-pub fn emptied_by(
-    b: &Blocked,
-    classes: &Classes,
-    work: &mut Work,
-    zone: &Zone,
-    scaled: Scaled,
-) -> Option<Proof>
-    requires made_for { forms_of work.old ≡ forms_in b.now }
-    requires classes { AreSameClasses zone.now b.now.blocking classes.now }
-    requires zone { IsZone b.now.named.program.spans zone.now }
-    ensures off { MatchOption result (IsOfNoUse b.now.blocking zone.now scaled.short ×
-        IsOfNoUse b.now.blocking zone.now scaled.full) (ShutsOff b.now.blocking zone.now) }
+pub fn emptied_by(node: NodeContext, work: &mut Work, scaled: Scaled) -> Option<Proof>
+    requires made_for { forms_of work.old ≡ forms_in node.program.now }
+    ensures off { MatchOption result (IsOfNoUse node.entry.program.now.blocking node.entry.zone.now
+        scaled.short × IsOfNoUse node.entry.program.now.blocking node.entry.zone.now scaled.full)
+        (ShutsOff node.entry.program.now.blocking node.entry.zone.now) }
     ensures made_for { forms_of work.new ≡ forms_of work.old }
 {
-    match if_off(b, classes, work, zone, scaled.short) {
+    match if_off(node, work, scaled.short) {
         Some(proof) => Some(proof),
-        None => if_off(b, classes, work, zone, scaled.full),
+        None => if_off(node, work, scaled.full),
     }
 }
 
 // A proof at scale 0, where it is sound and shows that a zone has no point.
-fn if_off(
-    b: &Blocked,
-    classes: &Classes,
-    work: &mut Work,
-    zone: &Zone,
-    scaled: Proof,
-) -> Option<Proof>
-    requires made_for { forms_of work.old ≡ forms_in b.now }
-    requires classes { AreSameClasses zone.now b.now.blocking classes.now }
-    requires zone { IsZone b.now.named.program.spans zone.now }
-    ensures off { MatchOption result (IsOfNoUse b.now.blocking zone.now scaled)
-        (ShutsOff b.now.blocking zone.now) }
+fn if_off(node: NodeContext, work: &mut Work, scaled: Proof) -> Option<Proof>
+    requires made_for { forms_of work.old ≡ forms_in node.program.now }
+    ensures off { MatchOption result (IsOfNoUse node.entry.program.now.blocking node.entry.zone.now
+        scaled) (ShutsOff node.entry.program.now.blocking node.entry.zone.now) }
     ensures made_for { forms_of work.new ≡ forms_of work.old }
 {
     let proof = Proof {
@@ -196,10 +181,17 @@ fn if_off(
         mults: scaled.mults,
         picked: scaled.picked,
     };
-    if !is_sound(b, &proof) {
+    if !is_sound(node.program, &proof) {
         return None;
     }
-    match bound(work, b, classes, zone, &proof, Cap::At(MOST_VISITS)) {
+    match bound(
+        work,
+        node.program,
+        node.classes,
+        node.zone,
+        &proof,
+        Cap::At(MOST_VISITS),
+    ) {
         Bounded::Whole(whole) if whole > 0 => Some(proof),
         Bounded::Whole(_) => None,
         Bounded::Endless => Some(proof),

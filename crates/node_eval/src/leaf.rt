@@ -146,21 +146,14 @@ fn searched(
     let point = better_point(b, found, before.best);
     let mults = mults.as_slice();
     let known = cheaper(b, &point, before.best);
-    if let Some(proof) = left_empty(alloc, b, classes, pools, turn, known, mults)? {
+    if let Some(proof) = left_empty(alloc, node, pools, known, mults)? {
         return Ok(Verdict {
             point,
             next: Next::Shut(proof),
         });
     }
     let proofs = at_both_scales(alloc, &pools.budget, mults)?;
-    let shown = strongest(
-        b,
-        classes,
-        &mut pools.budget.work,
-        &turn.zone,
-        shown,
-        proofs,
-    );
+    let shown = strongest(node, &mut pools.budget.work, shown, proofs);
     let var = open_or(&turn.zone, split.var, before.var);
     let next = settled(b, turn, shown, known, var, split.at);
     Ok(Verdict { point, next })
@@ -169,22 +162,19 @@ fn searched(
 // A proof that a node's zone has no point, where no point is known and multipliers show it.
 fn left_empty(
     alloc: Global,
-    b: &Blocked,
-    classes: &Classes,
+    node: NodeContext,
     pools: &mut Pools,
-    turn: &Turn,
     known: Option<i64>,
     mults: &[i64],
 ) -> Result<Option<Proof>, AllocError>
-    requires turn { IsTurn b.now turn.now }
-    requires made_for { AreMadeFor b.now pools.old }
-    requires classes { AreSameClasses turn.now.zone b.now.blocking classes.now }
-    ensures off { IfOk result (λ found. IfSome found (ShutsOff b.now.blocking turn.now.zone)) }
-    ensures made_for { AreMadeFor b.now pools.new }
+    requires made_for { AreMadeFor node.program.now pools.old }
+    ensures off { IfOk result (λ found. IfSome found (ShutsOff node.entry.program.now.blocking
+        node.entry.zone.now)) }
+    ensures made_for { AreMadeFor node.entry.program.now pools.new }
 {
     if known.is_some() {
         return Ok(None);
     }
     let proofs = at_both_scales(alloc, &pools.budget, mults)?;
-    Ok(emptied_by(b, classes, &mut pools.budget.work, &turn.zone, proofs))
+    Ok(emptied_by(node, &mut pools.budget.work, proofs))
 }

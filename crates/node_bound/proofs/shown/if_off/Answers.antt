@@ -9,4 +9,4 @@ pub returns-in-Whole-2-clause-off : goal.returns-in-Whole-2-clause-off
 returns-in-Whole-2-clause-off c off =
     by_lt_z (pos 0) c.in-Whole.whole
     (λ more. absurd (Prim.search rules))
-    (λ low. absurd (whole_leaves_open c.args.b.now.blocking c.args.zone.now (at_zero c.args.scaled) c.in-Whole.whole c.in-Whole.ensures.answer low off))
+    (λ low. absurd (whole_leaves_open c.args.node.program.now.blocking c.args.node.zone.now (at_zero c.args.scaled) c.in-Whole.whole c.in-Whole.ensures.answer low off))
