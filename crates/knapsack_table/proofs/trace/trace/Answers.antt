@@ -26,8 +26,8 @@ loop-k-init c = record {
     whole : (n : ℕ) → n ≡ n - 0
     whole n = omega arith
 
-pub bounds-items-k : goal.bounds-items-k
-bounds-items-k c =
+pub bounds-knapsack-k : goal.bounds-knapsack-k
+bounds-knapsack-k c =
     let many : length c.args.knapsack.now.items.now ≡ length c.args.knapsack.now.zone.now =
     ap length c.requires.items ∙ length-items_of c.args.knapsack.now.coefs.now c.args.knapsack.now.zone.now c.args.knapsack.now.costs.now c.requires.coefs c.requires.costs in
     omega (arith, c.loop-k-test.true, many)
@@ -111,8 +111,8 @@ number_with-requires-clause-fits c =
     ∙ get_or-items_of c.args.knapsack.now.coefs.now c.args.knapsack.now.zone.now c.args.knapsack.now.costs.now c.loop-k.k (record { weight = 0; width = 0; cost = pos 0 }) c.requires.coefs c.requires.costs c.loop-k-test.true in
     subst (λ (i : Item). c.units_at-units.result ≤ i.width) item c.units_at-units.ensures.fits
 
-pub bounds-items-k-in-loop-k : goal.bounds-items-k-in-loop-k
-bounds-items-k-in-loop-k c =
+pub bounds-knapsack-k-in-loop-k-4 : goal.bounds-knapsack-k-in-loop-k-4
+bounds-knapsack-k-in-loop-k-4 c =
     let many : length c.args.knapsack.now.items.now ≡ length c.args.knapsack.now.zone.now =
     ap length c.requires.items ∙ length-items_of c.args.knapsack.now.coefs.now c.args.knapsack.now.zone.now c.args.knapsack.now.costs.now c.requires.coefs c.requires.costs in
     omega (arith, c.loop-k-test.true, many)
