@@ -7,7 +7,7 @@ ghost use Rattle.branch_tree.specs.Groves.{IsStanding, IsGroveOf, IsLiveTurn};
 ghost use Rattle.bp_search.specs.Searches.{CanGrow};
 
 use block_program::Blocked;
-use branch_tree::{Grove, Next, Turn};
+use branch_tree::{Fork, Grove, Next, Turn};
 use std::alloc::{AllocError, Global};
 
 /// Shuts or forks a live leaf. Where memory is short the grove stays as it was.
@@ -37,6 +37,14 @@ pub fn grow(
             at,
             proof,
             bound,
-        } => grove.fork(alloc, b, turn, var, at, proof, bound),
+        } => {
+            let fork = Fork {
+                var,
+                at,
+                proof,
+                bound,
+            };
+            grove.fork(alloc, b, turn, fork)
+        }
     }
 }

@@ -2,7 +2,7 @@
 use block_program::{Blocked, Zone};
 use bp_theory::{Items, Proof};
 use open_nodes::{
-    LeafQueue, Tree, Turn, bound_of, depth_in, filled_queue, fork_leaf, key_at, plain_bound,
+    Fork, LeafQueue, Tree, Turn, bound_of, depth_in, filled_queue, fork_leaf, key_at, plain_bound,
     plain_proof, put, steps_in, turn_at,
 };
 use search_laws::Side;
@@ -96,8 +96,8 @@ impl Grove {
     {
         let root = Zone::root(alloc, b)?;
         let (queue, live) = filled_queue(alloc, &tree)?;
-        let count = steps_in(&tree);
-        let depth = depth_in(&tree);
+        let count = steps_in(alloc, &tree)?;
+        let depth = depth_in(alloc, &tree)?;
         Ok(Grove {
             tree,
             root,
@@ -190,41 +190,28 @@ impl Grove {
         alloc: Global,
         b: &Blocked,
         turn: &Turn,
-        var: u32,
-        at: i64,
-        proof: Proof,
-        bound: i64,
+        fork: Fork,
     ) -> Result<(), AllocError>
         requires kept { IsGroveOf b.now self.old }
         requires turn { IsLiveTurn self.old turn.now }
-        requires split { IsSoundSplit turn.now.zone var at }
-        requires sound { IsSoundProof b.now.blocking proof }
-        requires keeps { KeepsBound b.now.blocking turn.now.zone proof bound }
+        requires split { IsSoundSplit turn.now.zone fork.var fork.at }
+        requires sound { IsSoundProof b.now.blocking fork.proof }
+        requires keeps { KeepsBound b.now.blocking turn.now.zone fork.proof fork.bound }
         requires depth { turn.now.depth < 8256 }
         requires count { steps (certificate_tree self.old.tree) < 2 ^ 63 - 1 }
         ensures same { OnErr result (self.new ≡ self.old) }
-        ensures tree { OnOk result (self.new.tree ≡ fork_at self.old.tree turn.now.path var at
-            proof bound) }
+        ensures tree { OnOk result (self.new.tree ≡ fork_at self.old.tree turn.now.path fork.var
+            fork.at fork.proof fork.bound) }
         ensures root { self.new.root ≡ self.old.root }
-        ensures queue { OnOk result (IsForkedQueue (queue_of self.old.queue) turn.now bound
-            (made self.old.tree) (queue_of self.new.queue)) }
+        ensures queue { OnOk result (IsForkedQueue (queue_of self.old.queue) turn.now
+            fork.bound (made self.old.tree) (queue_of self.new.queue)) }
         ensures kept { IsGroveOf b.now self.new }
         ensures standing { IsStanding self.new }
     {
         // For the proof alone: `b` stands in the contract.
         let _ = b;
         let number = self.live + self.count;
-        fork_leaf(
-            alloc,
-            &mut self.tree,
-            &mut self.queue,
-            turn,
-            number,
-            var,
-            at,
-            proof,
-            bound,
-        )?;
+        fork_leaf(alloc, &mut self.tree, &mut self.queue, turn, number, fork)?;
         self.live += 1;
         self.count += 1;
         self.depth = self.depth.max(turn.depth + 1);

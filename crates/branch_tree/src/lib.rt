@@ -9,5 +9,5 @@ mod outcome;
 pub use crate::grove::{Grove, MAX_DEPTH};
 pub use crate::loaded::Loaded;
 pub use crate::outcome::Outcome;
-pub use open_nodes::{Tree, Turn, proof_copy};
+pub use open_nodes::{Fork, GrowingNode, Tree, Turn, grown, proof_copy};
 pub use search_laws::{Next, Side, Verdict};

@@ -49,7 +49,11 @@ pub fn by_row(alloc: Global, row: u32, mult: i64) -> Result<Proof, AllocError>
 pub fn by_scaled(alloc: Global, mults: &[i64], scale: u32) -> Result<Proof, AllocError>
     ensures picked { IfOk result (λ proof. proof.picked ≡ These []) }
 {
-    let mut kept = Items::new(alloc);
+    let count = mults
+        .iter()
+        .filter(|mult| at_scale(**mult, scale) != 0)
+        .count();
+    let mut kept = Items::with_capacity(alloc, count)?;
     let mut row: u32 = 0;
     for mult in mults {
         let part = at_scale(*mult, scale);

@@ -5,3 +5,5 @@ pub mod Held
 pub mod Preorder
 pub mod Below
 pub mod PlainBound
+pub mod Built
+pub mod Ahead

@@ -1,5 +1,6 @@
--- Other crates cite Trees, Queues and Filled. The rest is for contracts here alone.
+-- Other crates cite Trees, Nodes, Queues and Filled. The rest is for contracts here alone.
 pub mod Trees
+pub mod Nodes
 pub mod Queues
 pub mod Filled
 pub mod Bounds

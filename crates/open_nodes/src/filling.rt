@@ -1,16 +1,27 @@
-// The queue of a tree's live leaves, its steps and its depth.
-ghost use Rattle.std.specs.Prelude.{◌≡◌, ◌+◌, ◌<◌, ◌≤◌, ◌^◌, [], IfOk, None, OnOk};
+// The queue of a tree's live leaves, its steps and its depth. Each walks over the tree with a list of the nodes that are
+// still to come, the next one last: no more than two for each level of the tree.
+ghost use Rattle.std.specs.Prelude.{◌≡◌, ◌<◌, ◌≤◌, ◌^◌, ◌++◌, [], take, option_to_list, IfOk, OnOk, None};
 ghost use Rattle.bp_theory.specs.Trees.{steps, depth};
 ghost use Rattle.search_laws.specs.Grove.{live_count, certificate_tree};
 ghost use Rattle.open_nodes.specs.Trees.{tree_of};
 ghost use Rattle.open_nodes.specs.Queues.{queue_of};
-ghost use Rattle.open_nodes.specs.Filled.{IsFilled, IsFreeFrom};
+ghost use Rattle.open_nodes.specs.Filled.{IsFilled};
 
 use crate::copies::path_copy;
 use crate::queue::{LeafQueue, key_at};
 use crate::tree::Tree;
 use search_laws::Side;
 use std::alloc::{AllocError, Global};
+
+// A node that is still to come.
+#[derive(Drop)]
+struct Ahead<'a> {
+    node: &'a Tree,
+    // How long the path of the fork is that it is a part of; 0 for the root.
+    above: usize,
+    // Which part of the fork it is; none for the root.
+    side: Option<Side>,
+}
 
 /// The queue of a tree's live leaves, numbered in preorder from 0, and how many there are.
 pub fn filled_queue(alloc: Global, tree: &Tree) -> Result<(LeafQueue, u64), AllocError>
@@ -19,67 +30,103 @@ pub fn filled_queue(alloc: Global, tree: &Tree) -> Result<(LeafQueue, u64), Allo
     ensures live { IfOk result (λ k. k.1 ≡ live_count (tree_of tree.now)) }
 {
     let mut queue = LeafQueue::new(alloc);
-    let mut path = Vec::new(alloc);
-    let live = fill(alloc, &mut queue, tree, &mut path, 0)?;
-    Ok((queue, live))
-}
-
-// Puts the live leaves below a node into the queue, in preorder, by this number and those behind it, and gives the
-// number behind the last. The path is that of the node, and is as before afterwards.
-fn fill(
-    alloc: Global,
-    queue: &mut LeafQueue,
-    tree: &Tree,
-    path: &mut Vec<Side>,
-    first: u64,
-) -> Result<u64, AllocError>
-    requires free { IsFreeFrom first (queue_of queue.old) }
-    requires few { first + live_count (tree_of tree.now) < 2 ^ 64 }
-    ensures filled { OnOk result (IsFilled (queue_of queue.old) (tree_of tree.now) path.old.items
-        first (queue_of queue.new)) }
-    ensures next { IfOk result (λ next. next ≡ first + live_count (tree_of tree.now)) }
-    ensures free { IfOk result (λ next. IsFreeFrom next (queue_of queue.new)) }
-    ensures path { OnOk result (path.new.items ≡ path.old.items) }
-{
-    match tree {
-        Tree::Live(_, bound) => {
-            let here = path_copy(alloc, path)?;
-            queue.add(key_at(bound, first), here)?;
-            Ok(first + 1)
-        }
-        Tree::Shut(_) => Ok(first),
-        Tree::Fork { low, high, .. } => {
-            path.push(Side::Low)?;
-            let middle = fill(alloc, queue, low, path, first)?;
-            let _ = path.pop();
-            path.push(Side::High)?;
-            let next = fill(alloc, queue, high, path, middle)?;
-            let _ = path.pop();
-            Ok(next)
+    let mut path: Vec<Side> = Vec::new(alloc);
+    let mut ahead: Vec<Ahead> = Vec::new(alloc);
+    let mut next: u64 = 0;
+    ahead.push(ahead_of(tree, 0, None))?;
+    while let Some(here) = ahead.pop() {
+        go_to(&mut path, here.above, &here.side)?;
+        match here.node {
+            Tree::Live(_, bound) => {
+                let leaf = path_copy(alloc, &path)?;
+                queue.add(key_at(bound, next), leaf)?;
+                next += 1;
+            }
+            Tree::Shut(_) => {}
+            Tree::Fork { low, high, .. } => {
+                ahead.push(ahead_of(high, path.len(), Some(Side::High)))?;
+                ahead.push(ahead_of(low, path.len(), Some(Side::Low)))?;
+            }
         }
     }
+    Ok((queue, next))
+}
+
+// Changes the path into one that has no more than so many sides of it, and then a side.
+fn go_to(path: &mut Vec<Side>, above: usize, side: &Option<Side>) -> Result<(), AllocError>
+    ensures { OnOk result (path.new.items ≡ take above path.old.items ++
+        option_to_list side.now) }
+{
+    path.truncate(above);
+    if let Some(side) = side {
+        path.push(*side)?;
+    }
+    Ok(())
+}
+
+// A node that is still to come.
+fn ahead_of<'a>(node: &'a Tree, above: usize, side: Option<Side>) -> Ahead<'a>
+    ensures node { tree_of result.node.now ≡ tree_of node.now }
+    ensures above { result.above ≡ above }
+    ensures side { result.side ≡ side }
+{
+    Ahead { node, above, side }
 }
 
 /// How many splits and shut leaves a tree has.
-pub fn steps_in(tree: &Tree) -> u64
+pub fn steps_in(alloc: Global, tree: &Tree) -> Result<u64, AllocError>
     requires { steps (certificate_tree (tree_of tree.now)) < 2 ^ 64 }
-    ensures { result ≡ steps (certificate_tree (tree_of tree.now)) }
+    ensures { IfOk result (λ count. count ≡ steps (certificate_tree (tree_of tree.now))) }
 {
-    match tree {
-        Tree::Live(_, _) => 0,
-        Tree::Shut(_) => 1,
-        Tree::Fork { low, high, .. } => 1 + steps_in(low) + steps_in(high),
+    let mut ahead: Vec<&Tree> = Vec::new(alloc);
+    let mut count: u64 = 0;
+    ahead.push(tree)?;
+    while let Some(node) = ahead.pop() {
+        match node {
+            Tree::Live(_, _) => {}
+            Tree::Shut(_) => count += 1,
+            Tree::Fork { low, high, .. } => {
+                count += 1;
+                ahead.push(high)?;
+                ahead.push(low)?;
+            }
+        }
     }
+    Ok(count)
+}
+
+// A node that is still to come, and its depth.
+#[derive(Drop)]
+struct AtDepth<'a> {
+    node: &'a Tree,
+    depth: u32,
 }
 
 /// The greatest depth of a tree's nodes.
-pub fn depth_in(tree: &Tree) -> u32
+pub fn depth_in(alloc: Global, tree: &Tree) -> Result<u32, AllocError>
     requires { depth (certificate_tree (tree_of tree.now)) ≤ 8256 }
-    ensures { result ≡ depth (certificate_tree (tree_of tree.now)) }
+    ensures { IfOk result (λ deepest. deepest ≡ depth (certificate_tree (tree_of tree.now))) }
 {
-    match tree {
-        Tree::Live(_, _) => 0,
-        Tree::Shut(_) => 0,
-        Tree::Fork { low, high, .. } => 1 + depth_in(low).max(depth_in(high)),
+    let mut ahead: Vec<AtDepth> = Vec::new(alloc);
+    let mut deepest: u32 = 0;
+    ahead.push(at_depth(tree, 0))?;
+    while let Some(here) = ahead.pop() {
+        match here.node {
+            Tree::Live(_, _) => deepest = deepest.max(here.depth),
+            Tree::Shut(_) => deepest = deepest.max(here.depth),
+            Tree::Fork { low, high, .. } => {
+                ahead.push(at_depth(high, here.depth + 1))?;
+                ahead.push(at_depth(low, here.depth + 1))?;
+            }
+        }
     }
+    Ok(deepest)
+}
+
+// A node that is still to come, and its depth.
+fn at_depth<'a>(node: &'a Tree, depth: u32) -> AtDepth<'a>
+    ensures node { tree_of result.node.now ≡ tree_of node.now }
+    ensures depth { result.depth ≡ depth }
+{
+    AtDepth { node, depth }
 }

@@ -12,6 +12,19 @@ use bp_theory::Proof;
 use search_laws::Side;
 use std::alloc::{AllocError, Global};
 
+/// How a live leaf is forked: into two live leaves with one proof and bound.
+#[derive(Drop)]
+pub struct Fork {
+    /// The variable whose span is split.
+    pub var: u32,
+    /// The last number of the low part's span.
+    pub at: i64,
+    /// The proof of both parts: a dual proof of a bound in the leaf's zone.
+    pub proof: Proof,
+    /// The bound that the proof shows in the leaf's zone, as a cost that is minimised.
+    pub bound: i64,
+}
+
 /// Forks a turn's leaf in the tree into two live leaves with one proof and bound, and puts their paths in place of its own in
 /// the queue, under a number and the next one. Where memory is short nothing changes.
 pub fn fork_leaf(
@@ -20,22 +33,25 @@ pub fn fork_leaf(
     queue: &mut LeafQueue,
     turn: &Turn,
     number: u64,
-    var: u32,
-    at: i64,
-    proof: Proof,
-    bound: i64,
+    fork: Fork,
 ) -> Result<(), AllocError>
     requires there { (n : ℕ) × (queue_of queue.old turn.now.bound n ≡ Some turn.now.path) }
-    requires none { queue_of queue.old bound number ≡ None }
-    requires none_behind { queue_of queue.old bound (number + 1) ≡ None }
+    requires none { queue_of queue.old fork.bound number ≡ None }
+    requires none_behind { queue_of queue.old fork.bound (number + 1) ≡ None }
     requires fits { number + 1 < 2 ^ 64 }
     ensures same_tree { OnErr result (tree.new ≡ tree.old) }
     ensures same_queue { OnErr result (queue.new ≡ queue.old) }
-    ensures tree { OnOk result (tree_of tree.new ≡ fork_at (tree_of tree.old) turn.now.path var at
-        proof bound) }
-    ensures queue { OnOk result (IsParted (queue_of queue.old) turn.now.path bound number
-        (queue_of queue.new)) }
+    ensures tree { OnOk result (tree_of tree.new ≡ fork_at (tree_of tree.old) turn.now.path fork.var
+        fork.at fork.proof fork.bound) }
+    ensures queue { OnOk result (IsParted (queue_of queue.old) turn.now.path fork.bound
+        number (queue_of queue.new)) }
 {
+    let Fork {
+        var,
+        at,
+        proof,
+        bound,
+    } = fork;
     let path = turn.path.as_slice();
     let low = path_to(alloc, path, Side::Low)?;
     let high = path_to(alloc, path, Side::High)?;

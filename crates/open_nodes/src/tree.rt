@@ -1,17 +1,17 @@
 // The tree of a search, and what is done with its leaves.
-ghost use Rattle.std.specs.Prelude.{◌≡◌, Some, IfOk};
+ghost use Rattle.std.specs.Prelude.{◌≡◌, ◌<◌, Some, IfOk, IsTrue, IsFalse, pos};
 ghost use Rattle.bp_theory.specs.Trees.{HasSoundSplits};
 ghost use Rattle.search_laws.specs.Grove.{put_at, zone_at, live_at, certificate_tree, LiveLeaf, live, fork};
-ghost use Rattle.open_nodes.specs.Trees.{tree_of};
+ghost use Rattle.open_nodes.specs.Trees.{tree_of, weight, IsLeaf};
 
 use block_program::Zone;
 use bp_theory::Proof;
 use search_laws::Side;
 use std::alloc::{AllocError, Global};
+use std::mem;
 
 /// The tree of a search: live leaves with a proof and the bound that it shows in the leaf's zone, shut leaves with a proof,
 /// and forks of a variable's span behind a number.
-#[derive(Drop)]
 pub enum Tree {
     Live(Proof, i64),
     Shut(Proof),
@@ -21,6 +21,70 @@ pub enum Tree {
         low: Box<Tree>,
         high: Box<Tree>,
     },
+}
+
+// It goes node by node, with no stack and no memory of its own: a fork whose low part is a fork is turned, and a leaf in
+// its low part goes with it.
+impl Drop for Tree {
+    fn drop(mut self) {
+        loop {
+            match self {
+                Tree::Live(_, _) => return,
+                Tree::Shut(_) => return,
+                Tree::Fork { var, at, low, high } => self = lessened(var, &at, low, high),
+            }
+        }
+    }
+}
+
+// What is left of a fork with these parts: the fork turned about its low part where that is a fork, else its high part.
+fn lessened(var: u32, at: &i64, low: Box<Tree>, high: Box<Tree>) -> Tree
+    ensures { weight (tree_of result) < weight (fork var at.now (tree_of low.value)
+        (tree_of high.value)) }
+{
+    let mut turned = low;
+    let mut rest = high;
+    if turns(&mut turned, &mut rest) {
+        return Tree::Fork {
+            var,
+            at: *at,
+            low: rest,
+            high: turned,
+        };
+    }
+    Box::into_inner(turned).go();
+    Box::into_inner(rest)
+}
+
+// Turns a fork's low part, where that is a fork: its low part comes in place of the high one, which it takes up itself
+// with its own. Whether there was something to turn.
+fn turns(low: &mut Tree, high: &mut Box<Tree>) -> bool
+    ensures turned { IsTrue result → weight (fork 0 (pos 0) (tree_of high.new.value) (tree_of low.new))
+        < weight (fork 0 (pos 0) (tree_of low.old) (tree_of high.old.value)) }
+    ensures leaf { IsFalse result → IsLeaf (tree_of low.new) }
+    ensures rest { IsFalse result → high.new ≡ high.old }
+{
+    let Tree::Fork { high: second, .. } = &mut *low else {
+        return false;
+    };
+    mem::swap(second, high);
+    if let Tree::Fork { low: first, .. } = &mut *low {
+        mem::swap(first, high);
+    }
+    true
+}
+
+impl Tree {
+    // A leaf goes.
+    fn go(self)
+        requires { IsLeaf (tree_of self) }
+    {
+        match self {
+            Tree::Live(_, _) => {}
+            Tree::Shut(_) => {}
+            Tree::Fork { .. } => unreachable!(),
+        }
+    }
 }
 
 // A fork into two live leaves of one bound.

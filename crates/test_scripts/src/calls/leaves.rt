@@ -1,12 +1,13 @@
 // The leaf that a tree begins with, and the leaves that come next once leaves are forked.
-ghost use Rattle.std.specs.Prelude.{IfOk, IfSome};
+ghost use Rattle.std.specs.Prelude.{◌≡◌, IfOk, IfSome};
 ghost use Rattle.branch_tree.specs.Groves.{IsGroveOf, IsLiveTurn};
 ghost use Rattle.branch_tree.specs.Turns.{IsTurn};
 
 use crate::calls::told::Told;
 use crate::calls::zones::is_sound;
 use block_program::{Blocked, Zone};
-use branch_tree::{Grove, MAX_DEPTH, Turn, proof_copy};
+use bp_theory::Proof;
+use branch_tree::{Fork, Grove, MAX_DEPTH, Turn, proof_copy};
 use std::alloc::{AllocError, Global};
 
 // The variable whose span is split.
@@ -126,8 +127,23 @@ fn fork_leaf(
     }
     let proof = proof_copy(alloc, &turn.proof)?;
     let again = proof_copy(alloc, &turn.proof)?;
-    match grove.fork(alloc, b, turn, VAR, at, proof, turn.bound) {
+    match grove.fork(alloc, b, turn, fork_of(turn, at, proof)) {
         Ok(()) => Ok(()),
-        Err(_) => grove.fork(alloc, b, turn, VAR, at, again, turn.bound),
+        Err(_) => grove.fork(alloc, b, turn, fork_of(turn, at, again)),
+    }
+}
+
+// The fork of a turn's leaf behind a number, with a proof of the turn's bound.
+fn fork_of(turn: &Turn, at: i64, proof: Proof) -> Fork
+    ensures var { result.var ≡ 0 }
+    ensures at { result.at ≡ at }
+    ensures proof { result.proof ≡ proof }
+    ensures bound { result.bound ≡ turn.now.bound }
+{
+    Fork {
+        var: VAR,
+        at,
+        proof,
+        bound: turn.bound,
     }
 }

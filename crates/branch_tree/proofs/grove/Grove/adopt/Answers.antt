@@ -6,9 +6,9 @@ use Rattle.branch_tree.proofs.grove.Grove.adopt.Goals as goal
 
 pub invariant_of-result : goal.invariant_of-result
 invariant_of-result c =
-    adopt_whole c.args.b.now c.in_ok-root.root (tree_of c.args.tree) c.in_ok-queue.queue c.in_ok-queue.live c.steps_in-count.result
-    c.depth_in-depth.result c.in_ok-root.ensures.spans c.in_ok-root.ensures.zone c.requires.kept c.requires.deep c.requires.few
-    c.in_ok-queue.ensures.filled c.in_ok-queue.ensures.live c.steps_in-count.ensures c.depth_in-depth.ensures
+    adopt_whole c.args.b.now c.in_ok-root.root (tree_of c.args.tree) c.in_ok-queue.queue c.in_ok-queue.live c.in_ok-count.count
+    c.in_ok-depth.depth c.in_ok-root.ensures.spans c.in_ok-root.ensures.zone c.requires.kept c.requires.deep c.requires.few
+    c.in_ok-queue.ensures.filled c.in_ok-queue.ensures.live c.in_ok-count.ensures c.in_ok-depth.ensures
 
 pub returns-clause-adopted : goal.returns-clause-adopted
 returns-clause-adopted c = record {
