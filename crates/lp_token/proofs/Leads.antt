@@ -6,7 +6,7 @@ use Rattle.lp_token.specs.declared.Tok.{Tok}
 use Rattle.lp_token.specs.declared.LpKind.{LpKind}
 use Rattle.lp_token.specs.declared.fault.LpFault.{LpFault}
 use Rattle.lp_token.specs.declared.fault.LpFault.TheVariants.{At, NoMemory}
-use Rattle.lp_token.specs.Cut.{IsGap, IsToken, is_long, is_end, CutFrom, Cut, BreaksFrom, CutFault, IsCutFault}
+use Rattle.lp_token.specs.Cut.{IsGap, IsToken, is_long, is_end, CutFrom, Cut, BreaksFrom, CutFault, IsCutFault, IsNextFault}
 use Rattle.lp_token.specs.Scan.{BreaksHere}
 
 -- What goes on from a place goes on from the text's beginning, behind the tokens found.
@@ -31,12 +31,17 @@ unfolding Cut CutFrom
 leads_end text found at t l g h s e = l.cut (t ∷ []) (g, h, s, subst (λ b. MatchBool b (◌≡◌ {A = List Tok} [] []) (CutFrom text t.to [])) (sym e) refl)
 
 -- the text's end
-pub leads_done : (text : List ℕ) (found : List Tok) (at here : ℕ) → Leads text found at → IsGap text at here → here ≡ length text → Cut text found
+pub leads_done : (text : List ℕ) (found : List Tok) (at : ℕ) → Leads text found at → IsGap text at (length text) → Cut text found
 unfolding Cut CutFrom
-leads_done text found at here l g e = subst (CutFrom text 0) (append-nil found) (l.cut [] (subst (λ p. IsGap text at p) e g))
+leads_done text found at l g = subst (CutFrom text 0) (append-nil found) (l.cut [] g)
 
 -- a fault
-pub leads_fault : (text : List ℕ) (found : List Tok) (at here : ℕ) (fault : LpFault) → Leads text found at → IsGap text at here → BreaksHere text here fault → IsCutFault text fault
+pub leads_fault : (text : List ℕ) (found : List Tok) (at : ℕ) (fault : LpFault) → Leads text found at → IsNextFault text at fault → IsCutFault text fault
 unfolding CutFault BreaksFrom
-leads_fault text found at here (At line kind) l g b = (found, here, subst (λ ts. BreaksFrom text 0 ts here kind) (append-nil found) (l.breaks [] here kind (g, b.1)), b.0)
-leads_fault text found at here NoMemory l g b = absurd b
+leads_fault text found at (At line kind) l b = (found, b.0, subst (λ ts. BreaksFrom text 0 ts b.0 kind) (append-nil found) (l.breaks [] b.0 kind (b.1, b.2)), b.3)
+leads_fault text found at NoMemory l b = absurd b
+
+-- the fault behind a gap
+pub next_fault : (text : List ℕ) (place here : ℕ) (fault : LpFault) → IsGap text place here → BreaksHere text here fault → IsNextFault text place fault
+next_fault text place here (At line kind) g b = (here, g, b.1, b.0)
+next_fault text place here NoMemory g b = b

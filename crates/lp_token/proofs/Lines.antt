@@ -1,5 +1,5 @@
 -- Lines, what stands before a place in its line, and what a token leaves of them.
-use Rattle.std.proofs.Common.{◌≡◌, ℕ, zero, suc, ◌+◌, ◌-◌, ◌<◌, ◌≤◌, Bool, true, false, not, ◌&&◌, ◌||◌, List, [], ◌∷◌, ◌++◌, length, get_or, take, drop, refl, sym, ◌∙◌, ap, subst, inl, inr, arith, add-one, None, Some}
+use Rattle.std.proofs.Common.{◌≡◌, ℕ, zero, suc, ◌+◌, ◌-◌, ◌<◌, ◌≤◌, Bool, true, false, not, ◌&&◌, ◌||◌, List, [], ◌∷◌, ◌++◌, length, get_or, take, drop, refl, sym, ◌∙◌, ap, subst, inl, inr, arith, add-one, None, Some, Option}
 use Rattle.std.proofs.lemmas.Bool.{and_parts, and_from, or_left, or_from, or_parts, both_ways, eqb-true, false_from_ne_true, not-true}
 use Rattle.std.proofs.lemmas.List.{length-take-le, get_or-drop, length-drop}
 use Rattle.std.proofs.lemmas.List.Sums.{count_by-le-length, count_by_more_yes, count_by_more_no}
@@ -11,9 +11,9 @@ use Rattle.lp_token.specs.declared.Tok.{Tok}
 use Rattle.lp_token.specs.declared.TokKind.TheVariants.{Number, Name, Mark, Word}
 use Rattle.lp_token.specs.Lexeme.{is_point, is_exponent_mark, is_sign, is_digits, is_mantissa, without_sign, is_exponent, front, behind, mantissa, exponent, is_number, is_name_byte, is_name, is_mark, marks}
 use Rattle.lp_token.specs.Word.{is_space, section_of}
-use Rattle.lp_token.specs.Cut.{is_line_feed, is_white, line_before, in_comment, goes_on, line_at, begins_line, is_blank, kind_at, is_word_at, name_goes_on, colon_follows, IsToken}
+use Rattle.lp_token.specs.Cut.{is_line_feed, is_white, line_before, in_comment, goes_on, line_at, begins_line, is_blank, kind_at, is_word_at, name_goes_on, colon_follows, IsToken, IsBetween}
 use Rattle.lp_token.specs.Scan.{is_digit_or_point, sign_of}
-use Rattle.lp_token.proofs.Places.{after_last-push, after_last-stop, in_comment-step, token_not_blank, kind_nonempty}
+use Rattle.lp_token.proofs.Places.{after_last-push, after_last-stop, in_comment-step, comment_none, token_not_blank, kind_nonempty}
 use Rattle.lp_token.proofs.Numbers.{front-behind, signed-split}
 use Rattle.lp_token.proofs.FirstBytes.{in_table}
 use Rattle.lp_token.proofs.Words.{word_runs, IsRuns, front_passes}
@@ -193,3 +193,17 @@ behind_token text t h c =
     let place : t.from + (t.to - t.from - 1 + 1) ≡ t.to = omega arith in
     subst (λ k. IsBehind text t.from k) place
     (behind_bytes text t.from (t.to - t.from - 1) (omega arith) (ap (λ k. list_all is_inner (take k (drop t.from text))) (sym count) ∙ inner_token text t.from t.to some) (or_parts (is_white (get_or text t.from 0)) (in_comment text (t.from + 1)) seen).0 c)
+
+no_kind : {A : Type 0} (o : Option A) (a : A) → o ≡ None → o ≡ Some a → ⊥
+no_kind o a e h = cc
+
+-- the place behind a token stands between tokens
+pub between_behind : (text : List ℕ) (t : Tok) → IsToken text t → IsBetween text (record { at = t.to; line = t.line; fresh = false })
+between_behind text t h =
+    let clear : in_comment text t.from ≡ false = false_from_ne_true (in_comment text t.from) (λ e. no_kind (kind_at text t.from t.to) t.kind (comment_none text t.from t.to e) h.kind) in
+    let b : IsBehind text t.from t.to = behind_token text t h clear in
+    record { position = record { inside = h.inside; line_is = h.line ∙ sym b.line; fresh_is = sym b.begun }; clear = b.clear }
+
+-- and so does the place where a text begins
+pub between_start : (text : List ℕ) → IsBetween text (record { at = 0; line = 1; fresh = true })
+between_start text = record { position = record { inside = omega arith; line_is = line_at-start text; fresh_is = begins_line-start text }; clear = in_comment-start text }

@@ -1,10 +1,10 @@
 // The cut of a text.
-ghost use Rattle.std.specs.Prelude.{◌≡◌, ◌+◌, ◌-◌, ◌^◌, ◌≤◌, ◌<◌, ◌||◌, ◌&&◌, ℕ, if◌then◌else◌, length, drop, slice_range, IsTrue, IsFalse, IsSome, IsNone, IfSome, IfNone, IfOk, IfErr, All};
+ghost use Rattle.std.specs.Prelude.{◌≡◌, ◌+◌, ◌-◌, ◌^◌, ◌≤◌, ◌<◌, ◌||◌, ◌&&◌, ℕ, List, if◌then◌else◌, length, drop, slice_range, IsTrue, IsFalse, IsSome, IsNone, IfSome, IfNone, IfOk, IfErr, All};
 ghost use Rattle.std.specs.List.{list_all};
 ghost use Rattle.lp_token.specs.Lexeme.{begins, is_name_byte as specs_is_name_byte};
 ghost use Rattle.lp_token.specs.Word.{is_space};
-ghost use Rattle.lp_token.specs.Scan.{IsPosition, is_tab_or_space, ends_word, BreaksHere};
-ghost use Rattle.lp_token.specs.Cut.{Cut, IsCutFault, IsGap, IsSlice, IsToken, in_comment, is_blank, is_white, is_line_feed, goes_on, kind_at, colon_follows as specs_colon_follows, is_long as specs_is_long, is_end as specs_is_end, section_at as specs_section_at};
+ghost use Rattle.lp_token.specs.Scan.{is_tab_or_space, ends_word, BreaksHere};
+ghost use Rattle.lp_token.specs.Cut.{Cut, HasCut, IsPosition, IsBetween, IsNextToken, IsNextFault, IsCutFault, IsGap, IsSlice, IsToken, in_comment, is_blank, is_white, is_line_feed, goes_on, kind_at, colon_follows as specs_colon_follows, is_long as specs_is_long, is_end as specs_is_end, section_at as specs_section_at};
 
 use crate::word::{is_space_byte, section_of};
 use crate::{LpFault, LpKind, Section, Tok, TokKind, plain_end, run_end};
@@ -13,12 +13,15 @@ use std::alloc::Global;
 /// The longest name.
 const LONGEST_NAME: usize = 255;
 
-/// A place in a text: its line, and whether nothing but white space stands before it there.
-#[derive(Clone, Copy)]
-struct Position {
-    at: usize,
-    line: u32,
-    fresh: bool,
+/// A place in a text.
+#[derive(Clone, Copy, Debug, PartialEq, Eq)]
+pub struct Position {
+    /// How many bytes stand before it.
+    pub at: usize,
+    /// Its line: 1 plus the number of line feeds before it.
+    pub line: u32,
+    /// Whether nothing but white space stands before it in its line.
+    pub fresh: bool,
 }
 
 /// Whether a byte is white space.
@@ -230,7 +233,7 @@ pub fn section_at(bytes: &[u8], token: &Tok) -> Option<Section>
 
 /// Whether a token is the section word `end`.
 #[tactic(auto, unfolding(crate::specs::Cut::is_end))]
-fn is_end(bytes: &[u8], token: &Tok) -> bool
+pub fn is_end(bytes: &[u8], token: &Tok) -> bool
     requires ordered { token.now.from ≤ token.now.to }
     requires inside { token.now.to ≤ length bytes.now }
     ensures { result ≡ specs_is_end bytes.now token.now }
@@ -238,6 +241,49 @@ fn is_end(bytes: &[u8], token: &Tok) -> bool
     match section_at(bytes, token) {
         Some(Section::End) => true,
         _ => false,
+    }
+}
+
+/// The place where a text begins.
+pub fn beginning() -> Position
+    ensures between { (text : List ℕ) → IsBetween text result }
+    ensures start { result.at ≡ 0 }
+{
+    Position {
+        at: 0,
+        line: 1,
+        fresh: true,
+    }
+}
+
+/// The place behind a token.
+pub fn behind(token: &Tok) -> Position
+    ensures between { (text : List ℕ) → IsToken text token.now → IsBetween text result }
+    ensures end { result.at ≡ token.now.to }
+{
+    Position {
+        at: token.to,
+        line: token.line,
+        fresh: false,
+    }
+}
+
+/// The first token from a place on of a text of at most 2^24 bytes, or none where only white space and comments are left;
+/// or the fault that stands there: a byte that begins no token (`BadByte`), or a name of more than 255 characters
+/// (`LongName`).
+pub fn next(bytes: &[u8], from: Position) -> Result<Option<Tok>, LpFault>
+    requires size { length bytes.now ≤ 2 ^ 24 }
+    requires place { IsBetween bytes.now from }
+    ensures token { IfOk result (IsNextToken bytes.now from.at) }
+    ensures fault { IfErr result (IsNextFault bytes.now from.at) }
+{
+    let here = skip_blanks(bytes, from);
+    if here.at == bytes.len() {
+        return Ok(None);
+    }
+    match next_token(bytes, here) {
+        Ok(token) => Ok(Some(token)),
+        Err(fault) => Err(fault),
     }
 }
 
@@ -250,25 +296,41 @@ pub fn tokens(alloc: Global, bytes: &[u8]) -> Result<Vec<Tok>, LpFault>
     ensures fault { IfErr result (IsCutFault bytes.now) }
 {
     let mut found = Vec::new(alloc);
-    let mut place = Position {
-        at: 0,
-        line: 1,
-        fresh: true,
-    };
-    loop {
-        let here = skip_blanks(bytes, place);
-        if here.at == bytes.len() {
-            return Ok(found);
+    let mut place = beginning();
+    'cut: loop {
+        match next(bytes, place) {
+            Ok(Some(token)) => {
+                found.push(token)?;
+                if is_end(bytes, &token) {
+                    return Ok(found);
+                }
+                place = behind(&token);
+            }
+            Ok(None) => return Ok(found),
+            Err(fault) => return Err(fault),
         }
-        let token = next_token(bytes, here)?;
-        found.push(token)?;
-        if is_end(bytes, &token) {
-            return Ok(found);
+    }
+}
+
+/// Whether a text of at most 2^24 bytes can be cut as `tokens` cuts it, or the first place that can't be cut. It keeps no
+/// token.
+pub fn check_cut(bytes: &[u8]) -> Result<(), LpFault>
+    requires { length bytes.now ≤ 2 ^ 24 }
+    ensures cut { IfOk result (λ _. HasCut bytes.now) }
+    ensures fault { IfErr result (IsCutFault bytes.now) }
+{
+    let mut place = beginning();
+    'check: loop {
+        match next(bytes, place) {
+            Ok(Some(token)) => {
+                let is_last = is_end(bytes, &token);
+                if is_last {
+                    return Ok(());
+                }
+                place = behind(&token);
+            }
+            Ok(None) => return Ok(()),
+            Err(fault) => return Err(fault),
         }
-        place = Position {
-            at: token.to,
-            line: here.line,
-            fresh: false,
-        };
     }
 }
