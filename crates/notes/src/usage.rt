@@ -2,7 +2,7 @@
 use crate::text::{Note, word_at};
 
 // The kit that the program is proved with.
-const KIT: &str = "rattle-kit-13, logic dac8208d650f15bf";
+const KIT: &str = "rattle-kit-13f, logic dac8208d650f15bf";
 
 // A command: its name, the words that it wants, the options that it takes, and what it does.
 #[derive(Clone, Copy)]

@@ -20,7 +20,7 @@ const CASES: &str = "\
 help demo @ 2 refused words @ - @ - @ usage: bprice demo SEED SIZE|  makes one in memory, solves it, checks that|
 help show @ 2 refused words @ - @ - @ usage: bprice show LP [--dec DEC] [--blocks]|  the blocks, and which are identical|  --dec DEC      the decomposition of the model, as GCG DEC text|  --blocks       tell the rows and variables of each block|
 check -h @ 2 refused words @ - @ - @ usage: bprice check LP CERT [--dec DEC] [--visits M]|  whether a certificate is valid|*
---version @ 2 refused words @ - @ - @ bprice, proved with rattle-kit-13, logic dac8208d650f15bf|
+--version @ 2 refused words @ - @ - @ bprice, proved with rattle-kit-13f, logic dac8208d650f15bf|
 prove m.lp @ 2 refused words @ - @ - @ bprice: 'prove' is no command; the first word is one of solve check show propose detect merge migrate gen demo|usage: bprice COMMAND .., and bprice --help tells more|
 check m.lp @ 2 refused words @ - @ - @ bprice: check wants a further word: CERT|usage: bprice check LP CERT [--dec DEC] [--visits M]|
 demo 1 2 3 @ 2 refused words @ - @ - @ bprice: '3' is one word too many for demo|usage: bprice demo SEED SIZE|
