@@ -52,7 +52,7 @@ writer_right Right Wanting told name before now reads reads_now writes writes_no
   λ e. absurd (cc),
   λ e.
       let a = some is_told in
-      let right : Right (record { status = a.0.status; report = a.1.items; text = a.0.text }) = rw sym a.3 at a.4 in
+      let right : Right (record { status = a.0.status; report = a.1.items; text = a.0.text }) = subst (λ (r : List ℕ). Right (record { status = a.0.status; report = r; text = a.0.text })) a.3 a.4 in
       (a.0.status, a.1, a.2, (a.0.text, right)),
 )
 writer_right Right Wanting told name before now reads reads_now writes writes_now come is_told (wanting end is stands r w) = (λ e. absurd (cc), λ e. absurd (cc))
