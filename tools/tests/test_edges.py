@@ -155,12 +155,21 @@ def test_a_budget_that_could_not_be_written(room):
     words = "solve g.lp --from c --leaf 1 --steps 2 --cert CERT"
     status, report, _ = told(words.replace("CERT", "d"), room)
     assert status == 5
-    assert told(words.replace("CERT", "/dev/full"), room)[2].endswith(LOST + report.replace("budget ", "budget at most "))
+    assert told(words.replace("CERT", "/dev/full"), room) == (8, "", "bprice: /dev/full: it could not be written; no space left\n" + LOST + report)
+
+
+@pytest.mark.parametrize("words", ["merge own.lp own.cert own.cert NEW", "merge own.lp own.cert own.cert NEW --dec own.dec", "migrate own.lp own.cert NEW", "detect own.lp rows NEW",
+                                   "propose own.lp NEW", "gen 1 2 NEW new.dec", "gen 1 2 new.lp NEW"])
+def test_a_report_is_not_lost_where_its_file_could_not_be_written(room, words):
+    status, report, note = told(words.replace("NEW", "written"), room)
+    assert (status, note) == (0, "") and report
+    assert told(words.replace("NEW", "/dev/full"), room) == (8, "", "bprice: /dev/full: it could not be written; no space left\n" + LOST + report)
 
 
 def test_an_output_that_is_full(room):
     assert told("gen 1 300 g.lp g.dec", room)[0] == 0
-    for words in ("solve own.lp", "show g.lp --dec g.dec --blocks", "check own.lp own.cert", "demo 0 1"):
+    for words in ("solve own.lp", "show g.lp --dec g.dec --blocks", "check own.lp own.cert", "demo 0 1", "merge own.lp own.cert own.cert new", "migrate own.lp own.cert new",
+                  "detect own.lp rows new", "propose own.lp new", "gen 1 2 new new.dec", "solve no.lp --steps", "check own.lp own.lp"):
         _, report, _ = told(words, room)
         with open("/dev/full", "wb") as full:
             assert told(words, room, out=full) == (8, "", "bprice: the standard output could not be written; no space left\n" + LOST + report)

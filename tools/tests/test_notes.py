@@ -1,5 +1,6 @@
 """The notes on standard error: what each says of a refusal, and that the standard output is what it is without."""
 import subprocess
+from pathlib import Path
 
 import pytest
 
@@ -125,3 +126,9 @@ def test_nothing_is_said_of_answers(room):
     assert told("solve", "m.lp", room=room)[2] == ""
     (room / "m.lp").write_text(FIRST.replace("<= 5", "<= -5"))
     assert told("solve", "m.lp", room=room) == (4, "infeasible\n", "")
+
+
+def test_the_version_names_the_kit_of_the_release():
+    kit, name, logic, value = (Path(__file__).parents[2] / "release/SOURCES").read_text().splitlines()[0].split()
+    assert (kit, logic) == ("kit", "logic")
+    assert told("--version")[2] == f"bprice, proved with {name}, logic {value}\n"

@@ -1,10 +1,11 @@
 -- What is right for the order that words give is right for the words, and no other status is.
-use Rattle.std.proofs.Common.{◌≡◌, ◌≢◌, ◌⊎◌, refl, subst, inl, inr, ℕ, Bool, List, Option, Some, None}
+use Rattle.std.proofs.Common.{◌≡◌, ◌≢◌, ◌⊎◌, ◌∙◌, ◌++◌, IsTrue, IsSomeAnd, take, refl, sym, ap, subst, inl, inr, ℕ, Bool, List, Vec, Global, Option, Some, None}
 use Rattle.bp_shelf.specs.Shelf.{Files}
 use Rattle.branch_tree.specs.declared.outcome.Outcome.{Outcome}
 use Rattle.cli_orders.specs.Orders.{IsOrderOf, AreRefused}
 use Rattle.cli_orders.specs.declared.order.Order.{Order}
 use Rattle.cli_orders.specs.declared.order.Order.TheVariants.{Solve, Check, Show, Gen, Demo, Detect, Propose, Merge, Migrate}
+use Rattle.bp_report.specs.Refusals.{words_refusal}
 use Rattle.frontend.specs.Answers.{AnswersBy, IsOnly, CutsOff, FilesStand}
 use Rattle.bp_cli.specs.Promises.{Demonstrates}
 use Rattle.bp_cli.specs.Running.{Answers, refused, ordered, AnswersOrder, OfOrder, HasWritten}
@@ -34,9 +35,9 @@ order_only words order files kept status is only = λ no_read no_write no_want m
         each meant report (subst (λ (o : Order). AnswersOrder o files kept meant report) (one_order words other order other_is is) right)
 
 -- a beginning of an answer
-pub order_cut : (words : List (List ℕ)) (order : Order) (files : Files) (status : ℕ) (before now : List ℕ) → IsOrderOf words order
-    → CutsOff (AnswersOrder order files) status before now → CutsOff (Answers words files) status before now
-order_cut words order files status before now is cuts = λ is_fault.
+pub order_cut : (words : List (List ℕ)) (order : Order) (files : Files) (status : ℕ) (lost : Option (Vec ℕ Global)) (tells : Bool) (before now : List ℕ) → IsOrderOf words order
+    → CutsOff (AnswersOrder order files) status lost tells before now → CutsOff (Answers words files) status lost tells before now
+order_cut words order files status lost tells before now is cuts = λ is_fault.
     let cut = cuts is_fault in
     (cut.0, cut.1, cut.2, cut.3, ordered order is cut.4, cut.5)
 
@@ -63,6 +64,20 @@ refused_two status (inl two) no_write no_want = two
 refused_two status (inr (inl fault)) no_write no_want = absurd (no_write fault)
 refused_two status (inr (inr want)) no_write no_want = absurd (no_want want)
 
+-- a beginning of a refusal of words, whose report is lost
+pub words_cut : (words : List (List ℕ)) (files : Files) (status : ℕ) (lost : Option (Vec ℕ Global)) (tells : Bool) (before now : List ℕ) → AreRefused words
+    → (status ≡ 8 → IsSomeAnd lost (λ report. report.items ≡ words_refusal)) → (IsTrue tells → status ≡ 8 → (count : ℕ) × (now ≡ before ++ take count words_refusal))
+    → CutsOff (Answers words files) status lost tells before now
+words_cut words files status None tells before now fault gone partly = λ is_fault. absurd (gone is_fault)
+words_cut words files status (Some report) tells before now fault gone partly = λ is_fault. (
+  None,
+  2,
+  report,
+  refl,
+  refused fault refl refl (gone is_fault),
+  (λ heard. let part = partly heard is_fault in (part.0, part.1 ∙ ap (λ (bytes : List ℕ). before ++ take part.0 bytes) (sym (gone is_fault)))),
+)
+
 -- an order that was not begun left nothing
 pub nothing_written : (files : Files) (order : Order) → HasWritten order files files None 9
 nothing_written files (Solve given) =
@@ -80,8 +95,8 @@ nothing_written files (Merge given) = merged.untouched refl (inr refl)
 nothing_written files (Migrate lp cert new dec) = migrated.stands (migrated.untouched refl (inr refl))
 
 -- want of memory is right for `demo` too
-pub not_demonstrated : (order : Order) (tells : Bool) (before now : List ℕ) → Demonstrates order None 9 tells before now
-not_demonstrated (Demo seed size) tells before now = ((λ no_read no_write no_want. absurd (no_want refl)), (λ no_read no_write no_want meant report right. absurd (no_want refl)), (λ heard is_fault. absurd (cc)))
+pub not_demonstrated : (order : Order) (tells : Bool) (before now : List ℕ) → Demonstrates order None 9 None tells before now
+not_demonstrated (Demo seed size) tells before now = ((λ no_read no_write no_want. absurd (no_want refl)), (λ no_read no_write no_want meant report right. absurd (no_want refl)), (λ is_fault. absurd (cc)))
 not_demonstrated (Solve given) tells before now = tt
 not_demonstrated (Check given) tells before now = tt
 not_demonstrated (Show lp dec blocks) tells before now = tt
@@ -101,8 +116,8 @@ kept_answers kept Right status tells before now none answers = λ no_read no_wri
 pub kept_only : (kept : Option Outcome) (Right : ℕ → List ℕ → Type 0) (status : ℕ) → IsOnly Right status → IsOnly (λ s r. (kept ≡ None) × Right s r) status
 kept_only kept Right status only = λ no_read no_write no_want meant report right. only no_read no_write no_want meant report right.1
 
-pub kept_cut : (Right : ℕ → List ℕ → Type 0) (status : ℕ) (before now : List ℕ) → CutsOff (λ _. Right) status before now
-    → CutsOff (λ kept s r. (kept ≡ None) × Right s r) status before now
-kept_cut Right status before now cuts = λ is_fault.
+pub kept_cut : (Right : ℕ → List ℕ → Type 0) (status : ℕ) (lost : Option (Vec ℕ Global)) (tells : Bool) (before now : List ℕ) → CutsOff (λ _. Right) status lost tells before now
+    → CutsOff (λ kept s r. (kept ≡ None) × Right s r) status lost tells before now
+kept_cut Right status lost tells before now cuts = λ is_fault.
     let cut = cuts is_fault in
     (None, cut.1, cut.2, cut.3, (refl, cut.4), cut.5)

@@ -1,6 +1,7 @@
 -- What else a run promises beside its headline: an outcome for each accepted decomposition, a certificate that `check` accepts, and
 -- an answer to `demo` that hangs on no file.
-use Rattle.std.specs.Prelude.{◌≡◌, ◌≢◌, ◌⊎◌, ℕ, Bool, IsTrue, List, Option, Some, None, IfSome}
+use Rattle.std.specs.Prelude.{◌≡◌, ◌≢◌, ◌⊎◌, ℕ, Bool, IsTrue, List, Option, Some, None, IfSome, Vec}
+use Rattle.std.specs.Global.{Global}
 use Rattle.bp_theory.specs.declared.Claim.{Claim}
 use Rattle.bp_shelf.specs.Shelf.{Files}
 use Rattle.block_program.specs.Blocked.{BlockedProgram}
@@ -41,14 +42,14 @@ WritesCertificate (Merge given) now kept = Unit {0}
 WritesCertificate (Migrate lp cert new dec) now kept = Unit {0}
 
 -- `demo` uses no file: its answer, its status and what is put of a report that is cut off are right whatever the shelf tells
-abbrev pub Demonstrates : Order → Option Outcome → (status : ℕ) → (tells : Bool) → (before now : List ℕ) → Type 0
-Demonstrates (Demo seed size) kept status tells before now =
-    AnswersBy (AnswersDemo seed size kept) status tells before now × IsOnly (AnswersDemo seed size kept) status × (IsTrue tells → CutsOff (AnswersDemo seed size) status before now)
-Demonstrates (Solve given) kept status tells before now = Unit {0}
-Demonstrates (Check given) kept status tells before now = Unit {0}
-Demonstrates (Show lp dec blocks) kept status tells before now = Unit {0}
-Demonstrates (Gen seed size lp dec) kept status tells before now = Unit {0}
-Demonstrates (Detect lp list dec) kept status tells before now = Unit {0}
-Demonstrates (Propose lp dec) kept status tells before now = Unit {0}
-Demonstrates (Merge given) kept status tells before now = Unit {0}
-Demonstrates (Migrate lp cert new dec) kept status tells before now = Unit {0}
+abbrev pub Demonstrates : Order → Option Outcome → (status : ℕ) → (lost : Option (Vec ℕ Global)) → (tells : Bool) → (before now : List ℕ) → Type 0
+Demonstrates (Demo seed size) kept status lost tells before now =
+    AnswersBy (AnswersDemo seed size kept) status tells before now × IsOnly (AnswersDemo seed size kept) status × CutsOff (AnswersDemo seed size) status lost tells before now
+Demonstrates (Solve given) kept status lost tells before now = Unit {0}
+Demonstrates (Check given) kept status lost tells before now = Unit {0}
+Demonstrates (Show lp dec blocks) kept status lost tells before now = Unit {0}
+Demonstrates (Gen seed size lp dec) kept status lost tells before now = Unit {0}
+Demonstrates (Detect lp list dec) kept status lost tells before now = Unit {0}
+Demonstrates (Propose lp dec) kept status lost tells before now = Unit {0}
+Demonstrates (Merge given) kept status lost tells before now = Unit {0}
+Demonstrates (Migrate lp cert new dec) kept status lost tells before now = Unit {0}

@@ -1,5 +1,5 @@
 // The top call.
-ghost use Rattle.std.specs.Prelude.{◌≡◌, ◌≢◌, ◌<◌, ◌⊎◌, ◌++◌, ℕ, [], map, string_bytes, IsTrue, None, take};
+ghost use Rattle.std.specs.Prelude.{◌≡◌, ◌≢◌, ◌<◌, ◌⊎◌, ◌++◌, ℕ, [], map, string_bytes, IsTrue, IsSomeAnd, None, take};
 ghost use Rattle.std.specs.Option.{option_map};
 ghost use Rattle.bp_shelf.specs.Shelf.{Rose, next_count};
 ghost use Rattle.cli_orders.specs.Orders.{IsInRange, AreRefused};
@@ -60,8 +60,8 @@ pub fn run<F: Shelf, O: Sink>(alloc: Global, words: &[String], shelf: &mut F, ou
         IsOnly (Answers (map string_bytes words.now) (F.file shelf.old) result.kept) result.status }
     // `demo` uses no file, so its answer hangs on none.
     ensures demonstrated { OfOrder (map string_bytes words.now)
-        (λ order. Demonstrates order result.kept result.status (O.tells out.old) (O.taken out.old)
-        (O.taken out.new)) }
+        (λ order. Demonstrates order result.kept result.status result.lost (O.tells out.old)
+        (O.taken out.old) (O.taken out.new)) }
     // What is written: the valid certificate of the outcome that is kept, or for want of memory a beginning of that of an
     // outcome, or the texts that are made; and that nothing else is.
     ensures written { IsTrue (F.tells shelf.old) → OfOrder (map string_bytes words.now)
@@ -95,8 +95,8 @@ pub fn run<F: Shelf, O: Sink>(alloc: Global, words: &[String], shelf: &mut F, ou
         F.file shelf.new ≡ F.file shelf.old }
     ensures silent { (result.status ≡ 7) ⊎ (result.status ≡ 9) ⊎ (result.status ≡ 11) →
         O.taken out.new ≡ O.taken out.old }
-    ensures cut_off { IsTrue (F.tells shelf.old) → IsTrue (O.tells out.old) →
-        CutsOff (Answers (map string_bytes words.now) (F.file shelf.old)) result.status
+    ensures cut_off { IsTrue (F.tells shelf.old) →
+        CutsOff (Answers (map string_bytes words.now) (F.file shelf.old)) result.status result.lost (O.tells out.old)
         (O.taken out.old) (O.taken out.new) }
 {
     answer_words(alloc, words, shelf, out)
@@ -119,8 +119,8 @@ fn answer_words<F: Shelf, O: Sink>(
         IsOnly (Answers (map string_bytes words.now) (F.file shelf.old) result.kept) result.status }
     // `demo` uses no file, so its answer hangs on none.
     ensures demonstrated { OfOrder (map string_bytes words.now)
-        (λ order. Demonstrates order result.kept result.status (O.tells out.old) (O.taken out.old)
-        (O.taken out.new)) }
+        (λ order. Demonstrates order result.kept result.status result.lost (O.tells out.old)
+        (O.taken out.old) (O.taken out.new)) }
     // What is written: the valid certificate of the outcome that is kept, or for want of memory a beginning of that of an
     // outcome, or the texts that are made; and that nothing else is.
     ensures written { IsTrue (F.tells shelf.old) → OfOrder (map string_bytes words.now)
@@ -154,8 +154,8 @@ fn answer_words<F: Shelf, O: Sink>(
         F.file shelf.new ≡ F.file shelf.old }
     ensures silent { (result.status ≡ 7) ⊎ (result.status ≡ 9) ⊎ (result.status ≡ 11) →
         O.taken out.new ≡ O.taken out.old }
-    ensures cut_off { IsTrue (F.tells shelf.old) → IsTrue (O.tells out.old) →
-        CutsOff (Answers (map string_bytes words.now) (F.file shelf.old)) result.status
+    ensures cut_off { IsTrue (F.tells shelf.old) →
+        CutsOff (Answers (map string_bytes words.now) (F.file shelf.old)) result.status result.lost (O.tells out.old)
         (O.taken out.old) (O.taken out.new) }
 {
     match read_words(alloc, words) {
@@ -173,8 +173,8 @@ fn obey<F: Shelf, O: Sink>(alloc: Global, order: &Order, shelf: &mut F, out: &mu
         (O.tells out.old) (O.taken out.old) (O.taken out.new) }
     ensures exact { IsTrue (F.tells shelf.old) →
         IsOnly (AnswersOrder order.now (F.file shelf.old) result.kept) result.status }
-    ensures demonstrated { Demonstrates order.now result.kept result.status (O.tells out.old)
-        (O.taken out.old) (O.taken out.new) }
+    ensures demonstrated { Demonstrates order.now result.kept result.status result.lost
+        (O.tells out.old) (O.taken out.old) (O.taken out.new) }
     ensures written { IsTrue (F.tells shelf.old) →
         HasWritten order.now (F.file shelf.old) (F.file shelf.new) result.kept result.status }
     ensures puts { PutsReport result.status (O.puts out.old) (O.puts out.new) }
@@ -194,8 +194,8 @@ fn obey<F: Shelf, O: Sink>(alloc: Global, order: &Order, shelf: &mut F, out: &mu
     ensures words { result.status ≢ 2 }
     ensures silent { (result.status ≡ 7) ⊎ (result.status ≡ 9) ⊎ (result.status ≡ 11) →
         O.taken out.new ≡ O.taken out.old }
-    ensures cut_off { IsTrue (F.tells shelf.old) → IsTrue (O.tells out.old) →
-        CutsOff (AnswersOrder order.now (F.file shelf.old)) result.status (O.taken out.old)
+    ensures cut_off { IsTrue (F.tells shelf.old) →
+        CutsOff (AnswersOrder order.now (F.file shelf.old)) result.status result.lost (O.tells out.old) (O.taken out.old)
         (O.taken out.new) }
 {
     match order {
@@ -279,12 +279,14 @@ fn refuse_words<O: Sink>(alloc: Global, out: &mut O) -> Ended
         O.taken out.new ≡ O.taken out.old ++ words_refusal }
     ensures partly { IsTrue (O.tells out.old) → result.status ≡ 8 →
         (count : ℕ) × (O.taken out.new ≡ O.taken out.old ++ take count words_refusal) }
+    ensures lost { result.status ≡ 8 →
+        IsSomeAnd result.lost (λ report. report.items ≡ words_refusal) }
     ensures silent { result.status ≡ 9 → O.taken out.new ≡ O.taken out.old }
     ensures once { result.status ≢ 9 → O.puts out.new ≡ next_count (O.puts out.old) }
     ensures never { result.status ≡ 9 → O.puts out.new ≡ O.puts out.old }
 {
     match words_text(alloc) {
-        Ok(report) => print(alloc, out, &Reply { status: 2, report }, None),
+        Ok(report) => print(alloc, out, Reply { status: 2, report }, None),
         Err(_) => stopped(alloc, 9),
     }
 }

@@ -46,7 +46,8 @@ pub enum Obstacle<'a> {
 
 /// What stands in the way of a run on these files, if anything does: that a file would be written and is also another of those
 /// that are named, by its place or by its name; or that a certificate can't be written. To see that, a file that isn't there
-/// is made and removed at once, and one that is there is opened, which leaves it as it is.
+/// is made and removed at once, and one that is there is opened, which leaves it as it is. Where no file is written, nothing
+/// stands in the way.
 pub fn find_obstacle<'a, R: Files + AllocGlobal>(
     rt: &R,
     files: &NamedFiles<'a>,
@@ -63,6 +64,8 @@ pub fn find_obstacle<'a, R: Files + AllocGlobal>(
     ensures read_too_and_second { result ≡ None →
         Differ (option_map (λ name. name.now) files.now.written_too)
         (option_map (λ name. name.now) files.now.read_too) }
+    ensures nothing_written { files.now.written ≡ None → files.now.written_too ≡ None →
+        result ≡ None }
 {
     let found = shared(
         rt,
@@ -98,6 +101,7 @@ fn shared<'a, R: Files + AllocGlobal>(
         (option_map (λ name. name.now) second.entry) }
     ensures third { result ≡ None → Differ (option_map (λ name. name.now) written.entry)
         (option_map (λ name. name.now) third.entry) }
+    ensures nothing_written { written.entry ≡ None → result ≡ None }
 {
     let Some(written) = written else {
         return None;
@@ -130,8 +134,12 @@ fn shared_with<'a, R: Files + AllocGlobal>(
 }
 
 // A certificate that can't be written.
-fn unwritable<'a, R: Files>(rt: &R, name: Option<&'a str>) -> Option<Obstacle<'a>> {
-    let name = name?;
+fn unwritable<'a, R: Files>(rt: &R, name: Option<&'a str>) -> Option<Obstacle<'a>>
+    ensures nothing_written { name.entry ≡ None → result ≡ None }
+{
+    let Some(name) = name else {
+        return None;
+    };
     match write_fault(rt, name) {
         Some(kind) => Some(Obstacle::Unwritable { name, kind }),
         None => None,

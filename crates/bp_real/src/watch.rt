@@ -1,18 +1,11 @@
 // A shelf and a sink that watch a run: every call is handed on to what is inside, and what a note on the run is made of
 // is kept.
-
-ghost use Rattle.std.specs.Prelude.{◌≡◌, ◌≤◌, length};
+ghost use Rattle.std.specs.Prelude.{◌≡◌};
 
 use bp_shelf::{Shelf, ShelfFault, Sink, SinkFault};
 use std::alloc::{AllocError, Global};
 
-// What a certificate begins with, and how many of its lines tell the answer: the version, the claim and the point.
-const CERTIFICATE: &[u8] = b"bpcert ";
-
-const ANSWER_LINES: usize = 3;
-
-/// What is kept of the files of a run: names, the first lines of the certificate that was written, and why the last call
-/// failed.
+/// What is kept of the files of a run: names, and why the last call failed.
 #[derive(Drop)]
 pub struct Files {
     alloc: Global,
@@ -21,7 +14,6 @@ pub struct Files {
     failed: Option<String>,
     written: bool,
     full: bool,
-    answer: Option<Vec<u8>>,
 }
 
 impl Files {
@@ -34,7 +26,6 @@ impl Files {
             failed: None,
             written: false,
             full: false,
-            answer: None,
         }
     }
 
@@ -55,13 +46,6 @@ impl Files {
     pub fn fail(&mut self, name: &str, written: bool) {
         self.failed = String::from_str(self.alloc, name).ok();
         self.written = written;
-    }
-
-    /// Keeps the first lines of a text that a file was to hold, where that is a certificate.
-    pub fn replace(&mut self, bytes: &[u8]) {
-        if bytes.starts_with(CERTIFICATE) {
-            self.answer = bytes[..front_len(bytes)].to_vec(self.alloc).ok();
-        }
     }
 
     /// Keeps that what failed did for want of space.
@@ -93,31 +77,6 @@ impl Files {
     pub fn is_full(&self) -> bool {
         self.full
     }
-
-    /// The first three lines of the certificate that was to be written last, of which the second has the claim, and the third
-    /// the point, where the claim has one.
-    pub fn answer(&self) -> Option<&[u8]> {
-        match &self.answer {
-            Some(lines) => Some(lines.as_slice()),
-            None => None,
-        }
-    }
-}
-
-// How many bytes the lines have that tell a certificate's answer.
-fn front_len(bytes: &[u8]) -> usize
-    ensures { result ≤ length bytes.now }
-{
-    let mut lines = 0usize;
-    for at in 0..bytes.len() {
-        if bytes[at] == b'\n' {
-            lines = lines.saturating_add(1);
-        }
-        if lines == ANSWER_LINES {
-            return at + 1;
-        }
-    }
-    bytes.len()
 }
 
 // The name that is kept, if there is one.
@@ -129,8 +88,8 @@ fn name_in(kept: &Option<String>) -> Option<&str> {
 }
 
 /// A shelf that hands every call on to the shelf inside, and keeps what a note is made of: the names of the files that were
-/// read first and last, and of the file of the last call that failed, and the first lines of the certificate that was written.
-/// It keeps none of the bytes that are read, however many there are.
+/// read first and last, and of the file of the last call that failed. It keeps none of the bytes that are read or written,
+/// however many there are.
 #[derive(Drop)]
 pub struct Watched<F> {
     inside: F,
@@ -181,7 +140,6 @@ impl<F: Shelf> Shelf for Watched<F> {
     }
 
     fn replace(&mut self, name: &str, bytes: &[u8]) -> Result<(), ShelfFault> {
-        self.files.replace(bytes);
         match self.inside.replace(name, bytes) {
             Ok(()) => Ok(()),
             Err(fault) => {

@@ -52,7 +52,9 @@ fn run_words(rt: &HostRuntime, words: &[String]) -> u8 {
     let mut out = WatchedSink::new(rt.alloc(), OutSink::new(rt));
     let ended = run(rt.alloc(), words, &mut shelf, &mut out);
     let (mut shelf, mut files) = shelf.into_parts();
-    let (out, report) = out.into_parts();
+    let (out, put) = out.into_parts();
+    // Where a write failed, the report that was lost; else what was put.
+    let report = ended.lost.unwrap_or(put);
     if shelf.is_full() || out.is_full() {
         files.fill();
     }

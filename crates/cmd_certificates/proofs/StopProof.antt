@@ -1,15 +1,16 @@
 -- How a run ends before anything is merged.
-use Rattle.std.proofs.Common.{◌≡◌, ◌≢◌, ◌⊎◌, ◌∙◌, inl, inr, sym, subst, ℕ, Bool, IsTrue, List, [], Option, None, Result, Ok, Err, IfOk, IfErr, IsErrAnd, arith}
+use Rattle.std.proofs.Common.{◌≡◌, ◌≢◌, ◌⊎◌, ◌∙◌, inl, inr, refl, sym, subst, ℕ, Bool, IsTrue, List, [], Option, None, Result, Ok, Err, IfOk, IfErr, IsErrAnd, arith}
 use Rattle.bp_shelf.specs.Shelf.{Files, Rose}
 use Rattle.bp_shelf.specs.declared.shelf.ShelfFault.{ShelfFault}
 use Rattle.bp_shelf.specs.declared.shelf.ShelfFault.TheVariants.{Missing, Failed, NoMemory}
 use Rattle.block_program.specs.Blocked.{BlockedProgram, IsFormed}
-use Rattle.frontend.specs.Endings.{IsReplyStatus}
+use Rattle.frontend.specs.Endings.{IsReplyStatus, bare}
 use Rattle.frontend.specs.Front.{FilesCome, blocked}
 use Rattle.frontend.specs.Halts.{ComesToHalt}
 use Rattle.frontend.specs.Written.{Answer, stops, draft_answer}
 use Rattle.frontend.specs.declared.front.Halt.TheVariants as halts
 use Rattle.frontend.specs.declared.ending.Reply.{Reply}
+use Rattle.frontend.specs.declared.ending.Unprinted.{Unprinted}
 use Rattle.frontend.proofs.Drafts.{WriterComes, replied, unread, wanting, missing, text_comes, text_unfailed}
 use Rattle.cmd_certificates.specs.Opens.{IsOpenedFile}
 use Rattle.cmd_certificates.specs.Merges.{JoinsBoth, StopsBoth, MergesBlocked, apart, merged, Merges, stopped, went_on}
@@ -86,24 +87,24 @@ stop_comes : (Right : Answer → Type 0) (told : Bool) (name : List ℕ) (before
     → WriterComes Right (now ≡ before) told name before now reads reads_now writes writes_now (come_by_stop stop)
 stop_comes Right told name before now reads between reads_now writes writes_now (Refused reply) stops refusal counted r same w =
     replied reply (refusal_status reply.status refusal) (λ is_told. record { text = None; right = stops is_told; stands = same }) (r ∙ counted) w
-stop_comes Right told name before now reads between reads_now writes writes_now (Stopped Missing) stops refusal counted r same w = missing stops (λ is_told. same) (r ∙ counted) w
+stop_comes Right told name before now reads between reads_now writes writes_now (Stopped Missing) stops refusal counted r same w = missing (bare 11) refl stops (λ is_told. same) (r ∙ counted) w
 stop_comes Right told name before now reads between reads_now writes writes_now (Stopped Failed) stops refusal counted r same w =
-    unread (λ is_told. same) (subst (λ (n : ℕ). Rose reads n) (sym r) counted.1) w
-stop_comes Right told name before now reads between reads_now writes writes_now (Stopped NoMemory) stops refusal counted r same w = wanting (λ is_told. same) (r ∙ counted) w
+    unread (bare 7) refl (λ is_told. same) (subst (λ (n : ℕ). Rose reads n) (sym r) counted.1) w
+stop_comes Right told name before now reads between reads_now writes writes_now (Stopped NoMemory) stops refusal counted r same w = wanting (bare 9) refl (λ is_told. same) (r ∙ counted) w
 
-comes_by : (Right : Answer → Type 0) (told : Bool) (name : List ℕ) (before now : Files) (reads between reads_now writes writes_now : ℕ) (r : Result Draft Stop) (come : Result Reply ℕ)
+comes_by : (Right : Answer → Type 0) (told : Bool) (name : List ℕ) (before now : Files) (reads between reads_now writes writes_now : ℕ) (r : Result Draft Stop) (come : Result Reply Unprinted)
     → (IsTrue told → IfOk r (λ d. Right (draft_answer d))) → IfOk r (λ d. d.reply.status ≡ 0) → (IsTrue told → IfErr r (IsStop Right)) → IfErr r IsRefusal
     → CountsStopped reads between r → reads_now ≡ between → WritesMerged told name before now writes writes_now r come
     → WriterComes Right (now ≡ before) told name before now reads reads_now writes writes_now come
 comes_by Right told name before now reads between reads_now writes writes_now (Ok d) come right done stops refusals counted same ends =
     text_comes Right told name before now reads reads_now writes writes_now d come right done (same ∙ counted) ends
 comes_by Right told name before now reads between reads_now writes writes_now (Err stop) come right done stops refusals counted same ends =
-    subst (λ (c : Result Reply ℕ). WriterComes Right (now ≡ before) told name before now reads reads_now writes writes_now c) (sym ends.0)
+    subst (λ (c : Result Reply Unprinted). WriterComes Right (now ≡ before) told name before now reads reads_now writes writes_now c) (sym ends.0)
     (stop_comes Right told name before now reads between reads_now writes writes_now stop stops refusals counted same ends.1 ends.2)
 
 -- what a run came to that wrote a merged certificate, or stopped before it had one: reading the files left all as before
 pub merged_comes : (Right : Answer → Type 0) (told told_then : Bool) (name : List ℕ) (before files now : Files) (reads between reads_now writes writes_then writes_now : ℕ)
-    (r : Result Draft Stop) (come : Result Reply ℕ) → (IsTrue told → IfOk r (λ d. Right (draft_answer d))) → IfOk r (λ d. d.reply.status ≡ 0) → (IsTrue told → IfErr r (IsStop Right))
+    (r : Result Draft Stop) (come : Result Reply Unprinted) → (IsTrue told → IfOk r (λ d. Right (draft_answer d))) → IfOk r (λ d. d.reply.status ≡ 0) → (IsTrue told → IfErr r (IsStop Right))
     → IfErr r IsRefusal → CountsStopped reads between r → told_then ≡ told → files ≡ before → writes_then ≡ writes → reads_now ≡ between
     → WritesMerged told_then name files now writes_then writes_now r come
     → WriterComes Right (now ≡ before) told name before now reads reads_now writes writes_now come
@@ -118,8 +119,8 @@ stop_unfailed : (stop : Stop) → IsRefusal stop → IfOk (come_by_stop stop) (�
 stop_unfailed (Refused reply) refusal = refusal_unfailed reply.status refusal
 stop_unfailed (Stopped fault) refusal = tt
 
-pub merged_unfailed : (told : Bool) (name : List ℕ) (before now : Files) (writes writes_now : ℕ) (r : Result Draft Stop) (come : Result Reply ℕ) → IfOk r (λ d. d.reply.status ≡ 0)
+pub merged_unfailed : (told : Bool) (name : List ℕ) (before now : Files) (writes writes_now : ℕ) (r : Result Draft Stop) (come : Result Reply Unprinted) → IfOk r (λ d. d.reply.status ≡ 0)
     → IfErr r IsRefusal → WritesMerged told name before now writes writes_now r come → IfOk come (λ reply. reply.status ≢ 8)
 merged_unfailed told name before now writes writes_now (Ok d) come done refusals ends = text_unfailed told name d.text.items before now writes writes_now d.reply come done ends
 merged_unfailed told name before now writes writes_now (Err stop) come done refusals ends =
-    subst (λ (c : Result Reply ℕ). IfOk c (λ reply. reply.status ≢ 8)) (sym ends.0) (stop_unfailed stop refusals)
+    subst (λ (c : Result Reply Unprinted). IfOk c (λ reply. reply.status ≢ 8)) (sym ends.0) (stop_unfailed stop refusals)

@@ -21,7 +21,9 @@ use Rattle.cert_file.specs.declared.stop.StreamStop.TheVariants.{Failed, NoMemor
 use Rattle.bp_report.specs.Report.{migrated_report}
 use Rattle.frontend.specs.Halts.{CountsHalted}
 use Rattle.frontend.specs.Written.{Answer, IsHalt, LeavesText}
+use Rattle.frontend.specs.Endings.{loses}
 use Rattle.frontend.specs.declared.ending.Reply.{Reply}
+use Rattle.frontend.specs.declared.ending.Unprinted.{Unprinted}
 use Rattle.frontend.specs.declared.front.Halt.{Halt}
 use Rattle.frontend.proofs.Drafts.{HasText, WriterComes, replied, unwritten, wanting, halt_comes, halt_unfailed}
 use Rattle.cmd_certificates.specs.declared.migration.Migrated.{Migrated}
@@ -95,7 +97,7 @@ part_text files lp cert dec name m now h writes =
 -- a writer that stopped
 pub anew_stopped : (b : BlockedProgram) (cert : Kept) (told : Bool) (name : List ℕ) (before now : Files) (writes writes_now : ℕ) (reply : Reply) (stop : StreamStop)
     → (IsTrue told → IsAnew b cert name before now (Err stop)) → CountsStop {X = Unit {0}} writes writes_now (Err stop)
-    → WritesAnew b cert told name before now writes writes_now reply (Err (stop_status_of stop))
+    → WritesAnew b cert told name before now writes writes_now reply (Err (loses (stop_status_of stop) reply))
 anew_stopped b cert told name before now writes writes_now reply Failed anew counted = failed anew counted.1
 anew_stopped b cert told name before now writes writes_now reply NoMemory anew counted = writing.wanting anew counted
 
@@ -106,25 +108,25 @@ unchanged Right name before now same = record { holds = inl (ap (λ (files : Fil
 -- ---- the run
 
 comes_by : (told : Bool) (before : Files) (lp cert : List ℕ) (dec : Option (List ℕ)) (name : List ℕ) (now : Files) (reads between reads_now writes writes_now : ℕ)
-    (r : Result Migrated Halt) (come : Result Reply ℕ) → (IsTrue told → IfOk r (λ m. ReadsFiles before lp cert dec m)) → IfOk r (λ m. m.reply.status ≡ 0)
+    (r : Result Migrated Halt) (come : Result Reply Unprinted) → (IsTrue told → IfOk r (λ m. ReadsFiles before lp cert dec m)) → IfOk r (λ m. m.reply.status ≡ 0)
     → (IsTrue told → IfErr r (IsHalt (Migrates before lp cert dec))) → CountsHalted reads between r → reads_now ≡ between
     → WritesMigrated told name before now writes writes_now r come
     → WriterComes (Migrates before lp cert dec) (LeavesPart (Migrates before lp cert dec) name before now) told name before now reads reads_now writes writes_now come
 comes_by told before lp cert dec name now reads between reads_now writes writes_now (Ok m) come read done halts counted same (whole x anew w) =
     replied m.reply (inl done) (λ is_told. whole_text before lp cert dec name m now x (read is_told) (anew is_told)) (same ∙ counted) w
 comes_by told before lp cert dec name now reads between reads_now writes writes_now (Ok m) come read done halts counted same (failed anew rose) =
-    unwritten (λ is_told. (answer_of m, is_right before lp cert dec m (read is_told)))
+    unwritten (loses 8 m.reply) refl (λ is_told. (answer_of m, m.reply.report, refl, refl, is_right before lp cert dec m (read is_told)))
     (λ is_told. (written_so before lp cert dec name m before now (Err Failed) (read is_told) (anew is_told)).others) (same ∙ counted) rose
 comes_by told before lp cert dec name now reads between reads_now writes writes_now (Ok m) come read done halts counted same (writing.wanting anew w) =
-    wanting (λ is_told. part_text before lp cert dec name m now (read is_told) (anew is_told)) (same ∙ counted) w
+    wanting (loses 9 m.reply) refl (λ is_told. part_text before lp cert dec name m now (read is_told) (anew is_told)) (same ∙ counted) w
 comes_by told before lp cert dec name now reads between reads_now writes writes_now (Err halt) come read done halts counted same ends =
     let Right : Answer → Type 0 = Migrates before lp cert dec in
-    subst (λ (c : Result Reply ℕ). WriterComes Right (LeavesPart Right name before now) told name before now reads reads_now writes writes_now c) (sym ends.0)
+    subst (λ (c : Result Reply Unprinted). WriterComes Right (LeavesPart Right name before now) told name before now reads reads_now writes writes_now c) (sym ends.0)
     (halt_comes Migrated Right (LeavesPart Right name before now) told name before now reads between reads_now writes writes_now halt (unchanged Right name before now) halts counted same ends.1 ends.2)
 
 -- what a run came to that wrote a certificate anew, or was halted before it had one: reading the files left all as before
 pub migrated_comes : (told told_then : Bool) (before files : Files) (lp cert : List ℕ) (dec : Option (List ℕ)) (name : List ℕ) (now : Files)
-    (reads between reads_now writes writes_then writes_now : ℕ) (r : Result Migrated Halt) (come : Result Reply ℕ) → (IsTrue told → IfOk r (λ m. ReadsFiles before lp cert dec m))
+    (reads between reads_now writes writes_then writes_now : ℕ) (r : Result Migrated Halt) (come : Result Reply Unprinted) → (IsTrue told → IfOk r (λ m. ReadsFiles before lp cert dec m))
     → IfOk r (λ m. m.reply.status ≡ 0) → (IsTrue told → IfErr r (IsHalt (Migrates before lp cert dec))) → CountsHalted reads between r → told_then ≡ told → files ≡ before
     → writes_then ≡ writes → reads_now ≡ between → WritesMigrated told_then name files now writes_then writes_now r come
     → WriterComes (Migrates before lp cert dec) (LeavesPart (Migrates before lp cert dec) name before now) told name before now reads reads_now writes writes_now come
@@ -135,16 +137,16 @@ migrated_comes told told_then before files lp cert dec name now reads between re
     (subst (λ (n : ℕ). WritesMigrated told name before now n writes_now r come) same_writes b)
 
 -- the reply to it is none of a failed write
-anew_unfailed : (b : BlockedProgram) (cert : Kept) (told : Bool) (name : List ℕ) (before now : Files) (writes writes_now : ℕ) (reply : Reply) (come : Result Reply ℕ) → reply.status ≡ 0
+anew_unfailed : (b : BlockedProgram) (cert : Kept) (told : Bool) (name : List ℕ) (before now : Files) (writes writes_now : ℕ) (reply : Reply) (come : Result Reply Unprinted) → reply.status ≡ 0
     → WritesAnew b cert told name before now writes writes_now reply come → IfOk come (λ r. r.status ≢ 8)
 anew_unfailed b cert told name before now writes writes_now reply come done (whole x anew w) = λ e. absurd (cc)
 anew_unfailed b cert told name before now writes writes_now reply come done (failed anew rose) = tt
 anew_unfailed b cert told name before now writes writes_now reply come done (writing.wanting anew w) = tt
 
-pub migrated_unfailed : (told : Bool) (name : List ℕ) (before now : Files) (writes writes_now : ℕ) (r : Result Migrated Halt) (come : Result Reply ℕ) → IfOk r (λ m. m.reply.status ≡ 0)
+pub migrated_unfailed : (told : Bool) (name : List ℕ) (before now : Files) (writes writes_now : ℕ) (r : Result Migrated Halt) (come : Result Reply Unprinted) → IfOk r (λ m. m.reply.status ≡ 0)
     → WritesMigrated told name before now writes writes_now r come → IfOk come (λ reply. reply.status ≢ 8)
 migrated_unfailed told name before now writes writes_now (Ok m) come done ends = anew_unfailed m.b m.cert told name before now writes writes_now m.reply come done ends
-migrated_unfailed told name before now writes writes_now (Err halt) come done ends = subst (λ (c : Result Reply ℕ). IfOk c (λ reply. reply.status ≢ 8)) (sym ends.0) (halt_unfailed halt)
+migrated_unfailed told name before now writes writes_now (Err halt) come done ends = subst (λ (c : Result Reply Unprinted). IfOk c (λ reply. reply.status ≢ 8)) (sym ends.0) (halt_unfailed halt)
 
 -- the files after such a run
 pub migrated_leaves : (lp cert : List ℕ) (dec : Option (List ℕ)) (name : List ℕ) (before now : Files) (status : ℕ)

@@ -3,10 +3,11 @@ use Rattle.std.specs.Prelude.{◌≡◌, ◌⊎◌, ℕ, ◌≤◌, Bool, List, 
 use Rattle.bp_shelf.specs.Shelf.{Files, Rose}
 use Rattle.bp_shelf.specs.declared.shelf.ShelfFault.TheVariants.{Missing, Failed, NoMemory}
 use Rattle.block_program.specs.Blocked.{BlockedProgram}
-use Rattle.frontend.specs.Endings.{status_of, WritesText}
+use Rattle.frontend.specs.Endings.{bare, status_of, WritesText}
 use Rattle.frontend.specs.Written.{Answer, stops}
 use Rattle.frontend.specs.declared.draft.Draft.{Draft}
 use Rattle.frontend.specs.declared.ending.Reply.{Reply}
+use Rattle.frontend.specs.declared.ending.Unprinted.{Unprinted}
 use Rattle.cmd_certificates.specs.Opens.{RefusesText}
 use Rattle.cmd_certificates.specs.declared.opening.Stop.{Stop}
 use Rattle.cmd_certificates.specs.declared.opening.Stop.TheVariants.{Refused, Stopped}
@@ -37,11 +38,11 @@ CountsStopped before now (Err (Refused reply)) = now ≡ before
 CountsStopped before now (Ok _) = now ≡ before
 
 -- what a run comes to that stopped
-abbrev pub come_by_stop : Stop → Result Reply ℕ
+abbrev pub come_by_stop : Stop → Result Reply Unprinted
 come_by_stop (Refused reply) = Ok reply
-come_by_stop (Stopped fault) = Err (status_of fault)
+come_by_stop (Stopped fault) = Err (bare (status_of fault))
 
 -- what a run comes to behind the write of the merged certificate, or that stopped before there was one, and writes nothing
-abbrev pub WritesMerged : (told : Bool) → (name : List ℕ) → (before now : Files) → (writes writes_now : ℕ) → Result Draft Stop → Result Reply ℕ → Type 0
+abbrev pub WritesMerged : (told : Bool) → (name : List ℕ) → (before now : Files) → (writes writes_now : ℕ) → Result Draft Stop → Result Reply Unprinted → Type 0
 WritesMerged told name before now writes writes_now (Ok d) come = WritesText told name d.text.items before now writes writes_now d.reply come
 WritesMerged told name before now writes writes_now (Err stop) come = (come ≡ come_by_stop stop) × (now ≡ before) × (writes_now ≡ writes)

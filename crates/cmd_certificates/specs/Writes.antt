@@ -9,8 +9,9 @@ use Rattle.cert_text.specs.Programs.{frame_for}
 use Rattle.cert_stream.specs.Streams.{Rewrites}
 use Rattle.cert_file.specs.declared.stop.StreamStop.{StreamStop}
 use Rattle.cert_file.specs.declared.stop.StreamStop.TheVariants.{Failed, NoMemory}
-use Rattle.frontend.specs.Endings.{come_of}
+use Rattle.frontend.specs.Endings.{come_of, loses}
 use Rattle.frontend.specs.declared.ending.Reply.{Reply}
+use Rattle.frontend.specs.declared.ending.Unprinted.{Unprinted}
 use Rattle.frontend.specs.declared.front.Halt.{Halt}
 use Rattle.cmd_certificates.specs.declared.migration.Migrated.{Migrated}
 
@@ -24,12 +25,12 @@ stop_status_of Failed = 8
 stop_status_of NoMemory = 9
 
 -- what a run comes to behind it: the reply, or the status of the write
-pub data WritesAnew (b : BlockedProgram) (cert : Cert) (told : Bool) (name : List ℕ) (before now : Files) (writes writes_now : ℕ) (reply : Reply) : Result Reply ℕ → Type 0 where
+pub data WritesAnew (b : BlockedProgram) (cert : Cert) (told : Bool) (name : List ℕ) (before now : Files) (writes writes_now : ℕ) (reply : Reply) : Result Reply Unprinted → Type 0 where
   whole : (done : Unit {0}) → (IsTrue told → IsAnew b cert name before now (Ok done)) → writes_now ≡ writes → WritesAnew b cert told name before now writes writes_now reply (Ok reply)
-  failed : (IsTrue told → IsAnew b cert name before now (Err Failed)) → Rose writes writes_now → WritesAnew b cert told name before now writes writes_now reply (Err 8)
-  wanting : (IsTrue told → IsAnew b cert name before now (Err NoMemory)) → writes_now ≡ writes → WritesAnew b cert told name before now writes writes_now reply (Err 9)
+  failed : (IsTrue told → IsAnew b cert name before now (Err Failed)) → Rose writes writes_now → WritesAnew b cert told name before now writes writes_now reply (Err (loses 8 reply))
+  wanting : (IsTrue told → IsAnew b cert name before now (Err NoMemory)) → writes_now ≡ writes → WritesAnew b cert told name before now writes writes_now reply (Err (loses 9 reply))
 
 -- the same of a certificate that was read, or of what a run ends with before there is one, which writes nothing
-abbrev pub WritesMigrated : (told : Bool) → (name : List ℕ) → (before now : Files) → (writes writes_now : ℕ) → Result Migrated Halt → Result Reply ℕ → Type 0
+abbrev pub WritesMigrated : (told : Bool) → (name : List ℕ) → (before now : Files) → (writes writes_now : ℕ) → Result Migrated Halt → Result Reply Unprinted → Type 0
 WritesMigrated told name before now writes writes_now (Ok m) come = WritesAnew m.b m.cert told name before now writes writes_now m.reply come
 WritesMigrated told name before now writes writes_now (Err halt) come = (come ≡ come_of (Err halt)) × (now ≡ before) × (writes_now ≡ writes)

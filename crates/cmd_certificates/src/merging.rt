@@ -13,7 +13,7 @@ use crate::joined::join;
 use crate::opening::{Stop, open_cert};
 use block_program::Blocked;
 use bp_shelf::{Shelf, Sink};
-use frontend::{Draft, Ended, Halt, Reply, fault_status, finish, load, put_draft};
+use frontend::{Draft, Ended, Halt, Reply, Unprinted, fault_status, finish, load, put_draft};
 use std::alloc::Global;
 
 /// Merges the certificates of two files, writes the merged one to a named file, and prints how many of its leaves are
@@ -57,9 +57,9 @@ pub fn merge<F: Shelf, O: Sink>(
         (O.taken out.new) }
     ensures silent { (result.status ≡ 7) ⊎ (result.status ≡ 9) ⊎ (result.status ≡ 11) →
         O.taken out.new ≡ O.taken out.old }
-    ensures cut_off { IsTrue (F.tells shelf.old) → IsTrue (O.tells out.old) →
+    ensures cut_off { IsTrue (F.tells shelf.old) →
         CutsOff (λ kept. AnswersMerge (F.file shelf.old) lp.now first.now second.now (option_map
-        (λ name. name.now) dec.entry)) result.status (O.taken out.old) (O.taken out.new) }
+        (λ name. name.now) dec.entry)) result.status result.lost (O.tells out.old) (O.taken out.old) (O.taken out.new) }
 {
     let merged = load_merged(alloc, shelf, lp, first, second, dec);
     let come = write_merged(shelf, new, merged);
@@ -72,7 +72,7 @@ fn write_merged<F: Shelf>(
     shelf: &mut F,
     new: &str,
     merged: Result<Draft, Stop>,
-) -> Result<Reply, u8>
+) -> Result<Reply, Unprinted>
     ensures writes { WritesMerged (F.tells shelf.old) new.now (F.file shelf.old)
         (F.file shelf.new) (F.write_faults shelf.old) (F.write_faults shelf.new) merged result }
     ensures reads { F.read_faults shelf.new ≡ F.read_faults shelf.old }
@@ -84,12 +84,15 @@ fn write_merged<F: Shelf>(
 }
 
 // What a run comes to that stopped.
-fn come_by(stop: Stop) -> Result<Reply, u8>
+fn come_by(stop: Stop) -> Result<Reply, Unprinted>
     ensures { result ≡ come_by_stop stop }
 {
     match stop {
         Stop::Refused(reply) => Ok(reply),
-        Stop::Stopped(fault) => Err(fault_status(fault)),
+        Stop::Stopped(fault) => Err(Unprinted {
+            status: fault_status(fault),
+            lost: None,
+        }),
     }
 }
 

@@ -22,7 +22,7 @@ use bp_shelf::{Shelf, ShelfFault, Sink};
 use cert_input::read_file;
 use cert_stream::{StreamStop, rewrite_stream};
 use cert_text::{Cert, CertFault};
-use frontend::{Ended, Halt, Reply, finish, halted, load};
+use frontend::{Ended, Halt, Reply, Unprinted, finish, halted, load};
 use std::alloc::{AllocError, Global};
 
 // A certificate that was read for a program in blocks, and the report on it.
@@ -70,9 +70,9 @@ pub fn migrate<F: Shelf, O: Sink>(
         (O.puts out.old) (O.puts out.new) (O.taken out.old) (O.taken out.new) }
     ensures silent { (result.status ≡ 7) ⊎ (result.status ≡ 9) ⊎ (result.status ≡ 11) → O.taken
         out.new ≡ O.taken out.old }
-    ensures cut_off { IsTrue (F.tells shelf.old) → IsTrue (O.tells out.old) →
+    ensures cut_off { IsTrue (F.tells shelf.old) →
         CutsOff (λ kept. AnswersMigrate (F.file shelf.old) lp.now cert.now (option_map (λ name.
-        name.now) dec.entry)) result.status (O.taken out.old) (O.taken out.new) }
+        name.now) dec.entry)) result.status result.lost (O.tells out.old) (O.taken out.old) (O.taken out.new) }
 {
     let migrated = load_migrated(alloc, shelf, lp, cert, dec);
     let come = write_migrated(alloc, shelf, new, migrated);
@@ -86,7 +86,7 @@ fn write_migrated<F: Shelf>(
     shelf: &mut F,
     new: &str,
     migrated: Result<Migrated, Halt>,
-) -> Result<Reply, u8>
+) -> Result<Reply, Unprinted>
     ensures writes { WritesMigrated (F.tells shelf.old) new.now (F.file shelf.old)
         (F.file shelf.new) (F.write_faults shelf.old) (F.write_faults shelf.new) migrated result }
     ensures reads { F.read_faults shelf.new ≡ F.read_faults shelf.old }
@@ -103,7 +103,7 @@ fn put_migrated<F: Shelf>(
     shelf: &mut F,
     new: &str,
     migrated: Migrated,
-) -> Result<Reply, u8>
+) -> Result<Reply, Unprinted>
     ensures writes { WritesAnew migrated.b migrated.cert (F.tells shelf.old) new.now
         (F.file shelf.old) (F.file shelf.new) (F.write_faults shelf.old) (F.write_faults shelf.new)
         migrated.reply result }
@@ -121,14 +121,17 @@ fn write_anew<F: Shelf>(
     b: &Blocked,
     cert: &Cert,
     reply: Reply,
-) -> Result<Reply, u8>
+) -> Result<Reply, Unprinted>
     ensures writes { WritesAnew b.now cert.now (F.tells shelf.old) new.now (F.file shelf.old)
         (F.file shelf.new) (F.write_faults shelf.old) (F.write_faults shelf.new) reply result }
     ensures reads { F.read_faults shelf.new ≡ F.read_faults shelf.old }
 {
     match rewrite_stream(alloc, b, cert, shelf, new) {
         Ok(()) => Ok(reply),
-        Err(stop) => Err(stop_status(stop)),
+        Err(stop) => Err(Unprinted {
+            status: stop_status(stop),
+            lost: Some(reply.report),
+        }),
     }
 }
 

@@ -63,9 +63,9 @@ pub fn check<F: Shelf, O: Sink>(
         IsUnput (F.file shelf.new ≡ F.file shelf.old) (F.write_faults shelf.old)
         (F.write_faults shelf.new) (O.faults out.old) (O.faults out.new) (O.puts out.old)
         (O.puts out.new) }
-    ensures cut_off { IsTrue (F.tells shelf.old) → IsTrue (O.tells out.old) →
+    ensures cut_off { IsTrue (F.tells shelf.old) →
         CutsOff (λ kept. AnswersCheck (F.file shelf.old) lp.now cert.now (option_map
-        (λ name. name.now) dec.entry) visits) result.status (O.taken out.old) (O.taken out.new) }
+        (λ name. name.now) dec.entry) visits) result.status result.lost (O.tells out.old) (O.taken out.old) (O.taken out.new) }
 {
     let answer = checked(alloc, shelf, lp, cert, dec, visits);
     finish(alloc, out, reply_or_status(answer))

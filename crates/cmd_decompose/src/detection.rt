@@ -54,8 +54,8 @@ pub fn detect<F: Shelf, O: Sink>(
         (O.puts out.old) (O.puts out.new) (O.taken out.old) (O.taken out.new) }
     ensures silent { (result.status ≡ 7) ⊎ (result.status ≡ 9) ⊎ (result.status ≡ 11) →
         O.taken out.new ≡ O.taken out.old }
-    ensures cut_off { IsTrue (F.tells shelf.old) → IsTrue (O.tells out.old) →
-        CutsOff (λ kept. AnswersDetect (F.file shelf.old) lp.now rows.now) result.status
+    ensures cut_off { IsTrue (F.tells shelf.old) →
+        CutsOff (λ kept. AnswersDetect (F.file shelf.old) lp.now rows.now) result.status result.lost (O.tells out.old)
         (O.taken out.old) (O.taken out.new) }
 {
     let draft = load_found(alloc, shelf, lp, rows);

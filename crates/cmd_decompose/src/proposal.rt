@@ -57,8 +57,8 @@ pub fn propose<F: Shelf, O: Sink>(
         (O.puts out.old) (O.puts out.new) (O.taken out.old) (O.taken out.new) }
     ensures silent { (result.status ≡ 7) ⊎ (result.status ≡ 9) ⊎ (result.status ≡ 11) →
         O.taken out.new ≡ O.taken out.old }
-    ensures cut_off { IsTrue (F.tells shelf.old) → IsTrue (O.tells out.old) →
-        CutsOff (λ kept. AnswersPropose (F.file shelf.old) lp.now) result.status (O.taken out.old)
+    ensures cut_off { IsTrue (F.tells shelf.old) →
+        CutsOff (λ kept. AnswersPropose (F.file shelf.old) lp.now) result.status result.lost (O.tells out.old) (O.taken out.old)
         (O.taken out.new) }
 {
     let draft = load_proposal(alloc, shelf, lp);

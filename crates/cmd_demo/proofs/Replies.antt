@@ -1,5 +1,5 @@
 -- Which replies are right.
-use Rattle.std.proofs.Common.{◌≡◌, ◌≢◌, ◌⊎◌, ◌∙◌, ◌++◌, refl, sym, ap, subst, ℕ, Bool, IsTrue, List, [], ◌∷◌, Option, Some, None, Result, Ok, Err, IfErr, IsErrAnd, take}
+use Rattle.std.proofs.Common.{◌≡◌, ◌≢◌, ◌⊎◌, ◌∙◌, ◌++◌, refl, sym, ap, subst, ℕ, Bool, IsTrue, List, [], ◌∷◌, Option, Some, None, Result, Ok, Err, IfErr, IsErrAnd, Vec, Global, take}
 use Rattle.bp_theory.specs.Claims.{IsCertified}
 use Rattle.bp_shelf.specs.declared.shelf.ShelfFault.TheVariants.{NoMemory}
 use Rattle.block_program.specs.Blocked.{BlockedProgram}
@@ -52,11 +52,11 @@ demo_answers seed size reply outcome kept status tells before now demo is is_kep
       λ told. whole told no_write,
     )
 
-pub demo_cut : (seed size : ℕ) (reply : Reply) (outcome : Outcome) (status : ℕ) (before now : List ℕ) → IsDemo seed size (reply, outcome)
-    → (status ≡ 8 → (count : ℕ) × (now ≡ before ++ take count reply.report.items)) → CutsOff (AnswersDemo seed size) status before now
-demo_cut seed size reply outcome status before now demo partly = λ is_fault.
-    let part = partly is_fault in
-    (Some outcome, reply.status, reply.report.items, part.0, went_on demo.0 demo.1 demo.2, part.1)
+pub demo_cut : (seed size : ℕ) (reply : Reply) (outcome : Outcome) (status : ℕ) (lost : Option (Vec ℕ Global)) (tells : Bool) (before now : List ℕ) → IsDemo seed size (reply, outcome)
+    → (status ≡ 8 → lost ≡ Some reply.report) → (IsTrue tells → status ≡ 8 → (count : ℕ) × (now ≡ before ++ take count reply.report.items))
+    → CutsOff (AnswersDemo seed size) status lost tells before now
+demo_cut seed size reply outcome status lost tells before now demo gone partly = λ is_fault.
+    (Some outcome, reply.status, reply.report, gone is_fault, went_on demo.0 demo.1 demo.2, (λ heard. partly heard is_fault))
 
 -- a refusal that is printed
 pub refused_answers : (seed size : ℕ) (report : List ℕ) (kept : Option Outcome) (status : ℕ) (tells : Bool) (before now : List ℕ) → MadeCome seed size (ends 3 report)
@@ -72,8 +72,8 @@ pub refused_only : (seed size : ℕ) (report : List ℕ) (kept : Option Outcome)
 refused_only seed size report kept status come is =
     stop_only (made_files seed size) [] (Some (0 ∷ [])) (kept ≡ None) (DemosBlocked seed size kept) status 3 report come (printed_status status 3 is)
 
-pub refused_cut : (seed size : ℕ) (report : List ℕ) (status : ℕ) (before now : List ℕ) → MadeCome seed size (ends 3 report)
-    → (status ≡ 8 → (count : ℕ) × (now ≡ before ++ take count report)) → CutsOff (AnswersDemo seed size) status before now
-refused_cut seed size report status before now come partly = λ is_fault.
-    let part = partly is_fault in
-    (None, 3, report, part.0, stopped come refl, part.1)
+pub refused_cut : (seed size : ℕ) (report : Vec ℕ Global) (status : ℕ) (lost : Option (Vec ℕ Global)) (tells : Bool) (before now : List ℕ) → MadeCome seed size (ends 3 report.items)
+    → (status ≡ 8 → lost ≡ Some report) → (IsTrue tells → status ≡ 8 → (count : ℕ) × (now ≡ before ++ take count report.items))
+    → CutsOff (AnswersDemo seed size) status lost tells before now
+refused_cut seed size report status lost tells before now come gone partly = λ is_fault.
+    (None, 3, report, gone is_fault, stopped come refl, (λ heard. partly heard is_fault))

@@ -49,12 +49,11 @@ pub fn demonstrate<O: Sink>(alloc: Global, out: &mut O, seed: u64, size: u32) ->
     ensures failed { result.status ≡ 8 → (writes : ℕ) →
         IsUnput (Unit {0}) writes writes (O.faults out.old) (O.faults out.new) (O.puts out.old)
         (O.puts out.new) }
-    ensures cut_off { IsTrue (O.tells out.old) →
-        CutsOff (AnswersDemo seed size) result.status (O.taken out.old) (O.taken out.new) }
+    ensures cut_off { CutsOff (AnswersDemo seed size) result.status result.lost (O.tells out.old) (O.taken out.old) (O.taken out.new) }
 {
     match demonstrated(alloc, seed, size) {
-        Ok((reply, outcome)) => print(alloc, out, &reply, Some(outcome)),
-        Err(Halt::Refused(report)) => print(alloc, out, &Reply { status: 3, report }, None),
+        Ok((reply, outcome)) => print(alloc, out, reply, Some(outcome)),
+        Err(Halt::Refused(report)) => print(alloc, out, Reply { status: 3, report }, None),
         Err(Halt::Stopped(_)) => stopped(alloc, 9),
     }
 }

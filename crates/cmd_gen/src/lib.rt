@@ -10,7 +10,7 @@ ghost use Rattle.cmd_gen.specs.Generates.{AnswersGen, HoldsTexts, OthersStand, W
 use bp_gen::{make_dec, make_lp};
 use bp_report::made_text;
 use bp_shelf::{Shelf, ShelfFault, Sink};
-use frontend::{Ended, Reply, print, stopped};
+use frontend::{Ended, Reply, print, stopped, unwritten};
 use std::alloc::{AllocError, Global};
 
 // The generator's texts, and the report on them.
@@ -54,15 +54,14 @@ pub fn generate<F: Shelf, O: Sink>(
         (F.write_faults shelf.old) (F.write_faults shelf.new) (O.faults out.old) (O.faults out.new)
         (O.puts out.old) (O.puts out.new) (O.taken out.old) (O.taken out.new) }
     ensures silent { result.status ≡ 9 → O.taken out.new ≡ O.taken out.old }
-    ensures cut_off { IsTrue (O.tells out.old) →
-        CutsOff (λ kept. AnswersGen size) result.status (O.taken out.old) (O.taken out.new) }
+    ensures cut_off { CutsOff (λ kept. AnswersGen size) result.status result.lost (O.tells out.old) (O.taken out.old) (O.taken out.new) }
 {
     let Ok(made) = make(alloc, seed, size) else {
         return stopped(alloc, 9);
     };
     match write(shelf, &made, lp, dec) {
-        Ok(()) => print(alloc, out, &made.reply, None),
-        Err(ShelfFault::Failed) => stopped(alloc, 8),
+        Ok(()) => print(alloc, out, made.reply, None),
+        Err(ShelfFault::Failed) => unwritten(alloc, made.reply.report),
         Err(_) => stopped(alloc, 9),
     }
 }

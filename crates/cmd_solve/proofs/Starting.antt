@@ -1,5 +1,5 @@
 -- A file is one start, or refused as one in one way.
-use Rattle.std.proofs.Common.{◌≡◌, ◌≢◌, ◌⊎◌, ◌∙◌, ◌-◌, refl, sym, ap, subst, ℕ, Bool, IsTrue, List, [], Option, Some, None, IfSome, take, arith, inl, inr, append-nil, ◌++◌, if◌then◌else◌}
+use Rattle.std.proofs.Common.{◌≡◌, ◌≢◌, ◌⊎◌, ◌∙◌, ◌-◌, refl, sym, ap, subst, ℕ, Bool, IsTrue, List, [], Vec, Global, Option, Some, None, IfSome, take, arith, inl, inr, append-nil, ◌++◌, if◌then◌else◌}
 use Rattle.std.specs.Prelude.{nat_eq}
 use Rattle.bp_theory.specs.Trees.{Tree}
 use Rattle.bp_theory.specs.Claims.{Certificate, IsCertified}
@@ -251,12 +251,12 @@ started_only files from leaf given cuts kept b c start below status tells before
     (went_only files name leaf given cuts kept b c text loaded below status tells before now formed there at
     (subst (λ (s : Option Loaded). AnswersBy (SolvesAt s below given kept c) status tells before now) is answers))
 
-pub started_cut : (files : Files) (from : Option (List ℕ)) (leaf given : Option ℕ) (cuts : ℕ) (b c : BlockedProgram) (start : Option Loaded) (below : Option (List Side)) (status : ℕ) (before now : List ℕ)
-    → ComesFrom files from leaf cuts b c start below → CutsOff (λ kept. SolvesAt start below given kept c) status before now
-    → CutsOff (λ kept. SolvesBy files from leaf given cuts kept b) status before now
-started_cut files from leaf given cuts b c start below status before now come cut = λ is_fault.
+pub started_cut : (files : Files) (from : Option (List ℕ)) (leaf given : Option ℕ) (cuts : ℕ) (b c : BlockedProgram) (start : Option Loaded) (below : Option (List Side)) (status : ℕ) (lost : Option (Vec ℕ Global)) (tells : Bool) (before now : List ℕ)
+    → ComesFrom files from leaf cuts b c start below → CutsOff (λ kept. SolvesAt start below given kept c) status lost tells before now
+    → CutsOff (λ kept. SolvesBy files from leaf given cuts kept b) status lost tells before now
+started_cut files from leaf given cuts b c start below status lost tells before now come cut = λ is_fault.
     let x = cut is_fault in
-    (x.0, x.1, x.2, x.3, solves_from files from leaf given cuts x.0 b c start below x.1 x.2 come x.4, x.5)
+    (x.0, x.1, x.2, x.3, solves_from files from leaf given cuts x.0 b c start below x.1 x.2.items come x.4, x.5)
 
 pub started_leaves : (files : Files) (from : Option (List ℕ)) (leaf given : Option ℕ) (cuts : ℕ) (cert : Option (List ℕ)) (now : Files) (b c : BlockedProgram) (start : Option Loaded) (below : Option (List Side))
     → ComesFrom files from leaf cuts b c start below → LeavesAt start below given cert now c → LeavesBy files from leaf given cuts cert now b
@@ -298,18 +298,17 @@ refusal_only files from leaf given cuts kept b reply status formed come is =
     subst (λ (f : Option (List ℕ)). IsOnly (SolvesBy files f leaf given cuts kept b) status) (sym come.named)
     (refused_only files come.name leaf given cuts kept b come.text status reply.status reply.report.items formed come.there come.refuses is)
 
-pub refused_cut : (files : Files) (from : Option (List ℕ)) (leaf given : Option ℕ) (cuts : ℕ) (b : BlockedProgram) (reply : Reply) (status : ℕ) (before now : List ℕ)
-    → IsRefusedFrom files from leaf b reply → (status ≡ 8 → (count : ℕ) × (now ≡ before ++ take count reply.report.items))
-    → CutsOff (λ kept. SolvesBy files from leaf given cuts kept b) status before now
-refused_cut files from leaf given cuts b reply status before now come partly = λ is_fault.
-    let part = partly is_fault in (
-      None,
-      reply.status,
-      reply.report.items,
-      part.0,
-      subst (λ (f : Option (List ℕ)). SolvesBy files f leaf given cuts None b reply.status reply.report.items) (sym come.named) (refused come.text come.there refl come.refuses),
-      part.1,
-    )
+pub refused_cut : (files : Files) (from : Option (List ℕ)) (leaf given : Option ℕ) (cuts : ℕ) (b : BlockedProgram) (reply : Reply) (status : ℕ) (lost : Option (Vec ℕ Global)) (tells : Bool) (before now : List ℕ)
+    → IsRefusedFrom files from leaf b reply → (status ≡ 8 → lost ≡ Some reply.report) → (IsTrue tells → status ≡ 8 → (count : ℕ) × (now ≡ before ++ take count reply.report.items))
+    → CutsOff (λ kept. SolvesBy files from leaf given cuts kept b) status lost tells before now
+refused_cut files from leaf given cuts b reply status lost tells before now come gone partly = λ is_fault. (
+  None,
+  reply.status,
+  reply.report,
+  gone is_fault,
+  subst (λ (f : Option (List ℕ)). SolvesBy files f leaf given cuts None b reply.status reply.report.items) (sym come.named) (refused come.text come.there refl come.refuses),
+  (λ heard. partly heard is_fault),
+)
 
 pub refused_leaves : (files : Files) (from : Option (List ℕ)) (leaf given : Option ℕ) (cuts : ℕ) (cert : Option (List ℕ)) (now : Files) (b : BlockedProgram) (reply : Reply)
     → IsRefusedFrom files from leaf b reply → now ≡ files → LeavesBy files from leaf given cuts cert now b

@@ -1,5 +1,5 @@
 -- What is told of the outcome of a search is what is answered by `solve`.
-use Rattle.std.proofs.Common.{◌≡◌, ◌⊎◌, ◌∙◌, inl, inr, refl, sym, ap, ℕ, Bool, List, Option, Some, None, ◌+◌}
+use Rattle.std.proofs.Common.{◌≡◌, ◌⊎◌, ◌∙◌, inl, inr, refl, sym, ap, ℕ, Bool, List, Vec, Global, Option, Some, None, ◌+◌}
 use Rattle.bp_theory.specs.Trees.{steps}
 use Rattle.bp_shelf.specs.Shelf.{Files}
 use Rattle.block_program.specs.Blocked.{BlockedProgram}
@@ -65,11 +65,12 @@ answers_at b from below given o told kept status heard before now ends answers =
     let x = answers no_read no_write no_want in
     (x.0, solves_at b from below given o told kept status x.0 ends x.1, x.2)
 
-pub cut_at : (b : BlockedProgram) (from : Option Loaded) (below : Option (List Side)) (given : Option ℕ) (o : Outcome) (told : Option ℕ) (status : ℕ) (before now : List ℕ)
-    → EndsAt b from below given o told → CutsOff (TellsOf b told o) status before now → CutsOff (λ kept. SolvesAt from below given kept b) status before now
-cut_at b from below given o told status before now ends cuts = λ is_fault.
+pub cut_at : (b : BlockedProgram) (from : Option Loaded) (below : Option (List Side)) (given : Option ℕ) (o : Outcome) (told : Option ℕ) (status : ℕ) (lost : Option (Vec ℕ Global)) (tells : Bool)
+    (before now : List ℕ) → EndsAt b from below given o told → CutsOff (TellsOf b told o) status lost tells before now
+    → CutsOff (λ kept. SolvesAt from below given kept b) status lost tells before now
+cut_at b from below given o told status lost tells before now ends cuts = λ is_fault.
     let x = cuts is_fault in
-    (x.0, x.1, x.2, x.3, solves_at b from below given o told x.0 x.1 x.2 ends x.4, x.5)
+    (x.0, x.1, x.2, x.3, solves_at b from below given o told x.0 x.1 x.2.items ends x.4, x.5)
 
 -- what is answered of the outcome that is kept has its status
 abbrev pub HasStatusOf : Option Outcome → ℕ → Type 0

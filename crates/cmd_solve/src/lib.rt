@@ -93,9 +93,9 @@ pub fn solve<F: Shelf, O: Sink>(
         cuts (F.file shelf.new) }
     ensures silent { (result.status ≡ 7) ⊎ (result.status ≡ 9) ⊎ (result.status ≡ 11) →
         O.taken out.new ≡ O.taken out.old }
-    ensures cut_off { IsTrue (F.tells shelf.old) → IsTrue (O.tells out.old) →
+    ensures cut_off { IsTrue (F.tells shelf.old) →
         CutsOff (AnswersSolve (F.file shelf.old) lp.now (option_map (λ name. name.now) dec.entry)
-        steps (option_map (λ name. name.now) from.entry) leaf cuts) result.status (O.taken out.old)
+        steps (option_map (λ name. name.now) from.entry) leaf cuts) result.status result.lost (O.tells out.old) (O.taken out.old)
         (O.taken out.new) }
 {
     match load(alloc, shelf, lp, dec) {
@@ -103,7 +103,7 @@ pub fn solve<F: Shelf, O: Sink>(
             let crew = crew_ordered(workers, order);
             solve_blocks(alloc, shelf, out, b, steps, cert, from, leaf, crew, cuts)
         }
-        Err(Halt::Refused(report)) => print(alloc, out, &Reply { status: 3, report }, None),
+        Err(Halt::Refused(report)) => print(alloc, out, Reply { status: 3, report }, None),
         Err(Halt::Stopped(fault)) => stopped_by(alloc, fault),
     }
 }
@@ -163,9 +163,9 @@ fn solve_blocks<F: Shelf, O: Sink>(
         (F.file shelf.new) }
     ensures silent { (result.status ≡ 7) ⊎ (result.status ≡ 9) ⊎ (result.status ≡ 11) →
         O.taken out.new ≡ O.taken out.old }
-    ensures cut_off { IsTrue (F.tells shelf.old) → IsTrue (O.tells out.old) →
+    ensures cut_off { IsTrue (F.tells shelf.old) →
         CutsOff (λ kept. SolvesBy (F.file shelf.old) (option_map (λ name. name.now) from.entry) leaf
-        steps cuts kept b) result.status (O.taken out.old) (O.taken out.new) }
+        steps cuts kept b) result.status result.lost (O.tells out.old) (O.taken out.old) (O.taken out.new) }
 {
     // For the proof alone: `b` is formed.
     let _ = b.blocks();
@@ -173,7 +173,7 @@ fn solve_blocks<F: Shelf, O: Sink>(
         Ok(Start::Ready(c, from, below)) => {
             answer(alloc, shelf, out, &c, from, below, steps, cert, crew)
         }
-        Ok(Start::Refused(reply)) => print(alloc, out, &reply, None),
+        Ok(Start::Refused(reply)) => print(alloc, out, reply, None),
         Err(fault) => stopped_by(alloc, fault),
     }
 }
@@ -222,8 +222,7 @@ fn answer<F: Shelf, O: Sink>(
         AsBeforeOr (HoldsPart (λ kept. SolvesAt from below steps kept b.now) b.now)
         (option_map (λ name. name.now) cert.entry) (F.file shelf.old) (F.file shelf.new) }
     ensures silent { result.status ≡ 9 → O.taken out.new ≡ O.taken out.old }
-    ensures cut_off { IsTrue (O.tells out.old) →
-        CutsOff (λ kept. SolvesAt from below steps kept b.now) result.status (O.taken out.old)
+    ensures cut_off { CutsOff (λ kept. SolvesAt from below steps kept b.now) result.status result.lost (O.tells out.old) (O.taken out.old)
         (O.taken out.new) }
 {
     let Ok(searched) = search_from(alloc, b, from, below, steps, crew) else {
@@ -234,11 +233,17 @@ fn answer<F: Shelf, O: Sink>(
         told,
         events,
     } = searched;
-    let Ended { status, kept, .. } = tell(alloc, shelf, out, b, outcome, told, cert);
+    let Ended {
+        status,
+        kept,
+        lost,
+        ..
+    } = tell(alloc, shelf, out, b, outcome, told, cert);
     let events = kept_events(alloc, &kept, events);
     Ended {
         status,
         kept,
         events,
+        lost,
     }
 }

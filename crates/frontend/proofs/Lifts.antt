@@ -1,5 +1,5 @@
 -- What is right for a program in blocks is right for the files that come to it, and no other status is.
-use Rattle.std.proofs.Common.{◌≡◌, subst, ℕ, Bool, List, Option, ◌∙◌, [], ◌≢◌, ◌⊎◌, inl, inr, Result, Ok, Err}
+use Rattle.std.proofs.Common.{◌≡◌, subst, ℕ, Bool, List, Vec, Global, Option, ◌∙◌, [], ◌≢◌, ◌⊎◌, inl, inr, Result, Ok, Err}
 use Rattle.bp_shelf.specs.Shelf.{Files, CountsFailed}
 use Rattle.block_program.specs.Blocked.{BlockedProgram}
 use Rattle.branch_tree.specs.declared.outcome.Outcome.{Outcome}
@@ -36,10 +36,10 @@ lift_only files lp dec Stops Right b status come only = λ no_read no_write no_w
 
 -- a beginning of an answer
 pub lift_cut : (files : Files) (lp : List ℕ) (dec : Option (List ℕ)) (Stops : Option Outcome → Type 0)
-    (Right : Option Outcome → BlockedProgram → ℕ → List ℕ → Type 0) (b : BlockedProgram) (status : ℕ) (before now : List ℕ)
-    → FilesCome files lp dec (blocked b) → CutsOff (λ kept. Right kept b) status before now
-    → CutsOff (λ kept. AnswersFront files lp dec (Stops kept) (Right kept)) status before now
-lift_cut files lp dec Stops Right b status before now come cuts = λ is_fault.
+    (Right : Option Outcome → BlockedProgram → ℕ → List ℕ → Type 0) (b : BlockedProgram) (status : ℕ) (lost : Option (Vec ℕ Global)) (tells : Bool) (before now : List ℕ)
+    → FilesCome files lp dec (blocked b) → CutsOff (λ kept. Right kept b) status lost tells before now
+    → CutsOff (λ kept. AnswersFront files lp dec (Stops kept) (Right kept)) status lost tells before now
+lift_cut files lp dec Stops Right b status lost tells before now come cuts = λ is_fault.
     let cut = cuts is_fault in
     (cut.0, cut.1, cut.2, cut.3, went_on b come cut.4, cut.5)
 

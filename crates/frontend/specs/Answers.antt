@@ -1,5 +1,6 @@
 -- What a run answers from the told files, whatever its command: the forms of the commands' theorems.
-use Rattle.std.specs.Prelude.{◌≡◌, ◌≢◌, ℕ, ◌<◌, ◌⊎◌, Bool, IsTrue, List, ◌++◌, take, Option, Some, None}
+use Rattle.std.specs.Prelude.{◌≡◌, ◌≢◌, ℕ, ◌<◌, ◌⊎◌, Bool, IsTrue, List, ◌++◌, take, Option, Some, None, Vec}
+use Rattle.std.specs.Global.{Global}
 use Rattle.bp_shelf.specs.Shelf.{Files, Rose, OthersAsBefore, next_count}
 use Rattle.block_program.specs.Blocked.{BlockedProgram}
 use Rattle.branch_tree.specs.declared.outcome.Outcome.{Outcome}
@@ -21,10 +22,11 @@ AnswersBy Right status tells before now = status ≢ 7 → status ≢ 8 → stat
 abbrev pub IsOnly : (ℕ → List ℕ → Type 0) → (status : ℕ) → Type 0
 IsOnly Right status = status ≢ 7 → status ≢ 8 → status ≢ 9 → (meant : ℕ) (report : List ℕ) → Right meant report → status ≡ meant
 
--- a run whose report could not be written whole: a beginning of a right one was added
-abbrev pub CutsOff : (Option Outcome → ℕ → List ℕ → Type 0) → (status : ℕ) → (before now : List ℕ) → Type 0
-CutsOff Right status before now = status ≡ 8 →
-    (kept : Option Outcome) × (meant : ℕ) × (report : List ℕ) × (count : ℕ) × Right kept meant report × (now ≡ before ++ take count report)
+-- a run whose report could not be written whole: the report that is lost is a right one, of which a beginning was added
+abbrev pub CutsOff : (Option Outcome → ℕ → List ℕ → Type 0) → (status : ℕ) → (lost : Option (Vec ℕ Global)) → (tells : Bool) → (before now : List ℕ) → Type 0
+CutsOff Right status lost tells before now = status ≡ 8 →
+    (kept : Option Outcome) × (meant : ℕ) × (report : Vec ℕ Global) × (lost ≡ Some report) × Right kept meant report.items
+    × (IsTrue tells → (count : ℕ) × (now ≡ before ++ take count report.items))
 
 -- how often a run puts where no write failed: its report once, and nothing where it prints nothing
 pub record PutsReport (status puts puts_now : ℕ) : Type 0 where

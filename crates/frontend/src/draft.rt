@@ -3,7 +3,7 @@ ghost use Rattle.std.specs.Prelude.{◌≡◌};
 ghost use Rattle.frontend.specs.Endings.{WritesText, WritesDraft, write_status_of};
 
 use crate::closing::halted;
-use crate::ending::Reply;
+use crate::ending::{Reply, Unprinted};
 use crate::front::Halt;
 use bp_shelf::{Shelf, ShelfFault};
 
@@ -14,14 +14,14 @@ pub struct Draft {
     pub reply: Reply,
 }
 
-/// Writes a draft into a named file. What the run comes to is the reply to it, or the status of an end at which nothing is
-/// printed: 8 where the write failed, 9 where memory was wanting. Where the run was halted before it had a draft, nothing
+/// Writes a draft into a named file. What the run comes to is the reply to it, or an end at which nothing is printed: with 8
+/// where the write failed, with 9 where memory was wanting, and the report that is lost. Where the run was halted before it had a draft, nothing
 /// is written, and it comes to what it was halted for.
 pub fn write_draft<F: Shelf>(
     shelf: &mut F,
     name: &str,
     draft: Result<Draft, Halt>,
-) -> Result<Reply, u8>
+) -> Result<Reply, Unprinted>
     ensures writes { WritesDraft (F.tells shelf.old) name.now (F.file shelf.old)
         (F.file shelf.new) (F.write_faults shelf.old) (F.write_faults shelf.new) draft result }
     ensures reads { F.read_faults shelf.new ≡ F.read_faults shelf.old }
@@ -33,7 +33,7 @@ pub fn write_draft<F: Shelf>(
 }
 
 /// Writes a draft into a named file, as above.
-pub fn put_draft<F: Shelf>(shelf: &mut F, name: &str, draft: Draft) -> Result<Reply, u8>
+pub fn put_draft<F: Shelf>(shelf: &mut F, name: &str, draft: Draft) -> Result<Reply, Unprinted>
     ensures writes { WritesText (F.tells shelf.old) name.now draft.text.items (F.file shelf.old)
         (F.file shelf.new) (F.write_faults shelf.old) (F.write_faults shelf.new) draft.reply
         result }
@@ -44,14 +44,22 @@ pub fn put_draft<F: Shelf>(shelf: &mut F, name: &str, draft: Draft) -> Result<Re
 }
 
 // Writes a text, with the reply that is printed behind it.
-fn write_text<F: Shelf>(shelf: &mut F, name: &str, text: &[u8], reply: Reply) -> Result<Reply, u8>
+fn write_text<F: Shelf>(
+    shelf: &mut F,
+    name: &str,
+    text: &[u8],
+    reply: Reply,
+) -> Result<Reply, Unprinted>
     ensures writes { WritesText (F.tells shelf.old) name.now text.now (F.file shelf.old)
         (F.file shelf.new) (F.write_faults shelf.old) (F.write_faults shelf.new) reply result }
     ensures reads { F.read_faults shelf.new ≡ F.read_faults shelf.old }
 {
     match shelf.replace(name, text) {
         Ok(()) => Ok(reply),
-        Err(fault) => Err(write_status(fault)),
+        Err(fault) => Err(Unprinted {
+            status: write_status(fault),
+            lost: Some(reply.report),
+        }),
     }
 }
 

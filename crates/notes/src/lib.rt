@@ -3,7 +3,6 @@
 #![tactic(auto)]
 
 mod again;
-mod answer;
 mod blocks;
 mod grammar;
 mod kinds;

@@ -2,7 +2,6 @@
 ghost use Rattle.std.specs.Prelude.{◌≡◌};
 
 use crate::again::{line_of, text_of};
-use crate::answer::put_answer;
 use crate::kinds::{AFTER_REJECTED, CERT, DEC, FROM, LP, REJECTED, ROWS};
 use crate::place::{Spot, lp_spot, names_spot};
 use crate::text::{MOST_QUOTED, Note, sentence_of, word_at};
@@ -22,7 +21,7 @@ struct Refusal<'a> {
 
 /// The note on a run that ended with this status: why it was refused or stopped, in words, and what to do. It is empty for
 /// the other statuses. The words are those of the run, the program's name first; the report is what the run printed, of
-/// which the first line is read; where it could not be printed, the whole report. The shelf has the files of the run: the place
+/// which the first line is read; where a write failed, the whole report that was lost. The shelf has the files of the run: the place
 /// of a fault is looked up in the one at fault, and where that can't be read any more, the note does without. No file is changed.
 pub fn explain<F: Shelf>(
     alloc: Global,
@@ -43,7 +42,7 @@ pub fn explain<F: Shelf>(
         7 | 11 => put_file_note(&mut note, status, files),
         8 if files.is_written() => {
             put_file_note(&mut note, status, files);
-            put_answer(alloc, &mut note, words, files, shelf);
+            put_lost(&mut note, report);
         }
         8 => put_output_note(&mut note, report, files),
         9 => note.put("bprice: want of memory; give the process more, or solve a smaller model\n"),
@@ -83,6 +82,11 @@ fn put_output_note(note: &mut Note, report: &[u8], files: &Files) {
         "is its reader gone?"
     });
     note.put("\n");
+    put_lost(note, report);
+}
+
+// The report that was lost.
+fn put_lost(note: &mut Note, report: &[u8]) {
     if report.len() > 0 {
         note.put("bprice: the report would have been\n");
         note.put_bytes(report);

@@ -2,7 +2,7 @@
 use crate::text::{Note, word_at};
 
 // The kit that the program is proved with.
-const KIT: &str = "rattle-kit-13, logic dac8208d650f15bf";
+const KIT: &str = "rattle-kit-13f, logic dac8208d650f15bf";
 
 // A command: its name, the words that it wants, the options that it takes, and what it does.
 #[derive(Clone, Copy)]
@@ -362,8 +362,8 @@ fn misplaced_leaf(words: &[String]) -> Option<&'static str> {
     }
 }
 
-/// Whether an option stands among words, before the word that ends options.
-pub fn has_option(words: &[String], option: &str) -> bool {
+// Whether an option stands among words, before the word that ends options.
+fn has_option(words: &[String], option: &str) -> bool {
     for word in words {
         if word.as_str() == "--" {
             return false;
@@ -373,31 +373,6 @@ pub fn has_option(words: &[String], option: &str) -> bool {
         }
     }
     false
-}
-
-/// The value of an option among words that are a command line, where it is given.
-pub fn value_of<'a>(words: &'a [String], option: &str) -> Option<&'a str> {
-    for at in 0..words.len() {
-        let word = words[at].as_str();
-        if word == "--" {
-            return None;
-        }
-        if option_of(word) == option {
-            return match word.split_once("=") {
-                Some((_, value)) => Some(value),
-                None => text_at(words, at + 1),
-            };
-        }
-    }
-    None
-}
-
-// The text of a word, where there is one.
-fn text_at(words: &[String], at: usize) -> Option<&str> {
-    match words.get(at) {
-        Some(word) => Some(word.as_str()),
-        None => None,
-    }
 }
 
 // Puts what is wrong with a word behind those before it: whether anything is.

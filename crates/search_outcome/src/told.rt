@@ -14,7 +14,7 @@ use bp_search::MAX_STEPS;
 use bp_shelf::{Shelf, Sink};
 use branch_tree::Outcome;
 use cert_stream::{StreamStop, write_stream};
-use frontend::{Ended, Reply, print, stopped};
+use frontend::{Ended, Reply, print, stopped, unwritten};
 use std::alloc::{AllocError, Global};
 
 /// Writes the certificate of an outcome, where a file is named for it, and prints the report, which tells so many steps. The
@@ -58,15 +58,15 @@ pub fn tell<F: Shelf, O: Sink>(
         AsBeforeOr (HoldsPart (TellsOf b.now told outcome) b.now)
         (option_map (λ name. name.now) cert.entry) (F.file shelf.old) (F.file shelf.new) }
     ensures silent { result.status ≡ 9 → O.taken out.new ≡ O.taken out.old }
-    ensures cut_off { IsTrue (O.tells out.old) →
-        CutsOff (TellsOf b.now told outcome) result.status (O.taken out.old) (O.taken out.new) }
+    ensures cut_off { CutsOff (TellsOf b.now told outcome) result.status result.lost
+        (O.tells out.old) (O.taken out.old) (O.taken out.new) }
 {
     let Ok(reply) = reply_to(alloc, b, &outcome, told) else {
         return stopped(alloc, 9);
     };
     match save(alloc, shelf, b, &outcome, cert) {
-        Ok(()) => print(alloc, out, &reply, Some(outcome)),
-        Err(StreamStop::Failed) => stopped(alloc, 8),
+        Ok(()) => print(alloc, out, reply, Some(outcome)),
+        Err(StreamStop::Failed) => unwritten(alloc, reply.report),
         Err(StreamStop::NoMemory) => stopped(alloc, 9),
     }
 }

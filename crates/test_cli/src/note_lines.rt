@@ -20,7 +20,7 @@ const CASES: &str = "\
 help demo @ 2 refused words @ - @ - @ usage: bprice demo SEED SIZE|  makes one in memory, solves it, checks that|
 help show @ 2 refused words @ - @ - @ usage: bprice show LP [--dec DEC] [--blocks]|  the blocks, and which are identical|  --dec DEC      the decomposition of the model, as GCG DEC text|  --blocks       tell the rows and variables of each block|
 check -h @ 2 refused words @ - @ - @ usage: bprice check LP CERT [--dec DEC] [--visits M]|  whether a certificate is valid|*
---version @ 2 refused words @ - @ - @ bprice, proved with rattle-kit-13, logic dac8208d650f15bf|
+--version @ 2 refused words @ - @ - @ bprice, proved with rattle-kit-13f, logic dac8208d650f15bf|
 prove m.lp @ 2 refused words @ - @ - @ bprice: 'prove' is no command; the first word is one of solve check show propose detect merge migrate gen demo|usage: bprice COMMAND .., and bprice --help tells more|
 check m.lp @ 2 refused words @ - @ - @ bprice: check wants a further word: CERT|usage: bprice check LP CERT [--dec DEC] [--visits M]|
 demo 1 2 3 @ 2 refused words @ - @ - @ bprice: '3' is one word too many for demo|usage: bprice demo SEED SIZE|
@@ -38,14 +38,9 @@ solve m.lp @ 7 @ - @ - @ bprice: m.lp: it could not be read; it has to be a plai
 solve m.lp @ 11 @ - @ - @ bprice: m.lp: there is no such file|
 solve m.lp @ 8 optimal 8 @ Max| @ - @ bprice: the standard output could not be written; is its reader gone?|bprice: the report would have been|optimal 8
 solve m.lp @ 8 @ Max| @ - @ bprice: the standard output could not be written; is its reader gone?|
-solve m.lp --cert c @ 8 @ Max| obj: x + 2 y|st| x + z <= 4|End @ bpcert 2|claim optimal 8|point 1 -2 3| @ bprice: c: it could not be written; no space left|bprice: the report would have been|optimal 8|x 1|y -2|z 3|
-solve --cert=c m.lp @ 8 @ Max| x|End @ bpcert 2|claim infeasible| @ bprice: c: it could not be written; no space left|bprice: the report would have been|infeasible|
-solve m.lp --steps 7 --cert c @ 8 @ Max| x|End @ bpcert 2|claim bound -9| @ bprice: c: it could not be written; no space left|bprice: the report would have been|budget 7|bound -9|
-solve m.lp --steps=7 --cert c @ 8 @ Max| x|End @ bpcert 3|claim bound -9 value -11|point 5|cuts 1| @ bprice: c: it could not be written; no space left|bprice: the report would have been|budget 7|bound -9|value -11|x 5|
-solve m.lp --steps 07 --cert c --from f --leaf 2 @ 8 @ Max| x|End @ bpcert 2|claim bound -9| @ bprice: c: it could not be written; no space left|bprice: the report would have been|budget at most 7|bound -9|
-solve --cert c -- m.lp @ 8 @ Max| x|End @ bpcert 2|claim bound -9 value -11|point 5 6| @ bprice: c: it could not be written; no space left|bprice: the report would have been|budget 1152921504606846976|bound -9|value -11|point 5 6|
-merge m.lp a b c @ 8 @ Max| x|End @ bpcert 2|claim optimal 5|point 5| @ bprice: c: it could not be written; no space left|
-gen 1 2 a c @ 8 @ Max| x|End @ Max| x|End @ bprice: c: it could not be written; no space left|
+solve m.lp --cert c @ 8 optimal 8 @ Max| @ c @ bprice: c: it could not be written; no space left|bprice: the report would have been|optimal 8
+merge m.lp a b c @ 8 merged open 0 @ Max| @ c @ bprice: c: it could not be written; no space left|bprice: the report would have been|merged open 0
+gen 1 2 a c @ 8 @ Max| @ c @ bprice: c: it could not be written; no space left|
 solve m.lp @ 9 @ - @ - @ bprice: want of memory; give the process more, or solve a smaller model|
 solve m.lp @ 0 optimal 8 @ Max| @ - @ 
 solve m.lp @ 4 infeasible @ Max| @ - @ 
@@ -133,7 +128,7 @@ fn put_text(alloc: Global, shelf: &mut MemShelf, name: &str, line: &str) -> Resu
     Ok(())
 }
 
-// Puts the texts of a case on a shelf, and keeps that they were read, or that the first was not.
+// Puts the texts of a case on a shelf, and keeps that they were read, or that the first was not, or that one could not be written.
 fn read_texts(
     alloc: Global,
     files: &mut Files,
@@ -151,19 +146,12 @@ fn read_texts(
         return Ok(());
     }
     if case.ended.starts_with("8") {
-        return keep_unwritten(alloc, files, case.other);
+        files.fail("c", true);
+        files.fill();
+        return Ok(());
     }
     put_text(alloc, shelf, "o", case.other)?;
     files.read("o", 0);
-    Ok(())
-}
-
-// Keeps a text that could not be written for want of space.
-fn keep_unwritten(alloc: Global, files: &mut Files, line: &str) -> Result<(), AllocError> {
-    let text = text_of(alloc, line)?;
-    files.replace(text.as_slice());
-    files.fail("c", true);
-    files.fill();
     Ok(())
 }
 

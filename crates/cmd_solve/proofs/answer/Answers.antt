@@ -32,9 +32,9 @@ returns-clause-failed g c = λ is_fault.
     (c.tell-status.ensures.failed is_fault)
 
 pub returns-clause-cut_off : goal.returns-clause-cut_off
-returns-clause-cut_off g c = λ heard.
-    cut_at c.args.b.now c.args.from c.args.below c.args.steps c.in-Ok.searched.outcome c.in-Ok.searched.told c.tell-status.result.status
-    (g.O.Sink.taken c.args.out.now) (g.O.Sink.taken c.tell-status.new.out) c.in-Ok.ensures.ends (c.tell-status.ensures.cut_off heard)
+returns-clause-cut_off g c =
+    cut_at c.args.b.now c.args.from c.args.below c.args.steps c.in-Ok.searched.outcome c.in-Ok.searched.told c.tell-status.result.status c.tell-status.result.lost
+    (g.O.Sink.tells c.args.out.now) (g.O.Sink.taken c.args.out.now) (g.O.Sink.taken c.tell-status.new.out) c.in-Ok.ensures.ends c.tell-status.ensures.cut_off
 
 pub returns-clause-events : goal.returns-clause-events
 returns-clause-events g c =

@@ -37,15 +37,16 @@ returns-in-Ok-clause-exact g c = λ told.
     (subst (λ (fs : Files). IsOnly (SolvesBy fs from c.args.leaf c.args.steps c.args.cuts c.solve_blocks.result.kept c.in-Ok.b) c.solve_blocks.result.status) c.in-Ok.ensures.files (c.solve_blocks.ensures.exact still))
 
 pub returns-in-Ok-clause-cut_off : goal.returns-in-Ok-clause-cut_off
-returns-in-Ok-clause-cut_off g c = λ told heard.
+returns-in-Ok-clause-cut_off g c = λ told.
     let files = g.F.Shelf.file c.args.shelf.now in
     let from : Option (List ℕ) = option_map (λ name. name.now) c.args.from in
     let still : IsTrue (g.F.Shelf.tells c.load.new.shelf) = subst (λ (t : Bool). IsTrue t) (sym c.in-Ok.ensures.told) told in
     lift_cut files c.args.lp.now (option_map (λ name. name.now) c.args.dec) (λ kept. kept ≡ None)
-    (λ kept. SolvesBy files from c.args.leaf c.args.steps c.args.cuts kept) c.in-Ok.b c.solve_blocks.result.status (g.O.Sink.taken c.args.out.now) (g.O.Sink.taken c.solve_blocks.new.out)
-    (c.in-Ok.ensures.blocked told)
-    (subst (λ (fs : Files). CutsOff (λ (kept : Option Outcome). SolvesBy fs from c.args.leaf c.args.steps c.args.cuts kept c.in-Ok.b) c.solve_blocks.result.status (g.O.Sink.taken c.args.out.now) (g.O.Sink.taken c.solve_blocks.new.out))
-    c.in-Ok.ensures.files (c.solve_blocks.ensures.cut_off still heard))
+    (λ kept. SolvesBy files from c.args.leaf c.args.steps c.args.cuts kept) c.in-Ok.b c.solve_blocks.result.status c.solve_blocks.result.lost (g.O.Sink.tells c.args.out.now) (g.O.Sink.taken c.args.out.now)
+    (g.O.Sink.taken c.solve_blocks.new.out) (c.in-Ok.ensures.blocked told)
+    (subst (λ (fs : Files). CutsOff (λ (kept : Option Outcome). SolvesBy fs from c.args.leaf c.args.steps c.args.cuts kept c.in-Ok.b) c.solve_blocks.result.status c.solve_blocks.result.lost
+    (g.O.Sink.tells c.args.out.now) (g.O.Sink.taken c.args.out.now) (g.O.Sink.taken c.solve_blocks.new.out))
+    c.in-Ok.ensures.files (c.solve_blocks.ensures.cut_off still))
 
 pub returns-in-Err-Refused-clause-exact : goal.returns-in-Err-Refused-clause-exact
 returns-in-Err-Refused-clause-exact g c = λ told.
@@ -56,10 +57,9 @@ returns-in-Err-Refused-clause-exact g c = λ told.
     (rw c.in-Err-Refused.field-0-is at halts) (printed_status c.print.result.status 3 c.print.ensures.status)
 
 pub returns-in-Err-Refused-clause-cut_off : goal.returns-in-Err-Refused-clause-cut_off
-returns-in-Err-Refused-clause-cut_off g c = λ told heard is_fault.
+returns-in-Err-Refused-clause-cut_off g c = λ told is_fault.
     let halts = c.in-Err-Refused.ensures.halted told in
-    let printed = c.print.ensures.partly heard is_fault in
-    (None, 3, c.in-Err-Refused.report.items, printed.0, stopped (rw c.in-Err-Refused.field-0-is at halts) refl, rw c.in-Err-Refused.field-0-is at printed.1)
+    (None, 3, c.in-Err-Refused.report, c.print.ensures.lost is_fault, stopped (rw c.in-Err-Refused.field-0-is at halts) refl, (λ heard. c.print.ensures.partly heard is_fault))
 
 pub returns-in-Err-Stopped-clause-exact : goal.returns-in-Err-Stopped-clause-exact
 returns-in-Err-Stopped-clause-exact g c = λ told.

@@ -54,12 +54,12 @@ returns-in-Ok-Ready-clause-failed g c = λ is_fault.
     (c.answer.ensures.failed is_fault)
 
 pub returns-in-Ok-Ready-clause-cut_off : goal.returns-in-Ok-Ready-clause-cut_off
-returns-in-Ok-Ready-clause-cut_off g c = λ told heard.
+returns-in-Ok-Ready-clause-cut_off g c = λ told.
     let files = g.F.Shelf.file c.args.shelf.now in
     let from : Option (List ℕ) = option_map (λ name. name.now) c.args.from in
     let start = c.in-Ok-Ready.ensures.start told in
-    started_cut files from c.args.leaf c.args.steps c.args.cuts c.args.b c.in-Ok-Ready.c c.in-Ok-Ready.from c.in-Ok-Ready.below c.answer.result.status (g.O.Sink.taken c.args.out.now)
-    (g.O.Sink.taken c.answer.new.out) (comes_from files from c.args.leaf c.args.cuts c.args.b c.in-Ok-Ready.c c.in-Ok-Ready.from c.in-Ok-Ready.below (rw c.in-Ok-Ready.field-0-is at start)) (c.answer.ensures.cut_off heard)
+    started_cut files from c.args.leaf c.args.steps c.args.cuts c.args.b c.in-Ok-Ready.c c.in-Ok-Ready.from c.in-Ok-Ready.below c.answer.result.status c.answer.result.lost (g.O.Sink.tells c.args.out.now)
+    (g.O.Sink.taken c.args.out.now) (g.O.Sink.taken c.answer.new.out) (comes_from files from c.args.leaf c.args.cuts c.args.b c.in-Ok-Ready.c c.in-Ok-Ready.from c.in-Ok-Ready.below (rw c.in-Ok-Ready.field-0-is at start)) c.answer.ensures.cut_off
 
 -- ---- refused as a start
 
@@ -94,12 +94,12 @@ returns-in-Ok-Refused-clause-failed g c = λ is_fault. inr (record {
 })
 
 pub returns-in-Ok-Refused-clause-cut_off : goal.returns-in-Ok-Refused-clause-cut_off
-returns-in-Ok-Refused-clause-cut_off g c = λ told heard.
+returns-in-Ok-Refused-clause-cut_off g c = λ told.
     let files = g.F.Shelf.file c.args.shelf.now in
     let from : Option (List ℕ) = option_map (λ name. name.now) c.args.from in
     let start = c.in-Ok-Refused.ensures.start told in
-    refused_cut files from c.args.leaf c.args.steps c.args.cuts c.args.b c.in-Ok-Refused.reply c.print.result.status (g.O.Sink.taken c.args.out.now) (g.O.Sink.taken c.print.new.out)
-    (refused_from files from c.args.leaf c.args.cuts c.args.b c.in-Ok-Refused.reply (rw c.in-Ok-Refused.field-0-is at start)) (c.print.ensures.partly heard)
+    refused_cut files from c.args.leaf c.args.steps c.args.cuts c.args.b c.in-Ok-Refused.reply c.print.result.status c.print.result.lost (g.O.Sink.tells c.args.out.now) (g.O.Sink.taken c.args.out.now)
+    (g.O.Sink.taken c.print.new.out) (refused_from files from c.args.leaf c.args.cuts c.args.b c.in-Ok-Refused.reply (rw c.in-Ok-Refused.field-0-is at start)) c.print.ensures.lost c.print.ensures.partly
 
 -- ---- a file that isn't there or can't be read
 

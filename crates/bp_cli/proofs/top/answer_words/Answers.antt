@@ -4,7 +4,7 @@ use Rattle.bp_report.specs.Refusals.{words_refusal}
 use Rattle.frontend.proofs.Faults.{fails_as}
 use Rattle.bp_cli.specs.Promises.{Demonstrates}
 use Rattle.bp_cli.specs.Running.{refused, HasWritten, HasPutLast, ListsEvents}
-use Rattle.bp_cli.proofs.Words.{order_answers, order_only, order_cut, of_order, no_order, refused_two}
+use Rattle.bp_cli.proofs.Words.{order_answers, order_only, order_cut, of_order, no_order, refused_two, words_cut}
 use Rattle.bp_cli.proofs.top.answer_words.Goals as goal
 
 pub returns-in-Ok-clause-answered : goal.returns-in-Ok-clause-answered
@@ -49,14 +49,14 @@ returns-in-Ok-clause-events g c = λ told.
     c.in-Ok.ensures.order (c.obey.ensures.events told)
 
 pub returns-in-Ok-clause-cut_off : goal.returns-in-Ok-clause-cut_off
-returns-in-Ok-clause-cut_off g c = λ told heard.
-    order_cut (map string_bytes c.args.words.now) c.in-Ok.order (g.F.Shelf.file c.args.shelf.now) c.obey.result.status (g.O.Sink.taken c.args.out.now) (g.O.Sink.taken c.obey.new.out)
-    c.in-Ok.ensures.order (c.obey.ensures.cut_off told heard)
+returns-in-Ok-clause-cut_off g c = λ told.
+    order_cut (map string_bytes c.args.words.now) c.in-Ok.order (g.F.Shelf.file c.args.shelf.now) c.obey.result.status c.obey.result.lost (g.O.Sink.tells c.args.out.now) (g.O.Sink.taken c.args.out.now)
+    (g.O.Sink.taken c.obey.new.out) c.in-Ok.ensures.order (c.obey.ensures.cut_off told)
 
 pub returns-in-Err-Refused-clause-cut_off : goal.returns-in-Err-Refused-clause-cut_off
-returns-in-Err-Refused-clause-cut_off g c = λ told heard is_fault.
-    let printed = c.refuse_words.ensures.partly heard is_fault in
-    (None, 2, words_refusal, printed.0, refused (c.read_words.ensures.refused (rw c.in-Err-Refused.field-0-is at c.in-Err-Refused.is)) refl refl refl, printed.1)
+returns-in-Err-Refused-clause-cut_off g c = λ told.
+    words_cut (map string_bytes c.args.words.now) (g.F.Shelf.file c.args.shelf.now) c.refuse_words.result.status c.refuse_words.result.lost (g.O.Sink.tells c.args.out.now) (g.O.Sink.taken c.args.out.now)
+    (g.O.Sink.taken c.refuse_words.new.out) (c.read_words.ensures.refused (rw c.in-Err-Refused.field-0-is at c.in-Err-Refused.is)) c.refuse_words.ensures.lost c.refuse_words.ensures.partly
 
 pub returns-in-Ok-clause-written : goal.returns-in-Ok-clause-written
 returns-in-Ok-clause-written g c = λ told.
@@ -70,5 +70,5 @@ returns-in-Err-Refused-clause-words g c = λ two. c.read_words.ensures.refused (
 pub returns-in-Ok-clause-demonstrated : goal.returns-in-Ok-clause-demonstrated
 returns-in-Ok-clause-demonstrated g c =
     of_order (map string_bytes c.args.words.now) c.in-Ok.order
-    (λ order. Demonstrates order c.obey.result.kept c.obey.result.status (g.O.Sink.tells c.args.out.now) (g.O.Sink.taken c.args.out.now) (g.O.Sink.taken c.obey.new.out))
+    (λ order. Demonstrates order c.obey.result.kept c.obey.result.status c.obey.result.lost (g.O.Sink.tells c.args.out.now) (g.O.Sink.taken c.args.out.now) (g.O.Sink.taken c.obey.new.out))
     c.in-Ok.ensures.order c.obey.ensures.demonstrated

@@ -29,10 +29,10 @@ returns-in-Solve-clause-exact g c = λ told.
     (c.solve.ensures.exact told)
 
 pub returns-in-Solve-clause-cut_off : goal.returns-in-Solve-clause-cut_off
-returns-in-Solve-clause-cut_off g c = λ told heard.
-    subst (λ (o : Order). CutsOff (AnswersOrder o (g.F.Shelf.file c.args.shelf.now)) c.solve.result.status (g.O.Sink.taken c.args.out.now) (g.O.Sink.taken c.solve.new.out)) (as_solve c.args.order.now c.in-Solve.given c.as_str.result.now (option_map (λ name. name.now) c.named.result)
+returns-in-Solve-clause-cut_off g c = λ told.
+    subst (λ (o : Order). CutsOff (AnswersOrder o (g.F.Shelf.file c.args.shelf.now)) c.solve.result.status c.solve.result.lost (g.O.Sink.tells c.args.out.now) (g.O.Sink.taken c.args.out.now) (g.O.Sink.taken c.solve.new.out)) (as_solve c.args.order.now c.in-Solve.given c.as_str.result.now (option_map (λ name. name.now) c.named.result)
     (option_map (λ name. name.now) c.named-in-Solve.result) (option_map (λ name. name.now) c.named-in-Solve-2.result) c.in-Solve.is c.as_str.ensures c.named.ensures c.named-in-Solve.ensures c.named-in-Solve-2.ensures)
-    (c.solve.ensures.cut_off told heard)
+    (c.solve.ensures.cut_off told)
 
 pub returns-in-Check-clause-answered : goal.returns-in-Check-clause-answered
 returns-in-Check-clause-answered g c = λ told.
@@ -49,9 +49,9 @@ returns-in-Check-clause-exact g c = λ told.
     (kept_only c.check.result.kept _ c.check.result.status (c.check.ensures.exact told))
 
 pub returns-in-Check-clause-cut_off : goal.returns-in-Check-clause-cut_off
-returns-in-Check-clause-cut_off g c = λ told heard.
-    subst (λ (o : Order). CutsOff (AnswersOrder o (g.F.Shelf.file c.args.shelf.now)) c.check.result.status (g.O.Sink.taken c.args.out.now) (g.O.Sink.taken c.check.new.out)) (as_check c.args.order.now c.in-Check.given c.as_str-in-Check.result.now c.as_str-in-Check-2.result.now (option_map (λ name. name.now) c.named-in-Check.result) c.in-Check.is c.as_str-in-Check.ensures c.as_str-in-Check-2.ensures c.named-in-Check.ensures)
-    (kept_cut _ c.check.result.status _ _ (c.check.ensures.cut_off told heard))
+returns-in-Check-clause-cut_off g c = λ told.
+    subst (λ (o : Order). CutsOff (AnswersOrder o (g.F.Shelf.file c.args.shelf.now)) c.check.result.status c.check.result.lost (g.O.Sink.tells c.args.out.now) (g.O.Sink.taken c.args.out.now) (g.O.Sink.taken c.check.new.out)) (as_check c.args.order.now c.in-Check.given c.as_str-in-Check.result.now c.as_str-in-Check-2.result.now (option_map (λ name. name.now) c.named-in-Check.result) c.in-Check.is c.as_str-in-Check.ensures c.as_str-in-Check-2.ensures c.named-in-Check.ensures)
+    (kept_cut _ c.check.result.status _ _ _ _ (c.check.ensures.cut_off told))
 
 pub returns-in-Show-clause-answered : goal.returns-in-Show-clause-answered
 returns-in-Show-clause-answered g c = λ told.
@@ -69,16 +69,16 @@ returns-in-Show-clause-exact g c = λ told.
     (kept_only c.show.result.kept _ c.show.result.status (c.show.ensures.exact told))
 
 pub returns-in-Show-clause-cut_off : goal.returns-in-Show-clause-cut_off
-returns-in-Show-clause-cut_off g c = λ told heard.
-    subst (λ (o : Order). CutsOff (AnswersOrder o (g.F.Shelf.file c.args.shelf.now)) c.show.result.status (g.O.Sink.taken c.args.out.now) (g.O.Sink.taken c.show.new.out)) (as_show c.args.order.now c.as_str-in-Show.result.now c.in-Show.lp (option_map (λ name. name.now) c.named-in-Show.result) c.in-Show.dec
+returns-in-Show-clause-cut_off g c = λ told.
+    subst (λ (o : Order). CutsOff (AnswersOrder o (g.F.Shelf.file c.args.shelf.now)) c.show.result.status c.show.result.lost (g.O.Sink.tells c.args.out.now) (g.O.Sink.taken c.args.out.now) (g.O.Sink.taken c.show.new.out)) (as_show c.args.order.now c.as_str-in-Show.result.now c.in-Show.lp (option_map (λ name. name.now) c.named-in-Show.result) c.in-Show.dec
     c.in-Show.blocks c.in-Show.is c.as_str-in-Show.ensures c.named-in-Show.ensures)
-    (kept_cut _ c.show.result.status _ _ (c.show.ensures.cut_off told heard))
+    (kept_cut _ c.show.result.status _ _ _ _ (c.show.ensures.cut_off told))
 
 pub returns-in-Gen-clause-cut_off : goal.returns-in-Gen-clause-cut_off
-returns-in-Gen-clause-cut_off g c = λ told heard.
-    subst (λ (o : Order). CutsOff (AnswersOrder o (g.F.Shelf.file c.args.shelf.now)) c.generate.result.status (g.O.Sink.taken c.args.out.now) (g.O.Sink.taken c.generate.new.out)) (as_gen c.args.order.now c.in-Gen.seed c.in-Gen.size c.as_str-in-Gen.result.now c.in-Gen.lp c.as_str-in-Gen-2.result.now
+returns-in-Gen-clause-cut_off g c = λ told.
+    subst (λ (o : Order). CutsOff (AnswersOrder o (g.F.Shelf.file c.args.shelf.now)) c.generate.result.status c.generate.result.lost (g.O.Sink.tells c.args.out.now) (g.O.Sink.taken c.args.out.now) (g.O.Sink.taken c.generate.new.out)) (as_gen c.args.order.now c.in-Gen.seed c.in-Gen.size c.as_str-in-Gen.result.now c.in-Gen.lp c.as_str-in-Gen-2.result.now
     c.in-Gen.dec c.in-Gen.is c.as_str-in-Gen.ensures c.as_str-in-Gen-2.ensures)
-    (kept_cut _ c.generate.result.status _ _ (c.generate.ensures.cut_off heard))
+    (kept_cut _ c.generate.result.status _ _ _ _ c.generate.ensures.cut_off)
 
 pub returns-in-Demo-clause-answered : goal.returns-in-Demo-clause-answered
 returns-in-Demo-clause-answered g c = λ told.
@@ -91,15 +91,15 @@ returns-in-Demo-clause-exact g c = λ told.
 
 pub returns-in-Demo-clause-demonstrated : goal.returns-in-Demo-clause-demonstrated
 returns-in-Demo-clause-demonstrated g c =
-    subst (λ (o : Order). Demonstrates o c.demonstrate.result.kept c.demonstrate.result.status (g.O.Sink.tells c.args.out.now) (g.O.Sink.taken c.args.out.now)
+    subst (λ (o : Order). Demonstrates o c.demonstrate.result.kept c.demonstrate.result.status c.demonstrate.result.lost (g.O.Sink.tells c.args.out.now) (g.O.Sink.taken c.args.out.now)
     (g.O.Sink.taken c.demonstrate.new.out)) (sym c.in-Demo.is) (c.demonstrate.ensures.answered, c.demonstrate.ensures.exact, c.demonstrate.ensures.cut_off)
 
 pub returns-in-Demo-clause-causes : goal.returns-in-Demo-clause-causes
 returns-in-Demo-clause-causes g c = c.demonstrate.ensures.causes (g.F.Shelf.read_faults c.args.shelf.now) (g.F.Shelf.write_faults c.args.shelf.now)
 
 pub returns-in-Demo-clause-cut_off : goal.returns-in-Demo-clause-cut_off
-returns-in-Demo-clause-cut_off g c = λ told heard.
-    subst (λ (o : Order). CutsOff (AnswersOrder o (g.F.Shelf.file c.args.shelf.now)) c.demonstrate.result.status (g.O.Sink.taken c.args.out.now) (g.O.Sink.taken c.demonstrate.new.out)) (sym c.in-Demo.is) (c.demonstrate.ensures.cut_off heard)
+returns-in-Demo-clause-cut_off g c = λ told.
+    subst (λ (o : Order). CutsOff (AnswersOrder o (g.F.Shelf.file c.args.shelf.now)) c.demonstrate.result.status c.demonstrate.result.lost (g.O.Sink.tells c.args.out.now) (g.O.Sink.taken c.args.out.now) (g.O.Sink.taken c.demonstrate.new.out)) (sym c.in-Demo.is) c.demonstrate.ensures.cut_off
 
 pub returns-in-Detect-clause-answered : goal.returns-in-Detect-clause-answered
 returns-in-Detect-clause-answered g c = λ told.
@@ -116,10 +116,10 @@ returns-in-Detect-clause-exact g c = λ told.
     (kept_only c.detect.result.kept _ c.detect.result.status (c.detect.ensures.exact told))
 
 pub returns-in-Detect-clause-cut_off : goal.returns-in-Detect-clause-cut_off
-returns-in-Detect-clause-cut_off g c = λ told heard.
-    subst (λ (o : Order). CutsOff (AnswersOrder o (g.F.Shelf.file c.args.shelf.now)) c.detect.result.status (g.O.Sink.taken c.args.out.now) (g.O.Sink.taken c.detect.new.out)) (as_detect c.args.order.now c.as_str-in-Detect.result.now c.in-Detect.lp c.as_str-in-Detect-2.result.now c.in-Detect.rows c.as_str-in-Detect-3.result.now
+returns-in-Detect-clause-cut_off g c = λ told.
+    subst (λ (o : Order). CutsOff (AnswersOrder o (g.F.Shelf.file c.args.shelf.now)) c.detect.result.status c.detect.result.lost (g.O.Sink.tells c.args.out.now) (g.O.Sink.taken c.args.out.now) (g.O.Sink.taken c.detect.new.out)) (as_detect c.args.order.now c.as_str-in-Detect.result.now c.in-Detect.lp c.as_str-in-Detect-2.result.now c.in-Detect.rows c.as_str-in-Detect-3.result.now
     c.in-Detect.dec c.in-Detect.is c.as_str-in-Detect.ensures c.as_str-in-Detect-2.ensures c.as_str-in-Detect-3.ensures)
-    (kept_cut _ c.detect.result.status _ _ (c.detect.ensures.cut_off told heard))
+    (kept_cut _ c.detect.result.status _ _ _ _ (c.detect.ensures.cut_off told))
 
 pub returns-in-Propose-clause-answered : goal.returns-in-Propose-clause-answered
 returns-in-Propose-clause-answered g c = λ told.
@@ -136,10 +136,10 @@ returns-in-Propose-clause-exact g c = λ told.
     (kept_only c.propose.result.kept _ c.propose.result.status (c.propose.ensures.exact told))
 
 pub returns-in-Propose-clause-cut_off : goal.returns-in-Propose-clause-cut_off
-returns-in-Propose-clause-cut_off g c = λ told heard.
-    subst (λ (o : Order). CutsOff (AnswersOrder o (g.F.Shelf.file c.args.shelf.now)) c.propose.result.status (g.O.Sink.taken c.args.out.now) (g.O.Sink.taken c.propose.new.out)) (as_propose c.args.order.now c.as_str-in-Propose.result.now c.in-Propose.lp c.as_str-in-Propose-2.result.now
+returns-in-Propose-clause-cut_off g c = λ told.
+    subst (λ (o : Order). CutsOff (AnswersOrder o (g.F.Shelf.file c.args.shelf.now)) c.propose.result.status c.propose.result.lost (g.O.Sink.tells c.args.out.now) (g.O.Sink.taken c.args.out.now) (g.O.Sink.taken c.propose.new.out)) (as_propose c.args.order.now c.as_str-in-Propose.result.now c.in-Propose.lp c.as_str-in-Propose-2.result.now
     c.in-Propose.dec c.in-Propose.is c.as_str-in-Propose.ensures c.as_str-in-Propose-2.ensures)
-    (kept_cut _ c.propose.result.status _ _ (c.propose.ensures.cut_off told heard))
+    (kept_cut _ c.propose.result.status _ _ _ _ (c.propose.ensures.cut_off told))
 
 pub returns-in-Gen-clause-written : goal.returns-in-Gen-clause-written
 returns-in-Gen-clause-written g c = λ told.
@@ -226,11 +226,11 @@ returns-in-Merge-clause-exact g c = λ told.
     (kept_only c.merge.result.kept _ c.merge.result.status (c.merge.ensures.exact told))
 
 pub returns-in-Merge-clause-cut_off : goal.returns-in-Merge-clause-cut_off
-returns-in-Merge-clause-cut_off g c = λ told heard.
-    subst (λ (o : Order). CutsOff (AnswersOrder o (g.F.Shelf.file c.args.shelf.now)) c.merge.result.status (g.O.Sink.taken c.args.out.now) (g.O.Sink.taken c.merge.new.out)) (as_merge c.args.order.now c.in-Merge.given c.as_str-in-Merge.result.now c.as_str-in-Merge-2.result.now c.as_str-in-Merge-3.result.now
+returns-in-Merge-clause-cut_off g c = λ told.
+    subst (λ (o : Order). CutsOff (AnswersOrder o (g.F.Shelf.file c.args.shelf.now)) c.merge.result.status c.merge.result.lost (g.O.Sink.tells c.args.out.now) (g.O.Sink.taken c.args.out.now) (g.O.Sink.taken c.merge.new.out)) (as_merge c.args.order.now c.in-Merge.given c.as_str-in-Merge.result.now c.as_str-in-Merge-2.result.now c.as_str-in-Merge-3.result.now
     c.as_str-in-Merge-4.result.now (option_map (λ name. name.now) c.named-in-Merge.result) c.in-Merge.is c.as_str-in-Merge.ensures c.as_str-in-Merge-2.ensures
     c.as_str-in-Merge-3.ensures c.as_str-in-Merge-4.ensures c.named-in-Merge.ensures)
-    (kept_cut _ c.merge.result.status _ _ (c.merge.ensures.cut_off told heard))
+    (kept_cut _ c.merge.result.status _ _ _ _ (c.merge.ensures.cut_off told))
 
 pub returns-in-Merge-clause-written : goal.returns-in-Merge-clause-written
 returns-in-Merge-clause-written g c = λ told.
@@ -267,10 +267,10 @@ returns-in-Migrate-clause-exact g c = λ told.
     (kept_only c.migrate.result.kept _ c.migrate.result.status (c.migrate.ensures.exact told))
 
 pub returns-in-Migrate-clause-cut_off : goal.returns-in-Migrate-clause-cut_off
-returns-in-Migrate-clause-cut_off g c = λ told heard.
-    subst (λ (o : Order). CutsOff (AnswersOrder o (g.F.Shelf.file c.args.shelf.now)) c.migrate.result.status (g.O.Sink.taken c.args.out.now) (g.O.Sink.taken c.migrate.new.out)) (as_migrate c.args.order.now c.as_str-in-Migrate.result.now c.in-Migrate.lp c.as_str-in-Migrate-2.result.now c.in-Migrate.cert c.as_str-in-Migrate-3.result.now c.in-Migrate.new
+returns-in-Migrate-clause-cut_off g c = λ told.
+    subst (λ (o : Order). CutsOff (AnswersOrder o (g.F.Shelf.file c.args.shelf.now)) c.migrate.result.status c.migrate.result.lost (g.O.Sink.tells c.args.out.now) (g.O.Sink.taken c.args.out.now) (g.O.Sink.taken c.migrate.new.out)) (as_migrate c.args.order.now c.as_str-in-Migrate.result.now c.in-Migrate.lp c.as_str-in-Migrate-2.result.now c.in-Migrate.cert c.as_str-in-Migrate-3.result.now c.in-Migrate.new
     (option_map (λ name. name.now) c.named-in-Migrate.result) c.in-Migrate.dec c.in-Migrate.is c.as_str-in-Migrate.ensures c.as_str-in-Migrate-2.ensures c.as_str-in-Migrate-3.ensures c.named-in-Migrate.ensures)
-    (kept_cut _ c.migrate.result.status _ _ (c.migrate.ensures.cut_off told heard))
+    (kept_cut _ c.migrate.result.status _ _ _ _ (c.migrate.ensures.cut_off told))
 
 pub returns-in-Migrate-clause-failed : goal.returns-in-Migrate-clause-failed
 returns-in-Migrate-clause-failed g c = λ is_fault.

@@ -28,7 +28,7 @@ returns g c =
     (g.F.Shelf.read_faults c.load_merged-merged.new.shelf) reads_now writes (g.F.Shelf.write_faults c.load_merged-merged.new.shelf) writes_now c.load_merged-merged.result c.write_merged-come.result
     c.load_merged-merged.ensures.merged c.load_merged-merged.ensures.done c.load_merged-merged.ensures.stopped c.load_merged-merged.ensures.refusals c.load_merged-merged.ensures.cause c.load_merged-merged.ensures.told
     c.load_merged-merged.ensures.files c.load_merged-merged.ensures.writes c.write_merged-come.ensures.reads c.write_merged-come.ensures.writes in
-    let end = writers_end Right (now ≡ files) told c.args.new.now files now reads reads_now writes writes_now c.write_merged-come.result c.finish.result.status
+    let end = writers_end Right (now ≡ files) told c.args.new.now files now reads reads_now writes writes_now c.write_merged-come.result c.finish.result.status c.finish.result.lost
     (g.O.Sink.tells c.args.out.now) (g.O.Sink.taken c.args.out.now) (g.O.Sink.taken c.finish.new.out) (g.O.Sink.faults c.args.out.now)
     (g.O.Sink.faults c.finish.new.out) (g.O.Sink.puts c.args.out.now) (g.O.Sink.puts c.finish.new.out) (one_answer files c.args.lp.now c.args.first.now c.args.second.now dec)
     (draft_others c.args.new.now files now) comes c.finish.ensures.ends in

@@ -28,7 +28,7 @@ returns g c =
     (g.F.Shelf.read_faults c.load_migrated-migrated.new.shelf) reads_now writes (g.F.Shelf.write_faults c.load_migrated-migrated.new.shelf) writes_now c.load_migrated-migrated.result c.write_migrated-come.result
     c.load_migrated-migrated.ensures.read c.load_migrated-migrated.ensures.done c.load_migrated-migrated.ensures.halted c.load_migrated-migrated.ensures.cause c.load_migrated-migrated.ensures.told c.load_migrated-migrated.ensures.files
     c.load_migrated-migrated.ensures.writes c.write_migrated-come.ensures.reads c.write_migrated-come.ensures.writes in
-    let end = writers_end Right (LeavesPart Right c.args.new.now files now) told c.args.new.now files now reads reads_now writes writes_now c.write_migrated-come.result c.finish.result.status
+    let end = writers_end Right (LeavesPart Right c.args.new.now files now) told c.args.new.now files now reads reads_now writes writes_now c.write_migrated-come.result c.finish.result.status c.finish.result.lost
     (g.O.Sink.tells c.args.out.now) (g.O.Sink.taken c.args.out.now) (g.O.Sink.taken c.finish.new.out) (g.O.Sink.faults c.args.out.now)
     (g.O.Sink.faults c.finish.new.out) (g.O.Sink.puts c.args.out.now) (g.O.Sink.puts c.finish.new.out) (one_answer files c.args.lp.now c.args.cert.now dec)
     (part_others Right c.args.new.now files now) comes c.finish.ensures.ends in

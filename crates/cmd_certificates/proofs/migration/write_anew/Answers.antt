@@ -1,5 +1,7 @@
 use Rattle.std.proofs.Common.{sym, subst, ℕ, Err, Result}
+use Rattle.frontend.specs.Endings.{loses}
 use Rattle.frontend.specs.declared.ending.Reply.{Reply}
+use Rattle.frontend.specs.declared.ending.Unprinted.{Unprinted}
 use Rattle.cmd_certificates.specs.Writes.{WritesAnew, whole}
 use Rattle.cmd_certificates.proofs.Streamed.{anew_stopped}
 use Rattle.cmd_certificates.proofs.migration.write_anew.Goals as goal
@@ -14,6 +16,6 @@ returns-in-Err-clause-writes g c =
     let now = g.F.Shelf.file c.rewrite_stream.new.shelf in
     let writes = g.F.Shelf.write_faults c.args.shelf.now in
     let writes_now = g.F.Shelf.write_faults c.rewrite_stream.new.shelf in
-    subst (λ (status : ℕ). WritesAnew c.args.b.now c.args.cert.now told c.args.new.now before now writes writes_now c.args.reply (let r : Result Reply ℕ = Err status in r))
+    subst (λ (status : ℕ). WritesAnew c.args.b.now c.args.cert.now told c.args.new.now before now writes writes_now c.args.reply (let r : Result Reply Unprinted = Err (loses status c.args.reply) in r))
     (sym c.stop_status.ensures)
     (anew_stopped c.args.b.now c.args.cert.now told c.args.new.now before now writes writes_now c.args.reply c.in-Err.stop c.in-Err.ensures.files c.in-Err.ensures.cause)

@@ -24,7 +24,7 @@ returns g c =
     (g.F.Shelf.read_faults c.load_found-draft.new.shelf) reads_now writes (g.F.Shelf.write_faults c.load_found-draft.new.shelf) writes_now c.load_found-draft.result c.write_draft-come.result
     c.load_found-draft.ensures.found c.load_found-draft.ensures.done c.load_found-draft.ensures.halted c.load_found-draft.ensures.cause c.load_found-draft.ensures.told c.load_found-draft.ensures.files c.load_found-draft.ensures.writes
     c.write_draft-come.ensures.reads c.write_draft-come.ensures.writes in
-    let end = writers_end Right (now ≡ files) told c.args.dec.now files now reads reads_now writes writes_now c.write_draft-come.result c.finish.result.status
+    let end = writers_end Right (now ≡ files) told c.args.dec.now files now reads reads_now writes writes_now c.write_draft-come.result c.finish.result.status c.finish.result.lost
     (g.O.Sink.tells c.args.out.now) (g.O.Sink.taken c.args.out.now) (g.O.Sink.taken c.finish.new.out) (g.O.Sink.faults c.args.out.now)
     (g.O.Sink.faults c.finish.new.out) (g.O.Sink.puts c.args.out.now) (g.O.Sink.puts c.finish.new.out) (one_answer files c.args.lp.now c.args.rows.now)
     (draft_others c.args.dec.now files now) comes c.finish.ensures.ends in

@@ -1,6 +1,7 @@
 use Rattle.std.proofs.Common.{sym, subst, ℕ, Err, Result}
-use Rattle.frontend.specs.Endings.{WritesText, written}
+use Rattle.frontend.specs.Endings.{WritesText, loses, written}
 use Rattle.frontend.specs.declared.ending.Reply.{Reply}
+use Rattle.frontend.specs.declared.ending.Unprinted.{Unprinted}
 use Rattle.frontend.proofs.Drafts.{text_unwritten}
 use Rattle.frontend.proofs.draft.write_text.Goals as goal
 
@@ -14,5 +15,5 @@ returns-in-Err-clause-writes g c =
     let now = g.F.Shelf.file c.replace.new.self in
     let writes = g.F.Shelf.write_faults c.args.shelf.now in
     let writes_now = g.F.Shelf.write_faults c.replace.new.self in
-    subst (λ (status : ℕ). WritesText told c.args.name.now c.args.text.now before now writes writes_now c.args.reply (let r : Result Reply ℕ = Err status in r)) (sym c.write_status.ensures)
+    subst (λ (status : ℕ). WritesText told c.args.name.now c.args.text.now before now writes writes_now c.args.reply (let r : Result Reply Unprinted = Err (loses status c.args.reply) in r)) (sym c.write_status.ensures)
     (text_unwritten told c.args.name.now c.args.text.now c.args.text.now before now writes writes_now c.args.reply c.in-Err.fault c.in-Err.ensures.files c.in-Err.ensures.cause)

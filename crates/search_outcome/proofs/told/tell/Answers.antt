@@ -6,24 +6,23 @@ use Rattle.search_outcome.proofs.Parts.{part_told}
 use Rattle.search_outcome.proofs.told.tell.Goals as goal
 
 pub returns-in-Ok-save-clause-cut_off : goal.returns-in-Ok-save-clause-cut_off
-returns-in-Ok-save-clause-cut_off g c = λ heard is_fault.
-    let printed = c.print.ensures.partly heard is_fault in (
-      Some c.args.outcome,
-      c.in-Ok.reply.status,
-      c.in-Ok.reply.report.items,
-      printed.0,
-      tells c.args.b.now c.args.told c.args.outcome c.in-Ok.reply c.in-Ok.ensures,
-      printed.1,
-    )
-
-pub returns-in-Err-Failed-clause-cut_off : goal.returns-in-Err-Failed-clause-cut_off
-returns-in-Err-Failed-clause-cut_off g c = λ heard is_fault. (
+returns-in-Ok-save-clause-cut_off g c = λ is_fault. (
   Some c.args.outcome,
   c.in-Ok.reply.status,
-  c.in-Ok.reply.report.items,
-  0,
+  c.in-Ok.reply.report,
+  c.print.ensures.lost is_fault,
   tells c.args.b.now c.args.told c.args.outcome c.in-Ok.reply c.in-Ok.ensures,
-  sym (append-nil (g.O.Sink.taken c.args.out.now)),
+  (λ heard. c.print.ensures.partly heard is_fault),
+)
+
+pub returns-in-Err-Failed-clause-cut_off : goal.returns-in-Err-Failed-clause-cut_off
+returns-in-Err-Failed-clause-cut_off g c = λ is_fault. (
+  Some c.args.outcome,
+  c.in-Ok.reply.status,
+  c.in-Ok.reply.report,
+  c.unwritten.ensures.lost,
+  tells c.args.b.now c.args.told c.args.outcome c.in-Ok.reply c.in-Ok.ensures,
+  (λ heard. (0, sym (append-nil (g.O.Sink.taken c.args.out.now)))),
 )
 
 pub returns-clause-part : goal.returns-clause-part
