@@ -5,8 +5,8 @@ ghost use Rattle.enumeration.specs.Sizes.{HasPlaces};
 use block_program::Block;
 use bp_theory::Span;
 use enumeration::{
-    Dive, Form, Frame, Multipliers, Relaxed, Subproblem, begin, explore, least_cost, rows_can_meet, set_order,
-    visits_under,
+    Dive, Form, Frame, Multipliers, Relaxed, Subproblem, begin, explore, least_cost, rows_can_meet,
+    set_order, visits_under,
 };
 use pricing_problem::{Cap, Priced, Pricer};
 use std::alloc::{AllocError, Global};
