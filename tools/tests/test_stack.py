@@ -1,4 +1,6 @@
-"""Small stacks: what each command answers on inputs that are long or deep, within 256 KiB of stack."""
+"""Small stacks: what each command answers on inputs that are long or deep, within 256 KiB of stack; commands that keep a certificate's tree in memory take
+up to 690 bytes a level of it, so that chains of splits have the usual 8 MiB there."""
+import functools
 import resource
 
 import pytest
@@ -6,18 +8,19 @@ import pytest
 from conftest import knows, run
 
 STACK = 256 << 10
+USUAL = 8 << 20
 MODEL = b"Minimize\n obj: x\nSubject To\n c: x >= 0\nBounds\n x <= 1000000000\nGenerals\n x\nEnd\n"
 LEAF = b"open 1 change 0 priced 0\n"
 
 
-def shrink():
-    """Gives the process that is about to start a small stack."""
-    resource.setrlimit(resource.RLIMIT_STACK, (STACK, STACK))
+def shrink(stack):
+    """Gives the process that is about to start a stack of so many bytes."""
+    resource.setrlimit(resource.RLIMIT_STACK, (stack, stack))
 
 
-def within(room, *words):
+def within(room, *words, stack=STACK):
     """What the program prints in this folder within a small stack, and its status; below 0 it is the signal that ended it."""
-    return run(*words, cwd=room, preexec_fn=shrink)
+    return run(*words, cwd=room, preexec_fn=functools.partial(shrink, stack))
 
 
 def chain(splits, high):
@@ -40,6 +43,41 @@ def room_fixture(tmp_path):
 def test_check_of_chains(room, splits, high):
     (room / "cert").write_bytes(chain(splits, high))
     assert within(room, "check", "lp", "cert") == ("accepted bound 0\n", 0)
+
+
+BUDGET = ("budget 2\nbound 0\nvalue 0\nx 0\n", 5)
+# What commands that keep the tree answer on a chain of so many splits.
+WALKS = {
+    "going on": (["solve", "lp", "--from", "cert", "--steps", 2], lambda splits: BUDGET),
+    "going on with a certificate": (["solve", "lp", "--from", "cert", "--steps", 2, "--cert", "new"], lambda splits: BUDGET),
+    "below one leaf": (["solve", "lp", "--from", "cert", "--leaf", 1, "--steps", 2], lambda splits: ("budget 1\nbound 0\nvalue 0\nx 0\n", 5)),
+    "merging": (["merge", "lp", "cert", "cert", "new"], lambda splits: (f"merged open {splits + 1}\naccepted bound 0\n", 0)),
+    "migrating": (["migrate", "lp", "cert", "new"], lambda splits: (f"migrated {2 * splits + 1}\n", 0)),
+}
+
+
+@pytest.mark.parametrize("name", WALKS)
+@pytest.mark.parametrize("high", (False, True))
+@pytest.mark.parametrize("splits", (1000, 8000))
+def test_walks_over_chains(room, name, splits, high):
+    words, answer = WALKS[name]
+    if not knows(*words):
+        pytest.skip(f"the program has no `{words[0]}`")
+    (room / "cert").write_bytes(chain(splits, high))
+    assert within(room, *words, stack=USUAL) == answer(splits)
+    if "new" in words:
+        told, status = within(room, "check", "lp", "new")
+        assert status == 0 and told.startswith("accepted bound 0")
+
+
+@pytest.mark.parametrize("high", (False, True))
+def test_walks_over_the_deepest_chain(room, high):
+    (room / "cert").write_bytes(chain(8256, high))
+    line = 3 + (2 * 8256 if high else 8256)
+    for words, _ in WALKS.values():
+        if words[0] != "migrate" and knows(*words):
+            assert within(room, *words, stack=USUAL) == (f"refused from {line} depth\n", 3)
+    assert not knows("migrate") or within(room, "migrate", "lp", "cert", "new", stack=USUAL) == ("migrated 16513\n", 0)
 
 
 @pytest.mark.parametrize("words", (["check", "lp", "cert"], ["solve", "lp", "--from", "cert"], ["merge", "lp", "cert", "cert", "new"], ["migrate", "lp", "cert", "new"]))

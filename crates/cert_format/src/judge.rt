@@ -8,22 +8,15 @@ ghost use Rattle.cert_format.specs.Signed.{signed};
 
 use crate::fault::CertKind;
 use crate::frame::Frame;
+use block_program::MAX_SCALE;
 use bp_model::MAX_NUMBER;
+use cut_sums::MAX_DIVISOR;
 
 // The most cuts of a certificate.
 const MAX_CUTS: u16 = 256;
 
 // The depth of the deepest node.
 const MAX_DEPTH: u32 = 8256;
-
-// The greatest scale of a leaf.
-const MAX_SCALE: u32 = 1 << 20;
-
-/// The greatest size of a leaf's multipliers.
-pub const MAX_MULTIPLIER: u64 = 1 << 40;
-
-/// The greatest divisor of a cut, and the greatest size of its multipliers.
-pub const MAX_DIVISOR: u32 = 1 << 20;
 
 /// A number with its sign.
 pub fn signed_of(negative: bool, value: u64) -> i64

@@ -11,13 +11,14 @@ mod spots;
 mod version;
 mod words;
 
+pub use block_program::MAX_MULTIPLIER;
 pub use cert::Cert;
+pub use cut_sums::MAX_DIVISOR;
 pub use fault::{CertFault, CertKind};
 pub use frame::Frame;
 pub use judge::{
-    MAX_DIVISOR, MAX_MULTIPLIER, is_last_cut, is_too_deep, judge_block, judge_combined,
-    judge_coordinate, judge_divisor, judge_multiplier, judge_row, judge_scale, judge_value,
-    judge_variable,
+    is_last_cut, is_too_deep, judge_block, judge_combined, judge_coordinate, judge_divisor,
+    judge_multiplier, judge_row, judge_scale, judge_value, judge_variable,
 };
 pub use sketch::Sketch;
 pub use spots::{Sort, Spot, first_spot, pick, sort_of, words_at};

@@ -20,6 +20,13 @@ use bp_theory::{CheckKind, Claim, Proof};
 use lagr_bound::Work;
 use std::alloc::{AllocError, Global};
 
+// The proof of a leaf's line, and whether the leaf is open.
+#[derive(Clone, Copy)]
+struct LeafLine<'a> {
+    proof: &'a Proof,
+    is_open: bool,
+}
+
 /// Judges the line of a leaf: its signs, then its visits, then what its bound shows.
 pub fn judge_leaf(
     alloc: Global,
@@ -48,7 +55,10 @@ pub fn judge_leaf(
             line: at.line,
             fault: None,
         })),
-        Spent::Within(left) => judge_priced(alloc, b, claim, work, at, left, proof, is_open),
+        Spent::Within(left) => {
+            let leaf = LeafLine { proof, is_open };
+            judge_priced(alloc, b, claim, work, at, left, leaf)
+        }
     }
 }
 
@@ -60,23 +70,25 @@ fn judge_priced(
     work: &mut Option<Work>,
     at: NodePlace,
     left: Option<u64>,
-    proof: &Proof,
-    is_open: bool,
+    leaf: LeafLine<'_>,
 ) -> Result<Result<NodePlace, Stop>, AllocError>
     requires made_for { IfSome work.old (λ made. forms_of made ≡ forms_in b.now) }
     requires claim { IsSmallClaim claim.now }
     requires zone { IsZone b.now.named.program.spans at.zone }
-    requires fits { Fits b.now.blocking proof.now }
+    requires fits { Fits b.now.blocking leaf.proof.now }
     requires few { at.line + 1 < 2 ^ 64 }
-    requires signs { SignsFit b.now.blocking proof.now }
-    requires spent { LeavesOf b.now.named.program.spans b.now.blocking at.zone proof.now.picked
-        at.left left }
+    requires signs { SignsFit b.now.blocking leaf.proof.now }
+    requires spent { LeavesOf b.now.named.program.spans b.now.blocking at.zone
+        leaf.proof.now.picked at.left left }
     ensures judged { IfOk result (λ found. JudgesLines b.now.named.program b.now.blocking claim.now
-        (leaf_line (record { zone = at.zone; proof = proof.now; is_open = is_open }) ∷ [])
-        at found) }
+        (leaf_line (record {
+          zone = at.zone;
+          proof = leaf.entry.proof.now;
+          is_open = leaf.entry.is_open;
+        }) ∷ []) at found) }
     ensures made_for { IfSome work.new (λ made. forms_of made ≡ forms_in b.now) }
 {
-    let fault = priced_fault(alloc, b, claim, work, &at.zone, proof, is_open)?;
+    let fault = priced_fault(alloc, b, claim, work, &at.zone, leaf.proof, leaf.is_open)?;
     match fault {
         Some(kind) => Ok(Err(fault_at(at.line, kind))),
         None => Ok(Ok(NodePlace {
