@@ -51,9 +51,13 @@ def main():
             with open(lp, "w", encoding="ascii") as file:
                 file.write(make(name)[0])
             try:
-                subprocess.run([BPRICE, "solve", lp, "--steps", steps, "--cuts", "16", "--cert", cert], stdout=subprocess.DEVNULL, timeout=SECONDS, check=False)
-                with open(lp, "rb") as model, open(cert, "rb") as certificate:
-                    cells = measured(model.read(), certificate.read())
+                ran = subprocess.run([BPRICE, "solve", lp, "--steps", steps, "--cuts", "16", "--cert", cert], capture_output=True, text=True,
+                                     timeout=SECONDS, check=False)
+                if ran.returncode in (0, 4, 5):
+                    with open(lp, "rb") as model, open(cert, "rb") as certificate:
+                        cells = measured(model.read(), certificate.read())
+                else:
+                    cells = [ran.stdout.strip()] + [""] * 6
             except subprocess.TimeoutExpired:
                 cells = [f"no certificate within {SECONDS:.0f} s"] + [""] * 6
             print("| " + " | ".join([name, *cells]) + " |", flush=True)
