@@ -7,15 +7,15 @@ PREFIX = /usr/local
 at = $(DESTDIR)$(PREFIX)
 completions = $(at)/share/bash-completion/completions
 lib = $(at)/share/bprice
-tools = $(wildcard tools/bprice-run tools/bprice_plans.py tools/bprice-explain tools/bprice-draw tools/check_certificate.py farm/run farm/work farm/*.py \
+tools = $(wildcard tools/bprice-run tools/bprice_plans.py tools/bprice-explain tools/bprice-draw tools/check_certificate.py tools/to_vipr.py farm/run farm/work farm/*.py \
     integrations/pulp/bprice_pulp.py integrations/python/bprice/*.py)
 links = bprice-run:tools/bprice-run bprice-explain:tools/bprice-explain bprice-draw:tools/bprice-draw bprice-check-certificate:tools/check_certificate.py \
-    bprice-farm:farm/run
+    bprice-to-vipr:tools/to_vipr.py bprice-farm:farm/run
 modules = tools/__pycache__ integrations/pulp/__pycache__ integrations/python/bprice/__pycache__
 folders = $(modules) integrations/pulp integrations/python/bprice integrations/python integrations tools farm release .
 
 help:
-	@echo 'make install PREFIX=/usr/local, make uninstall PREFIX=/usr/local'
+	@echo 'make install PREFIX=/usr/local, make uninstall PREFIX=/usr/local, make sign KEY=name'
 
 install:
 	program=$$(release/which.sh) && install -D -m 755 "$$program" "$(at)/bin/bprice"
@@ -37,4 +37,8 @@ ifneq ($(tools),)
 	for folder in $(folders); do [ ! -d "$(lib)/$$folder" ] || rmdir --ignore-fail-on-non-empty "$$(readlink -f "$(lib)/$$folder")"; done
 endif
 
-.PHONY: help install uninstall
+# Signs release/SHA256SUMS with the owner's key, which GnuPG has: the one that KEY names, or its default.
+sign:
+	release/sign.sh $(KEY)
+
+.PHONY: help install uninstall sign

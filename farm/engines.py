@@ -2,8 +2,10 @@
 ended, well or not: whether one has done its work its new certificate tells. Everything is run in the farm's folder, and all names in
 jobs are of files there."""
 import getpass
+import hashlib
 import pathlib
 import re
+import socket
 import subprocess
 import time
 from typing import NamedTuple
@@ -41,21 +43,33 @@ class Parallel:
     AHEAD = 200  # at most so many jobs wait, and no more than are worked on: parallel reads lines as it needs them, from a pipe
     SHORTEST, LONGEST = 3.0, 60.0  # seconds of a job
     PULSE = 0.5  # seconds from one idle line to the next
-    ENDING = 3.0  # seconds that parallel may take to end, with what it has put on other machines
+    ENDING = 3.0  # seconds that parallel may take to end
+    CLEARING = 60.0  # seconds that it may take to take away what it has put on other machines, once the report is printed
+    LOOK = 0.05  # seconds from one look to the next whether it has done that
 
     def __init__(self, processes, workers, hosts, is_dry):
         self.processes, self.folder, self.workers, self.hosts, self.is_dry = processes, processes.folder, workers, hosts, is_dry
         self.child, self.sent, self.count, self.pulse, self.place, self.has_logged = None, {}, 0, 0.0, 0, False
+        self.is_clearing = False  # whether parallel has its last line, and takes away what it has put on other machines
         self.log, self.errors = self.folder / "logs" / "jobs", self.folder / "logs" / "parallel"
 
     def command(self):
         words = ["parallel", "--will-cite", "--ungroup", "--colsep", "\t", "--joblog", str(self.log)]
         if self.hosts:
             base = [word for name in ("bprice", "work", "model.lp", "model.dec") if (self.folder / name).exists() for word in ("--basefile", name)]
-            words += ["--sshlogin", ",".join(self.hosts), "--workdir", f".bprice-farm/{self.folder.name}", *base, "--transferfile", "{1}", "--return", "{4}", "--cleanup"]
+            words += ["--sshlogin", ",".join(self.hosts), "--workdir", self.workdir(), *base, "--transferfile", "{1}", "--return", "{4}", "--cleanup"]
         else:
             words += ["--jobs", str(self.workers)]
         return [*words, "./work {1} {2} {3} {4}"]
+
+    def workdir(self):
+        """The folder on other machines: a farm of its own has one of its own there, whatever others are called, so that no file of another is taken for
+        its own, as a decomposition where it has none."""
+        digest = hashlib.sha256(f"{socket.gethostname()}:{self.folder}".encode())
+        for name in ("model.lp", "model.dec"):
+            file = self.folder / name
+            digest.update(b"none" if not file.exists() else hashlib.sha256(file.read_bytes()).digest())
+        return f".bprice-farm/{self.folder.name}-{digest.hexdigest()[:12]}"
 
     def begin(self):
         """Begins parallel, where it does not run: it takes some tenths of a second to be ready."""
@@ -118,8 +132,13 @@ class Parallel:
                 yield int(number), float(seconds)
 
     def stop(self, is_done=False):
-        """Ends what runs. Where all is done, parallel first takes away what it has put on other machines."""
+        """Ends what runs. Where all is done, parallel takes away what it has put on other machines: `clear` waits for that."""
         if self.child is None:
+            return
+        if is_done and self.hosts and self.child.poll() is None:
+            self.is_clearing = True
+            self.child.stdin.close()
+            self.child.stdin = None
             return
         if not is_done:
             self.child.terminate()
@@ -130,6 +149,16 @@ class Parallel:
             self.child.wait()
         self.child = None
 
+    def clear(self, is_asked):
+        """Waits for what `stop` has left to do, as long as that may take and nobody asks for the end."""
+        until = time.monotonic() + self.CLEARING
+        while self.is_clearing and self.child.poll() is None and time.monotonic() < until and not is_asked():
+            time.sleep(self.LOOK)
+        if self.is_clearing:
+            self.is_clearing = False
+            self.child.terminate()
+            self.stop(is_done=True)
+
 
 class Slurm:
     """Job arrays of Slurm, one for each time that leaves are handed out. The folder is one that all nodes share."""
@@ -138,6 +167,7 @@ class Slurm:
     AHEAD = 0  # none: what waits in Slurm's queue counts as worked on
     SHORTEST, LONGEST = 30.0, 600.0
     PULSE = 2.0  # seconds from one look at the queue to the next
+    is_clearing = False
     LONGEST_ARRAY = 1000  # what Slurm takes in one array where nobody has said otherwise
 
     def __init__(self, folder, workers, options, is_dry):
@@ -195,6 +225,9 @@ class Slurm:
         """Takes out of the queue what is in it."""
         if not self.is_dry:
             self.cancel([] if is_done else sorted({task.split("_")[0] for task in self.out}))
+
+    def clear(self, is_asked):
+        """Nothing: Slurm has put nothing anywhere."""
 
 
 def engine(name, processes, workers, hosts, options, is_dry):

@@ -10,6 +10,8 @@ built=$top/crates/bprice/out/bprice
 released=$top/release/bprice
 # What is remembered from run to run: git leaves it out.
 memory=$top/release/out
+# The files of the release that release/SHA256SUMS names.
+summed=(bprice SOURCES VERSION KIT)
 
 complain() {
     echo "bprice: $*" >&2
@@ -122,11 +124,49 @@ sum_of_program() {
     sum=$(sha256sum <"$1") && echo "${sum%% *}"
 }
 
+# Copies the program's crates from a folder that has all to a repository of their own, without the edits that must fail.
+copy_crates() { # FROM ROOM
+    local it part
+    top=$1 read_crates
+    mkdir "$2/.git" "$2/crates" || return
+    cp "$1/HANDLES" "$2" || return
+    printf '%s\n' "${lines[@]}" >"$2/crates.txt" || return
+    for it in "${crates[@]}"; do
+        mkdir "$2/crates/$it" || return
+        for part in "$1/crates/$it"/*; do
+            case ${part##*/} in
+            out | must-fail) ;;
+            *) cp -R "$part" "$2/crates/$it" || return ;;
+            esac
+        done
+    done
+}
+
+# Prints what is known of the kit that rt belongs to: its name; the checksum of the archive that it came in, if it tells that;
+# a checksum over its programs and libraries, without those that it has compiled (rlibs).
+kit_at_hand() (
+    set -o pipefail
+    LC_ALL=C
+    files=()
+    kit=$(dirname "$(dirname "$(readlink -f "$(command -v rt)")")") && name=$(rt version) && cd "$kit" || exit
+    for it in {bin,c,logic_built,rattle,toolchain}/**; do
+        [ -f "$it" ] && [[ $it != *__pycache__* ]] && files+=("$it")
+    done
+    echo "kit $name"
+    [ -f WHAT ] && archive=$(told WHAT archive) && echo "archive $archive"
+    sum=$(for ((at = 0; at < ${#files[@]}; at += 1000)); do sha256sum -- "${files[@]:at:1000}" || exit; done | sha256sum) && echo "files ${sum%% *}"
+)
+
 # Returns whether the program is the one that its record names.
 is_whole() { # PROGRAM
     local record=${1%/*}/SOURCES
     [ -f "$1" ] && [ -f "$record" ] && [ "$(told "$record" program)" = "$(sum_of_program "$1")" ]
 }
+
+# Returns whether release/SHA256SUMS names the files of the release, in order, with their checksums.
+is_summed() (
+    cd "$top/release" && sha256sum "${summed[@]}" 2>/dev/null | cmp -s - SHA256SUMS
+)
 
 # Returns whether a record has its three lines, and no other.
 is_plain() { # RECORD

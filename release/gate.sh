@@ -1,6 +1,6 @@
 #!/usr/bin/env bash
 # The gate's check of the release, behind `rt ci`, with the checksum over the sources from before it. It fails where
-# release/bprice is not the program that release/SOURCES names. Where SOURCES is of the sources at hand it fails unless the kit is
+# release/bprice is not the program that release/SOURCES names, or release/SHA256SUMS not the checksums of the release. Where SOURCES is of the sources at hand it fails unless the kit is
 # the one at hand and the program is byte for byte the one that the gate has just built. Where SOURCES is of other sources it
 # says which commit of the history has these sources and this same release, and fails where none has.
 set -u
@@ -61,3 +61,4 @@ elif is_of "$released" "$sum"; then
 else
     hold_to_history
 fi
+[ ! -e "$released" ] || is_summed || fail "release/SHA256SUMS has not the checksums of ${summed[*]}; release/make.sh renews it"

@@ -49,11 +49,15 @@ rival_of_release() {
     return 1
 }
 
-# Prints the checksum over a commit's sources, which are laid out in a folder that may have another commit's.
-sum_of_commit() { # FOLDER COMMIT
+# Lays out a commit's files in a folder that may have another commit's, below `tree`.
+lay_out() { # FOLDER COMMIT
     mkdir -p "$1/tree" &&
-        env -u GIT_DIR GIT_INDEX_FILE="$1/index" git -C "$top" -c core.autocrlf=false --work-tree="$1/tree" read-tree --reset -u "$2" 2>/dev/null &&
-        (top=$1/tree && sum_of_sources)
+        env -u GIT_DIR GIT_INDEX_FILE="$1/index" git -C "$top" -c core.autocrlf=false --work-tree="$1/tree" read-tree --reset -u "$2" 2>/dev/null
+}
+
+# Prints the checksum over a commit's sources.
+sum_of_commit() { # FOLDER COMMIT
+    lay_out "$1" "$2" && (top=$1/tree && sum_of_sources)
 }
 
 # Prints the commit whose sources have that checksum: the named one, or the newest of those behind it that changed the sources.

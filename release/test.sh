@@ -52,7 +52,7 @@ fresh() { # NAME
     mkdir -p "$clone/crates"/{bprice,low}/{src,specs,proofs/main} "$clone/crates/apart/src" "$clone/crates/low/must-fail"
     mkdir -p "$clone/release" "$clone/examples" "$clone/docs" "$clone/completion"
     cp "$here"/{bprice,prove,Makefile} "$clone"
-    cp "$here"/release/*.sh "$clone/release"
+    cp "$here"/release/*.sh "$here/release/VERSION" "$clone/release"
     cp "$here/docs/bprice.1" "$clone/docs"
     cp "$here/completion/bprice" "$clone/completion"
     cp "$here/examples/first.lp" "$clone/examples"
@@ -70,7 +70,13 @@ fresh() { # NAME
 
 # Records the released program as one of the sources that now stand in the clone.
 record() {
-    (PATH=$room/kit:$PATH && . "$clone/release/common.sh" && write_record "$released" "$(sum_of_sources)")
+    (PATH=$room/kit:$PATH && . "$clone/release/common.sh" && write_record "$released" "$(sum_of_sources)" && kit_at_hand >"$top/release/KIT")
+    sum_up
+}
+
+# Writes the checksums of the release.
+sum_up() {
+    (. "$clone/release/common.sh" && cd "$top/release" && sha256sum "${summed[@]}" >SHA256SUMS)
 }
 
 # Runs a command without rt, in the user's folder.
@@ -171,8 +177,9 @@ done
 bare "$clone/bprice" help demo
 expect 'help of a command' 2 'refused words' 2 'usage: bprice demo SEED SIZE'
 bare "$clone/bprice" --version
-expect 'the version' 2 'refused words' 5 'kit of the test'
-expect 'the version, the checksum' 2 'refused words' 5 "here $(. "$clone/release/common.sh" && sum_of_sources)"
+expect 'the version' 2 'refused words' 6 "version $(cat "$here/release/VERSION")"
+expect 'the version, the kit' 2 'refused words' 6 'kit of the test'
+expect 'the version, the checksum' 2 'refused words' 6 "here $(. "$clone/release/common.sh" && sum_of_sources)"
 
 # Two runs at once.
 fresh 'two at once'
@@ -262,7 +269,7 @@ rm "$clone/crates/low/src/broken.rt"
 first
 expect 'a memory that is false' 0 "$report" 0
 bare "$clone/bprice" --version
-expect 'the version in spite of it' 2 'refused words' 6 "$other"
+expect 'the version in spite of it' 2 'refused words' 7 "$other"
 
 # A release that cannot be run.
 fresh faulty
@@ -379,6 +386,11 @@ gate
 expect 'the gate' 0 "$whole" 0
 first
 expect 'what the gate built' 0 "$report" 0
+echo 'a line more' >>"$clone/release/SHA256SUMS"
+gate
+expect 'the gate, checksums of something else' 1 \
+    "$whole"$'\n''release: release/SHA256SUMS has not the checksums of bprice SOURCES VERSION KIT; release/make.sh renews it' 0
+sum_up
 with_rt "$clone/release/gate.sh" other
 expect 'the gate, sources that changed meanwhile' 1 'release: the sources changed while the gate ran' 0
 printf 'x' >>"$clone/release/bprice"
@@ -466,6 +478,7 @@ of_older=$(at_hand)
 printf 'x' >>"$clone/crates/low/src/lib.rt"
 commit
 sed -i "s/^kit .*/kit before/; s/^sources .*/sources $of_older/" "$clone/release/SOURCES"
+sum_up
 commit
 brought=$head
 printf 'x' >>"$clone/crates/low/src/lib.rt"
@@ -511,6 +524,101 @@ expect 'the gate, no release' 0 'release: there is none; release/make.sh makes o
 rm "$clone/crates/bprice/out/bprice"
 gate
 expect 'the gate, no program' 1 'release: the gate built no program' 0
+
+# The release made again from its sources, and compared with itself.
+again() { # WORDS
+    with_rt "$clone/release/reproduce.sh" "$@"
+}
+
+# expect_last WHAT STATUS LINE: the last line of the output begins so.
+expect_last() {
+    local last
+    last=$(tail -n 1 "$room/put")
+    holds "$1: ended with $ended, put '$last'" [ "$ended" -eq "$2" ]
+    holds "$1: put '$last'" [ "${last#"$3"}" != "$last" ]
+}
+
+fresh again
+again --look
+expect_last 'reproduce --look' 0 'kit: kit of the test, files '
+again
+expect_last 'reproduce' 0 'reproduced: rt ci built the same bytes from these sources'
+again --all
+expect 'reproduce, a word' 1 'reproduce: usage: release/reproduce.sh [--look]' 0
+bare "$clone/release/reproduce.sh"
+expect_last 'reproduce, no rt' 1 'reproduce: the kit kit of the test is needed, with its command rt on the PATH'
+commit
+head=$(git -C "$clone" rev-parse HEAD)
+printf 'x' >>"$clone/crates/low/src/lib.rt"
+again
+expect_last 'reproduce, older sources' 0 'reproduced: '
+holds 'reproduce names the commit of older sources' grep -q "^sources: those of commit $head, " "$room/put"
+mv "$clone/.git" "$room/history"
+again
+expect_last 'reproduce, no history' 1 'reproduce: release/SOURCES is not of the sources that stand here, and there is no history to look for others in'
+rm -rf "$room/history"
+fresh 'again and again'
+echo 1 >"$room/kit/ended"
+again
+expect_last 'reproduce, a proof that fails' 1 'reproduce: rt ci failed'
+echo 11 >"$room/kit/ended"
+cp "$room/program" "$room/whole"
+echo >>"$room/program"
+again
+expect_last 'reproduce, other bytes' 1 "reproduce: rt ci built another program, $(sha256sum <"$room/program" | cut -d ' ' -f 1)"
+mv "$room/whole" "$room/program"
+echo 'another kit' >"$room/kit/version"
+again
+expect_last 'reproduce, another kit' 1 'reproduce: the kit at hand is another kit, and the release was made by kit of the test'
+echo 'kit of the test' >"$room/kit/version"
+echo 'a file' >"$room/bin/more"
+again
+expect_last 'reproduce, a kit of that name' 1 'reproduce: the kit at hand has that name, but not the files that release/KIT has the checksum of'
+rm "$room/bin/more"
+echo >>"$clone/release/KIT"
+again
+expect 'reproduce, checksums of something else' 1 'reproduce: release/SHA256SUMS has not the checksums of bprice SOURCES VERSION KIT' 0
+sum_up
+echo >>"$clone/release/bprice"
+again
+expect 'reproduce, a release that SOURCES does not name' 1 'reproduce: release/bprice is not the program that release/SOURCES names' 0
+
+# The release signed, by a key of the test.
+fresh signed
+with_rt "$clone/release/sign.sh"
+expect 'no gpg' 1 '' 1 "GnuPG's command gpg is needed"
+if command -v gpg >/dev/null; then
+    ln -s "$(command -v gpg)" "$room/kit/gpg"
+    with_rt "$clone/release/sign.sh"
+    expect 'no key' 1 '' 1 'GnuPG has no secret key: the owner of the repository signs a release with their own; nothing was signed'
+    with_rt gpg --batch --quiet --pinentry-mode loopback --passphrase '' --quick-generate-key 'Test <test@example.com>' ed25519 sign never
+    holds 'no key was made' [ "$ended" -eq 0 ]
+    with_rt "$clone/release/sign.sh" nobody@example.com
+    expect 'no key of that name' 1 '' 1 'GnuPG has no secret key of that name'
+    with_rt "$clone/release/sign.sh" test@example.com
+    expect 'a signature' 0 'signed: release/SHA256SUMS.asc' 0
+    again --look
+    holds 'the signature is not told' grep -q '^signature: good, by the key [0-9A-F]\{40\}$' "$room/put"
+    mv "$room/user/.gnupg" "$room/user/.gnupg-away"
+    again --look
+    holds 'the key that lacks is not told' grep -q '^signature: by the key [0-9A-F]*, which gpg does not have here$' "$room/put"
+    rm -rf "$room/user/.gnupg"
+    mv "$room/user/.gnupg-away" "$room/user/.gnupg"
+    rm "$room/kit/gpg"
+    again --look
+    holds 'that gpg lacks is not told' grep -q '^signature: there is one, but no gpg to judge it$' "$room/put"
+    ln -s "$(command -v gpg)" "$room/kit/gpg"
+    echo 0.0.0 >"$clone/release/VERSION"
+    with_rt "$clone/release/sign.sh"
+    expect 'checksums of something else are not signed' 1 '' 1 'so it is not signed'
+    sum_up
+    again --look
+    expect_last 'a signature of other checksums' 1 'reproduce: release/SHA256SUMS.asc is no good signature of release/SHA256SUMS'
+    with_rt "$clone/release/make.sh" "$clone/release/bprice"
+    holds 'a signature of the release before stands' [ ! -e "$clone/release/SHA256SUMS.asc" ]
+    env -i PATH="$PATH" HOME="$room/user" gpgconf --kill all
+    rm "$room/kit/gpg"
+fi
 
 # The same files in another place and order have the same checksum.
 fresh here

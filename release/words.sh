@@ -59,8 +59,11 @@ sum_for() { # WORDS..
     if [ "${1-}" = --version ]; then sum_of_sources; else sum_at_hand; fi
 }
 
-# Tells on standard error what the record beside the program says of it, and the checksum over the sources at hand, where the
-# words ask for the version; the program refuses them, and tells its usage and what is wrong with words by itself.
+# Tells on standard error the version, what the record beside the program says of it, and the checksum over the sources at hand,
+# where the words ask for the version; the program refuses them, and tells its usage and what is wrong with words by itself.
 tell_version() { # SUM WORDS..
-    [ "${2-}" != --version ] || { cat "${program%/*}/SOURCES" 2>/dev/null && echo "here $1"; } >&2
+    local version
+    [ "${2-}" = --version ] || return 0
+    { read -r version; } 2>/dev/null <"$top/release/VERSION" && echo "version $version" >&2
+    { cat "${program%/*}/SOURCES" 2>/dev/null && echo "here $1"; } >&2
 }

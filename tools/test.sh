@@ -1,6 +1,7 @@
 #!/usr/bin/env bash
 # Runs the tests of the tools with pytest; its last lines are pytest's summary. BPRICE names the program, where it is not to be the
-# one that is built here. What is missing of Debian's packages is installed where that can be done. Words are handed to pytest.
+# one that is built here. What is missing of Debian's packages is installed where that can be done, but for Slurm (slurm-wlm, munge) and ssh's server (openssh-server,
+# rsync): tests of these are skipped where they are not installed. Words are handed to pytest.
 set -eu
 
 top=$(cd "$(dirname "$(readlink -f "${BASH_SOURCE[0]}")")/.." && pwd)

@@ -3,11 +3,14 @@
 
     examples/real/compare.py FOLDER [NAME ..]       the texts are written to FOLDER; it needs coinor-cbc, glpk-utils and python3-scipy
 """
+import os
 import pathlib
 import re
 import resource
 import subprocess
 import sys
+import tempfile
+import time
 
 import make
 
@@ -34,14 +37,30 @@ print("Status", answer.status, "Value", None if answer.fun is None else round(an
 """
 
 
+def taken(number):
+    """The seconds of processor time that a process has taken so far."""
+    try:
+        fields = pathlib.Path(f"/proc/{number}/stat").read_text(encoding="ascii").rpartition(")")[2].split()
+    except OSError:
+        return 0.0
+    return (int(fields[11]) + int(fields[12])) / os.sysconf("SC_CLK_TCK")
+
+
 def run(words):
-    """What a program prints, and the seconds of processor time that it took; None where these were more than a minute."""
+    """What a program prints, and the seconds of processor time that it took; None where these were more than a minute. The time is looked at from here,
+    since not every system and solver minds RLIMIT_CPU."""
     before = resource.getrusage(resource.RUSAGE_CHILDREN)
-    ran = subprocess.run([str(word) for word in words], stdin=subprocess.DEVNULL, capture_output=True, text=True, check=False,
-                         preexec_fn=lambda: resource.setrlimit(resource.RLIMIT_CPU, (SECONDS, SECONDS + 1)))
-    after = resource.getrusage(resource.RUSAGE_CHILDREN)
-    took = after.ru_utime - before.ru_utime + after.ru_stime - before.ru_stime
-    return ran.stdout, None if ran.returncode < 0 else took
+    with tempfile.TemporaryFile("w+", encoding="utf-8", errors="replace") as printed:
+        with subprocess.Popen([str(word) for word in words], stdin=subprocess.DEVNULL, stdout=printed, stderr=subprocess.DEVNULL) as child:
+            while child.poll() is None:
+                if taken(child.pid) > SECONDS:
+                    child.kill()
+                time.sleep(0.1)
+        printed.seek(0)
+        after = resource.getrusage(resource.RUSAGE_CHILDREN)
+        took = after.ru_utime - before.ru_utime + after.ru_stime - before.ru_stime
+        print(pathlib.Path(words[0]).name, f"{took:.1f} s", file=sys.stderr, flush=True)
+        return printed.read(), None if took > SECONDS else took
 
 
 def told(found, took):

@@ -13,7 +13,7 @@ pytestmark = pytest.mark.skipif(shutil.which("make") is None or subprocess.run([
                                 reason="make is not installed, or there is no program to install")
 ENVIRONMENT = {name: value for name, value in os.environ.items() if name not in ("BPRICE", "MAKEFLAGS", "MAKELEVEL", "MFLAGS")}
 MODEL = TOP / "examples" / "cutting-stock"
-TOOLS = [TOP / "tools" / name for name in ("bprice-run", "bprice_plans.py", "bprice-explain", "bprice-draw", "check_certificate.py")] + [
+TOOLS = [TOP / "tools" / name for name in ("bprice-run", "bprice_plans.py", "bprice-explain", "bprice-draw", "check_certificate.py", "to_vipr.py")] + [
     TOP / "farm" / "run", TOP / "farm" / "work", *(TOP / "farm").glob("*.py"), TOP / "integrations" / "pulp" / "bprice_pulp.py",
     *(TOP / "integrations" / "python" / "bprice").glob("*.py")]
 
@@ -98,7 +98,7 @@ def test_what_is_taken_away(tmp_path, stage):
     for file in own:
         file.write_text("of somebody else\n")
     make("install", *words)
-    assert len(files(usr)) == 3 + len(TOOLS) + 2 + 5 + len(own)
+    assert len(files(usr)) == 3 + len(TOOLS) + 2 + 6 + len(own)
     assert not os.path.isabs(os.readlink(usr / "bin" / "bprice-farm")) and (usr / "bin" / "bprice-farm").exists()
     make("uninstall", *words)
     assert files(usr) == sorted(str(file.relative_to(usr)) for file in own)

@@ -13,6 +13,7 @@ import pytest
 from conftest import PROGRAM, TOP, load_tool, run
 
 PACKAGE = TOP / "integrations" / "python"
+VERSION = (TOP / "release" / "VERSION").read_text().strip()
 sys.path.insert(0, str(PACKAGE))
 import bprice  # noqa: E402
 
@@ -207,13 +208,20 @@ def test_where_the_program_is(tmp_path, monkeypatch):
     assert bprice.find_program() == str(tmp_path / "bprice")
 
 
+def test_one_version():
+    """The package has the version of the release, and so have the documents."""
+    assert f'version = "{VERSION}"' in (PACKAGE / "pyproject.toml").read_text().splitlines()
+    assert f"version {VERSION} (`CHANGELOG.md`)" in (TOP / "README.md").read_text()
+    assert f"\n## {VERSION}\n" in (TOP / "CHANGELOG.md").read_text()
+
+
 def test_wheel(tmp_path):
     """The wheel that pip installs has the modules and finds the repository."""
     backend = load_tool(PACKAGE / "backend.py")
     name = backend.build_wheel(tmp_path)
     with zipfile.ZipFile(tmp_path / name) as wheel:
         wheel.extractall(tmp_path / "site")
-        assert "bprice-mps = bprice.mps:main" in wheel.read("bprice-1.0.dist-info/entry_points.txt").decode()
+        assert "bprice-mps = bprice.mps:main" in wheel.read(f"bprice-{VERSION}.dist-info/entry_points.txt").decode()
     code = f"import bprice; print(bprice.__file__, bprice.find_program()); print(bprice.solve({str(FIRST)!r}, time=5, program={PROGRAM!r}).value)"
     environment = {**os.environ, "PYTHONPATH": str(tmp_path / "site")}
     del environment["BPRICE"]
