@@ -15,11 +15,10 @@ import pytest
 from conftest import run
 from test_farm import accepted, drawn, stand_in, words, worked
 
-SLURM = ("munged", "mungekey", "slurmctld", "slurmd", "sbatch", "squeue", "scancel", "sinfo")
-SSH = ("ssh", "sshd", "ssh-keygen", "rsync", "parallel")
-STARTS = 60  # seconds that a daemon may take to begin
-FIRST = "optimal 12"  # of the model of seed 3
-SMALL, STEPS, VALUE = 9, 10, "optimal -43"  # a smaller model for ssh, whose jobs take longer to begin than to work: its seed, the steps of a job, its value
+SLURM = ("setpriv", "munged", "mungekey", "slurmctld", "slurmd", "sbatch", "squeue", "scancel", "sinfo")
+SSH = ("setpriv", "ssh", "sshd", "ssh-keygen", "rsync", "parallel")
+STARTS, LONGEST = 120, 900  # seconds that a daemon may take to begin, and a farm to end, on a machine with much other work
+SEED, STEPS, VALUE = 9, 10, "optimal -43"  # a small model, since jobs take longer to begin than to work: its seed, the steps of a job, its value
 
 
 def found(name):
@@ -47,14 +46,15 @@ def wait(condition, what, seconds=STARTS):
 
 
 class Daemons:
-    """Processes that are begun one after the other and ended in the opposite order."""
+    """Processes that are begun one after the other and ended in the opposite order, and also where the tests are killed."""
 
     def __init__(self, folder):
         self.folder, self.children = folder, []
 
     def begin(self, name, *given, **environment):
         with open(self.folder / f"{name}-{len(self.children)}.log", "wb") as log:
-            self.children.append(subprocess.Popen([found(name), *map(str, given)], stdin=subprocess.DEVNULL, stdout=log, stderr=log,
+            words_given = ["setpriv", "--pdeathsig", "TERM", found(name), *map(str, given)]
+            self.children.append(subprocess.Popen(words_given, stdin=subprocess.DEVNULL, stdout=log, stderr=log,
                                                   env={**os.environ, **environment}, start_new_session=True))
 
     def have_ended(self):
@@ -74,7 +74,7 @@ class Daemons:
 
 
 def farm(environment, *given, **options):
-    ran = subprocess.run(words(*given, **options), capture_output=True, text=True, check=False, timeout=300, env={**os.environ, **environment})
+    ran = subprocess.run(words(*given, **options), capture_output=True, text=True, check=False, timeout=LONGEST, env={**os.environ, **environment})
     return ran.stdout.split("\n", 1)[0], ran.returncode, ran.stderr
 
 
@@ -156,14 +156,14 @@ def slurm_of_two_nodes(tmp_path_factory):
 
 
 def slow(tmp_path):
-    """A program that takes half a second more for each leaf."""
-    return stand_in(tmp_path, 'if [ $leaf = 1 ]; then sleep 0.5; fi\nexec PROGRAM "$@"\n')
+    """A program that takes a second more for each leaf."""
+    return stand_in(tmp_path, 'if [ $leaf = 1 ]; then sleep 1; fi\nexec PROGRAM "$@"\n')
 
 
 def begun(cluster, tmp_path):
     """A farm of slow workers, some of which are at work."""
-    lp, _ = drawn(tmp_path, 3)
-    given = words(lp, tmp_path / "dir", "--engine", "slurm", program=slow(tmp_path))
+    lp, _ = drawn(tmp_path, SEED)
+    given = words(lp, tmp_path / "dir", "--engine", "slurm", program=slow(tmp_path), steps=STEPS)
     child = subprocess.Popen(given, stdout=subprocess.PIPE, stderr=subprocess.PIPE, text=True, env={**os.environ, **cluster.environment})
     wait(lambda: cluster.tasks("RUNNING") or child.poll() is not None, "no task begins")
     assert child.poll() is None
@@ -172,11 +172,12 @@ def begun(cluster, tmp_path):
 
 def test_slurm(slurm, tmp_path):
     """The command of MACHINES.md, with fewer workers: both nodes work."""
-    lp, dec = drawn(tmp_path, 3)
+    lp, dec = drawn(tmp_path, SEED)
     before = len(slurm.logged())
-    first, status, noise = farm(slurm.environment, lp, dec, tmp_path / "dir", "--engine", "slurm", "--time", 3600, "--sbatch=--partition=long", "--sbatch=--mem=4G")
-    assert (first, status) == (FIRST, 0), noise
-    assert accepted(tmp_path / "dir", lp, dec) == FIRST and worked(tmp_path / "dir") >= 2
+    given = ("--engine", "slurm", "--time", 36000, "--sbatch=--partition=long", "--sbatch=--mem=4G")
+    first, status, noise = farm(slurm.environment, lp, dec, tmp_path / "dir", *given, steps=STEPS)
+    assert (first, status) == (VALUE, 0), noise
+    assert accepted(tmp_path / "dir", lp, dec) == VALUE and worked(tmp_path / "dir") >= 2
     assert all(f"NodeList={node}" in slurm.logged()[before:] for node in ("node1", "node2"))
     assert slurm.tasks() == []
 
@@ -184,14 +185,15 @@ def test_slurm(slurm, tmp_path):
 def test_slurm_tasks_that_are_cancelled(slurm, tmp_path):
     """What scancel ends costs its steps alone: its piece is handed out again."""
     lp, child = begun(slurm, tmp_path)
+    log = tmp_path / "dir" / "log"
     with child:
-        for _ in range(3):
+        while child.poll() is None and " died" not in log.read_text():
             slurm.ask("scancel", *slurm.tasks("RUNNING"))
-            time.sleep(1)
-        told, noise = child.communicate(timeout=200)
-    assert (told.split("\n", 1)[0], child.returncode) == (FIRST, 0), noise
-    assert accepted(tmp_path / "dir", lp) == FIRST
-    assert " died" in (tmp_path / "dir" / "log").read_text()
+            time.sleep(0.5)
+        told, noise = child.communicate(timeout=LONGEST)
+    assert (told.split("\n", 1)[0], child.returncode) == (VALUE, 0), noise
+    assert accepted(tmp_path / "dir", lp) == VALUE
+    assert " died" in log.read_text()
 
 
 def test_slurm_and_a_signal(slurm, tmp_path):
@@ -199,11 +201,11 @@ def test_slurm_and_a_signal(slurm, tmp_path):
     lp, child = begun(slurm, tmp_path)
     with child:
         child.send_signal(signal.SIGTERM)
-        child.communicate(timeout=60)
+        child.communicate(timeout=LONGEST)
     assert child.returncode == 5
     wait(lambda: not slurm.tasks(), "tasks stay in the queue")
     assert accepted(tmp_path / "dir", lp).startswith("bound ")
-    assert farm(slurm.environment, lp, tmp_path / "dir", "--engine", "slurm")[:2] == (FIRST, 0)
+    assert farm(slurm.environment, lp, tmp_path / "dir", "--engine", "slurm", steps=STEPS)[:2] == (VALUE, 0)
 
 
 def test_slurm_and_a_driver_that_is_killed(slurm, tmp_path):
@@ -211,10 +213,10 @@ def test_slurm_and_a_driver_that_is_killed(slurm, tmp_path):
     lp, child = begun(slurm, tmp_path)
     with child:
         child.kill()
-        child.communicate(timeout=60)
+        child.communicate(timeout=LONGEST)
     left = set(slurm.tasks())
     assert left
-    assert farm(slurm.environment, lp, tmp_path / "dir", "--engine", "slurm")[:2] == (FIRST, 0)
+    assert farm(slurm.environment, lp, tmp_path / "dir", "--engine", "slurm", steps=STEPS)[:2] == (VALUE, 0)
     assert slurm.tasks() == []
 
 
@@ -297,7 +299,7 @@ def at_work(home):
 def test_ssh(hosts, tmp_path):
     """The command of MACHINES.md, with fewer workers: both hosts get what they need, and nothing stays there. What another farm of the same name has left
     there is not taken for this one's."""
-    lp, dec = drawn(tmp_path, SMALL)
+    lp, dec = drawn(tmp_path, SEED)
     for home in hosts.homes:
         (home / ".bprice-farm" / "plan-farm").mkdir(parents=True)
         shutil.copy(dec, home / ".bprice-farm" / "plan-farm" / "model.dec")
@@ -313,7 +315,7 @@ def test_ssh(hosts, tmp_path):
 
 def test_ssh_workers_that_are_killed(hosts, tmp_path):
     """A worker that is killed on its machine costs its steps alone."""
-    lp, _ = drawn(tmp_path, SMALL)
+    lp, _ = drawn(tmp_path, SEED)
     given = words(lp, tmp_path / "plan-farm", "--sshlogin", "1/node1,1/node2", program=slow(tmp_path), steps=STEPS)
     child = subprocess.Popen(given, stdout=subprocess.PIPE, stderr=subprocess.PIPE, text=True, env={**os.environ, **hosts.environment})
     with child:
@@ -321,7 +323,7 @@ def test_ssh_workers_that_are_killed(hosts, tmp_path):
         for number in at_work(hosts.homes[0]):
             with contextlib.suppress(ProcessLookupError):
                 os.kill(number, signal.SIGKILL)
-        told, noise = child.communicate(timeout=250)
+        told, noise = child.communicate(timeout=LONGEST)
     assert (told.split("\n", 1)[0], child.returncode) == (VALUE, 0), noise
     assert run("check", lp, tmp_path / "plan-farm" / "tree.cert") == (f"accepted {VALUE}\n", 0)
     assert " died" in (tmp_path / "plan-farm" / "log").read_text()
