@@ -1,4 +1,5 @@
-use Rattle.std.proofs.Common.{◌≡◌, ◌⊎◌, inr, subst, ℕ}
+use Rattle.std.proofs.Common.{◌≡◌, ◌⊎◌, inr, sym, subst, ℕ, None}
+use Rattle.std.proofs.lemmas.List.{append-nil}
 use Rattle.bp_gen.specs.Generator.{lp_text, dec_text}
 use Rattle.cmd_gen.specs.Generates.{HoldsTexts, both}
 use Rattle.cmd_gen.proofs.Writes.{known_texts, failed_leaves}
@@ -30,5 +31,17 @@ returns-in-Err-Failed-clause-leaves g c = λ told.
     let is : HoldsTexts c.args.seed c.args.size made = c.in-Ok.ensures in
     let files = c.in-Err-Failed.ensures.files told in
     failed_leaves c.args.lp.now c.args.dec.now made.lp.items (lp_text c.args.seed c.args.size) (dec_text c.args.size)
-    (g.F.Shelf.file c.args.shelf.now) (g.F.Shelf.file c.write.new.shelf) c.stopped-in-Err-Failed.result.status is.model
-    (rw c.in-Err-Failed.field-0-is at files) c.stopped-in-Err-Failed.ensures.status
+    (g.F.Shelf.file c.args.shelf.now) (g.F.Shelf.file c.write.new.shelf) c.unwritten.result.status is.model
+    (rw c.in-Err-Failed.field-0-is at files) c.unwritten.ensures.status
+
+pub returns-in-Ok-write-clause-cut_off : goal.returns-in-Ok-write-clause-cut_off
+returns-in-Ok-write-clause-cut_off g c = λ is_fault.
+    let made = c.in-Ok.made in
+    let is : HoldsTexts c.args.seed c.args.size made = c.in-Ok.ensures in
+    (None, made.reply.status, made.reply.report, c.print.ensures.lost is_fault, is.answer, λ told. c.print.ensures.partly told is_fault)
+
+pub returns-in-Err-Failed-clause-cut_off : goal.returns-in-Err-Failed-clause-cut_off
+returns-in-Err-Failed-clause-cut_off g c = λ is_fault.
+    let made = c.in-Ok.made in
+    let is : HoldsTexts c.args.seed c.args.size made = c.in-Ok.ensures in
+    (None, made.reply.status, made.reply.report, c.unwritten.ensures.lost, is.answer, λ told. (0, sym (append-nil (g.O.Sink.taken c.args.out.now))))
