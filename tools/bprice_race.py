@@ -36,6 +36,7 @@ class Way:
         self.steps, self.planned, self.ran = 0, None, 0.0  # of the call at hand: its steps, the seconds it should take, and `used` at its beginning
         self.is_to_measure = os.path.exists(cert)
         self.is_live = True  # neither dropped nor at the end of its steps or its time
+        self.is_dropped = False
 
     def seconds(self):
         return self.used + (0.0 if self.since is None else time.monotonic() - self.since)
@@ -208,7 +209,7 @@ class Race:
                 self.hand_out()
                 self.wait()
             self.ways = others
-            if not self.winner:
+            if not self.is_over():
                 self.propose()
         while not self.is_over():
             self.hand_out()
@@ -234,8 +235,9 @@ class Race:
             if way.call is None:
                 way.is_live = way.plan(self.left() * min(1.0, max(1, slots) / len(live)), self.words.steps)
         live = [way for way in live if way.is_live]
-        if not live and self.ahead and self.ahead.call is None and self.ahead.plan(self.left(), self.words.steps):
-            live, self.ahead.is_live = [self.ahead], True  # no share is enough for a call, but all that is left may be
+        ahead = self.ahead
+        if not live and ahead and not ahead.is_dropped and ahead.plan(self.left(), self.words.steps):
+            live, ahead.is_live = [ahead], True  # no share is enough for a call, but all that is left may be
         while live and all(way.seconds() >= self.turn for way in live):
             self.turn *= 2
         live.sort(key=lambda way: (way.seconds() >= self.turn, way.since is None, way.seconds()))
@@ -304,7 +306,9 @@ class Race:
     def lend(self, way):
         """Writes the best point into a way's certificate, where that has none or a worse one."""
         answer = way.answer
-        if self.point is None or answer is None or answer.status != BUDGET or answer.value is not None and not self.is_better(self.point.value, answer.value):
+        if self.point is None or answer is None or answer.status != BUDGET:
+            return
+        if answer.value is not None and not self.is_better(self.point.value, answer.value):
             return
         with open(way.cert, "rb") as file:
             version, claim, rest = file.read().split(b"\n", 2)
@@ -322,13 +326,13 @@ class Race:
                 self.drop(way)
         if self.ahead.call is not None:
             self.ahead.end_call()
-        self.ahead.is_live = True
+        self.ahead.is_live, self.ahead.is_dropped = True, False
 
     def drop(self, way, why=""):
         if why and way.is_live:
             self.progress.say(f"way {way.name} is dropped: {why}")
         way.end_call()
-        way.is_live = False
+        way.is_live, way.is_dropped = False, True
 
     def drop_behind(self):
         for way in self.ways:

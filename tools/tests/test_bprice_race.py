@@ -144,7 +144,7 @@ def test_signal_in_the_first_call(model, monkeypatch):
 
 
 def test_nothing_runs_on(model, monkeypatch):
-    """Calls that are suspended or run are ended with the race, also where that is killed: then the kernel ends those that are suspended."""
+    """Calls that are suspended or run are ended with the race."""
     program(model, monkeypatch, f"if steps > 0: open('pid-' + str(os.getpid()), 'w').close(); {LONG}")
     with start("plan.lp", "--processors", 1, "--no-dec", cwd=model) as ran:
         while len(list(model.glob("pid-*"))) < 2:
