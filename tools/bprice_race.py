@@ -8,8 +8,6 @@ suspended, so that nothing of it is lost.
 import fcntl
 import os
 import select
-import shlex
-import shutil
 import time
 import zlib
 
@@ -387,7 +385,9 @@ class Race:
         """The certificate, under the name that was told."""
         if self.words.cert is None:
             return cert
-        shutil.copyfile(cert, self.words.cert + ".part")
+        with open(cert, "rb") as source, open(self.words.cert + ".part", "wb") as target:
+            while part := source.read(1 << 20):
+                target.write(part)
         os.replace(self.words.cert + ".part", self.words.cert)
         return self.words.cert
 
@@ -400,7 +400,7 @@ class Race:
             value = f", value by the way {found.value_by}: both are true of the model" if found.value_by else ""
             self.progress.say(f"bound by the way {found.bound_by}{value}")
         words = ["check", self.words.lp, found.cert, *(["--dec", found.dec] if found.dec else [])]
-        self.progress.say("judge it by: " + shlex.join([called(), *words]))
+        self.progress.say("judge it by: " + " ".join(quoted(word) for word in (called(), *words)))
 
 
 def maximizes(text):
@@ -429,6 +429,11 @@ def called():
         return "bprice"  # that is where `make install` puts it
     name = os.path.relpath(os.path.join(os.path.dirname(HERE), "bprice"))
     return name if os.sep in name else f".{os.sep}{name}"
+
+
+def quoted(word):
+    """A word as a shell takes it."""
+    return word if word and all(sign.isalnum() or sign in "_-./+:,@%=" for sign in word) else "'" + word.replace("'", "'\\''") + "'"
 
 
 def finished(program, *words):

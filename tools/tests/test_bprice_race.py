@@ -93,11 +93,11 @@ def test_ways_that_are_told(model, words, way):
 ONE_STEP = ("if steps > 0 and ('--from' in words or '/plain.' in cert or 'dec-cuts' in cert): " + LONG, "if steps > 0: words[words.index('--steps') + 1] = '1'")
 
 
-@pytest.mark.parametrize("ending", ["signal", "time", "gap"])
+@pytest.mark.parametrize("ending", ["signal", "gap"])
 def test_best_bound_and_best_point(model, monkeypatch, ending):
     """What stops short has the bound of one way with the point of another, in one certificate; the same command goes on from it."""
     program(model, monkeypatch, *ONE_STEP)
-    words = {"signal": (), "time": ("--time", 15), "gap": ("--gap", "0.7%")}[ending]
+    words = {"signal": (), "gap": ("--gap", "0.7%")}[ending]
     with start("plan.lp", "--processors", 4, *words, "-o", "a.json", "-o", "a.sol", cwd=model) as ran:
         if ending == "signal":
             lines = iter(ran.stderr.readline, "")
@@ -114,6 +114,15 @@ def test_best_bound_and_best_point(model, monkeypatch, ending):
     assert told("plan.lp", cwd=model)[0].startswith("optimal 454\n")
 
 
+def test_time(model, monkeypatch):
+    """Its end breaks off the calls that run."""
+    program(model, monkeypatch, f"if steps > 0: {LONG}")
+    begin = time.monotonic()
+    out, err, status = told("plan.lp", "--time", 6, "--processors", 2, cwd=model)
+    assert (out, status) == ("budget 0\nbound 0\n", 5) and 6.0 <= time.monotonic() - begin < 20.0
+    assert "value by the way" not in err and judged(model, err) == "bound 0"
+
+
 def test_bound_meets_value(tmp_path, monkeypatch):
     """The bound of one way meets the value of another: the first closes its tree with this point."""
     run("gen", 3, 20, "plan.lp", "own.dec", cwd=tmp_path)
@@ -125,7 +134,6 @@ def test_bound_meets_value(tmp_path, monkeypatch):
 
 def test_signal_in_the_first_call(model, monkeypatch):
     """The first call of no steps still has a moment to its report; where it takes longer, nothing is left."""
-    program(model, monkeypatch, "open('begun', 'w').close()", "import time; time.sleep(0.5)")
     for number, line in enumerate(("import time; time.sleep(0.5)", LONG)):
         program(model, monkeypatch, "open('begun', 'w').close()", line)
         begin = time.monotonic()
@@ -137,7 +145,7 @@ def test_signal_in_the_first_call(model, monkeypatch):
         (model / "begun").unlink()
         assert ran.returncode == 5 and "Traceback" not in err
         if number == 0:
-            assert out == "budget 0\nbound 240\n" and judged(model, err) == "bound 240"
+            assert out == "budget 0\nbound 0\n" and judged(model, err) == "bound 0"
         else:
             assert out == "" and err == "bprice-run: stopped before the first report\n" and time.monotonic() - begin > 2.0
             assert not (model / "1").exists()
@@ -180,10 +188,13 @@ def test_way_that_is_behind(tmp_path):
 
 
 def test_way_without_memory(model, monkeypatch):
-    """It is left, and the others go on."""
+    """It is left, and the others go on; where there are no others, the report is that of what is known."""
     program(model, monkeypatch, "if '--dec' not in words and steps > 0: sys.exit(9)")
     out, err, status = told("plan.lp", "--processors", 2, cwd=model)
-    assert out.startswith("optimal 454\n") and status == 0 and "way plain is dropped: it ended with status 9" in err
+    assert out.startswith("optimal 454\n") and status == 0 and re.search(r"way plain\S* is dropped: it ended with status 9$", err, re.MULTILINE)
+    program(model, monkeypatch, "if steps > 0: sys.exit(9)")
+    out, err, status = told("plan.lp", "--folder", "other", cwd=model)
+    assert (out, status) == ("budget 0\nbound 0\n", 5) and err.count("it ended with status 9") == 4 and judged(model, err) == "bound 0"
 
 
 def test_ways_without_cuts(tmp_path):
