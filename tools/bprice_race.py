@@ -18,7 +18,7 @@ CUTS = 64  # how many cuts a way with cuts has, where no number is told
 TURN = 0.5  # the seconds of the first turn, where ways take turns
 FAIR = 10.0  # no way is dropped that had fewer seconds than these
 BEHIND = 0.01  # a way is behind where bound and value are both worse by this part
-LAST_CALL = 2.0  # seconds that the first call of all has to its report, once the end is asked for
+LAST_CALL = 2.0  # seconds that the first call of all has to its report, once the end is asked for or the time is over
 ENDS = OPTIMAL, INFEASIBLE
 
 
@@ -220,7 +220,7 @@ class Race:
             return True
         if self.stop.asked:
             return bool(self.ahead) or self.stop.asked > 1 or time.monotonic() - self.stop.since > LAST_CALL
-        if self.left() + GRACE <= 0:
+        if self.left() + (GRACE if self.ahead else LAST_CALL) <= 0:
             return True
         gap = self.standing().gap() if self.ahead else None
         return self.words.gap is not None and gap is not None and gap <= self.words.gap
@@ -254,9 +254,9 @@ class Race:
         running = {way.call.reading: way for way in self.ways if way.since is not None}
         waiting = any(way.is_live and way.since is None for way in self.ways)
         turns = [self.turn - way.seconds() for way in running.values()] if waiting else []
-        ends = [end for end in turns if end > 0] + [1.0, self.left() + GRACE]
+        ends = [end for end in (*turns, self.left() + GRACE) if end > 0] or [0.1]
         proposal = [self.proposal.reading] if self.proposal else []
-        ready = select.select([*running, *proposal, self.stop.woken], [], [], max(0.0, min(ends)))[0]
+        ready = select.select([*running, *proposal, self.stop.woken], [], [], min(1.0, *ends))[0]
         had = self.answers
         for reading in ready:
             if reading == self.stop.woken:

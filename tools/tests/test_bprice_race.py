@@ -119,7 +119,7 @@ def test_time(model, monkeypatch):
     program(model, monkeypatch, f"if steps > 0: {LONG}")
     begin = time.monotonic()
     out, err, status = told("plan.lp", "--time", 6, "--processors", 2, cwd=model)
-    assert (out, status) == ("budget 0\nbound 0\n", 5) and 6.0 <= time.monotonic() - begin < 20.0
+    assert (out, status) == ("budget 0\nbound 0\n", 5) and 6.0 <= time.monotonic() - begin < 40.0
     assert "value by the way" not in err and judged(model, err) == "bound 0"
 
 
@@ -189,8 +189,8 @@ def test_way_that_is_behind(tmp_path):
 
 def test_way_without_memory(model, monkeypatch):
     """It is left, and the others go on; where there are no others, the report is that of what is known."""
-    program(model, monkeypatch, "if '--dec' not in words and steps > 0: sys.exit(9)")
-    out, err, status = told("plan.lp", "--processors", 2, cwd=model)
+    program(model, monkeypatch, "if '--dec' not in words and steps > 0: sys.exit(9)", "import time", "if '--dec' in words: time.sleep(5)")
+    out, err, status = told("plan.lp", "--processors", 4, cwd=model)
     assert out.startswith("optimal 454\n") and status == 0 and re.search(r"way plain\S* is dropped: it ended with status 9$", err, re.MULTILINE)
     program(model, monkeypatch, "if steps > 0: sys.exit(9)")
     out, err, status = told("plan.lp", "--folder", "other", cwd=model)
