@@ -119,8 +119,11 @@ def test_time(model, monkeypatch):
     program(model, monkeypatch, f"if steps > 0: {LONG}")
     begin = time.monotonic()
     out, err, status = told("plan.lp", "--time", 6, "--processors", 2, cwd=model)
-    assert (out, status) == ("budget 0\nbound 0\n", 5) and 6.0 <= time.monotonic() - begin < 40.0
-    assert "value by the way" not in err and judged(model, err) == "bound 0"
+    assert status == 5 and 6.0 <= time.monotonic() - begin < 40.0
+    if out:
+        assert out == "budget 0\nbound 0\n" and "value by the way" not in err and judged(model, err) == "bound 0"
+    else:  # on a machine that is busy the first call may take longer
+        assert err == "bprice-run: stopped before the first report\n" and not (model / "plan.ways").exists()
 
 
 def test_bound_meets_value(tmp_path, monkeypatch):
