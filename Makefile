@@ -7,7 +7,7 @@ PREFIX = /usr/local
 at = $(DESTDIR)$(PREFIX)
 completions = $(at)/share/bash-completion/completions
 lib = $(at)/share/bprice
-tools = $(wildcard tools/bprice-run tools/bprice_plans.py tools/bprice-explain tools/bprice-draw tools/check_certificate.py tools/to_vipr.py farm/run farm/work farm/*.py \
+tools = $(wildcard tools/bprice-run tools/bprice_*.py tools/bprice-explain tools/bprice-draw tools/check_certificate.py tools/to_vipr.py farm/run farm/work farm/*.py \
     integrations/pulp/bprice_pulp.py integrations/python/bprice/*.py)
 links = bprice-run:tools/bprice-run bprice-explain:tools/bprice-explain bprice-draw:tools/bprice-draw bprice-check-certificate:tools/check_certificate.py \
     bprice-to-vipr:tools/to_vipr.py bprice-farm:farm/run

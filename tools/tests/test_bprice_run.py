@@ -164,13 +164,26 @@ def test_words(large):
     """A name and its value in one word; what is no word, has no value or a wrong one; a file that would be written and read."""
     assert told("lp", "--cert=cert", "--steps=1", cwd=large)[2] == 5
     (large / "lp.part").write_bytes((large / "lp").read_bytes())
-    for words, what in ((("lp",), "--cert CERT"), (("lp", "dec", "--cert", "cert"), "dec"), (("lp", "--cert", "cert", "--times", 1), "--times"),
-                        (("lp", "--cert", "cert", "--gap", "-1"), "--gap"), (("lp", "--cert", "cert", "--steps"), "--steps"),
-                        (("lp.part", "--cert", "lp"), "lp.part would be written")):
+    for words, what in (((), "an LP file"), (("lp", "--plans", 2), "--cert CERT"), (("lp", "dec", "--cert", "cert"), "dec"),
+                        (("lp", "--cert", "cert", "--times", 1), "--times"), (("lp", "--cert", "cert", "--gap", "-1"), "--gap"),
+                        (("lp", "--cert", "cert", "--steps"), "--steps"), (("lp.part", "--cert", "lp"), "lp.part would be written"),
+                        (("lp", "--dec", "dec", "--no-dec"), "--no-dec"), (("lp", "--cert", "cert", "--folder", "ways"), "--folder"),
+                        (("lp", "--processors", 0), "--processors"), (("lp", "--cuts", 257), "--cuts"), (("lp", "-o", "answer.txt"), ".json"),
+                        (("lp", "--cert", "lp", "--processors", 1), "lp would be written"), (("lp", "--log-file", "lp"), "lp would be written"),
+                        (("lp", "--cert", "cert", "--plans", 2, "--cuts", 8), "--plans goes with")):
         out, err, status = told(*words, cwd=large)
         assert (out, status) == ("", 2) and err.startswith("bprice-run: ") and what in err
-    assert (large / "lp.part").exists()
+    assert (large / "lp.part").exists() and not list(large.glob("*.ways"))
     assert told("--help")[0].startswith("Solves a model")
+
+
+def test_cuts_of_one_way(tmp_path):
+    """They are added where the certificate begins, and stand in it from then on."""
+    (tmp_path / "lp").write_bytes((TOP / "examples" / "odd-order" / "model.lp").read_bytes())
+    out, _, status = told("lp", "--cert", "cert", "--cuts", 2, "--steps", 0, cwd=tmp_path)
+    assert out.startswith("budget 0\n") and status == 5 and (tmp_path / "cert").read_text().count("\ncut ") == 2
+    assert told("lp", "--cert", "cert", "--cuts", 2, cwd=tmp_path)[::2] == ("infeasible\n", 4)
+    assert accepted(tmp_path, "lp", "cert") == "infeasible\n"
 
 
 def test_auto_decomposition(small):
