@@ -59,7 +59,16 @@ returns-in-Err-Refused-clause-exact g c = λ told.
 pub returns-in-Err-Refused-clause-cut_off : goal.returns-in-Err-Refused-clause-cut_off
 returns-in-Err-Refused-clause-cut_off g c = λ told is_fault.
     let halts = c.in-Err-Refused.ensures.halted told in
-    (None, 3, c.in-Err-Refused.report, c.print.ensures.lost is_fault, stopped (rw c.in-Err-Refused.field-0-is at halts) refl, (λ heard. c.print.ensures.partly heard is_fault))
+    let lost = c.print.ensures.lost is_fault in (
+      None,
+      3,
+      c.in-Err-Refused.report,
+      rw c.in-Err-Refused.field-0-is at lost,
+      stopped (rw c.in-Err-Refused.field-0-is at halts) refl,
+      λ heard.
+          let printed = c.print.ensures.partly heard is_fault in
+          (printed.0, rw c.in-Err-Refused.field-0-is at printed.1),
+    )
 
 pub returns-in-Err-Stopped-clause-exact : goal.returns-in-Err-Stopped-clause-exact
 returns-in-Err-Stopped-clause-exact g c = λ told.
