@@ -158,7 +158,7 @@ def test_a_budget_that_could_not_be_written(room):
     assert told(words.replace("CERT", "/dev/full"), room) == (8, "", "bprice: /dev/full: it could not be written; no space left\n" + LOST + report)
 
 
-@pytest.mark.parametrize("words", ["merge own.lp own.cert own.cert NEW", "merge own.lp own.cert own.cert NEW --dec own.dec", "migrate own.lp own.cert NEW", "detect own.lp rows NEW",
+@pytest.mark.parametrize("words", ["merge own.lp own.cert own.cert NEW", "migrate own.lp own.cert NEW", "detect own.lp rows NEW",
                                    "propose own.lp NEW", "gen 1 2 NEW new.dec", "gen 1 2 new.lp NEW"])
 def test_a_report_is_not_lost_where_its_file_could_not_be_written(room, words):
     status, report, note = told(words.replace("NEW", "written"), room)

@@ -13,13 +13,8 @@ pytestmark = pytest.mark.skipif(shutil.which("make") is None or subprocess.run([
                                 reason="make is not installed, or there is no program to install")
 ENVIRONMENT = {name: value for name, value in os.environ.items() if name not in ("BPRICE", "MAKEFLAGS", "MAKELEVEL", "MFLAGS")}
 MODEL = TOP / "examples" / "cutting-stock"
-<<<<<<< HEAD
-TOOLS = [TOP / "tools" / name for name in ("bprice-run", "bprice_plans.py", "bprice-explain", "bprice-draw", "check_certificate.py", "to_vipr.py")] + [
-    TOP / "farm" / "run", TOP / "farm" / "work", *(TOP / "farm").glob("*.py"), TOP / "integrations" / "pulp" / "bprice_pulp.py",
-=======
-TOOLS = [TOP / "tools" / name for name in ("bprice-run", "bprice-explain", "bprice-draw", "check_certificate.py")] + [
+TOOLS = [TOP / "tools" / name for name in ("bprice-run", "bprice-explain", "bprice-draw", "check_certificate.py", "to_vipr.py")] + [
     *(TOP / "tools").glob("bprice_*.py"), TOP / "farm" / "run", TOP / "farm" / "work", *(TOP / "farm").glob("*.py"), TOP / "integrations" / "pulp" / "bprice_pulp.py",
->>>>>>> 3f87337f1ed36e871bea2e557c39c735c1137433
     *(TOP / "integrations" / "python" / "bprice").glob("*.py")]
 
 
