@@ -173,7 +173,7 @@ class Code(Scope):
         raise Unknown(f"{self.path.relative_to(TOP)}: {name} is used from no crate")
 
 
-MOST_SAID = 400  # characters of what a row says; the whole stands beside the definition
+MOST_SAID = 360  # characters of what a row says; the whole stands beside the definition
 
 
 def shortened(says):
