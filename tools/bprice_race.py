@@ -104,7 +104,8 @@ class Race:
         self.folder = words.folder or (f"{words.cert}.ways" if words.cert else f"{words.lp.removesuffix('.lp')}.ways")
         self.processors = words.processors or max(1, len(os.sched_getaffinity(0)) - 1)
         self.ways, self.proposal = [], None
-        self.turn, self.sign, self.answers, self.lock = TURN, None, 0, None
+        self.turn, self.sign, self.lock = TURN, None, None
+        self.answers, self.told = 0, 0  # how many calls have ended, and of how many the progress has told
         self.point = self.winner = self.ahead = None  # the best point; the way that proved its answer; the way with the best bound
 
     def path(self, name):
@@ -257,7 +258,6 @@ class Race:
         ends = [end for end in (*turns, self.left() + GRACE) if end > 0] or [0.1]
         proposal = [self.proposal.reading] if self.proposal else []
         ready = select.select([*running, *proposal, self.stop.woken], [], [], min(1.0, *ends))[0]
-        had = self.answers
         for reading in ready:
             if reading == self.stop.woken:
                 self.stop.drain()
@@ -266,8 +266,8 @@ class Race:
                     self.take_proposal()
             elif running[reading].call and running[reading].call.read():
                 self.take(running[reading])
-        if self.ahead and (self.progress.is_terminal or self.answers > had):
-            self.progress.tell(self.standing())
+        if self.ahead and (self.progress.is_terminal or self.answers > self.told) and self.progress.tell(self.standing()):
+            self.told = self.answers
 
     def take(self, way):
         """Takes the end of a call into the race."""

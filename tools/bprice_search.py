@@ -218,8 +218,9 @@ class Progress:
         return time.monotonic() - self.begin
 
     def tell(self, answer, is_last=False):
+        """Writes a line on what stands, if none was written within the last second, and says whether it did."""
         if answer is None or not is_last and self.seconds() - self.told < 1.0:
-            return
+            return False
         self.told = self.seconds()
         parts = [f"steps {answer.steps}"]
         if answer.status == INFEASIBLE:
@@ -236,6 +237,7 @@ class Progress:
         if self.log and line != self.last:
             print(line, file=self.log, flush=True)
         self.last = line
+        return True
 
     def say(self, text):
         """A line of its own, of what the run does."""

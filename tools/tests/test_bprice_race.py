@@ -93,10 +93,16 @@ def test_ways_that_are_told(model, words, way):
 ONE_STEP = ("if steps > 0 and ('--from' in words or '/plain.' in cert or 'dec-cuts' in cert): " + LONG, "if steps > 0: words[words.index('--steps') + 1] = '1'")
 
 
-def test_best_bound_and_best_point(model, monkeypatch):
+@pytest.mark.parametrize("ending", ["signal", "gap"])
+def test_best_bound_and_best_point(model, monkeypatch, ending):
     """What stops short has the bound of one way with the point of another, in one certificate; the same command goes on from it."""
     program(model, monkeypatch, *ONE_STEP)
-    with start("plan.lp", "--processors", 4, "--gap", "0.7%", "-o", "a.json", "-o", "a.sol", cwd=model) as ran:
+    words = {"signal": (), "gap": ("--gap", "0.7%")}[ending]
+    with start("plan.lp", "--processors", 4, *words, "-o", "a.json", "-o", "a.sol", cwd=model) as ran:
+        if ending == "signal":
+            lines = iter(ran.stderr.readline, "")
+            assert any("bound 453  value 456" in line for line in lines)
+            ran.send_signal(signal.SIGINT)
         out, err = ran.communicate(timeout=50)
     assert ran.returncode == 5 and re.match(r"budget \d+\nbound 453\nvalue 456\nx1_1 \d", out)
     assert "bound by the way plain-cuts-64, value by the way dec: both are true of the model" in err
