@@ -4,12 +4,15 @@ use Rattle.std.specs.Prelude.{option_map}
 use Rattle.std.specs.List.{range_with_len, zip, flat_map}
 use Rattle.std.proofs.lemmas.Bool.{cases_lt}
 use Rattle.std.proofs.lemmas.List.{length-map}
+use Rattle.bp_theory.specs.Limits.{most_lines}
 use Rattle.bp_theory.specs.Program.{Program}
 use Rattle.bp_theory.specs.Blocking.{Blocking, sides_of}
 use Rattle.bp_theory.specs.Decomposition.{Decomposition, ProofRow, whole_row, proof_row, links_of, proof_rows, full_row, HasLargeLinks, link_count}
 use Rattle.bp_theory.specs.Cuts.{cut_row, cut_rows}
+use Rattle.bp_theory.specs.declared.Limits.TheVariants.{Large}
 use Rattle.bp_theory.specs.declared.Row.{Row}
 use Rattle.bp_theory.specs.declared.Cut.{Cut}
+use Rattle.bp_theory.proofs.LimitLaws.{few_lines}
 use Rattle.block_program.specs.Blocked.{BlockedProgram, IsFormed}
 
 -- the rows of the program itself
@@ -26,8 +29,8 @@ few_own [] places = omega arith
 few_own (row ∷ rows) [] = omega arith
 few_own (row ∷ rows) (place ∷ places) = omega (arith, few_own rows places)
 
-few_links : (p : Program) (d : Decomposition) → (HasLargeLinks p d → ⊥) → length p.rows + link_count p d ≤ 8192
-few_links p d moderate = ⊎_elim (λ large. absurd (moderate (inl large))) (λ few. few) (cases_lt 8192 (length p.rows + link_count p d))
+few_links : (p : Program) (d : Decomposition) → (HasLargeLinks p d → ⊥) → length p.rows + link_count p d ≤ most_lines Large
+few_links p d moderate = ⊎_elim (λ large. absurd (moderate (inl large))) (λ few. omega (arith, few, few_lines p.limits)) (cases_lt (most_lines p.limits) (length p.rows + link_count p d))
 
 as_many_cuts : (p : Program) (d : Decomposition) (earlier : List Row) (cuts : List Cut) → length (cut_rows p d earlier cuts) ≡ length earlier + length cuts
 as_many_cuts p d earlier [] = omega arith
@@ -35,8 +38,8 @@ as_many_cuts p d earlier (cut ∷ cuts) =
     let row : Row = cut_row p (proof_rows p d earlier) cut in
     omega (arith, as_many_cuts p d (earlier ++ row ∷ []) cuts, length-append earlier (row ∷ []))
 
--- at most those of 8,192 rows and links, and of 256 cuts
-pub few_named : (b : BlockedProgram) → IsFormed b → length b.blocking.rows ≤ 8448
+-- at most those of 1,048,576 rows and links, and of 256 cuts
+pub few_named : (b : BlockedProgram) → IsFormed b → length b.blocking.rows ≤ 1048832
 few_named b formed =
     let p : Program = b.named.program in
     let cuts : List Row = cut_rows p b.dec [] b.cuts in

@@ -9,7 +9,9 @@ use Rattle.std.proofs.lemmas.List.Elements.{recursion_from_All, All-from_recursi
 use Rattle.bp_theory.specs.Program.{Program, KeepsActivity}
 use Rattle.bp_theory.specs.Decomposition.{HasVariablesBelow, IsTidyFrom}
 use Rattle.bp_theory.specs.Digits.{zone_bits}
+use Rattle.bp_theory.specs.Limits.{most_digits}
 use Rattle.bp_theory.specs.declared.Span.{Span}
+use Rattle.bp_theory.proofs.LimitLaws.{few_rows, few_variables, rows_are_lines}
 use Rattle.bp_theory.specs.declared.Term.{Term}
 use Rattle.bp_theory.specs.declared.Row.{Row}
 use Rattle.bp_theory.specs.declared.Sense.TheVariants.{Le}
@@ -86,6 +88,7 @@ makes parts costs rows tidied small = record {
   costs = tidied;
   constant = refl;
   maximises = refl;
+  limits = refl;
 }
 
 -- nothing of each
@@ -110,8 +113,9 @@ keeps parts costs rows h distinct rows_distinct =
       rows_distinct = rows_distinct;
       proper = h.proper;
       ends = h.limits.ends;
-      variables = h.limits.variables;
-      rows = omega (arith, h.limits.rows, as_many);
+      variables = omega (arith, h.limits.variables, few_variables parts.limits);
+      rows = omega (arith, h.limits.rows, few_rows parts.limits, as_many);
+      lines = omega (arith, h.limits.rows, rows_are_lines parts.limits, as_many);
       bits = h.bits;
       closed = record {
         costs = tidied_below n parts.costs costs h.costs_small.tidied h.fitting.costs;
@@ -129,7 +133,7 @@ keeps parts costs rows h distinct rows_distinct =
 
 -- ---- what parts are refused for
 
-pub spans_fault : (parts : Parts) (f : ModelFault) → HasSpansFault parts.spans f → HasModelFault parts f
+pub spans_fault : (parts : Parts) (f : ModelFault) → HasSpansFault parts.limits parts.spans f → HasModelFault parts f
 spans_fault parts (Crossed v) h = h
 spans_fault parts Bits h = h
 spans_fault parts (Activity row) h = absurd h
@@ -151,6 +155,7 @@ makes_by_sums parts costs fitting tidied = record {
   costs = tidied;
   constant = refl;
   maximises = refl;
+  limits = refl;
 }
 
 large_by_sums : (parts : Parts) (costs : List Term) → 2 ^ 62 ≤ cost_limit (assembled parts costs (map (row_sums (length parts.spans)) parts.rows)).program
@@ -158,7 +163,7 @@ large_by_sums : (parts : Parts) (costs : List Term) → 2 ^ 62 ≤ cost_limit (a
 unfolding by_sums
 large_by_sums parts costs h = h
 
-pub costs_fault : (parts : Parts) (f : ModelFault) → AreFitting parts → NoneCrossed parts.spans → zone_bits parts.spans ≤ 8192
+pub costs_fault : (parts : Parts) (f : ModelFault) → AreFitting parts → NoneCrossed parts.spans → zone_bits parts.spans ≤ most_digits parts.limits
     → HasCostsFault parts.spans parts.constant parts.costs f → HasModelFault parts f
 costs_fault parts (Crossed v) fitting proper bits h = absurd h
 costs_fault parts Bits fitting proper bits h = absurd h
@@ -209,7 +214,7 @@ first_large p n rows k h is =
           subst (KeepsActivity p) (sym at) (AllZip_at (IsSmallRow p.spans) (take k rows) h.before h.small j d d there).small;
     }
 
-pub rows_fault : (parts : Parts) (costs : List Term) (f : ModelFault) → AreFitting parts → NoneCrossed parts.spans → zone_bits parts.spans ≤ 8192
+pub rows_fault : (parts : Parts) (costs : List Term) (f : ModelFault) → AreFitting parts → NoneCrossed parts.spans → zone_bits parts.spans ≤ most_digits parts.limits
     → IsSmall parts.spans (unsigned_abs parts.constant) parts.costs costs → HasRowsFault parts.spans parts.rows f → HasModelFault parts f
 rows_fault parts costs (Crossed v) fitting proper bits small h = absurd h
 rows_fault parts costs Bits fitting proper bits small h = absurd h
@@ -226,12 +231,13 @@ rows_fault parts costs (Activity (Some row)) fitting proper bits small h =
       costs = small.tidied;
       constant = refl;
       maximises = refl;
+      limits = refl;
     } in
     (proper, bits, (m, made, small.small, first_large m.program n parts.rows row h refl))
 rows_fault parts costs Limit fitting proper bits small h = absurd h
 rows_fault parts costs NoMemory fitting proper bits small h = tt
 
-pub limit_fault : (parts : Parts) (costs : List Term) (rows : List Row) → NoneCrossed parts.spans → zone_bits parts.spans ≤ 8192
+pub limit_fault : (parts : Parts) (costs : List Term) (rows : List Row) → NoneCrossed parts.spans → zone_bits parts.spans ≤ most_digits parts.limits
     → IsSmall parts.spans (unsigned_abs parts.constant) parts.costs costs → AllZip (IsSmallRow parts.spans) parts.rows rows
     → IsOverLimit parts → HasModelFault parts Limit
 limit_fault parts costs rows proper bits costs_small rows_small over =
@@ -244,13 +250,14 @@ limit_fault parts costs rows proper bits costs_small rows_small over =
       costs = costs_small.tidied;
       constant = refl;
       maximises = refl;
+      limits = refl;
     } in
     (proper, bits, (m, made, costs_small.small, keep_activity m.program parts.rows rows rows_small), over)
 
 -- ---- the same where slices show the parts
 
 pub costs_fault_at : (parts : Parts) (f : ModelFault) (spans : List Span) (costs : List Term) → AreFitting parts → NoneCrossed parts.spans
-    → zone_bits parts.spans ≤ 8192 → spans ≡ parts.spans → costs ≡ parts.costs → HasCostsFault spans parts.constant costs f → HasModelFault parts f
+    → zone_bits parts.spans ≤ most_digits parts.limits → spans ≡ parts.spans → costs ≡ parts.costs → HasCostsFault spans parts.constant costs f → HasModelFault parts f
 costs_fault_at parts f spans costs fitting proper bits spans_are costs_are h =
     costs_fault parts f fitting proper bits
     (subst (λ (all : List Term). HasCostsFault parts.spans parts.constant all f) costs_are
@@ -269,7 +276,7 @@ small_rows_at parts spans rows tidy spans_are rows_are h =
     (subst (λ (all : List Span). AllZip (IsSmallRow all) rows tidy) spans_are h)
 
 pub rows_fault_at : (parts : Parts) (costs : List Term) (f : ModelFault) (spans : List Span) (rows : List Row) → AreFitting parts → NoneCrossed parts.spans
-    → zone_bits parts.spans ≤ 8192 → IsSmall parts.spans (unsigned_abs parts.constant) parts.costs costs
+    → zone_bits parts.spans ≤ most_digits parts.limits → IsSmall parts.spans (unsigned_abs parts.constant) parts.costs costs
     → spans ≡ parts.spans → rows ≡ parts.rows → HasRowsFault spans rows f → HasModelFault parts f
 rows_fault_at parts costs f spans rows fitting proper bits small spans_are rows_are h =
     rows_fault parts costs f fitting proper bits small

@@ -45,6 +45,7 @@ pub record Makes (parts : Parts) (m : NamedProgram) : Type 0 where
   pub costs : IsTidied parts.costs m.program.costs
   pub constant : m.program.constant ≡ parts.constant
   pub maximises : m.program.maximises ≡ parts.maximises
+  pub limits : m.program.limits ≡ parts.limits
 
 -- how many terms are written in the objective and the rows
 abbrev pub written_terms : Parts → ℕ
@@ -68,30 +69,30 @@ pub record IsFirstLarge (p : Program) (row : ℕ) : Type 0 where
 
 -- too many variables, rows or written terms, or a span's end past the numbers of texts
 pub data IsOverLimit (parts : Parts) : Type 0 where
-  variables : most_variables < length parts.spans → IsOverLimit parts
-  rows : most_rows < length parts.rows → IsOverLimit parts
-  terms : most_terms < written_terms parts → IsOverLimit parts
+  variables : most_variables parts.limits < length parts.spans → IsOverLimit parts
+  rows : most_rows parts.limits < length parts.rows → IsOverLimit parts
+  terms : most_terms parts.limits < written_terms parts → IsOverLimit parts
   ends : (All HasSmallEnds parts.spans → ⊥) → IsOverLimit parts
 
 -- the numbers of variables, rows and written terms and the spans' ends keep the limits
 pub record IsWithinLimits (parts : Parts) : Type 0 where
-  pub variables : length parts.spans ≤ most_variables
-  pub rows : length parts.rows ≤ most_rows
-  pub terms : written_terms parts ≤ most_terms
+  pub variables : length parts.spans ≤ most_variables parts.limits
+  pub rows : length parts.rows ≤ most_rows parts.limits
+  pub terms : written_terms parts ≤ most_terms parts.limits
   pub ends : All HasSmallEnds parts.spans
 
 -- the first fault of parts, in order: a crossed span, the bits, an activity (of the objective first), a limit
 abbrev pub HasModelFault : Parts → ModelFault → Type 0
 HasModelFault parts (Crossed v) = IsFirstCrossed parts.spans v
-HasModelFault parts Bits = NoneCrossed parts.spans × (most_digits < zone_bits parts.spans)
+HasModelFault parts Bits = NoneCrossed parts.spans × (most_digits parts.limits < zone_bits parts.spans)
 HasModelFault parts (Activity None) =
-    NoneCrossed parts.spans × (zone_bits parts.spans ≤ most_digits)
+    NoneCrossed parts.spans × (zone_bits parts.spans ≤ most_digits parts.limits)
     × ((m : NamedProgram) × Makes parts m × (number_limit ≤ cost_limit m.program))
 HasModelFault parts (Activity (Some row)) =
-    NoneCrossed parts.spans × (zone_bits parts.spans ≤ most_digits)
+    NoneCrossed parts.spans × (zone_bits parts.spans ≤ most_digits parts.limits)
     × ((m : NamedProgram) × Makes parts m × (cost_limit m.program < number_limit) × IsFirstLarge m.program row)
 HasModelFault parts Limit =
-    NoneCrossed parts.spans × (zone_bits parts.spans ≤ most_digits)
+    NoneCrossed parts.spans × (zone_bits parts.spans ≤ most_digits parts.limits)
     × ((m : NamedProgram) × Makes parts m × (cost_limit m.program < number_limit) × All (KeepsActivity m.program) m.program.rows)
     × IsOverLimit parts
 HasModelFault parts NoMemory = Unit {0}

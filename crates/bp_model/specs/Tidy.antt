@@ -5,6 +5,7 @@ use Rattle.std.specs.List.{AllZip}
 use Rattle.std.specs.Ordering.{int_eq}
 use Rattle.bp_theory.specs.Program.{span_at, reach}
 use Rattle.bp_theory.specs.Digits.{zone_bits}
+use Rattle.bp_theory.specs.declared.Limits.{Limits}
 use Rattle.bp_theory.specs.declared.Span.{Span}
 use Rattle.bp_theory.specs.declared.Term.{Term}
 use Rattle.bp_theory.specs.declared.Row.{Row}
@@ -75,19 +76,19 @@ HasCostsFault spans constant costs (Activity (Some row)) = ⊥
 HasCostsFault spans constant costs Limit = ⊥
 HasCostsFault spans constant costs NoMemory = Unit {0}
 
--- what is wrong with spans
-abbrev pub HasSpansFault : List Span → ModelFault → Type 0
-HasSpansFault spans (Crossed v) = IsFirstCrossed spans v
-HasSpansFault spans Bits = NoneCrossed spans × (most_digits < zone_bits spans)
-HasSpansFault spans (Activity row) = ⊥
-HasSpansFault spans Limit = ⊥
-HasSpansFault spans NoMemory = ⊥
+-- what is wrong with spans under limits
+abbrev pub HasSpansFault : Limits → List Span → ModelFault → Type 0
+HasSpansFault limits spans (Crossed v) = IsFirstCrossed spans v
+HasSpansFault limits spans Bits = NoneCrossed spans × (most_digits limits < zone_bits spans)
+HasSpansFault limits spans (Activity row) = ⊥
+HasSpansFault limits spans Limit = ⊥
+HasSpansFault limits spans NoMemory = ⊥
 
 -- what a model can be assembled from: parts within their limits, with costs and rows added up
 pub record CanAssemble (parts : Parts) (costs : List Term) (rows : List Row) : Type 0 where
   pub fitting : AreFitting parts
   pub proper : NoneCrossed parts.spans
-  pub bits : zone_bits parts.spans ≤ most_digits
+  pub bits : zone_bits parts.spans ≤ most_digits parts.limits
   pub costs_small : IsSmall parts.spans (unsigned_abs parts.constant) parts.costs costs
   pub rows_small : AllZip (IsSmallRow parts.spans) parts.rows rows
   pub limits : IsWithinLimits parts
@@ -95,7 +96,7 @@ pub record CanAssemble (parts : Parts) (costs : List Term) (rows : List Row) : T
 -- the named program of parts, with costs and rows added up
 abbrev pub assembled : Parts → List Term → List Row → NamedProgram
 assembled parts costs rows = record {
-  program = record { spans = parts.spans; rows = rows; costs = costs; constant = parts.constant; maximises = parts.maximises };
+  program = record { spans = parts.spans; rows = rows; costs = costs; constant = parts.constant; maximises = parts.maximises; limits = parts.limits };
   names = parts.names;
   row_names = parts.row_names;
 }

@@ -7,7 +7,7 @@ use bp_theory::{Items, Row};
 use std::alloc::{AllocError, Global};
 
 /// A decomposition: the number of its blocks, for each row its block or the master, and the listed variables with
-/// their places, at most 4,096 blocks. It goes with the model that it was made for.
+/// their places, at most 131,072 blocks. It goes with the model that it was made for.
 pub struct Dec {
     blocks: u32,
     places: Items<Option<u32>>,
@@ -34,7 +34,7 @@ impl std::marker::Model for Dec {
 
     ghost use Rattle.std.specs.Prelude.{◌≤◌};
 
-    ghost invariant = { λ d. d.blocks ≤ 4096 };
+    ghost invariant = { λ d. d.blocks ≤ 131072 };
 }
 
 impl Dec {
@@ -45,7 +45,7 @@ impl Dec {
     /// The decomposition of so many blocks, with each row's block (none: the master), and the listed variables
     /// with their blocks (none: the master).
     pub fn make(blocks: u32, places: Items<Option<u32>>, listed: Items<(u32, Option<u32>)>) -> Dec
-        requires { blocks ≤ 4096 }
+        requires { blocks ≤ 131072 }
         ensures { result ≡ record { blocks = blocks; places = places; listed = listed } }
     {
         Dec {
@@ -84,7 +84,7 @@ impl Dec {
     /// How many blocks there are.
     pub fn blocks(&self) -> u32
         ensures blocks { result ≡ self.now.blocks }
-        ensures few { result ≤ 4096 }
+        ensures few { result ≤ 131072 }
     {
         self.blocks
     }

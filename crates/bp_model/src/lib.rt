@@ -12,7 +12,7 @@ mod tidy;
 
 pub use bp_theory::{Items, Row, Sense, Span, Term};
 pub use dec::Dec;
-pub use limits::{MAX_BITS, MAX_NUMBER, MAX_ROWS, MAX_TERMS, MAX_VARS};
+pub use limits::MAX_NUMBER;
 pub use model::Model;
 pub use names::NameList;
 pub use parts::{ModelFault, Parts};

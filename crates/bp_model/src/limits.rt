@@ -1,40 +1,29 @@
 // The limits of a model's parts.
 ghost use Rattle.std.specs.Prelude.{◌≡◌, ◌↔◌, ◌+◌, ◌<◌, ◌≤◌, ◌^◌, length, All, IsTrue, IsOk, OnOk, IfErr, MatchBool, MatchOption, ◌<ℤ◌, sum_by};
 ghost use Rattle.std.specs.Int.{int_gap};
+ghost use Rattle.bp_theory.specs.Limits.{most_digits};
 ghost use Rattle.bp_theory.specs.Digits.{binary_digits, span_bits, zone_bits};
 ghost use Rattle.bp_model.specs.Named.{HasSmallEnds};
 ghost use Rattle.bp_model.specs.Parts.{AreFitting, IsFirstCrossed, IsOverLimit, NoneCrossed, IsWithinLimits, written_terms};
 ghost use Rattle.bp_model.specs.Tidy.{HasSpansFault};
 
 use crate::parts::{ModelFault, Parts};
-use bp_theory::{Row, Span};
-
-/// The greatest number of variables.
-pub const MAX_VARS: u32 = 4096;
-
-/// The greatest number of rows.
-pub const MAX_ROWS: u32 = 8192;
-
-/// The greatest number of terms written in the objective and the rows.
-pub const MAX_TERMS: u32 = 65_536;
-
-/// The greatest sum of the binary digits of the spans' lengths.
-pub const MAX_BITS: u32 = 8192;
+use bp_theory::{Limits, Row, Span};
 
 /// The greatest magnitude of a number in a text.
 pub const MAX_NUMBER: i64 = (1 << 62) - 1;
 
 /// Whether no span is crossed, and all bits together keep the limit.
-pub fn check_spans(spans: &[Span]) -> Result<(), ModelFault>
+pub fn check_spans(limits: Limits, spans: &[Span]) -> Result<(), ModelFault>
     requires { length spans.now < 2 ^ 32 }
     ensures crossed { OnOk result (NoneCrossed spans.now) }
-    ensures bits { OnOk result (zone_bits spans.now ≤ 8192) }
-    ensures fault { IfErr result (HasSpansFault spans.now) }
+    ensures bits { OnOk result (zone_bits spans.now ≤ most_digits limits) }
+    ensures fault { IfErr result (HasSpansFault limits spans.now) }
 {
     if let Some(var) = first_crossed(spans) {
         return Err(ModelFault::Crossed(var));
     }
-    if bits(spans) > u64::from(MAX_BITS) {
+    if bits(spans) > u64::from(limits.digits()) {
         return Err(ModelFault::Bits);
     }
     Ok(())
@@ -45,13 +34,13 @@ pub fn keeps_limits(parts: &Parts) -> bool
     requires { AreFitting parts.now }
     ensures { MatchBool result (IsWithinLimits parts.now) (IsOverLimit parts.now) }
 {
-    if parts.spans.len() > MAX_VARS as usize {
+    if parts.spans.len() > parts.limits.variables() as usize {
         return false;
     }
-    if parts.rows.len() > MAX_ROWS as usize {
+    if parts.rows.len() > parts.limits.rows() as usize {
         return false;
     }
-    if written(parts) > u128::from(MAX_TERMS) {
+    if written(parts) > u128::from(parts.limits.terms()) {
         return false;
     }
     has_small_ends(parts.spans.as_slice())

@@ -4,7 +4,7 @@ use crate::names::NameList;
 use crate::parts::{ModelFault, Parts};
 use crate::points::{Miss, activity, first_missed, first_outside, total};
 use crate::tidy::{small, tidied_costs, tidied_rows};
-use bp_theory::{Items, Row, Span, Term};
+use bp_theory::{Items, Limits, Row, Span, Term};
 use std::alloc::Global;
 
 /// A bounded integer program in minimised form, with the names of its variables and rows.
@@ -16,6 +16,7 @@ pub struct Model {
     costs: Items<Term>,
     constant: i64,
     maximises: bool,
+    limits: Limits,
 }
 
 // What goes with one is proved here once, and not again wherever one goes.
@@ -29,6 +30,7 @@ impl Drop for Model {
             costs: _,
             constant: _,
             maximises: _,
+            limits: _,
         } = self;
     }
 }
@@ -39,13 +41,13 @@ impl std::marker::Model for Model {
     ghost Value = { NamedProgram };
 
     ghost view = { λ m. record {
-      program = record { spans = m.spans; rows = m.rows; costs = m.costs; constant = m.constant; maximises = m.maximises };
+      program = record { spans = m.spans; rows = m.rows; costs = m.costs; constant = m.constant; maximises = m.maximises; limits = m.limits };
       names = m.names;
       row_names = m.row_names;
     } };
 
     ghost invariant = { λ m. IsKept (record {
-      program = record { spans = m.spans; rows = m.rows; costs = m.costs; constant = m.constant; maximises = m.maximises };
+      program = record { spans = m.spans; rows = m.rows; costs = m.costs; constant = m.constant; maximises = m.maximises; limits = m.limits };
       names = m.names;
       row_names = m.row_names;
     }) };
@@ -53,6 +55,7 @@ impl std::marker::Model for Model {
 
 impl Model {
     ghost use Rattle.std.specs.Prelude.{◌≡◌, ◌<◌, length, slice_get, Some, IfSome, IsNone, ◌↔◌, ◌≤◌, IfOk, IfErr, OnOk};
+    ghost use Rattle.bp_theory.specs.Limits.{most_terms};
     ghost use Rattle.bp_theory.specs.Program.{cost, span_at, IsFeasible, IsInside};
     ghost use Rattle.bp_model.specs.Miss.{IsFirstMiss};
     ghost use Rattle.bp_model.specs.Named.{IsKept};
@@ -65,10 +68,10 @@ impl Model {
         requires { AreFitting parts }
         ensures made { IfOk result (λ model. Makes parts model) }
         ensures kept { IfOk result (λ model. IsKept model) }
-        ensures written { OnOk result (written_terms parts ≤ 65536) }
+        ensures written { OnOk result (written_terms parts ≤ most_terms parts.limits) }
         ensures fault { IfErr result (λ fault. HasModelFault parts fault) }
     {
-        check_spans(parts.spans.as_slice())?;
+        check_spans(parts.limits, parts.spans.as_slice())?;
         let costs = tidied_costs(
             alloc,
             parts.costs.as_slice(),
@@ -97,6 +100,7 @@ impl Model {
             row_names,
             spans,
             maximises,
+            limits,
             ..
         } = parts;
         Model {
@@ -107,6 +111,7 @@ impl Model {
             costs,
             constant,
             maximises,
+            limits,
         }
     }
 
@@ -207,6 +212,13 @@ impl Model {
         ensures { result ≡ self.now.program.maximises }
     {
         self.maximises
+    }
+
+    /// The limits under which the model was read.
+    pub fn limits(&self) -> Limits
+        ensures { result ≡ self.now.program.limits }
+    {
+        self.limits
     }
 
     /// The first that is wrong with a point: its length, else the first variable whose number lies outside its span,

@@ -3,7 +3,7 @@ ghost use Rattle.std.specs.Prelude.{◌↔◌, ◌<◌, ◌^◌, length, All, Is
 ghost use Rattle.bp_theory.specs.Decomposition.{HasVariablesBelow};
 
 use crate::names::NameList;
-use bp_theory::{Items, Row, Span, Term};
+use bp_theory::{Items, Limits, Row, Span, Term};
 
 /// The parts of a model. Terms may name a variable more than once: their coefficients add up.
 #[derive(Drop)]
@@ -22,6 +22,8 @@ pub struct Parts {
     pub constant: i128,
     /// Whether the text maximises.
     pub maximises: bool,
+    /// The limits that the model keeps.
+    pub limits: Limits,
 }
 
 /// What parts are refused for.
@@ -29,7 +31,7 @@ pub struct Parts {
 pub enum ModelFault {
     /// The lower end of this variable's span is above its upper end.
     Crossed(u32),
-    /// The spans have more than 8,192 binary digits.
+    /// The spans have more binary digits than the limits allow.
     Bits,
     /// The sums of the objective (none) or of this row may leave 62 bits.
     Activity(Option<u32>),

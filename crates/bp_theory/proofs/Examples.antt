@@ -23,6 +23,7 @@ use Rattle.bp_theory.specs.Sums.{dot}
 use Rattle.bp_theory.specs.Bound.{IsPoint}
 use Rattle.bp_theory.specs.Cuts.{cut_rows}
 use Rattle.bp_theory.specs.Classes.{prefixes}
+use Rattle.bp_theory.specs.declared.Limits.TheVariants.{Usual}
 use Rattle.bp_theory.specs.declared.Span.{Span}
 use Rattle.bp_theory.specs.declared.Term.{Term}
 use Rattle.bp_theory.specs.declared.Sense.{Sense}
@@ -48,6 +49,7 @@ two_rows = record {
   costs = term 0 (negsuc 2) ∷ term 1 (negsuc 1) ∷ [];
   constant = pos 0;
   maximises = true;
+  limits = Usual;
 }
 
 abbrev no_blocks : Decomposition
@@ -77,6 +79,7 @@ linked = record {
   costs = term 0 (negsuc 2) ∷ term 1 (negsuc 1) ∷ term 2 (negsuc 1) ∷ [];
   constant = pos 0;
   maximises = true;
+  limits = Usual;
 }
 
 abbrev two_blocks : Decomposition
@@ -110,6 +113,7 @@ three = record {
   costs = [];
   constant = pos 0;
   maximises = false;
+  limits = Usual;
 }
 
 abbrev one_master : Decomposition

@@ -1,6 +1,6 @@
 -- The blocking that a decomposition and cuts give a program: blocks, copies, link rows.
 use Rattle.std.specs.Prelude.{◌≡◌, ◌≢◌, ◌⊎◌, ◌+◌, ◌*◌, ◌^◌, ◌≤◌, IsTrue, slice_index_or, ℕ, suc, ◌<◌, Bool, true, false, not, List, [], ◌∷◌, ◌++◌, map, filter, drop, length, Option, Some, None, ℤ, pos, ◌-ℤ◌, ◌==◌, if◌then◌else◌, option_map, All}
-use Rattle.bp_theory.specs.Limits.{most_rows, number_limit}
+use Rattle.bp_theory.specs.Limits.{most_lines, number_limit}
 use Rattle.std.specs.List.{range_with_len, list_any, zip, flat_map, enumerate_from}
 use Rattle.std.specs.Ordering.{int_eq}
 use Rattle.bp_theory.specs.Program.{Program, coefficient, span_at, reach}
@@ -180,7 +180,7 @@ link_count p d = length (flat_map (links_of p d) (range_with_len 0 (length p.spa
 -- too many rows and links, or a linking variable whose difference of two copies may leave 62 bits
 abbrev pub HasLargeLinks : Program → Decomposition → Type 0
 HasLargeLinks p d =
-    (most_rows < length p.rows + link_count p d)
+    (most_lines p.limits < length p.rows + link_count p d)
     ⊎ ((v : ℕ) × (v < length p.spans) × IsLinking p d v × (number_limit ≤ 2 * reach (span_at p.spans v)))
 
 -- terms name variables from a number on, each once, in order and without zeros

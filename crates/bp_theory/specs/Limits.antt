@@ -1,29 +1,52 @@
--- The limits of a model, of a decomposition and of a certificate, each said once.
-use Rattle.std.specs.Prelude.{ℕ, ◌^◌}
+-- The limits of a model, of a decomposition and of a certificate, each said once. There are two sets of them, the usual and
+-- the large ones: what is read keeps one of the two, and everything behind the readers stands under the large ones.
+use Rattle.std.specs.Prelude.{ℕ, ◌+◌, ◌^◌}
+use Rattle.bp_theory.specs.declared.Limits.{Limits}
+use Rattle.bp_theory.specs.declared.Limits.TheVariants.{Usual, Large}
 
 -- the greatest number of a model's variables
-abbrev pub most_variables : ℕ
-most_variables = 4096
+abbrev pub most_variables : Limits → ℕ
+most_variables Usual = 4096
+most_variables Large = 524288
 
 -- the greatest number of a model's rows
-abbrev pub most_rows : ℕ
-most_rows = 8192
+abbrev pub most_rows : Limits → ℕ
+most_rows Usual = 8192
+most_rows Large = 524288
+
+-- the greatest number of a model's rows together with the link rows of its decomposition
+abbrev pub most_lines : Limits → ℕ
+most_lines Usual = 8192
+most_lines Large = 1048576
 
 -- the greatest number of terms written in the objective and in all rows
-abbrev pub most_terms : ℕ
-most_terms = 65536
+abbrev pub most_terms : Limits → ℕ
+most_terms Usual = 65536
+most_terms Large = 4194304
 
 -- the most binary digits that the lengths of a model's spans have together
-abbrev pub most_digits : ℕ
-most_digits = 8192
+abbrev pub most_digits : Limits → ℕ
+most_digits Usual = 8192
+most_digits Large = 1048576
 
 -- the greatest number of a decomposition's blocks
-abbrev pub most_blocks : ℕ
-most_blocks = 4096
+abbrev pub most_blocks : Limits → ℕ
+most_blocks Usual = 4096
+most_blocks Large = 131072
 
--- the greatest number of a model's blocks: those of its decomposition, and each variable that is in none of them
+-- the most bytes of a model's or a decomposition's text
+abbrev pub most_bytes : Limits → ℕ
+most_bytes Usual = 2 ^ 24
+most_bytes Large = 2 ^ 28
+
+-- the greatest depth of a certificate's node: 64 splits anywhere, and behind them one for each binary digit
+abbrev pub greatest_depth : Limits → ℕ
+greatest_depth limits = 64 + most_digits limits
+
+-- the greatest number of a model's blocks under the large limits: those of its decomposition, and each variable that is in
+-- none of them
 abbrev pub most_parts : ℕ
-most_parts = 8192
+most_parts = 655360
 
 -- the most beginnings of points that the search lets the pricing of a block look at
 abbrev pub most_prefixes : ℕ
@@ -32,10 +55,6 @@ most_prefixes = 1048576
 -- the most cells of a table that prices a block of one row
 abbrev pub most_cells : ℕ
 most_cells = 1048576
-
--- the greatest depth of a certificate's node
-abbrev pub greatest_depth : ℕ
-greatest_depth = 8256
 
 -- the greatest number of cuts
 abbrev pub most_cuts : ℕ
@@ -59,7 +78,7 @@ greatest_multiplier = 2 ^ 40
 
 -- the greatest size of the costs that a block is priced by, over all of its spans
 abbrev pub price_limit : ℕ
-price_limit = 2 ^ 116
+price_limit = 2 ^ 123
 
 -- the greatest weight of a column, and of a class's columns together
 abbrev pub greatest_weight : ℕ
@@ -68,10 +87,6 @@ greatest_weight = 2 ^ 33
 -- the most columns that are kept of a block, and that a restricted master has
 abbrev pub most_columns : ℕ
 most_columns = 65536
-
--- the most bytes of a model's or a decomposition's text
-abbrev pub most_bytes : ℕ
-most_bytes = 2 ^ 24
 
 -- the most steps of a search that is told no number of them
 abbrev pub untold_steps : ℕ

@@ -3,19 +3,21 @@ use Rattle.std.specs.Prelude.{ℕ, ◌+◌, ◌*◌, ◌^◌, ◌<◌, max, unsi
 use Rattle.bp_theory.specs.Limits.{number_limit}
 use Rattle.std.specs.List.{AllZip}
 use Rattle.bp_theory.specs.Sums.{sum_of, sum_at}
+use Rattle.bp_theory.specs.declared.Limits.{Limits}
 use Rattle.bp_theory.specs.declared.Span.{Span}
 use Rattle.bp_theory.specs.declared.Term.{Term}
 use Rattle.bp_theory.specs.declared.Sense.{Sense}
 use Rattle.bp_theory.specs.declared.Sense.TheVariants.{Le, Ge, Eq, In}
 use Rattle.bp_theory.specs.declared.Row.{Row}
 
--- an integer program in minimised form
+-- an integer program in minimised form, and the limits under which it was read
 pub record Program : Type 0 where
   pub spans : List Span
   pub rows : List Row
   pub costs : List Term
   pub constant : ℤ
   pub maximises : Bool
+  pub limits : Limits
 
 -- the number that a point gives a variable, 0 where it has none
 abbrev pub value_at : List ℤ → ℕ → ℤ

@@ -4,6 +4,7 @@
 
 ghost use Rattle.std.specs.Prelude.{◌≡◌, [], ◌∷◌, ◌++◌, length, OnOk, OnErr, IfOk, IsTrue, ◌↔◌};
 ghost use Rattle.bp_theory.specs.Digits.{DigitsAreFewest, DigitsByZeros};
+ghost use Rattle.bp_theory.specs.Limits.{greatest_depth, most_blocks, most_bytes, most_digits, most_lines, most_rows, most_terms, most_variables};
 ghost use Rattle.bp_theory.specs.Laws.{Duality, Cover, Older, ValidIsTrue, OneBound, Shrink, AddingUpIsFaithful, DecompositionIsFaithful, CutsAreMet, CertifiedIsTrue, SamePriceAlike, LeastOverBox, Judged, RoundedHolds, PartsAddUp, StandsWhereNonzero, CopiesOfEach, LinksCancel, OnePointCloses, SplitShrinks};
 
 use std::alloc::{AllocError, Global};
@@ -83,6 +84,93 @@ impl<T: Drop> Items<T> {
         ensures { IsTrue result ↔ (self.now ≡ []) }
     {
         self.inside.is_empty()
+    }
+}
+
+/// The limits that a model, its decomposition and its certificates keep: the usual ones, or the large ones that are asked
+/// for by name.
+#[derive(Clone, Copy, Debug, PartialEq, Eq)]
+pub enum Limits {
+    Usual,
+    Large,
+}
+
+impl Limits {
+    /// The greatest number of a model's variables.
+    pub fn variables(self) -> u32
+        ensures { result ≡ most_variables self }
+    {
+        match self {
+            Limits::Usual => 4096,
+            Limits::Large => 524_288,
+        }
+    }
+
+    /// The greatest number of a model's rows.
+    pub fn rows(self) -> u32
+        ensures { result ≡ most_rows self }
+    {
+        match self {
+            Limits::Usual => 8192,
+            Limits::Large => 524_288,
+        }
+    }
+
+    /// The greatest number of a model's rows together with the link rows of its decomposition.
+    pub fn lines(self) -> u32
+        ensures { result ≡ most_lines self }
+    {
+        match self {
+            Limits::Usual => 8192,
+            Limits::Large => 1_048_576,
+        }
+    }
+
+    /// The greatest number of terms written in the objective and in all rows.
+    pub fn terms(self) -> u32
+        ensures { result ≡ most_terms self }
+    {
+        match self {
+            Limits::Usual => 65_536,
+            Limits::Large => 4_194_304,
+        }
+    }
+
+    /// The most binary digits that the lengths of a model's spans have together.
+    pub fn digits(self) -> u32
+        ensures { result ≡ most_digits self }
+    {
+        match self {
+            Limits::Usual => 8192,
+            Limits::Large => 1_048_576,
+        }
+    }
+
+    /// The greatest number of a decomposition's blocks.
+    pub fn blocks(self) -> u32
+        ensures { result ≡ most_blocks self }
+    {
+        match self {
+            Limits::Usual => 4096,
+            Limits::Large => 131_072,
+        }
+    }
+
+    /// The most bytes of a model's or a decomposition's text.
+    pub fn bytes(self) -> usize
+        ensures { result ≡ most_bytes self }
+    {
+        match self {
+            Limits::Usual => 1 << 24,
+            Limits::Large => 1 << 28,
+        }
+    }
+
+    /// The greatest depth of a certificate's node.
+    pub fn depth(self) -> u32
+        ensures { result ≡ greatest_depth self }
+    {
+        64 + self.digits()
     }
 }
 

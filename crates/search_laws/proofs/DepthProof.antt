@@ -13,6 +13,8 @@ use Rattle.std.proofs.lemmas.List.Elements.{All-append, All-weaker, recursion_fr
 use Rattle.bp_theory.specs.Program.{Program, span_at}
 use Rattle.bp_theory.specs.Bound.{plain_proof}
 use Rattle.bp_theory.specs.Trees.{IsProper, IsSubspan, IsSubzone, IsSoundSplit, HasSoundSplits, low_part, high_part, depth}
+use Rattle.bp_theory.specs.Limits.{greatest_depth, most_digits}
+use Rattle.bp_theory.specs.declared.Limits.{Limits}
 use Rattle.bp_theory.specs.declared.Span.{Span}
 use Rattle.bp_theory.specs.declared.Proof.{Proof}
 use Rattle.bp_theory.proofs.CoverProof.{split_var_there}
@@ -75,60 +77,61 @@ zone_at_bits (fork v at low high) zone (High ∷ path) leaf h sound proper =
     omega (arith, zone_at_bits high (high_part zone v at) path leaf h sound.2 part.0, zone_bits_grow (high_part zone v at) zone part.1)
 
 -- a part of a timely split is no deeper, with its bits, than is allowed
-part_is_shallow : (depth whole part : ℕ) → depth + whole ≤ 8256 → whole ≤ 8192 → part ≤ whole → (64 ≤ depth → part < whole)
-    → depth + 1 + part ≤ 8256
-part_is_shallow depth whole part h k l m = ⊎_elim
+part_is_shallow : (digits depth whole part : ℕ) → depth + whole ≤ 64 + digits → whole ≤ digits → part ≤ whole → (64 ≤ depth → part < whole)
+    → depth + 1 + part ≤ 64 + digits
+part_is_shallow digits depth whole part h k l m = ⊎_elim
     (λ early. omega (arith, h, k, l, early))
     (λ late. omega (arith, h, l, m late))
     (cases_lt depth 64)
 
-planted_is_shallow : (bound : ℤ) (p : Program) (proof : Proof) → IsSized p → All IsShallow (growing_leaves (live proof bound) p.spans)
+planted_is_shallow : (bound : ℤ) (p : Program) (proof : Proof) → IsSized p → All (IsShallow p.limits) (growing_leaves (live proof bound) p.spans)
 planted_is_shallow bound p proof sized =
-    All-one IsShallow (record { path = []; zone = p.spans; proof = proof; bound = Some bound }) (omega (arith, sized.bits))
+    All-one (IsShallow p.limits) (record { path = []; zone = p.spans; proof = proof; bound = Some bound }) (omega (arith, sized.bits))
 
-shut_is_shallow : (zone : List Span) (t : GrowingTree) (path : List Side) (leaf : LiveLeaf) (proof : Proof)
-    → live_at t path ≡ Some leaf → All IsShallow (growing_leaves t zone) → All IsShallow (growing_leaves (put_at t path (shut proof)) zone)
-shut_is_shallow zone t path leaf proof h all =
-    leaves_put IsShallow t zone path leaf (shut proof) h all
-    (All-one IsShallow (record { path = path; zone = zone_at t zone path; proof = proof; bound = None })
-    (lower (length path) (zone_bits (zone_at t zone path)) (leaf_at_path IsShallow t zone path leaf h all)))
+shut_is_shallow : (limits : Limits) (zone : List Span) (t : GrowingTree) (path : List Side) (leaf : LiveLeaf) (proof : Proof)
+    → live_at t path ≡ Some leaf → All (IsShallow limits) (growing_leaves t zone) → All (IsShallow limits) (growing_leaves (put_at t path (shut proof)) zone)
+shut_is_shallow limits zone t path leaf proof h all =
+    leaves_put (IsShallow limits) t zone path leaf (shut proof) h all
+    (All-one (IsShallow limits) (record { path = path; zone = zone_at t zone path; proof = proof; bound = None })
+    (lower (length path) (zone_bits (zone_at t zone path)) (leaf_at_path (IsShallow limits) t zone path leaf h all)))
   where
-    lower : (d n : ℕ) → d + n ≤ 8256 → d ≤ 8256
+    lower : (d n : ℕ) → d + n ≤ greatest_depth limits → d ≤ greatest_depth limits
     lower d n h = omega arith
 
 forked_is_shallow : (p : Program) (t : GrowingTree) (path : List Side) (leaf : LiveLeaf) (v : ℕ) (at : ℤ) (proof : Proof) (bound : ℤ)
     → IsSized p → HasSoundSplits (certificate_tree t) p.spans → live_at t path ≡ Some leaf
     → IsSoundSplit (zone_at t p.spans path) v at → IsTimelySplit (length path) (zone_at t p.spans path) v at
-    → All IsShallow (growing_leaves t p.spans)
-    → All IsShallow (growing_leaves (put_at t path (fork v at (live proof bound) (live proof bound))) p.spans)
+    → All (IsShallow p.limits) (growing_leaves t p.spans)
+    → All (IsShallow p.limits) (growing_leaves (put_at t path (fork v at (live proof bound) (live proof bound))) p.spans)
 forked_is_shallow p t path leaf v at proof bound sized sound h split timely all =
     let here : List Span = zone_at t p.spans path in
     let proper : IsProper here = zone_is_proper t p.spans path leaf h sound sized.proper in
-    let now : length path + zone_bits here ≤ 8256 = leaf_at_path IsShallow t p.spans path leaf h all in
+    let now : length path + zone_bits here ≤ greatest_depth p.limits = leaf_at_path (IsShallow p.limits) t p.spans path leaf h all in
     let few : zone_bits here ≤ zone_bits p.spans = zone_at_bits t p.spans path leaf h sound sized.proper in
-    let small : zone_bits here ≤ 8192 = omega (arith, few, sized.bits) in
-    leaves_put IsShallow t p.spans path leaf (fork v at (live proof bound) (live proof bound)) h all
-    (All-append IsShallow (leaves_below (live proof bound) (path ++ Low ∷ []) (low_part here v at))
+    let small : zone_bits here ≤ most_digits p.limits = omega (arith, few, sized.bits) in
+    leaves_put (IsShallow p.limits) t p.spans path leaf (fork v at (live proof bound) (live proof bound)) h all
+    (All-append (IsShallow p.limits) (leaves_below (live proof bound) (path ++ Low ∷ []) (low_part here v at))
     (leaves_below (live proof bound) (path ++ High ∷ []) (high_part here v at))
     (part Low (low_part here v at)
-    (part_is_shallow (length path) (zone_bits here) (zone_bits (low_part here v at)) now small
+    (part_is_shallow (most_digits p.limits) (length path) (zone_bits here) (zone_bits (low_part here v at)) now small
     (zone_bits_grow (low_part here v at) here (split_shrinks_lem.low here v at split proper).1)
     (λ late. middle_takes_a_bit_lem.low here v at split (timely late))))
     (part High (high_part here v at)
-    (part_is_shallow (length path) (zone_bits here) (zone_bits (high_part here v at)) now small
+    (part_is_shallow (most_digits p.limits) (length path) (zone_bits here) (zone_bits (high_part here v at)) now small
     (zone_bits_grow (high_part here v at) here (split_shrinks_lem.high here v at split proper).1)
     (λ late. middle_takes_a_bit_lem.high here v at split (timely late)))))
   where
-    part : (side : Side) (zone : List Span) → length path + 1 + zone_bits zone ≤ 8256
-        → All IsShallow (leaves_below (live proof bound) (path ++ side ∷ []) zone)
+    part : (side : Side) (zone : List Span) → length path + 1 + zone_bits zone ≤ greatest_depth p.limits
+        → All (IsShallow p.limits) (leaves_below (live proof bound) (path ++ side ∷ []) zone)
     part side zone l =
-        All-one IsShallow (record { path = path ++ side ∷ []; zone = zone; proof = proof; bound = Some bound })
+        All-one (IsShallow p.limits) (record { path = path ++ side ∷ []; zone = zone; proof = proof; bound = Some bound })
         (omega (arith, l, length-append path (side ∷ [])))
 
 -- a leaf's depth alone
-depth_of_shallow : (depth : ℕ) (zone : List Span) (bound : Option ℤ) → KeepsDepth depth zone bound → depth ≤ 8256
-depth_of_shallow depth zone None h = h
-depth_of_shallow depth zone (Some bound) h = omega (arith, h)
+depth_of_shallow : (limits : Limits) (depth : ℕ) (zone : List Span) (bound : Option ℤ) → KeepsDepth limits depth zone bound
+    → depth ≤ greatest_depth limits
+depth_of_shallow limits depth zone None h = h
+depth_of_shallow limits depth zone (Some bound) h = omega (arith, h)
 
 -- the depth of a tree is that of its deepest leaf
 depth_by_leaves : (t : GrowingTree) (path : List Side) (zone : List Span) (most : ℕ)
@@ -150,12 +153,12 @@ depth_by_leaves (fork v at low high) path zone most all =
 pub stays_shallow_lem : StaysShallow
 stays_shallow_lem = record {
   planted = λ p v sized. planted_is_shallow v p plain_proof sized;
-  shut = λ p t path leaf proof h all. shut_is_shallow p.spans t path leaf proof h all;
+  shut = λ p t path leaf proof h all. shut_is_shallow p.limits p.spans t path leaf proof h all;
   forked = forked_is_shallow;
-  depth = λ t zone all.
-      let found : length {A = Side} [] + depth (certificate_tree t) ≤ 8256 = depth_by_leaves t [] zone 8256
-      (recursion_from_All (λ (leaf : GrowingLeaf). length leaf.path ≤ 8256) (growing_leaves t zone)
-      (All-weaker IsShallow (λ (leaf : GrowingLeaf). length leaf.path ≤ 8256)
-      (λ leaf h. depth_of_shallow (length leaf.path) leaf.zone leaf.bound h) (growing_leaves t zone) all)) in
+  depth = λ limits t zone all.
+      let found : length {A = Side} [] + depth (certificate_tree t) ≤ greatest_depth limits = depth_by_leaves t [] zone (greatest_depth limits)
+      (recursion_from_All (λ (leaf : GrowingLeaf). length leaf.path ≤ greatest_depth limits) (growing_leaves t zone)
+      (All-weaker (IsShallow limits) (λ (leaf : GrowingLeaf). length leaf.path ≤ greatest_depth limits)
+      (λ leaf h. depth_of_shallow limits (length leaf.path) leaf.zone leaf.bound h) (growing_leaves t zone) all)) in
       omega (arith, found);
 }

@@ -13,6 +13,7 @@ use Rattle.bp_theory.specs.Blocking.{Blocking, IsFaithful}
 use Rattle.bp_theory.specs.Bound.{IsBound, IsEndless, Fits}
 use Rattle.bp_theory.specs.Trees.{Tree, shut_leaf, open_leaf, split, Leaf, leaves, low_part, high_part, HasSoundSplits, IsSoundSplit, IsProper}
 use Rattle.bp_theory.specs.Claims.{Holds, Empties, Certificate, Shows, PointFits, IsValid}
+use Rattle.bp_theory.specs.declared.Limits.{Limits}
 use Rattle.bp_theory.specs.declared.Span.{Span}
 use Rattle.bp_theory.specs.declared.Proof.{Proof}
 use Rattle.bp_theory.specs.declared.Claim.{Claim}
@@ -197,7 +198,7 @@ point_is_feasible p (Bound bound None) (Some x) fits = absurd fits
 point_is_feasible p (Bound bound (Some v)) (Some x) fits = fits.feasible
 
 load_search : (p : Program) (b : Blocking) (cert : Certificate) (t : GrowingTree) → IsValid p b cert → IsReadable p b cert
-    → Loads b (best_cost p cert.point) p.spans cert.tree t → All IsShallow (growing_leaves t p.spans) → IsSearch p b t cert.point
+    → Loads b (best_cost p cert.point) p.spans cert.tree t → All (IsShallow p.limits) (growing_leaves t p.spans) → IsSearch p b t cert.point
 load_search p b cert t valid readable loads shallow =
     let best : Option ℤ = best_cost p cert.point in
     let z : ℤ = shown_number p cert.claim in
@@ -321,38 +322,38 @@ none_live_below b best zone (split v at low high) (fork w a first second) settle
 
 -- ---- a tree that is written and loaded is no deeper
 
-shallow_leaf : (b : Blocking) (best : Option ℤ) (path : List Side) (zone : List Span) (proof : Proof) (bound : Option ℤ) (t : GrowingTree)
-    → KeepsDepth (length path) zone bound → SettlesIfShut b best zone proof bound → LoadsLeaf b best zone proof t
-    → AllByRecursion IsShallow (leaves_below t path zone)
-shallow_leaf b best path zone proof None (live own z) deep settled loads = absurd (loads.1 settled)
-shallow_leaf b best path zone proof (Some y) (live own z) deep settled loads = (deep, tt)
-shallow_leaf b best path zone proof None (shut own) deep settled loads = (deep, tt)
-shallow_leaf b best path zone proof (Some y) (shut own) deep settled loads = (omega (arith, deep), tt)
-shallow_leaf b best path zone proof bound (fork v at low high) deep settled loads = absurd loads
+shallow_leaf : (limits : Limits) (b : Blocking) (best : Option ℤ) (path : List Side) (zone : List Span) (proof : Proof) (bound : Option ℤ) (t : GrowingTree)
+    → KeepsDepth limits (length path) zone bound → SettlesIfShut b best zone proof bound → LoadsLeaf b best zone proof t
+    → AllByRecursion (IsShallow limits) (leaves_below t path zone)
+shallow_leaf limits b best path zone proof None (live own z) deep settled loads = absurd (loads.1 settled)
+shallow_leaf limits b best path zone proof (Some y) (live own z) deep settled loads = (deep, tt)
+shallow_leaf limits b best path zone proof None (shut own) deep settled loads = (deep, tt)
+shallow_leaf limits b best path zone proof (Some y) (shut own) deep settled loads = (omega (arith, deep), tt)
+shallow_leaf limits b best path zone proof bound (fork v at low high) deep settled loads = absurd loads
 
-shallow_below : (b : Blocking) (best : Option ℤ) (path : List Side) (zone : List Span) (t loaded : GrowingTree)
-    → AllByRecursion IsShallow (leaves_below t path zone) → AllByRecursion (IsSettled b best) (leaves_below t path zone)
-    → Loads b best zone (certificate_tree t) loaded → AllByRecursion IsShallow (leaves_below loaded path zone)
-shallow_below b best path zone (live proof bound) loaded deep settled loads = shallow_leaf b best path zone proof (Some bound) loaded deep.0 settled.0 loads
-shallow_below b best path zone (shut proof) loaded deep settled loads = shallow_leaf b best path zone proof None loaded deep.0 settled.0 loads
-shallow_below b best path zone (fork v at low high) (live own bound) deep settled loads = absurd loads
-shallow_below b best path zone (fork v at low high) (shut own) deep settled loads = absurd loads
-shallow_below b best path zone (fork v at low high) (fork w a first second) deep settled loads =
+shallow_below : (limits : Limits) (b : Blocking) (best : Option ℤ) (path : List Side) (zone : List Span) (t loaded : GrowingTree)
+    → AllByRecursion (IsShallow limits) (leaves_below t path zone) → AllByRecursion (IsSettled b best) (leaves_below t path zone)
+    → Loads b best zone (certificate_tree t) loaded → AllByRecursion (IsShallow limits) (leaves_below loaded path zone)
+shallow_below limits b best path zone (live proof bound) loaded deep settled loads = shallow_leaf limits b best path zone proof (Some bound) loaded deep.0 settled.0 loads
+shallow_below limits b best path zone (shut proof) loaded deep settled loads = shallow_leaf limits b best path zone proof None loaded deep.0 settled.0 loads
+shallow_below limits b best path zone (fork v at low high) (live own bound) deep settled loads = absurd loads
+shallow_below limits b best path zone (fork v at low high) (shut own) deep settled loads = absurd loads
+shallow_below limits b best path zone (fork v at low high) (fork w a first second) deep settled loads =
     let before : List GrowingLeaf = leaves_below low (path ++ Low ∷ []) (low_part zone v at) in
     let behind : List GrowingLeaf = leaves_below high (path ++ High ∷ []) (high_part zone v at) in
-    let deeps = recursion_parts IsShallow before behind deep in
+    let deeps = recursion_parts (IsShallow limits) before behind deep in
     let settles = recursion_parts (IsSettled b best) before behind settled in
-    subst (λ n. AllByRecursion IsShallow (leaves_below (fork n a first second) path zone)) (sym loads.0)
-    (subst (λ n. AllByRecursion IsShallow (leaves_below (fork v n first second) path zone)) (sym loads.1)
-    (recursion-append IsShallow (leaves_below first (path ++ Low ∷ []) (low_part zone v at)) (leaves_below second (path ++ High ∷ []) (high_part zone v at))
-    (shallow_below b best (path ++ Low ∷ []) (low_part zone v at) low first deeps.0 settles.0 loads.2)
-    (shallow_below b best (path ++ High ∷ []) (high_part zone v at) high second deeps.1 settles.1 loads.3)))
+    subst (λ n. AllByRecursion (IsShallow limits) (leaves_below (fork n a first second) path zone)) (sym loads.0)
+    (subst (λ n. AllByRecursion (IsShallow limits) (leaves_below (fork v n first second) path zone)) (sym loads.1)
+    (recursion-append (IsShallow limits) (leaves_below first (path ++ Low ∷ []) (low_part zone v at)) (leaves_below second (path ++ High ∷ []) (high_part zone v at))
+    (shallow_below limits b best (path ++ Low ∷ []) (low_part zone v at) low first deeps.0 settles.0 loads.2)
+    (shallow_below limits b best (path ++ High ∷ []) (high_part zone v at) high second deeps.1 settles.1 loads.3)))
 
 written_is_shallow : (p : Program) (b : Blocking) (t loaded : GrowingTree) (best : Option (List ℤ)) → IsSearch p b t best
-    → Loads b (best_cost p best) p.spans (certificate_tree t) loaded → All IsShallow (growing_leaves loaded p.spans)
+    → Loads b (best_cost p best) p.spans (certificate_tree t) loaded → All (IsShallow p.limits) (growing_leaves loaded p.spans)
 written_is_shallow p b t loaded best search loads =
-    All-from_recursion IsShallow (growing_leaves loaded p.spans)
-    (shallow_below b (best_cost p best) [] p.spans t loaded (recursion_from_All IsShallow (growing_leaves t p.spans) search.shallow)
+    All-from_recursion (IsShallow p.limits) (growing_leaves loaded p.spans)
+    (shallow_below p.limits b (best_cost p best) [] p.spans t loaded (recursion_from_All (IsShallow p.limits) (growing_leaves t p.spans) search.shallow)
     (recursion_from_All (IsSettled b (best_cost p best)) (growing_leaves t p.spans) search.settled) loads)
 
 pub load_keeps_lem : LoadKeeps

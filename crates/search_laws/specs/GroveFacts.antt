@@ -7,6 +7,7 @@ use Rattle.bp_theory.specs.Blocking.{Blocking}
 use Rattle.bp_theory.specs.Bound.{SignsFit, Fits}
 use Rattle.bp_theory.specs.Trees.{HasSoundSplits, IsProper}
 use Rattle.bp_theory.specs.Claims.{Holds, Empties}
+use Rattle.bp_theory.specs.declared.Limits.{Limits}
 use Rattle.bp_theory.specs.declared.Span.{Span}
 use Rattle.bp_theory.specs.declared.Proof.{Proof}
 use Rattle.bp_theory.specs.Digits.{binary_digits, span_bits, zone_bits, middle}
@@ -47,14 +48,14 @@ SettlesIfShut b best zone proof (Some bound) = Unit {0}
 abbrev pub IsSettled : Blocking → Option ℤ → GrowingLeaf → Type 0
 IsSettled b best leaf = SettlesIfShut b best leaf.zone leaf.proof leaf.bound
 
--- a leaf's depth, and at a live leaf the bits of its zone with it, stay at most 8,256
-abbrev pub KeepsDepth : ℕ → List Span → Option ℤ → Type 0
-KeepsDepth depth zone None = depth ≤ greatest_depth
-KeepsDepth depth zone (Some bound) = depth + zone_bits zone ≤ greatest_depth
+-- a leaf's depth, and at a live leaf the bits of its zone with it, stay at most the greatest depth of the limits
+abbrev pub KeepsDepth : Limits → ℕ → List Span → Option ℤ → Type 0
+KeepsDepth limits depth zone None = depth ≤ greatest_depth limits
+KeepsDepth limits depth zone (Some bound) = depth + zone_bits zone ≤ greatest_depth limits
 
--- a leaf is not too deep
-abbrev pub IsShallow : GrowingLeaf → Type 0
-IsShallow leaf = KeepsDepth (length leaf.path) leaf.zone leaf.bound
+-- a leaf is not too deep for the limits
+abbrev pub IsShallow : Limits → GrowingLeaf → Type 0
+IsShallow limits leaf = KeepsDepth limits (length leaf.path) leaf.zone leaf.bound
 
 -- a split that the depth allows: from depth 64 on it is at the middle
 abbrev pub IsTimelySplit : ℕ → List Span → ℕ → ℤ → Type 0
@@ -70,10 +71,10 @@ IsNoDearer y None = Unit {0}
 IsNoDearer None (Some z) = ⊥
 IsNoDearer (Some y) (Some z) = y ≤ℤ z
 
--- a program's spans have numbers and at most 8,192 bits together
+-- a program's spans have numbers, and together no more bits than its limits allow
 pub record IsSized (p : Program) : Type 0 where
   pub proper : IsProper p.spans
-  pub bits : zone_bits p.spans ≤ most_digits
+  pub bits : zone_bits p.spans ≤ most_digits p.limits
 
 -- a number is one of a list's and none of them is less
 pub record IsLeastOf (zs : List ℤ) (v : ℤ) : Type 0 where
@@ -89,5 +90,5 @@ IsRemainingBound p t best v = IsLeastOf (live_bounds t ++ option_to_list (best_c
 pub record IsSearch (p : Program) (b : Blocking) (t : GrowingTree) (best : Option (List ℤ)) : Type 0 where
   pub feasible : IfSome best (IsFeasible p)
   pub grove : IsGrove b p.spans t
-  pub shallow : All IsShallow (growing_leaves t p.spans)
+  pub shallow : All (IsShallow p.limits) (growing_leaves t p.spans)
   pub settled : All (IsSettled b (best_cost p best)) (growing_leaves t p.spans)

@@ -8,6 +8,7 @@ use Rattle.bp_theory.specs.Bound.{IsBound, IsEndless, Fits, plain_proof}
 use Rattle.bp_theory.specs.Cuts.{cut_rows}
 use Rattle.bp_theory.specs.Claims.{Certificate, IsValid, IsCertified, IsTrueClaim}
 use Rattle.bp_theory.specs.Trees.{Tree, IsProper, IsSubzone, IsSoundSplit, HasSoundSplits, low_part, high_part, steps, depth, leaves, HoldsOnce}
+use Rattle.bp_theory.specs.declared.Limits.{Limits}
 use Rattle.bp_theory.specs.declared.Span.{Span}
 use Rattle.bp_theory.specs.declared.Proof.{Proof}
 use Rattle.bp_theory.specs.declared.Row.{Row}
@@ -49,16 +50,17 @@ ForkKeeps = (b : Blocking) (zone : List Span) (t : GrowingTree) (path : List Sid
     → IsSoundProof b proof → KeepsBound b (zone_at t zone path) proof bound
     → IsGrove b zone (fork_at t path v at proof bound)
 
--- a tree that is planted, shut, or forked in time, stays shallow, and so its depth is at most 8,256
+-- a tree that is planted, shut, or forked in time, stays shallow, and so its depth is at most the greatest of its limits
 pub record StaysShallow : Type 0 where
-  pub planted : (p : Program) (v : ℤ) → IsSized p → All IsShallow (growing_leaves (planted v) p.spans)
+  pub planted : (p : Program) (v : ℤ) → IsSized p → All (IsShallow p.limits) (growing_leaves (planted v) p.spans)
   pub shut : (p : Program) (t : GrowingTree) (path : List Side) (leaf : LiveLeaf) (proof : Proof)
-      → live_at t path ≡ Some leaf → All IsShallow (growing_leaves t p.spans) → All IsShallow (growing_leaves (shut_at t path proof) p.spans)
+      → live_at t path ≡ Some leaf → All (IsShallow p.limits) (growing_leaves t p.spans) → All (IsShallow p.limits) (growing_leaves (shut_at t path proof) p.spans)
   pub forked : (p : Program) (t : GrowingTree) (path : List Side) (leaf : LiveLeaf) (v : ℕ) (at : ℤ) (proof : Proof) (bound : ℤ)
       → IsSized p → HasSoundSplits (certificate_tree t) p.spans → live_at t path ≡ Some leaf
       → IsSoundSplit (zone_at t p.spans path) v at → IsTimelySplit (length path) (zone_at t p.spans path) v at
-      → All IsShallow (growing_leaves t p.spans) → All IsShallow (growing_leaves (fork_at t path v at proof bound) p.spans)
-  pub depth : (t : GrowingTree) (zone : List Span) → All IsShallow (growing_leaves t zone) → depth (certificate_tree t) ≤ greatest_depth
+      → All (IsShallow p.limits) (growing_leaves t p.spans) → All (IsShallow p.limits) (growing_leaves (fork_at t path v at proof bound) p.spans)
+  pub depth : (limits : Limits) (t : GrowingTree) (zone : List Span) → All (IsShallow limits) (growing_leaves t zone)
+      → depth (certificate_tree t) ≤ greatest_depth limits
 
 -- a split at the middle takes at least one bit from the zones of both parts, and no sound split adds one
 pub record MiddleTakesABit : Type 0 where
@@ -202,11 +204,11 @@ pub record LoadKeeps : Type 0 where
       → (t : GrowingTree) × Loads b (best_cost p cert.point) p.spans cert.tree t
   pub one : (p : Program) (b : Blocking) (tree : Tree) (best : Option ℤ) (t u : GrowingTree) → Loads b best p.spans tree t → Loads b best p.spans tree u → t ≡ u
   pub search : (p : Program) (b : Blocking) (cert : Certificate) (t : GrowingTree) → IsValid p b cert → IsReadable p b cert
-      → Loads b (best_cost p cert.point) p.spans cert.tree t → All IsShallow (growing_leaves t p.spans) → IsSearch p b t cert.point
+      → Loads b (best_cost p cert.point) p.spans cert.tree t → All (IsShallow p.limits) (growing_leaves t p.spans) → IsSearch p b t cert.point
   pub none_live : (p : Program) (b : Blocking) (cert : Certificate) (t : GrowingTree) → IsValid p b cert → IsFinalClaim cert.claim
       → Loads b (best_cost p cert.point) p.spans cert.tree t → live_count t ≡ 0
   pub shallow : (p : Program) (b : Blocking) (t loaded : GrowingTree) (best : Option (List ℤ)) → IsSearch p b t best
-      → Loads b (best_cost p best) p.spans (certificate_tree t) loaded → All IsShallow (growing_leaves loaded p.spans)
+      → Loads b (best_cost p best) p.spans (certificate_tree t) loaded → All (IsShallow p.limits) (growing_leaves loaded p.spans)
 
 -- searches that end agree in word and value; so a run that is stopped, written, loaded and ended by
 -- another run claims what a run that isn't stopped claims

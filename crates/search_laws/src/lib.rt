@@ -97,7 +97,7 @@ pub fn middle_takes_a_bit()
     ensures { MiddleTakesABit }
 {}
 
-/// A tree that is planted, shut, or forked in time is at most 8,256 deep.
+/// A tree that is planted, shut, or forked in time is no deeper than its limits allow.
 pub fn stays_shallow()
     ensures { StaysShallow }
 {}

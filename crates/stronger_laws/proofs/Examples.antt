@@ -7,6 +7,7 @@ use Rattle.bp_theory.specs.Blocking.{all_copies, coef_in, row_at}
 use Rattle.bp_theory.specs.Decomposition.{Decomposition, blocking_of}
 use Rattle.bp_theory.specs.Bound.{base, reduced_cost}
 use Rattle.bp_theory.specs.Trees.{high_part}
+use Rattle.bp_theory.specs.declared.Limits.TheVariants.{Usual}
 use Rattle.bp_theory.specs.declared.Span.{Span}
 use Rattle.bp_theory.specs.declared.Term.{Term}
 use Rattle.bp_theory.specs.declared.Sense.{Sense}
@@ -63,6 +64,7 @@ flow = record {
   costs = [];
   constant = pos 0;
   maximises = false;
+  limits = Usual;
 }
 
 abbrev one_block : Decomposition
@@ -109,6 +111,7 @@ two_sided = record {
   costs = [];
   constant = pos 0;
   maximises = false;
+  limits = Usual;
 }
 
 abbrev no_blocks : Decomposition
@@ -144,6 +147,7 @@ bins = record {
   costs = [];
   constant = pos 0;
   maximises = false;
+  limits = Usual;
 }
 
 abbrev two_bins : Decomposition
@@ -186,6 +190,7 @@ rolls = record {
   costs = term 0 (pos 1) ∷ term 1 (pos 1) ∷ term 2 (pos 1) ∷ [];
   constant = pos 0;
   maximises = false;
+  limits = Usual;
 }
 
 abbrev three_rolls : Decomposition
@@ -214,6 +219,7 @@ linked = record {
   costs = [];
   constant = pos 0;
   maximises = false;
+  limits = Usual;
 }
 
 no_siblings : siblings (blocking_of linked (record { blocks = 2; places = Some 0 ∷ Some 1 ∷ []; listed = [] }) []) linked.spans 1 ≡ []

@@ -11,6 +11,7 @@ use Rattle.bp_theory.specs.Decomposition.{Decomposition, blocking_of, block_of, 
 use Rattle.bp_theory.specs.Bound.{IsPoint, IsLeast, IsPart, IsBound, SignFits, SignsFit, is_picked, spans_of, reduced_cost, box_least}
 use Rattle.bp_theory.specs.Trees.{Leaf, high_part}
 use Rattle.bp_theory.specs.Claims.{IsTrueClaim, Shows, MayBeOpen}
+use Rattle.bp_theory.specs.declared.Limits.TheVariants.{Usual}
 use Rattle.bp_theory.specs.declared.Span.{Span}
 use Rattle.bp_theory.specs.declared.Term.{Term}
 use Rattle.bp_theory.specs.declared.Sense.{Sense}
@@ -60,6 +61,7 @@ closed_by_cut = record {
   costs = term 1 (pos 1) ∷ [];
   constant = pos 0;
   maximises = false;
+  limits = Usual;
 }
 
 abbrev no_blocks : Decomposition
@@ -151,6 +153,7 @@ rolls = record {
   costs = term 0 (pos 1) ∷ term 1 (pos 1) ∷ [];
   constant = pos 0;
   maximises = false;
+  limits = Usual;
 }
 
 abbrev two_rolls : Decomposition
@@ -263,6 +266,7 @@ bins = record {
   costs = [];
   constant = pos 0;
   maximises = false;
+  limits = Usual;
 }
 
 abbrev two_bins : Decomposition

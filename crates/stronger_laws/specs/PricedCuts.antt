@@ -12,7 +12,7 @@ use Rattle.stronger_laws.specs.declared.PricedCut.{PricedCut}
 
 -- a program with another objective, which is minimised
 abbrev pub with_costs : Program → List Term → Program
-with_costs p costs = record { spans = p.spans; rows = p.rows; costs = costs; constant = pos 0; maximises = false }
+with_costs p costs = record { spans = p.spans; rows = p.rows; costs = costs; constant = pos 0; maximises = false; limits = p.limits }
 
 -- the row of a priced cut: the objective is at least the side
 abbrev pub priced_row : PricedCut → Row
