@@ -1,13 +1,13 @@
 -- What is assembled is the blocking of the decomposition and the cuts.
-use Rattle.std.proofs.Common.{◌≡◌, ℕ, zero, suc, ◌+◌, ◌-◌, ◌<◌, ◌≤◌, Bool, true, false, if◌then◌else◌, List, [], ◌∷◌, ◌++◌, map, filter, drop, length, get_or, Option, Some, None, All, refl, sym, ap, subst, ◌∙◌, ⊎_elim, arith, replicate, length-append}
-use Rattle.std.specs.Prelude.{option_map, ◌⊎◌}
+use Rattle.std.proofs.Common.{◌≡◌, ℕ, Bool, true, false, if◌then◌else◌, List, [], ◌∷◌, ◌++◌, map, filter, drop, length, Option, Some, None, All, refl, sym, ap, subst, ◌∙◌, ⊎_elim, arith, replicate, length-append}
+use Rattle.std.specs.Prelude.{option_map}
 use Rattle.std.specs.List.{range_with_len, AllByRecursion, zip, flat_map}
 use Rattle.std.proofs.lemmas.Bool.Decides.{eqb_tells}
 use Rattle.std.proofs.lemmas.List.{length-map, map-append}
 use Rattle.std.proofs.lemmas.List.Elements.{recursion_from_All, All-nil}
 use Rattle.std.proofs.lemmas.List.FromFn.{length-range_with_len}
 use Rattle.bp_theory.specs.Program.{Program, KeepsActivity}
-use Rattle.bp_theory.specs.Blocking.{Block, Blocking, sides_of}
+use Rattle.bp_theory.specs.Blocking.{Block, sides_of}
 use Rattle.bp_theory.specs.Decomposition.{Decomposition, ProofRow, whole_row, link_row, links_of, full_row, proof_row, members, lone_variables, lone_block, blocking_of, rows_of, row_with_places, is_block, is_in, is_first, IsPlace, HasPlaces, HasLargeLinks, IsMisplaced, IsFirstMisplaced, link_count, copy_of, HasVariablesBelow, IsTidyFrom}
 use Rattle.bp_theory.specs.Cuts.{cut_rows}
 use Rattle.bp_theory.specs.declared.Cut.{Cut}
@@ -18,10 +18,9 @@ use Rattle.bp_model.specs.Dec.{HasListed}
 use Rattle.block_program.specs.Blocked.{RootBlock, BlockedProgram, HaveRootSpans, IsFormed, AreMade, AreParts}
 use Rattle.block_program.specs.Cuts.{KeepsCuts, IsSmallCut, AreCutRows}
 use Rattle.block_build.specs.Gather.{all_sides, link_sides, named_sides, IsElsewhere, IsFirstElsewhere}
-use Rattle.block_build.specs.Homes.{AreHomes, further}
-use Rattle.block_build.specs.Source.{IsSource, block_in, rows_in, copy_in}
+use Rattle.block_build.specs.Homes.{AreHomes}
+use Rattle.block_build.specs.Source.{IsSource, block_in, rows_in}
 use Rattle.block_build.specs.declared.source.Source.{Source}
-use Rattle.block_build.proofs.CopyLemmas.{links_counted}
 use Rattle.block_build.proofs.FormLemmas.{first_misplaced, none_misplaced}
 use Rattle.block_program.proofs.StandLemmas.{passing_few}
 
@@ -40,14 +39,18 @@ no_rows_past blocks (row ∷ rows) (place ∷ places) h =
     (not_past blocks place h.0)
     ∙ no_rows_past blocks rows places h.1
 
+pub no_lone_rows : (p : Program) (d : Decomposition) → HasPlaces p d → rows_of p d d.blocks ≡ []
+no_lone_rows p d places =
+    ap (map (λ (e : Row × Option ℕ). e.0)) (no_rows_past d.blocks p.rows d.places (recursion_from_All (IsPlace d.blocks) d.places places.known))
+
 lone_is : (s : Source) (v : ℕ) → HasPlaces s.model.now.program s.dec.now → is_first s.model.now.program s.dec.now v s.dec.now.blocks ≡ true
     → block_in s s.dec.now.blocks (v ∷ []) ≡ lone_block s.model.now.program s.dec.now (rows_in s) v
 lone_is s v places first =
     let p = s.model.now.program in
     let d = s.dec.now in
     ap (λ (b : Bool). record { copies = copy_of p (rows_in s) b v d.blocks ∷ []; rows = map (row_with_places (v ∷ [])) (rows_of p d d.blocks) }) first
-    ∙ ap (λ (es : List (Row × Option ℕ)). record { copies = copy_of p (rows_in s) true v d.blocks ∷ []; rows = map (row_with_places (v ∷ [])) (map (λ (e : Row × Option ℕ). e.0) es) })
-    (no_rows_past d.blocks p.rows d.places (recursion_from_All (IsPlace d.blocks) d.places places.known))
+    ∙ ap (λ (rows : List Row). record { copies = copy_of p (rows_in s) true v d.blocks ∷ []; rows = map (row_with_places (v ∷ [])) rows })
+    (no_lone_rows p d places)
 
 map_same : {X Y : Type 0} (f g : X → Y) (xs : List X) → AllByRecursion (λ x. f x ≡ g x) xs → map f xs ≡ map g xs
 map_same f g [] h = refl

@@ -1,5 +1,5 @@
 -- Laws of columns as they grow, and of what stands in them.
-use Rattle.std.proofs.Common.{◌≡◌, ◌≢◌, refl, sym, ap, subst, ◌∙◌, ℕ, zero, suc, ◌+◌, ◌-◌, ◌<◌, ◌≤◌, Bool, true, false, ◌||◌, filter, List, [], ◌∷◌, ◌++◌, map, length, get_or, set, take, All, Option, Some, None, arith, append_assoc, length-append, zero-add, true≢false, ⊎_elim, inl, inr}
+use Rattle.std.proofs.Common.{◌≡◌, ◌≢◌, refl, sym, ap, subst, ◌∙◌, ℕ, zero, suc, ◌+◌, ◌<◌, Bool, true, false, ◌||◌, filter, List, [], ◌∷◌, ◌++◌, length, get_or, set, take, All, Option, Some, None, arith, append_assoc, length-append, zero-add, true≢false, ⊎_elim, inl, inr}
 use Rattle.std.specs.Prelude.{ℤ, pos, ◌==◌, ◌⊎◌, if◌then◌else◌, is_none}
 use Rattle.std.specs.List.{AllByRecursion, list_any}
 use Rattle.std.specs.Ordering.{int_eq}

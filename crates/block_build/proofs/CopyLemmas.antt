@@ -1,14 +1,16 @@
 -- The coefficients and the cost of a variable's copy in a block.
-use Rattle.std.proofs.Common.{◌≡◌, ◌≢◌, ℕ, zero, suc, ◌+◌, ◌-◌, ◌<◌, ◌≤◌, Bool, true, false, not, ◌||◌, if◌then◌else◌, List, [], ◌∷◌, ◌++◌, map, filter, drop, take, length, get_or, All, refl, sym, ap, subst, ◌∙◌, ⊎_elim, arith, true≢false, zero-add, length-append}
-use Rattle.std.specs.Prelude.{ℤ, pos, negsuc, sum_by, ◌*◌, ◌==◌}
+use Rattle.std.proofs.Common.{◌≡◌, ◌≢◌, ℕ, zero, suc, ◌+◌, ◌-◌, ◌<◌, ◌≤◌, Bool, true, false, not, ◌||◌, if◌then◌else◌, List, [], ◌∷◌, ◌++◌, map, filter, drop, take, length, get_or, refl, sym, ap, subst, ◌∙◌, ⊎_elim, arith, true≢false, zero-add, length-append}
+use Rattle.std.specs.Prelude.{ℤ, pos, negsuc, sum_by, ◌==◌}
 use Rattle.std.specs.List.{range_with_len, list_any, AllByRecursion, flat_map}
 use Rattle.std.proofs.lemmas.List.{length-map, map-append, append-nil}
-use Rattle.std.proofs.lemmas.List.FromFn.{length-range_with_len, take-map-range_with_len}
-use Rattle.std.proofs.lemmas.List.Sums.{sum_by-cons}
-use Rattle.std.proofs.lemmas.List.Concat.{flat_map-append, length-flat_map}
+use Rattle.std.proofs.lemmas.List.FromFn.{take-map-range_with_len}
+use Rattle.std.proofs.lemmas.List.Sums.{sum_by-cons, sum_by-take-le}
+use Rattle.std.proofs.lemmas.List.Concat.{flat_map-append}
 use Rattle.std.proofs.lemmas.List.Elements.{recursion_from_All}
 use Rattle.bp_theory.specs.Program.{Program, coefficient}
 use Rattle.bp_theory.specs.Decomposition.{Decomposition, ProofRow, whole_row, link_row, links_of, proof_rows, copy_coefficient, numbered, at_first, is_in, is_first, place_of, IsTidyFrom, HasPlaces, link_count}
+use Rattle.bp_theory.specs.Limits.{most_blocks, most_lines}
+use Rattle.bp_theory.specs.declared.Limits.TheVariants.{Large}
 use Rattle.bp_theory.specs.declared.Row.{Row}
 use Rattle.block_build.specs.Columns.{column_from, master_entries}
 use Rattle.block_build.specs.Gather.{coefs_from}
@@ -18,7 +20,6 @@ use Rattle.block_build.specs.declared.source.Source.{Source}
 use Rattle.block_build.proofs.ColumnLemmas.{master_is}
 use Rattle.block_program.proofs.StandLemmas.{passing_few}
 use Rattle.block_build.proofs.GatherLemmas.{any_default}
-use Rattle.block_build.proofs.SumLemmas.{further_few}
 use Rattle.block_build.proofs.HomeLemmas.{homes_are}
 use Rattle.block_build.proofs.RangeLemmas.{range_split, first_passing, later_passing, later_place, others_behind}
 use Rattle.block_program.proofs.NamedRows.{own_rows, own_long}
@@ -220,28 +221,8 @@ behind_first (suc i) apart = (i, refl)
 
 -- ---- sizes
 
-sum_range : (p : Program) (d : Decomposition) (a n : ℕ) → d.blocks ≤ 4096 → sum_by further (map (homes_in p d) (range_with_len a n)) ≤ n * 4096
-sum_range p d a zero few = omega arith
-sum_range p d a (suc n) few =
-    omega (
-      arith,
-      sum_by-cons further (homes_in p d a) (map (homes_in p d) (range_with_len (a + 1) n)),
-      further_few (homes_in p d a),
-      passing_few (is_in p d a) d.blocks,
-      few,
-      sum_range p d (a + 1) n few,
-    )
-
-sum_homes : (p : Program) (d : Decomposition) (homes : List (List ℕ)) (v : ℕ) → AreHomes p d homes → d.blocks ≤ 4096 → v ≤ length p.spans → sum_by further (take v homes) ≤ v * 4096
-sum_homes p d homes v h few l =
-    omega (
-      arith,
-      ap (sum_by further) (ap (take v) (homes_are p d homes h) ∙ take-map-range_with_len (homes_in p d) 0 (length p.spans) v l),
-      sum_range p d 0 v few,
-    )
-
 -- the number of a variable's first link row
-pub few_links : (s : Source) (v link : ℕ) → IsSource s → v < length s.model.now.program.spans → link ≡ get_or s.links.items v link → link ≤ 16785408
+pub few_links : (s : Source) (v link : ℕ) → IsSource s → v < length s.model.now.program.spans → link ≡ get_or s.links.items v link → link ≤ most_lines Large
 few_links s v link source l is =
     let at : get_or s.links.items v link ≡ get_or s.links.items v 0 = any_default s.links.items v link 0 (omega (arith, l, source.homes.0, source.links.0)) in
     omega (
@@ -249,19 +230,13 @@ few_links s v link source l is =
       is,
       at,
       source.links.1 v (omega (arith, l, source.homes.0)),
-      sum_homes s.model.now.program s.dec.now s.homes.items v source.homes source.few (omega (arith, l)),
-      l,
-      source.kept.variables,
-      source.kept.rows,
+      sum_by-take-le further s.homes.items v,
+      source.end,
+      source.few_lines,
     )
 
--- the number behind the last
-pub few_ends : (p : Program) (d : Decomposition) (homes : List (List ℕ)) → AreHomes p d homes → d.blocks ≤ 4096 → length p.spans ≤ 4096 → sum_by further homes ≤ 16777216
-few_ends p d homes h few vars =
-    omega (arith, ap (sum_by further) (homes_are p d homes h), sum_range p d 0 (length p.spans) few, vars)
-
 -- the place of a block among a variable's homes
-pub few_places : (s : Source) (k v place : ℕ) → IsSource s → place ≡ place_of (homes_in s.model.now.program s.dec.now v) k → place ≤ 4096
+pub few_places : (s : Source) (k v place : ℕ) → IsSource s → place ≡ place_of (homes_in s.model.now.program s.dec.now v) k → place ≤ most_blocks Large
 few_places s k v place source is =
     omega (arith, is, place_within (homes_in s.model.now.program s.dec.now v) k, passing_few (is_in s.model.now.program s.dec.now v) s.dec.now.blocks, source.few)
   where
@@ -274,7 +249,7 @@ few_places s k v place source is =
         by false rest = omega (arith, rest)
 
 -- how many homes a variable has
-pub few_further : (s : Source) (v : ℕ) (own : List ℕ) → IsSource s → v < length s.model.now.program.spans → own ≡ get_or s.homes.items v own → length own ≤ 4096
+pub few_further : (s : Source) (v : ℕ) (own : List ℕ) → IsSource s → v < length s.model.now.program.spans → own ≡ get_or s.homes.items v own → length own ≤ most_blocks Large
 few_further s v own source l is =
     omega (
       arith,

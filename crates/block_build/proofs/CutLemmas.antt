@@ -1,5 +1,5 @@
 -- The rows of cuts.
-use Rattle.std.proofs.Common.{◌≡◌, ◌≢◌, ℕ, zero, suc, ◌+◌, ◌≤◌, Bool, true, false, not, if◌then◌else◌, List, [], ◌∷◌, ◌++◌, map, filter, length, All, refl, sym, ap, ◌∙◌, arith, length-append}
+use Rattle.std.proofs.Common.{◌≡◌, ◌≢◌, ℕ, zero, suc, ◌+◌, ◌≤◌, Bool, true, false, not, if◌then◌else◌, List, [], ◌∷◌, ◌++◌, map, filter, length, All, refl, arith, length-append}
 use Rattle.std.specs.Prelude.{ℤ, pos}
 use Rattle.std.specs.List.{range_with_len}
 use Rattle.std.specs.Ordering.{int_eq}
@@ -7,7 +7,7 @@ use Rattle.std.proofs.lemmas.Bool.Decides.{Decides-int_eq}
 use Rattle.std.proofs.lemmas.List.Elements.{All-nil, All-push}
 use Rattle.bp_theory.specs.Program.{Program}
 use Rattle.bp_theory.specs.Decomposition.{Decomposition, IsTidyFrom, proof_rows}
-use Rattle.bp_theory.specs.Cuts.{cut_row, cut_rows, rounded, term_at, terms_of}
+use Rattle.bp_theory.specs.Cuts.{cut_row, cut_rows, rounded, term_at}
 use Rattle.bp_theory.specs.declared.Cut.{Cut}
 use Rattle.bp_theory.specs.declared.Row.{Row}
 use Rattle.bp_theory.specs.declared.Term.{Term}

@@ -1,13 +1,11 @@
 -- What is gathered row by row is the blocking of the decomposition.
-use Rattle.std.proofs.Common.{◌≡◌, ◌≢◌, ℕ, zero, suc, ◌<◌, ◌==◌, Bool, true, false, ◌||◌, if◌then◌else◌, List, [], ◌∷◌, map, filter, length, get_or, Option, Some, None, All, refl, sym, ap, subst, ◌∙◌, ⊎_elim, arith, true≢false}
+use Rattle.std.proofs.Common.{◌≡◌, ℕ, zero, suc, ◌<◌, Bool, true, false, ◌||◌, if◌then◌else◌, List, [], ◌∷◌, map, filter, length, get_or, Option, Some, None, All, refl, sym, ap, subst, ◌∙◌, ⊎_elim, arith, true≢false}
 use Rattle.std.specs.Prelude.{pos}
-use Rattle.std.specs.List.{AllByRecursion, list_any, zip, range_with_len}
-use Rattle.std.proofs.lemmas.Bool.{cases_lt}
+use Rattle.std.specs.List.{list_any, zip, range_with_len}
 use Rattle.std.proofs.lemmas.Bool.Decides.{eqb_tells}
-use Rattle.std.proofs.lemmas.List.Elements.{recursion_from_All, All-from_recursion}
+use Rattle.std.proofs.lemmas.List.Elements.{All-from_recursion}
 use Rattle.bp_theory.specs.Program.{Program}
 use Rattle.bp_theory.specs.Decomposition.{Decomposition, is_block, stands_in, is_in, IsMisplaced, IsFirstMisplaced, place_of}
-use Rattle.bp_theory.specs.declared.Term.{Term}
 use Rattle.bp_theory.specs.declared.Row.{Row}
 use Rattle.bp_theory.specs.declared.Sense.TheVariants.{Le}
 use Rattle.bp_theory.proofs.DecompositionProof.{eqb_itself}

@@ -1,19 +1,19 @@
 -- Gathered blocks.
-use Rattle.std.proofs.Common.{◌≡◌, ℕ, zero, suc, ◌+◌, ◌<◌, ◌≤◌, Bool, true, false, not, if◌then◌else◌, List, [], ◌∷◌, ◌++◌, map, filter, length, get_or, Option, Some, Result, Ok, Err, IfOk, All, refl, sym, ap, subst, ◌∙◌, ⊎_elim, arith, add-one, append_assoc, drop, drop-cons, None, true≢false}
+use Rattle.std.proofs.Common.{◌≡◌, ℕ, zero, suc, ◌+◌, ◌<◌, Bool, true, false, if◌then◌else◌, List, [], ◌∷◌, ◌++◌, map, filter, length, get_or, Option, Some, Result, Ok, Err, IfOk, All, refl, sym, ap, subst, ◌∙◌, ⊎_elim, arith, add-one, true≢false}
 use Rattle.std.specs.Prelude.{ℤ, IsTrue, ◌↔◌}
-use Rattle.std.specs.List.{range_with_len, AllByRecursion, zip}
+use Rattle.std.specs.List.{range_with_len, AllByRecursion}
 use Rattle.std.proofs.lemmas.Bool.{cases_lt}
 use Rattle.std.proofs.lemmas.List.{map-append}
 use Rattle.std.proofs.lemmas.List.Elements.{All-from_recursion}
 use Rattle.bp_theory.specs.Program.{span_at}
 use Rattle.bp_theory.specs.Blocking.{Copy, Block}
 use Rattle.bp_theory.specs.Bound.{spans_of}
-use Rattle.bp_theory.specs.Decomposition.{is_block, row_with_places}
+use Rattle.bp_theory.specs.Decomposition.{row_with_places, rows_of}
 use Rattle.bp_theory.specs.declared.Span.{Span}
 use Rattle.bp_theory.specs.declared.Row.{Row}
 use Rattle.bp_theory.proofs.DecompositionProof.{below_range}
 use Rattle.block_program.specs.Blocked.{copies_from}
-use Rattle.block_build.specs.Gather.{rows_from, is_empty, IsElsewhere}
+use Rattle.block_build.specs.Gather.{is_empty, IsElsewhere}
 use Rattle.block_build.specs.Source.{block_in, copy_in}
 use Rattle.block_build.specs.declared.source.Source.{Source}
 use Rattle.block_program.proofs.StandLemmas.{range_more}
@@ -28,31 +28,16 @@ pub spans_made : (spans : List Span) (s : Source) (k : ℕ) (vars : List ℕ) �
 spans_made spans s k [] = refl
 spans_made spans s k (v ∷ vs) = ap (λ ss. span_at spans v ∷ ss) (spans_made spans s k vs)
 
--- the rows of a block, row by row
-rows_are : (k : ℕ) (vars : List ℕ) (rows : List Row) (places : List (Option ℕ))
-    → rows_from k vars rows places ≡ map (row_with_places vars) (map (λ (e : Row × Option ℕ). e.0) (filter (λ (e : Row × Option ℕ). is_block k e.1) (zip rows places)))
-rows_are k vars [] places = refl
-rows_are k vars (row ∷ rows) [] = refl
-rows_are k vars (row ∷ rows) (place ∷ places) = by (is_block k place) (rows_are k vars rows places)
-  where
-    es : List (Row × Option ℕ)
-    es = filter (λ (e : Row × Option ℕ). is_block k e.1) (zip rows places)
-
-    by : (b : Bool) → rows_from k vars rows places ≡ map (row_with_places vars) (map (λ (e : Row × Option ℕ). e.0) es)
-        → (if b then row_with_places vars row ∷ rows_from k vars rows places else rows_from k vars rows places)
-        ≡ map (row_with_places vars) (map (λ (e : Row × Option ℕ). e.0) (if b then (row, place) ∷ es else es))
-    by true rest = ap (λ rs. row_with_places vars row ∷ rs) rest
-    by false rest = rest
-
 -- a block made of what was gathered
 pub block_made : (s : Source) (k : ℕ) (vars : List ℕ) (cs : List ℤ) (ms : List (List (ℕ × ℤ))) (own : List Row)
-    → cs ≡ map (λ v. (copy_in s k v).cost) vars → ms ≡ map (λ v. (copy_in s k v).coefs) vars → own ≡ rows_from k vars s.model.now.program.rows s.dec.now.places
+    → cs ≡ map (λ v. (copy_in s k v).cost) vars → ms ≡ map (λ v. (copy_in s k v).coefs) vars
+    → own ≡ map (row_with_places vars) (rows_of s.model.now.program s.dec.now k)
     → ◌≡◌ {A = Block} (record { copies = copies_from vars cs ms; rows = own }) (block_in s k vars)
 block_made s k vars cs ms own costs_are masters_are own_are =
     ap (λ (zs : List ℤ). record { copies = copies_from vars zs ms; rows = own }) costs_are
     ∙ ap (λ (xs : List (List (ℕ × ℤ))). record { copies = copies_from vars (map (λ v. (copy_in s k v).cost) vars) xs; rows = own }) masters_are
     ∙ ap (λ (copies : List Copy). record { copies = copies; rows = own }) (copies_made s k vars)
-    ∙ ap (λ (rs : List Row). record { copies = map (copy_in s k) vars; rows = rs }) (own_are ∙ rows_are k vars s.model.now.program.rows s.dec.now.places)
+    ∙ ap (λ (rs : List Row). record { copies = map (copy_in s k) vars; rows = rs }) own_are
 
 -- those that pass are there, and no more
 filter_below : (q : ℕ → Bool) (m : ℕ) (xs : List ℕ) → AllByRecursion (λ v. v < m) xs → AllByRecursion (λ v. v < m) (filter q xs)
@@ -117,24 +102,3 @@ empty_by false (x ∷ xs) h = refl
 pub if_ok : {X E : Type 0} (r : Result X E) (P Q : X → Type 0) → ((x : X) → P x → Q x) → IfOk r P → IfOk r Q
 if_ok (Ok x) P Q f h = f x h
 if_ok (Err e) P Q f h = tt
-
--- a row more of a block's rows
-pub rows_more : (k : ℕ) (vars : List ℕ) (rows : List Row) (places : List (Option ℕ)) (i : ℕ) (d : Row) (b : Bool) (all : List Row) → i < length rows
-    → length places ≡ length rows → b ≡ is_block k (get_or places i None)
-    → all ++ rows_from k vars (drop i rows) (drop i places) ≡ rows_from k vars rows places
-    → (if b then all ++ row_with_places vars (get_or rows i d) ∷ [] else all) ++ rows_from k vars (drop (i + 1) rows) (drop (i + 1) places) ≡ rows_from k vars rows places
-rows_more k vars rows places i d b all l each is h =
-    ap (λ n. (if b then all ++ row_with_places vars (get_or rows i d) ∷ [] else all) ++ rows_from k vars (drop n rows) (drop n places)) (add-one i)
-    ∙ by b is ∙ h
-  where
-    cut : rows_from k vars (drop i rows) (drop i places)
-        ≡ (if is_block k (get_or places i None) then row_with_places vars (get_or rows i d) ∷ rows_from k vars (drop (suc i) rows) (drop (suc i) places) else rows_from k vars (drop (suc i) rows) (drop (suc i) places))
-    cut = ap (λ rs. rows_from k vars rs (drop i places)) (drop-cons rows i d l)
-        ∙ ap (λ ps. rows_from k vars (get_or rows i d ∷ drop (suc i) rows) ps) (drop-cons places i None (omega (arith, l, each)))
-
-    by : (t : Bool) → t ≡ is_block k (get_or places i None)
-        → (if t then all ++ row_with_places vars (get_or rows i d) ∷ [] else all) ++ rows_from k vars (drop (suc i) rows) (drop (suc i) places)
-        ≡ all ++ rows_from k vars (drop i rows) (drop i places)
-    by true e = append_assoc all (row_with_places vars (get_or rows i d) ∷ []) (rows_from k vars (drop (suc i) rows) (drop (suc i) places))
-        ∙ ap (λ rest. all ++ rest) (sym (cut ∙ ap (λ u. if u then row_with_places vars (get_or rows i d) ∷ rows_from k vars (drop (suc i) rows) (drop (suc i) places) else rows_from k vars (drop (suc i) rows) (drop (suc i) places)) (sym e)))
-    by false e = ap (λ rest. all ++ rest) (sym (cut ∙ ap (λ u. if u then row_with_places vars (get_or rows i d) ∷ rows_from k vars (drop (suc i) rows) (drop (suc i) places) else rows_from k vars (drop (suc i) rows) (drop (suc i) places)) (sym e)))

@@ -1,14 +1,15 @@
 -- The homes of variables, and the copies in a block.
-use Rattle.std.proofs.Common.{◌≡◌, ◌≢◌, ◌⊎◌, inl, inr, ℕ, zero, suc, ◌+◌, ◌<◌, ◌≤◌, Bool, true, false, not, ◌||◌, if◌then◌else◌, List, [], ◌∷◌, ◌++◌, map, filter, take, length, get_or, Option, Some, None, All, refl, sym, ap, subst, ◌∙◌, ⊎_elim, arith, true≢false}
+use Rattle.std.proofs.Common.{◌≡◌, ◌⊎◌, inl, inr, ℕ, zero, suc, ◌+◌, ◌<◌, ◌≤◌, Bool, true, false, not, ◌||◌, if◌then◌else◌, List, [], ◌∷◌, ◌++◌, map, filter, take, length, get_or, Option, Some, None, All, refl, sym, ap, subst, ◌∙◌, ⊎_elim, arith, true≢false}
 use Rattle.std.specs.Prelude.{ℤ, pos, ◌==◌}
 use Rattle.std.specs.List.{range_with_len, list_any, AllByRecursion}
-use Rattle.std.proofs.lemmas.Bool.{cases_lt}
 use Rattle.std.proofs.lemmas.List.{take_more}
 use Rattle.std.proofs.lemmas.List.FromFn.{fill_by_all}
 use Rattle.std.proofs.lemmas.List.Folds.{list_any_at, Any-from_list_any}
 use Rattle.std.proofs.lemmas.List.Elements.{All-from_recursion, recursion_from_All}
 use Rattle.bp_theory.specs.Program.{Program}
-use Rattle.bp_theory.specs.Decomposition.{Decomposition, is_block, is_in, is_first, members, lone_variables, IsPlace, HasPlaces}
+use Rattle.bp_theory.specs.Decomposition.{Decomposition, is_block, is_in, is_first, members, lone_variables, IsPlace}
+use Rattle.bp_theory.specs.Limits.{most_blocks}
+use Rattle.bp_theory.specs.declared.Limits.TheVariants.{Large}
 use Rattle.bp_theory.specs.declared.Row.{Row}
 use Rattle.block_build.specs.Columns.{column_from, row_at, PlacedAt, AreColumns}
 use Rattle.block_build.specs.Gather.{at_home, homeless, is_empty}
@@ -70,7 +71,7 @@ or_right : (a b : Bool) → b ≡ true → (a || b) ≡ true
 or_right true b e = refl
 or_right false b e = e
 
-any_more : (q : ℕ × ℤ → Bool) (xs : List (ℕ × ℤ)) (x : ℕ × ℤ) → list_any q (xs ++ x ∷ []) ≡ (list_any q xs || q x)
+pub any_more : {X : Type 0} (q : X → Bool) (xs : List X) (x : X) → list_any q (xs ++ x ∷ []) ≡ (list_any q xs || q x)
 any_more q [] x = by (q x)
   where
     by : (b : Bool) → (b || false) ≡ b
@@ -166,7 +167,7 @@ homes_by p d rows places blocks columns homes rows_are places_are blocks_are are
 pub homes_are : (p : Program) (d : Decomposition) (homes : List (List ℕ)) → AreHomes p d homes → homes ≡ map (homes_in p d) (range_with_len 0 (length p.spans))
 homes_are p d homes h = fill_by_all (homes_in p d) homes (length p.spans) [] h.0 h.1
 
-pub few_homes : (p : Program) (d : Decomposition) (homes : List (List ℕ)) → AreHomes p d homes → d.blocks ≤ 4096 → All (λ (own : List ℕ). length own ≤ 4096) homes
+pub few_homes : (p : Program) (d : Decomposition) (homes : List (List ℕ)) → AreHomes p d homes → d.blocks ≤ most_blocks Large → All (λ (own : List ℕ). length own ≤ most_blocks Large) homes
 few_homes p d homes h few = λ v own l.
     let at : get_or homes v own ≡ homes_in p d v = any homes v own [] l ∙ h.1 v (omega (arith, l, h.0)) in
     omega (arith, ap (λ (ks : List ℕ). length ks) at, passing_few (is_in p d v) d.blocks, few)

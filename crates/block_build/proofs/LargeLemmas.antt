@@ -1,16 +1,17 @@
 -- Link rows that are too many or too large.
-use Rattle.std.proofs.Common.{◌≡◌, ◌⊎◌, inl, inr, ℕ, zero, suc, ◌+◌, ◌*◌, ◌<◌, ◌≤◌, Bool, true, false, if◌then◌else◌, List, [], ◌∷◌, ◌++◌, map, filter, drop, length, get_or, refl, sym, ap, subst, ◌∙◌, ⊎_elim, arith}
-use Rattle.std.specs.Prelude.{MatchBool}
+use Rattle.std.proofs.Common.{◌≡◌, inl, inr, ℕ, zero, suc, ◌+◌, ◌<◌, ◌≤◌, Bool, true, false, if◌then◌else◌, List, [], ◌∷◌, ◌++◌, map, filter, drop, length, get_or, refl, sym, ap, subst, ◌∙◌, ⊎_elim, arith}
+use Rattle.std.specs.Prelude.{MatchBool, sum_by}
 use Rattle.std.specs.List.{range_with_len, flat_map}
 use Rattle.std.proofs.lemmas.Bool.{cases_lt}
 use Rattle.std.proofs.lemmas.List.Elements.{All-from_recursion}
-use Rattle.bp_theory.specs.Program.{Program, span_at}
+use Rattle.bp_theory.specs.Program.{Program}
 use Rattle.bp_theory.specs.Decomposition.{Decomposition, ProofRow, is_in, link_row, links_of, place_of, link_count, IsLinking, HasLargeLinks}
+use Rattle.bp_theory.specs.Limits.{most_lines}
+use Rattle.bp_theory.specs.declared.Limits.TheVariants.{Large}
 use Rattle.bp_theory.specs.declared.Span.{Span}
 use Rattle.bp_model.specs.Named.{NamedProgram, IsKept}
-use Rattle.block_build.specs.Homes.{homes_in, AreHomes, HasWideCopies}
-use Rattle.block_build.specs.Source.{IsSource}
-use Rattle.block_build.specs.declared.source.Source.{Source}
+use Rattle.bp_theory.proofs.LimitLaws.{few_lines}
+use Rattle.block_build.specs.Homes.{homes_in, further, AreHomes, HasWideCopies}
 use Rattle.block_build.proofs.CopyLemmas.{links_counted}
 use Rattle.block_build.proofs.RangeLemmas.{kept_passing, at_place, none_pass}
 use Rattle.block_program.proofs.StandLemmas.{passing_rise}
@@ -45,31 +46,35 @@ match_by : (b : Bool) (P Q : Type 0) → (P → Q) → (Q → P) → MatchBool b
 match_by true P Q f g h = f h
 match_by false P Q f g h = λ q. h (g q)
 
-end_is : (s : Source) → IsSource s → s.end ≡ length s.model.now.program.rows + link_count s.model.now.program s.dec.now
-end_is s source = source.end ∙ ap (λ n. length s.model.now.program.rows + n) (sym (links_counted s.model.now.program s.dec.now s.homes.items source.homes))
+lines_are : (p : Program) (d : Decomposition) (homes : List (List ℕ)) → AreHomes p d homes
+    → length p.rows + sum_by further homes ≡ length p.rows + link_count p d
+lines_are p d homes h = ap (λ n. length p.rows + n) (sym (links_counted p d homes h))
 
-pub too_many : (s : Source) → IsSource s → 8192 < s.end → HasLargeLinks s.model.now.program s.dec.now
-too_many s source l = inl (omega (arith, l, end_is s source))
+pub too_many : (p : Program) (d : Decomposition) (homes : List (List ℕ)) → AreHomes p d homes → most_lines p.limits < length p.rows + sum_by further homes
+    → HasLargeLinks p d
+too_many p d homes h l = inl (omega (arith, l, lines_are p d homes h))
+
+-- where links are not large, rows and link rows are few
+pub few_lines_of : (p : Program) (d : Decomposition) (homes : List (List ℕ)) → AreHomes p d homes → (HasLargeLinks p d → ⊥)
+    → length p.rows + sum_by further homes ≤ most_lines Large
+few_lines_of p d homes h moderate = ⊎_elim
+    (λ many. absurd (moderate (too_many p d homes h many)))
+    (λ few. omega (arith, few, few_lines p.limits))
+    (cases_lt (most_lines p.limits) (length p.rows + sum_by further homes))
 
 -- where rows and link rows are few, the links are large exactly where copies are wide
-pub wide_or_none : (s : Source) (b : Bool) (homes : List (List ℕ)) (spans : List Span) → IsSource s → homes ≡ s.homes.items → spans ≡ s.model.now.program.spans → s.end ≤ 8192
+pub wide_or_none : (p : Program) (d : Decomposition) (b : Bool) (homes : List (List ℕ)) (spans : List Span) → AreHomes p d homes → spans ≡ p.spans
+    → length p.rows + sum_by further homes ≤ most_lines p.limits
     → MatchBool b (HasWideCopies homes spans) (HasWideCopies homes spans → ⊥)
-    → MatchBool b (HasLargeLinks s.model.now.program s.dec.now) (HasLargeLinks s.model.now.program s.dec.now → ⊥)
-wide_or_none s b homes spans source homes_are spans_are few h =
-    match_by b (HasWideCopies s.homes.items p.spans) (HasLargeLinks p d)
-    (λ wide. inr (wide.0, omega (arith, wide.1, source.homes.0), linking_of p d wide.0 (subst (λ (ks : List ℕ). 1 < length ks) (source.homes.1 wide.0 (omega (arith, wide.1, source.homes.0))) wide.2), wide.3))
+    → MatchBool b (HasLargeLinks p d) (HasLargeLinks p d → ⊥)
+wide_or_none p d b homes spans are spans_are few h =
+    match_by b (HasWideCopies homes p.spans) (HasLargeLinks p d)
+    (λ wide. inr (wide.0, omega (arith, wide.1, are.0), linking_of p d wide.0 (subst (λ (ks : List ℕ). 1 < length ks) (are.1 wide.0 (omega (arith, wide.1, are.0))) wide.2), wide.3))
     (λ large. ⊎_elim
-    (λ many. absurd (let none : ⊥ = omega (arith, many, few, end_is s source) in none))
-    (λ wide. (wide.0, omega (arith, wide.1, source.homes.0), subst (λ (ks : List ℕ). 1 < length ks) (sym (source.homes.1 wide.0 wide.1)) (two_homes p d wide.0 wide.2), wide.3))
+    (λ many. absurd (let none : ⊥ = omega (arith, many, few, lines_are p d homes are) in none))
+    (λ wide. (wide.0, omega (arith, wide.1, are.0), subst (λ (ks : List ℕ). 1 < length ks) (sym (are.1 wide.0 wide.1)) (two_homes p d wide.0 wide.2), wide.3))
     large)
-    (subst (λ (ss : List Span). MatchBool b (HasWideCopies s.homes.items ss) (HasWideCopies s.homes.items ss → ⊥)) spans_are
-    (subst (λ (hs : List (List ℕ)). MatchBool b (HasWideCopies hs spans) (HasWideCopies hs spans → ⊥)) homes_are h))
-  where
-    p : Program
-    p = s.model.now.program
-
-    d : Decomposition
-    d = s.dec.now
+    (subst (λ (ss : List Span). MatchBool b (HasWideCopies homes ss) (HasWideCopies homes ss → ⊥)) spans_are h)
 
 -- ---- where no variable links
 
@@ -95,6 +100,6 @@ pub not_large : (m : NamedProgram) (d : Decomposition) → IsKept m → ((w : �
 not_large m d kept none large = ⊎_elim
     (λ many.
     let counted : link_count m.program d ≡ 0 = ap (λ (rows : List ProofRow). length rows) (no_links m.program d none (range_with_len 0 (length m.program.spans))) in
-    let no : ⊥ = omega (arith, many, counted, kept.rows) in no)
+    let no : ⊥ = omega (arith, many, counted, kept.lines) in no)
     (λ wide. none wide.0 wide.2)
     large

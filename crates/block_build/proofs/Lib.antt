@@ -7,7 +7,9 @@ pub mod SeenLemmas
 pub mod RangeLemmas
 pub mod LinkLemmas
 pub mod HomeLemmas
+pub mod ShareLemmas
 pub mod CopyLemmas
 pub mod SumLemmas
 pub mod LargeLemmas
 pub mod CutLemmas
+pub mod TermLemmas

@@ -5,8 +5,6 @@ use Rattle.std.specs.Ordering.{int_eq}
 use Rattle.bp_theory.specs.Program.{coefficient}
 use Rattle.bp_theory.specs.Blocking.{sides_of}
 use Rattle.bp_theory.specs.declared.MasterRow.{MasterRow}
-use Rattle.bp_theory.specs.Decomposition.{is_block, row_with_places}
-use Rattle.bp_theory.specs.declared.Term.{Term}
 use Rattle.bp_theory.specs.declared.Row.{Row}
 use Rattle.bp_theory.specs.declared.Sense.TheVariants.{Eq}
 
@@ -28,13 +26,6 @@ coefs_from v i (row ∷ rows) (place ∷ places) =
     if int_eq (master_coefficient v row place) (pos 0)
     then coefs_from v (suc i) rows places
     else (i, master_coefficient v row place) ∷ coefs_from v (suc i) rows places
-
--- the rows of a block, with places among these variables
-abbrev pub rows_from : ℕ → List ℕ → List Row → List (Option ℕ) → List Row
-rows_from k vars [] places = []
-rows_from k vars (row ∷ rows) [] = []
-rows_from k vars (row ∷ rows) (place ∷ places) =
-    if is_block k place then row_with_places vars row ∷ rows_from k vars rows places else rows_from k vars rows places
 
 -- the variables that have a block among their homes, and those that have no home, in order
 abbrev pub at_home : ℕ → List (List ℕ) → List ℕ

@@ -5,3 +5,4 @@ pub mod Places
 pub mod Columns
 pub mod Homes
 pub mod Source
+pub mod Shares

@@ -1,18 +1,19 @@
 // The blocks of a program, from its columns and the variables' homes.
 ghost use Rattle.std.specs.Prelude.{◌≡◌, ◌<◌, ◌^◌, ◌++◌, ◌∷◌, [], length, map, replicate, All, Some, IfOk, OnOk};
 ghost use Rattle.std.specs.List.{range_with_len, zip};
-ghost use Rattle.std.specs.List.Sorted.{IsStrictlyIncreasing};
 ghost use Rattle.bp_theory.specs.Blocking.{sides_of};
 ghost use Rattle.bp_theory.specs.declared.Row as rows;
 ghost use Rattle.bp_theory.specs.Program.{span_at};
 ghost use Rattle.bp_theory.specs.Bound.{spans_of};
-ghost use Rattle.bp_theory.specs.Decomposition.{members, lone_variables};
+ghost use Rattle.bp_theory.specs.Decomposition.{members, lone_variables, rows_of, row_with_places};
 ghost use Rattle.block_program.specs.Blocked.{HaveRootSpans, RootBlock};
 ghost use Rattle.block_build.specs.Gather.{all_sides, link_sides, named_sides};
 ghost use Rattle.block_build.specs.Homes.{IsHeld};
+ghost use Rattle.block_build.specs.Shares.{placed_in};
 ghost use Rattle.block_build.specs.Source.{IsSource, block_in, copy_in};
 
-use crate::gather::{at_home, block_rows, homeless};
+use crate::gather::{block_rows, homeless};
+use crate::shares::shares_of;
 use crate::source::Source;
 use block_program::Block;
 use bp_theory::{Items, MasterRow, Row, Sense, Span};
@@ -28,25 +29,39 @@ pub fn home_blocks(alloc: Global, source: &Source) -> Result<Vec<Block>, AllocEr
     ensures spans { IfOk result (λ all.
         HaveRootSpans source.now.model.now.program.spans all.items) }
 {
-    let mut all = Vec::new(alloc);
-    for k in 0..source.dec.blocks() {
-        let block = home_block(alloc, source, k)?;
+    let blocks = source.dec.blocks();
+    let shares = shares_of(alloc, blocks, source.homes.as_slice(), source.dec.places())?;
+    let mut all = Vec::with_capacity(alloc, blocks as usize)?;
+    for k in 0..blocks {
+        let vars = shares.vars[k as usize].as_slice();
+        let rows = shares.rows[k as usize].as_slice();
+        let block = home_block(alloc, source, k, vars, rows)?;
         all.push(block)?;
     }
     Ok(all)
 }
 
-// The block of a decomposition's number.
-fn home_block(alloc: Global, source: &Source, block: u32) -> Result<Block, AllocError>
+// The block of a decomposition's number, with its variables and the numbers of its rows.
+fn home_block(
+    alloc: Global,
+    source: &Source,
+    block: u32,
+    vars: &[u32],
+    rows: &[u32],
+) -> Result<Block, AllocError>
     requires source { IsSource source.now }
     requires there { block < source.now.dec.now.blocks }
+    requires vars { vars.now ≡
+        members source.now.model.now.program source.now.dec.now block }
+    requires rows { rows.now ≡ placed_in block source.now.dec.now.places }
     ensures block { IfOk result (λ made. made.block ≡ block_in source.now block
         (members source.now.model.now.program source.now.dec.now block)) }
     ensures spans { IfOk result (λ made.
         made.spans ≡ spans_of source.now.model.now.program.spans made.block) }
 {
-    let vars = at_home(alloc, block, source.homes.as_slice())?;
-    made_block(alloc, source, block, vars)
+    let own = block_rows(alloc, rows, vars, source.model.all_rows())?;
+    let vars = Vec::from_slice(alloc, vars)?;
+    made_block(alloc, source, block, vars, own)
 }
 
 /// One more block for each variable that stands in no block's row, in order.
@@ -72,7 +87,7 @@ pub fn push_lone_blocks(
     Ok(())
 }
 
-// The block of a variable that stands in no block's row.
+// The block of a variable that stands in no block's row. It has no rows, so none is looked at.
 fn lone_block(alloc: Global, source: &Source, var: u32) -> Result<Block, AllocError>
     requires source { IsSource source.now }
     requires var { var < length source.now.model.now.program.spans }
@@ -85,7 +100,7 @@ fn lone_block(alloc: Global, source: &Source, var: u32) -> Result<Block, AllocEr
 {
     let mut vars = Vec::with_capacity(alloc, 1)?;
     vars.push(var)?;
-    made_block(alloc, source, source.dec.blocks(), vars)
+    made_block(alloc, source, source.dec.blocks(), vars, Vec::new(alloc))
 }
 
 // The block of these variables' copies, with the rows of a block's number.
@@ -94,13 +109,15 @@ fn made_block(
     source: &Source,
     block: u32,
     vars: Vec<u32>,
+    own: Vec<Row>,
 ) -> Result<Block, AllocError>
     requires source { IsSource source.now }
     requires below { All (λ v. v < length source.now.model.now.program.spans) vars.items }
     requires few { length vars.items < 2 ^ 32 }
-    requires ascend { IsStrictlyIncreasing vars.items }
     requires held { All (λ v.
         IsHeld source.now.model.now.program source.now.dec.now v block) vars.items }
+    requires own { own.items ≡ map (row_with_places vars.items)
+        (rows_of source.now.model.now.program source.now.dec.now block) }
     ensures block { IfOk result (λ made. made.block ≡ block_in source.now block vars.items) }
     ensures spans { IfOk result (λ made.
         made.spans ≡ spans_of source.now.model.now.program.spans made.block) }
@@ -108,8 +125,6 @@ fn made_block(
     let root = vars_spans(alloc, vars.as_slice(), source.model.spans())?;
     let costs = vars_costs(alloc, source, block, vars.as_slice())?;
     let masters = vars_coefs(alloc, source, block, vars.as_slice())?;
-    let rows = source.model.all_rows();
-    let own = block_rows(alloc, block, vars.as_slice(), rows, source.dec.places())?;
     Ok(Block::make(
         Items::from_vec(vars),
         Items::from_vec(root),

@@ -9,6 +9,7 @@ mod homes;
 mod links;
 mod parts;
 mod places;
+mod shares;
 mod source;
 mod stand;
 
@@ -16,4 +17,4 @@ pub use homes::first_elsewhere;
 pub use links::are_large;
 pub use parts::made_parts;
 pub use places::var_places;
-pub use source::{Source, source_of};
+pub use source::{Source, Standing, source_of, standing_of};

@@ -1,16 +1,14 @@
 // The numbers of link rows.
-ghost use Rattle.std.specs.Prelude.{◌≡◌, ◌+◌, ◌<◌, ◌≤◌, length, sum_by, unsigned_abs, All, IfOk, MatchBool};
+ghost use Rattle.std.specs.Prelude.{◌≡◌, ◌+◌, ◌*◌, ◌<◌, ◌≤◌, length, sum_by, unsigned_abs, All, IfOk, MatchBool};
 ghost use Rattle.bp_theory.specs.Decomposition.{HasLargeLinks};
 ghost use Rattle.bp_theory.specs.Program.{reach};
-ghost use Rattle.block_build.specs.Homes.{further, AreLinks, HasWideCopies, IsWide};
-ghost use Rattle.block_build.specs.Source.{IsSource};
+ghost use Rattle.bp_theory.specs.Limits.{most_blocks, most_lines, most_variables};
+ghost use Rattle.bp_theory.specs.declared.Limits.TheVariants.{Large};
+ghost use Rattle.block_build.specs.Homes.{further, AreHomes, AreLinks, HasWideCopies, IsWide};
 
-use crate::source::Source;
+use bp_model::{Dec, Model};
 use bp_theory::{Items, Span};
 use std::alloc::{AllocError, Global};
-
-/// The most rows of a model and link rows together.
-const MOST_ROWS: u32 = 8192;
 
 /// What the difference of two copies stays below.
 const NUMBER_LIMIT: u64 = 1 << 62;
@@ -22,9 +20,8 @@ pub fn first_links(
     rows: u32,
     homes: &[Items<u32>],
 ) -> Result<(Vec<u32>, u32), AllocError>
-    requires rows { rows ≤ 8192 }
-    requires vars { length homes.now ≤ 4096 }
-    requires few { All (λ own. length own ≤ 4096) homes.now }
+    requires few { All (λ own. length own ≤ most_blocks Large) homes.now }
+    requires end { rows + sum_by further homes.now ≤ most_lines Large }
     ensures links { IfOk result (λ found. AreLinks rows homes.now found.0.items) }
     ensures end { IfOk result (λ found. found.1 ≡ rows + sum_by further homes.now) }
 {
@@ -39,23 +36,39 @@ pub fn first_links(
 
 // How many further copies a variable with these homes has.
 fn further(homes: &Items<u32>) -> u32
-    requires { length homes.now ≤ 4096 }
+    requires { length homes.now ≤ most_blocks Large }
     ensures { result ≡ further homes.now }
 {
     homes.len().saturating_sub(1) as u32
 }
 
 /// Whether rows and link rows are too many, or the copies of a variable may differ by more than 62 bits hold.
-pub fn are_large(source: &Source) -> bool
-    requires { IsSource source.now }
+pub fn are_large(model: &Model, dec: &Dec, homes: &[Items<u32>]) -> bool
+    requires { AreHomes model.now.program dec.now homes.now }
     ensures { MatchBool result
-        (HasLargeLinks source.now.model.now.program source.now.dec.now)
-        (HasLargeLinks source.now.model.now.program source.now.dec.now → ⊥) }
+        (HasLargeLinks model.now.program dec.now)
+        (HasLargeLinks model.now.program dec.now → ⊥) }
 {
-    if source.end > MOST_ROWS {
+    // For the proof alone: how many blocks there are at most.
+    let _blocks = dec.blocks();
+    if u64::from(model.rows()) + further_copies(homes) > u64::from(model.limits().lines()) {
         return true;
     }
-    has_wide_copies(source.homes.as_slice(), source.model.spans())
+    has_wide_copies(homes, model.spans())
+}
+
+// How many further copies all variables have.
+fn further_copies(homes: &[Items<u32>]) -> u64
+    requires vars { length homes.now ≤ most_variables Large }
+    requires few { All (λ own. length own ≤ most_blocks Large) homes.now }
+    ensures count { result ≡ sum_by further homes.now }
+    ensures few { result ≤ most_variables Large * most_blocks Large }
+{
+    let mut count = 0;
+    for own in homes {
+        count += u64::from(further(own));
+    }
+    count
 }
 
 // Whether the copies of some variable may differ by more than 62 bits hold.

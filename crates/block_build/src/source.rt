@@ -1,8 +1,8 @@
 // What blocks are assembled from, and the coefficients of copies.
 ghost use Rattle.std.specs.Prelude.{◌≡◌, ◌<◌, ◌^◌, ◌+◌, ◌++◌, ◌∷◌, [], ℕ, negsuc, IfOk, OnOk};
-ghost use Rattle.bp_theory.specs.Decomposition.{HasPlaces};
+ghost use Rattle.bp_theory.specs.Decomposition.{HasLargeLinks, HasPlaces};
 ghost use Rattle.block_build.specs.Homes.{link_entries};
-ghost use Rattle.block_build.specs.Source.{IsSource};
+ghost use Rattle.block_build.specs.Source.{IsSource, IsStanding};
 ghost use Rattle.block_program.specs.Cuts.{AreCutRows};
 
 use crate::columns::columns_of;
@@ -13,6 +13,15 @@ use crate::stand::{coefficient, place_of};
 use bp_model::{Dec, Model};
 use bp_theory::{Items, Row};
 use std::alloc::{AllocError, Global};
+
+/// Where the variables of a model stand, by variables.
+#[derive(Drop)]
+pub struct Standing {
+    /// For each variable the model's rows in which it stands, each with its coefficient.
+    pub columns: Vec<Items<(u32, i64)>>,
+    /// For each variable the blocks in whose rows it stands, ascending.
+    pub homes: Vec<Items<u32>>,
+}
 
 /// What blocks are assembled from: a model, a decomposition of it and the rows of cuts, and by variables the rows in
 /// which each stands, its homes, the number of its first link row, and the cuts in which it stands.
@@ -58,42 +67,6 @@ impl<'a> Source<'a> {
     ghost use Rattle.block_program.specs.Cuts.{AreCutRows};
     ghost use Rattle.block_build.specs.Homes.{homes_in, AreHomes, IsHeld};
     ghost use Rattle.block_build.specs.Source.{IsSource, copy_in, first_entries};
-
-    // The source of a model, a decomposition of it and rows of cuts, with columns and homes.
-    fn make(
-        alloc: Global,
-        model: &'a Model,
-        dec: &'a Dec,
-        cuts: &'a [Row],
-        columns: Vec<Items<(u32, i64)>>,
-        homes: Vec<Items<u32>>,
-    ) -> Result<Source<'a>, AllocError>
-        requires places { HasPlaces model.now.program dec.now }
-        requires cuts { AreCutRows model.now.program cuts.now }
-        requires columns { AreColumns model.now.program.rows columns.items }
-        requires each_column { length columns.items ≡ length model.now.program.spans }
-        requires homes { AreHomes model.now.program dec.now homes.items }
-        ensures model { IfOk result (λ s. s.model.now ≡ model.now) }
-        ensures dec { IfOk result (λ s. s.dec.now ≡ dec.now) }
-        ensures cuts { IfOk result (λ s. s.cuts.now ≡ cuts.now) }
-        ensures source { IfOk result IsSource }
-    {
-        // For the proof alone: how many blocks there are at most.
-        let _blocks = dec.blocks();
-        let found = first_links(alloc, model.rows(), homes.as_slice())?;
-        let end = found.1;
-        let cut_columns = columns_of(alloc, model.vars(), end, cuts)?;
-        Ok(Source {
-            model,
-            dec,
-            cuts,
-            columns,
-            homes,
-            links: found.0,
-            end,
-            cut_columns,
-        })
-    }
 
     /// The place of a block among a variable's homes: 0 where its copy there is the first.
     pub fn copy_place(&self, block: u32, var: u32) -> usize
@@ -155,23 +128,48 @@ impl<'a> Source<'a> {
     }
 }
 
-/// The source of a model, a decomposition of it and rows of cuts, or want of memory.
+/// Where the variables of a model stand, or want of memory.
+pub fn standing_of(alloc: Global, model: &Model, dec: &Dec) -> Result<Standing, AllocError>
+    requires { HasPlaces model.now.program dec.now }
+    ensures { IfOk result (IsStanding model.now.program dec.now) }
+{
+    let columns = columns_of(alloc, model.vars(), 0, model.all_rows())?;
+    let homes = homes_of(alloc, dec.blocks(), columns.as_slice(), dec.places())?;
+    Ok(Standing { columns, homes })
+}
+
+/// The source of a model, a decomposition of it whose links are few, and rows of cuts, or want of memory.
 pub fn source_of<'a>(
     alloc: Global,
     model: &'a Model,
     dec: &'a Dec,
     cuts: &'a [Row],
+    standing: Standing,
 ) -> Result<Source<'a>, AllocError>
     requires places { HasPlaces model.now.program dec.now }
     requires cuts { AreCutRows model.now.program cuts.now }
+    requires standing { IsStanding model.now.program dec.now standing }
+    requires moderate { HasLargeLinks model.now.program dec.now → ⊥ }
     ensures model { IfOk result (λ s. s.model.now ≡ model.now) }
     ensures dec { IfOk result (λ s. s.dec.now ≡ dec.now) }
     ensures cuts { IfOk result (λ s. s.cuts.now ≡ cuts.now) }
     ensures source { IfOk result IsSource }
 {
-    let columns = columns_of(alloc, model.vars(), 0, model.all_rows())?;
-    let homes = homes_of(alloc, dec.blocks(), columns.as_slice(), dec.places())?;
-    Source::make(alloc, model, dec, cuts, columns, homes)
+    // For the proof alone: how many blocks there are at most.
+    let _blocks = dec.blocks();
+    let found = first_links(alloc, model.rows(), standing.homes.as_slice())?;
+    let end = found.1;
+    let cut_columns = columns_of(alloc, model.vars(), end, cuts)?;
+    Ok(Source {
+        model,
+        dec,
+        cuts,
+        columns: standing.columns,
+        homes: standing.homes,
+        links: found.0,
+        end,
+        cut_columns,
+    })
 }
 
 // The coefficients of the copy at a place behind the first: -1 in its link row.

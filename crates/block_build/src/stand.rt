@@ -21,12 +21,10 @@ pub fn coefficient(terms: &[Term], var: u32) -> i64
     requires { IsTidyFrom 0 terms.now }
     ensures { result ≡ coefficient terms.now var }
 {
-    for term in terms {
-        if term.var == var {
-            return term.coef;
-        }
+    match terms.binary_search_by_key(&var, |term| term.var) {
+        Ok(place) => terms[place].coef,
+        Err(_) => 0,
     }
-    0
 }
 
 /// The place of a variable among others that ascend, or their number where it isn't there.

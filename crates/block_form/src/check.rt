@@ -9,7 +9,7 @@ ghost use Rattle.block_form.specs.Checks.{HasBlockFault};
 ghost use Rattle.block_program.specs.Cuts.{AreCutRows, KeepsCuts};
 
 use crate::fault::{BlockFault, Unblocked};
-use block_build::{are_large, first_elsewhere, made_parts, source_of, var_places};
+use block_build::{are_large, first_elsewhere, made_parts, source_of, standing_of, var_places};
 use block_program::{Base, Block, Blocked};
 use bp_model::{Dec, Model};
 use bp_theory::{Cut, Items, MasterRow, Row};
@@ -66,7 +66,8 @@ fn parts_with(
     requires { AreCutRows b.now.named.program rows.now }
     ensures { IfOk result (λ parts. AreMade b.now.named b.now.dec rows.now parts.0 parts.1) }
 {
-    let source = source_of(alloc, b.model(), b.dec(), rows)?;
+    let standing = standing_of(alloc, b.model(), b.dec())?;
+    let source = source_of(alloc, b.model(), b.dec(), rows, standing)?;
     made_parts(alloc, &source)
 }
 
@@ -117,16 +118,19 @@ fn parts_of(
         dec.now.listed) }
     ensures fault { IfErr result (HasBlockFault model.now.program dec.now) }
 {
-    let cuts = Vec::new(alloc);
-    let Ok(source) = source_of(alloc, model, dec, cuts.as_slice()) else {
+    let Ok(standing) = standing_of(alloc, model, dec) else {
         return Err(BlockFault::NoMemory);
     };
-    if let Some(var) = first_elsewhere(source.homes.as_slice(), dec.listed()) {
+    if let Some(var) = first_elsewhere(standing.homes.as_slice(), dec.listed()) {
         return Err(BlockFault::VarPlace(var));
     }
-    if are_large(&source) {
+    if are_large(model, dec, standing.homes.as_slice()) {
         return Err(BlockFault::Links);
     }
+    let cuts = Vec::new(alloc);
+    let Ok(source) = source_of(alloc, model, dec, cuts.as_slice(), standing) else {
+        return Err(BlockFault::NoMemory);
+    };
     let Ok(parts) = made_parts(alloc, &source) else {
         return Err(BlockFault::NoMemory);
     };

@@ -5,7 +5,7 @@ ghost use Rattle.cut_sums.specs.Cutting.{IsEarlierCut};
 use block_form::check_blocks;
 use block_program::Blocked;
 use bp_model::{Dec, Model, NameList, Parts};
-use bp_theory::{Cut, Items, Row, Sense, Span, Term};
+use bp_theory::{Cut, Items, Limits, Row, Sense, Span, Term};
 use name_table::NameTable;
 use round_cut::{CutFault, cut_row, keeps_rules};
 use std::alloc::{AllocError, Global};
@@ -85,6 +85,7 @@ fn model(alloc: Global, spans: &[Span], lines: &[Line]) -> Result<Model, AllocEr
         costs: Items::new(alloc),
         constant: 0,
         maximises: false,
+        limits: Limits::Usual,
     };
     if !parts.are_fitting() {
         return Err(AllocError);

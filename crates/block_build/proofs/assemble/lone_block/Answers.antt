@@ -1,10 +1,10 @@
-use Rattle.std.proofs.Common.{◌≡◌, ◌∙◌, ◌++◌, ◌∷◌, [], ◌<◌, List, ℕ, All, length, sym, ap, subst, arith}
-use Rattle.std.specs.List.Sorted.{IsStrictlyIncreasing}
+use Rattle.std.proofs.Common.{◌≡◌, ◌∙◌, ◌++◌, ◌∷◌, [], ◌<◌, List, ℕ, All, length, map, sym, ap, subst, arith}
+use Rattle.bp_theory.specs.Decomposition.{rows_of, row_with_places}
 use Rattle.block_program.specs.Blocked.{RootBlock}
 use Rattle.block_build.specs.Homes.{IsHeld}
 use Rattle.block_build.specs.Source.{block_in}
 use Rattle.block_build.proofs.GatherLemmas.{all_single, single_has, if_ok}
-use Rattle.block_program.proofs.StandLemmas.{one_rises}
+use Rattle.block_build.proofs.BlockingLemmas.{no_lone_rows}
 use Rattle.block_build.proofs.assemble.lone_block.Goals as goal
 
 pub made_block-requires-clause-below : goal.made_block-requires-clause-below
@@ -17,11 +17,6 @@ made_block-requires-clause-few c =
     let one : c.push.new.self.items ≡ c.args.var ∷ [] = c.in_ok-push.ensures.items ∙ ap (λ (front : List ℕ). front ++ c.args.var ∷ []) c.in_ok-vars.ensures.items in
     omega (arith, ap (λ (xs : List ℕ). length xs) one)
 
-pub made_block-requires-clause-ascend : goal.made_block-requires-clause-ascend
-made_block-requires-clause-ascend c =
-    let one : c.push.new.self.items ≡ c.args.var ∷ [] = c.in_ok-push.ensures.items ∙ ap (λ (front : List ℕ). front ++ c.args.var ∷ []) c.in_ok-vars.ensures.items in
-    subst IsStrictlyIncreasing (sym one) (one_rises c.args.var)
-
 pub made_block-requires-clause-held : goal.made_block-requires-clause-held
 made_block-requires-clause-held c =
     let s = c.args.source.now in
@@ -29,6 +24,13 @@ made_block-requires-clause-held c =
     subst (λ (n : ℕ). All (λ v. IsHeld s.model.now.program s.dec.now v n) c.push.new.self.items) (sym c.blocks-2.ensures.blocks)
     (subst (λ (xs : List ℕ). All (λ v. IsHeld s.model.now.program s.dec.now v s.dec.now.blocks) xs) (sym one)
     (single_has (λ v. IsHeld s.model.now.program s.dec.now v s.dec.now.blocks) c.args.var c.requires.lone))
+
+pub made_block-requires-clause-own : goal.made_block-requires-clause-own
+made_block-requires-clause-own c =
+    let s = c.args.source.now in
+    c.new.ensures.items
+    ∙ ap (map (row_with_places c.push.new.self.items))
+    (sym (ap (rows_of s.model.now.program s.dec.now) c.blocks-2.ensures.blocks ∙ no_lone_rows s.model.now.program s.dec.now c.requires.source.places))
 
 pub returns-clause-block : goal.returns-clause-block
 returns-clause-block c =

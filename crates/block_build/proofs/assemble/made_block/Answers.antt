@@ -1,12 +1,9 @@
-use Rattle.std.proofs.Common.{◌≡◌, ◌∙◌, ◌<◌, List, ℕ, All, length, map, sym, ap, subst, arith}
+use Rattle.std.proofs.Common.{◌≡◌, ◌∙◌, ◌<◌, List, ℕ, All, length, map, sym, ap, subst}
 use Rattle.bp_theory.specs.Program.{span_at}
 use Rattle.bp_theory.specs.Blocking.{Block}
 use Rattle.bp_theory.specs.Bound.{spans_of}
-use Rattle.bp_theory.specs.declared.Row.{Row}
 use Rattle.bp_theory.specs.declared.Span.{Span}
-use Rattle.std.specs.Prelude.{Option}
 use Rattle.block_program.specs.Blocked.{RootBlock, copies_from}
-use Rattle.block_build.specs.Gather.{rows_from}
 use Rattle.block_build.specs.Source.{block_in, copy_in}
 use Rattle.block_build.proofs.GatherLemmas.{block_made, spans_made}
 use Rattle.block_build.proofs.assemble.made_block.Goals as goal
@@ -15,15 +12,6 @@ pub vars_spans-requires : goal.vars_spans-requires
 vars_spans-requires c =
     subst (λ (ss : List Span). All (λ v. v < length ss) c.as_slice.result.now) (sym c.spans.ensures.spans)
     (subst (λ (vs : List ℕ). All (λ v. v < length c.args.source.now.model.now.program.spans) vs) (sym c.as_slice.ensures.value) c.requires.below)
-
-pub block_rows-requires-clause-each : goal.block_rows-requires-clause-each
-block_rows-requires-clause-each c =
-    omega (
-      arith,
-      ap (λ (ps : List (Option ℕ)). length ps) c.places.ensures,
-      ap (λ (rs : List Row). length rs) c.all_rows-rows.ensures.rows,
-      c.requires.source.places.each,
-    )
 
 block : (c : goal.After-make) → c.make.result.block ≡ block_in c.args.source.now c.args.block c.args.vars.items
 block c =
@@ -35,9 +23,7 @@ block c =
     ∙ block_made s k vars c.from_vec-3.result c.from_vec-4.result c.from_vec-5.result
     (c.from_vec-3.ensures ∙ c.in_ok-costs.ensures ∙ ap (λ (vs : List ℕ). map (λ v. (copy_in s k v).cost) vs) c.as_slice-2.ensures.value)
     (c.from_vec-4.ensures ∙ c.in_ok-masters.ensures ∙ ap (λ (vs : List ℕ). map (λ v. (copy_in s k v).coefs) vs) c.as_slice-3.ensures.value)
-    (c.from_vec-5.ensures ∙ c.in_ok-own.ensures ∙ ap (λ (vs : List ℕ). rows_from k vs c.all_rows-rows.result.now c.places.result.now) c.as_slice-4.ensures.value
-    ∙ ap (λ (rs : List Row). rows_from k vars rs c.places.result.now) c.all_rows-rows.ensures.rows
-    ∙ ap (λ (ps : List (Option ℕ)). rows_from k vars s.model.now.program.rows ps) c.places.ensures)
+    (c.from_vec-5.ensures ∙ c.requires.own)
 
 pub returns-clause-block : goal.returns-clause-block
 returns-clause-block c = block c

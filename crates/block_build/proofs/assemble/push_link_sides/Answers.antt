@@ -1,4 +1,4 @@
-use Rattle.std.proofs.Common.{◌≡◌, ◌∙◌, ◌++◌, ◌∷◌, [], List, Option, Some, replicate, ap, append_assoc}
+use Rattle.std.proofs.Common.{◌∙◌, ◌++◌, ◌∷◌, [], List, Option, Some, replicate, ap, append_assoc}
 use Rattle.std.proofs.lemmas.List.{replicate_more}
 use Rattle.bp_theory.specs.declared.MasterRow.{MasterRow}
 use Rattle.block_build.specs.Gather.{link_sides}

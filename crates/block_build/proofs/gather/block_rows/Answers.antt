@@ -1,14 +1,24 @@
-use Rattle.std.proofs.Common.{◌∙◌, ◌+◌, ◌++◌, ◌∷◌, [], List, drop, ap, if◌then◌else◌}
+use Rattle.std.proofs.Common.{◌≡◌, ◌∙◌, ◌<◌, ◌++◌, ◌∷◌, [], List, ℕ, length, map, take, get_or, sym, ap, arith}
+use Rattle.std.proofs.lemmas.List.{map-append, take_more, take_all, get_or_default}
 use Rattle.bp_theory.specs.Decomposition.{row_with_places}
 use Rattle.bp_theory.specs.declared.Row.{Row}
-use Rattle.block_build.specs.Gather.{rows_from}
-use Rattle.block_build.proofs.GatherLemmas.{rows_more}
 use Rattle.block_build.proofs.gather.block_rows.Goals as goal
 
-pub loop-i-preserved : goal.loop-i-preserved
-loop-i-preserved c =
-    let rest : List Row = rows_from c.args.block c.args.vars.now (drop (c.loop-i.i + 1) c.args.rows.now) (drop (c.loop-i.i + 1) c.args.places.now) in
-    ap (λ (all : List Row). all ++ rest)
-    (c.in_ok-push_placed_if.ensures ∙ ap (λ (row : Row). if c.is_block.result then c.loop-i.all.items ++ row_with_places c.args.vars.now row ∷ [] else c.loop-i.all.items) c.index-rows-i.is)
-    ∙ rows_more c.args.block c.args.vars.now c.args.rows.now c.args.places.now c.loop-i.i c.index-rows-i.result c.is_block.result c.loop-i.all.items
-    c.loop-i-test.true c.requires.each c.is_block.ensures c.loop-i.invariant
+pub loop-number-preserved : goal.loop-number-preserved
+loop-number-preserved c = λ d.
+    let numbers = c.args.numbers.now in
+    let i = c.loop-number.number-index in
+    let n : ℕ = get_or numbers i 0 in
+    let f : ℕ → Row = λ j. row_with_places c.args.vars.now (get_or c.args.rows.now j d) in
+    let within : i < length numbers = omega arith in
+    let inside : n < length c.args.rows.now = c.requires.there i 0 within in
+    let made : c.in_ok-row.row ≡ f n =
+    c.in_ok-row.ensures ∙ ap (row_with_places c.args.vars.now) (c.index-rows-number.is ∙ get_or_default c.args.rows.now n c.index-rows-number.result d inside) in
+    c.in_ok-push.ensures.items ∙ ap (λ (all : List Row). all ++ c.in_ok-row.row ∷ []) (c.loop-number.invariant d)
+    ∙ ap (λ (row : Row). map f (take i numbers) ++ row ∷ []) made
+    ∙ sym (ap (map f) (take_more numbers i 0 within) ∙ map-append f (take i numbers) (n ∷ []))
+
+pub returns : goal.returns
+returns c = λ d.
+    c.loop-number.invariant d
+    ∙ ap (map (λ j. row_with_places c.args.vars.now (get_or c.args.rows.now j d))) (take_all c.loop-number.number-index c.args.numbers.now (omega (arith, c.loop-number-test.false)))

@@ -1,6 +1,7 @@
-use Rattle.std.proofs.Common.{◌≡◌, ◌++◌, drop}
-use Rattle.block_build.specs.Gather.{rows_from}
+use Rattle.std.proofs.Common.{◌≡◌, map, take, get_or}
+use Rattle.bp_theory.specs.Decomposition.{row_with_places}
+use Rattle.bp_theory.specs.declared.Row.{Row}
 use Rattle.block_build.proofs.gather.block_rows.Given as goal
 
-abbrev pub invariant-loop-i : goal.invariant-loop-i
-invariant-loop-i l = l.all.items ++ rows_from l.block l.vars (drop l.i l.rows) (drop l.i l.places) ≡ rows_from l.block l.vars l.rows l.places
+abbrev pub invariant-loop-number : goal.invariant-loop-number
+invariant-loop-number l = (d : Row) → l.all.items ≡ map (λ i. row_with_places l.vars (get_or l.rows i d)) (take l.number-index l.numbers)

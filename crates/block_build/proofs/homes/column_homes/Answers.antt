@@ -1,4 +1,4 @@
-use Rattle.std.proofs.Common.{◌≡◌, ◌∙◌, ◌++◌, ◌∷◌, [], ◌<◌, ◌≤◌, List, ℕ, ap, sym, true, arith}
+use Rattle.std.proofs.Common.{◌∙◌, ◌++◌, ◌∷◌, [], ◌<◌, List, ℕ, ap, sym, arith}
 use Rattle.block_build.specs.Homes.{has_block}
 use Rattle.block_build.proofs.HomeLemmas.{home_known}
 use Rattle.block_build.proofs.RangeLemmas.{passing_next, passing_all_before}

@@ -1,4 +1,4 @@
-use Rattle.std.proofs.Common.{◌∙◌, List, ℕ, [], ap, arith}
+use Rattle.std.proofs.Common.{◌∙◌, List, ℕ, [], ap}
 use Rattle.std.specs.Prelude.{ℤ}
 use Rattle.std.proofs.lemmas.List.{get_or_default}
 use Rattle.block_build.specs.Homes.{shown_homes}

@@ -1,8 +1,9 @@
 use Rattle.std.proofs.Common.{◌≡◌, ◌∙◌, ◌+◌, List, ℕ, [], length, get_or, ap, arith}
 use Rattle.std.specs.Prelude.{sum_by}
 use Rattle.std.proofs.lemmas.List.{take_all, get_or_default}
+use Rattle.std.proofs.lemmas.List.Sums.{sum_by_more_le}
 use Rattle.block_build.specs.Homes.{further}
-use Rattle.block_build.proofs.SumLemmas.{further_more, further_few, links_more}
+use Rattle.block_build.proofs.SumLemmas.{further_more, links_more}
 use Rattle.block_build.proofs.ColumnLemmas.{one_longer}
 use Rattle.block_build.proofs.links.first_links.Goals as goal
 
@@ -17,18 +18,16 @@ overflow_add-next c =
     let i = c.loop-own.own-index in
     let own : c.own-item.result ≡ get_or c.args.homes.now i [] = c.own-item.is ∙ get_or_default c.args.homes.now i c.own-item.result [] c.loop-own-test.true in
     let is : c.further-next.result ≡ further (get_or c.args.homes.now i []) = c.further-next.ensures ∙ ap further own in
-    omega (arith, c.loop-own.invariant.small, c.requires.few i [] c.loop-own-test.true, further_few (get_or c.args.homes.now i []), is, c.loop-own-test.true, c.requires.vars)
+    omega (arith, c.loop-own.invariant.next, sum_by_more_le further c.args.homes.now i [] c.loop-own-test.true, is, c.requires.end)
 
 pub loop-own-preserved : goal.loop-own-preserved
 loop-own-preserved c =
     let i = c.loop-own.own-index in
     let more = further_more c.args.homes.now i c.loop-own-test.true in
-    let few = c.requires.few i [] c.loop-own-test.true in
     let own : c.own-item.result ≡ get_or c.args.homes.now i [] = c.own-item.is ∙ get_or_default c.args.homes.now i c.own-item.result [] c.loop-own-test.true in
     let is : c.further-next.result ≡ further (get_or c.args.homes.now i []) = c.further-next.ensures ∙ ap further own in record {
       each = one_longer c.loop-own.links.items c.loop-own.next c.push.new.self.items i c.in_ok-push.ensures.items c.loop-own.invariant.each;
       next = omega (arith, c.loop-own.invariant.next, more, is);
-      small = omega (arith, c.loop-own.invariant.small, few, is, further_few (get_or c.args.homes.now i []));
       links = links_more c.args.rows c.args.homes.now c.loop-own.links.items c.push.new.self.items i c.loop-own.next c.in_ok-push.ensures.items c.loop-own.invariant.each c.loop-own.invariant.next
           c.loop-own.invariant.links;
     }

@@ -1,4 +1,4 @@
-use Rattle.std.proofs.Common.{◌≡◌, ◌∙◌, sym, arith}
+use Rattle.std.proofs.Common.{arith}
 use Rattle.block_build.proofs.SumLemmas.{further_few}
 use Rattle.block_build.proofs.links.further.Goals as goal
 

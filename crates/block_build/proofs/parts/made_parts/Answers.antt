@@ -1,4 +1,4 @@
-use Rattle.std.proofs.Common.{◌≡◌, ◌∙◌, List, Option, ℕ, length, sym, ap, arith}
+use Rattle.std.proofs.Common.{◌∙◌, List, Option, ℕ, ap, arith}
 use Rattle.bp_theory.specs.declared.Row.{Row}
 use Rattle.block_build.specs.Gather.{all_sides}
 use Rattle.block_build.proofs.BlockingLemmas.{made}

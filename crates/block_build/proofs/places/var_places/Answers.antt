@@ -1,5 +1,5 @@
 -- The blocks are walked from the last to the first, so that what is noted last is the first copy.
-use Rattle.std.proofs.Common.{◌≡◌, ℕ, ◌-◌, ◌+◌, ◌<◌, ◌≤◌, map, get_or, sym, subst, arith}
+use Rattle.std.proofs.Common.{◌≡◌, ℕ, ◌-◌, ◌+◌, map, get_or, sym, subst, arith}
 use Rattle.block_program.specs.Blocked.{RootBlock}
 use Rattle.block_build.specs.Places.{IsFirstFrom}
 use Rattle.block_build.proofs.PlaceLemmas.{places_more, vars_there}

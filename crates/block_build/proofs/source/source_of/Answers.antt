@@ -1,28 +1,57 @@
-use Rattle.std.proofs.Common.{List, Option, ℕ, All, length, refl, sym, ap, subst, arith}
-use Rattle.bp_theory.specs.Decomposition.{IsPlace}
-use Rattle.block_build.proofs.HomeLemmas.{homes_by}
-use Rattle.block_build.proofs.SeenLemmas.{columns_shown}
+use Rattle.std.proofs.Common.{◌∙◌, ◌+◌, ◌≤◌, List, ℕ, All, length, sym, ap, subst, arith}
+use Rattle.std.specs.Prelude.{sum_by}
+use Rattle.bp_theory.specs.Limits.{most_blocks}
+use Rattle.bp_theory.specs.declared.Limits.TheVariants.{Large}
+use Rattle.block_build.specs.Homes.{further, AreLinks}
+use Rattle.block_build.proofs.HomeLemmas.{few_homes}
+use Rattle.block_build.proofs.LargeLemmas.{few_lines_of}
 use Rattle.block_build.proofs.source.source_of.Goals as goal
 
-pub homes_of-requires : goal.homes_of-requires
-homes_of-requires c =
-    subst (λ (n : ℕ). All (IsPlace n) c.places.result.now) (sym c.blocks-2.ensures.blocks)
-    (subst (λ (ps : List (Option ℕ)). All (IsPlace c.args.dec.now.blocks) ps) (sym c.places.ensures) c.requires.places.known)
+pub first_links-requires-clause-few : goal.first_links-requires-clause-few
+first_links-requires-clause-few c =
+    subst (λ (hs : List (List ℕ)). All (λ own. length own ≤ most_blocks Large) hs) (sym c.as_slice.ensures.value)
+    (few_homes c.args.model.now.program c.args.dec.now c.args.standing.homes.items c.requires.standing.homes (omega (arith, c.blocks-blocks.ensures.few, c.blocks-blocks.ensures.blocks)))
 
-pub make-requires-clause-columns : goal.make-requires-clause-columns
-make-requires-clause-columns c =
-    columns_shown c.all_rows.result.now c.args.model.now.program.rows c.in_ok-columns.columns.items c.in_ok-columns.columns.items c.vars.result c.all_rows.ensures.rows
-    (omega (arith, c.in_ok-columns.ensures.each, c.in_ok-columns.columns.ok)) c.in_ok-columns.ensures.columns refl
+pub first_links-requires-clause-end : goal.first_links-requires-clause-end
+first_links-requires-clause-end c =
+    omega (
+      arith,
+      few_lines_of c.args.model.now.program c.args.dec.now c.args.standing.homes.items c.requires.standing.homes c.requires.moderate,
+      ap (λ (hs : List (List ℕ)). sum_by further hs) c.as_slice.ensures.value,
+      c.rows.ensures.rows,
+    )
 
-pub make-requires-clause-each_column : goal.make-requires-clause-each_column
-make-requires-clause-each_column c = omega (arith, c.in_ok-columns.ensures.each, c.in_ok-columns.columns.ok, c.vars.ensures.vars)
+pub columns_of-requires-clause-few : goal.columns_of-requires-clause-few
+columns_of-requires-clause-few c =
+    omega (
+      arith,
+      c.in_ok-found.ensures.end,
+      ap (λ (hs : List (List ℕ)). sum_by further hs) c.as_slice.ensures.value,
+      few_lines_of c.args.model.now.program c.args.dec.now c.args.standing.homes.items c.requires.standing.homes c.requires.moderate,
+      c.rows.ensures.rows,
+      c.requires.cuts.few,
+    )
 
-pub make-requires-clause-homes : goal.make-requires-clause-homes
-make-requires-clause-homes c =
-    let p = c.args.model.now.program in
-    let d = c.args.dec.now in
-    let columns = columns_shown c.all_rows.result.now c.all_rows.result.now c.in_ok-columns.columns.items c.as_slice.result.now c.vars.result refl
-    (omega (arith, c.in_ok-columns.ensures.each, c.in_ok-columns.columns.ok)) c.in_ok-columns.ensures.columns c.as_slice.ensures.value in
-    homes_by p d c.all_rows.result.now c.places.result.now c.blocks-2.result c.as_slice.result.now c.in_ok-homes.homes.items
-    c.all_rows.ensures.rows c.places.ensures c.blocks-2.ensures.blocks columns
-    (omega (arith, c.in_ok-columns.ensures.each, c.in_ok-columns.columns.ok, ap length c.as_slice.ensures.value, c.vars.ensures.vars)) c.in_ok-homes.ensures.each c.in_ok-homes.ensures.homes
+pub returns-clause-source : goal.returns-clause-source
+returns-clause-source c = record {
+  kept = c.rows.ensures.kept;
+  places = c.requires.places;
+  few = omega (arith, c.blocks-blocks.ensures.few, c.blocks-blocks.ensures.blocks);
+  cuts = c.requires.cuts;
+  columns = c.requires.standing.columns;
+  each_column = c.requires.standing.each_column;
+  homes = c.requires.standing.homes;
+  links = subst (λ (n : ℕ). AreLinks n c.args.standing.homes.items c.in_ok-found.found.0.items) c.rows.ensures.rows
+      (subst (λ (hs : List (List ℕ)). AreLinks c.rows.result hs c.in_ok-found.found.0.items) c.as_slice.ensures.value c.in_ok-found.ensures.links);
+  end = c.in_ok-found.ensures.end ∙ ap (λ n. n + sum_by further c.as_slice.result.now) c.rows.ensures.rows
+      ∙ ap (λ (hs : List (List ℕ)). length c.args.model.now.program.rows + sum_by further hs) c.as_slice.ensures.value;
+  few_lines = omega (
+    arith,
+    c.in_ok-found.ensures.end,
+    ap (λ (hs : List (List ℕ)). sum_by further hs) c.as_slice.ensures.value,
+    few_lines_of c.args.model.now.program c.args.dec.now c.args.standing.homes.items c.requires.standing.homes c.requires.moderate,
+    c.rows.ensures.rows,
+  );
+  cut_columns = λ v l. c.in_ok-cut_columns.ensures.columns v (omega (arith, l, c.in_ok-cut_columns.ensures.each, c.in_ok-cut_columns.cut_columns.ok));
+  each_cut_column = omega (arith, c.in_ok-cut_columns.ensures.each, c.in_ok-cut_columns.cut_columns.ok, c.vars.ensures.vars);
+}

@@ -8,36 +8,33 @@ use Rattle.block_form.proofs.check.parts_of.Goals as goal
 
 pub source_of-requires-clause-cuts : goal.source_of-requires-clause-cuts
 source_of-requires-clause-cuts c =
-    subst (λ (rows : List Row). AreCutRows c.args.model.now.program rows) (sym (c.as_slice.ensures.value ∙ c.new-cuts.ensures.items)) (no_cut_rows c.args.model.now.program)
+    subst (λ (rows : List Row). AreCutRows c.args.model.now.program rows) (sym (c.as_slice-3.ensures.value ∙ c.new-cuts.ensures.items)) (no_cut_rows c.args.model.now.program)
 
 pub returns-in-Some-clause-fault : goal.returns-in-Some-clause-fault
 returns-in-Some-clause-fault c =
-    first_misplaced_at c.args.model.now.program c.args.dec.now c.in-Ok.source.homes.items c.as_slice-2.result.now c.listed.result.now c.in-Some.var
-    c.as_slice-2.ensures.value c.listed.ensures
-    (homes_at c.args.model.now c.args.dec.now c.in-Ok.source c.in-Ok.ensures.model c.in-Ok.ensures.dec c.in-Ok.ensures.source) c.requires.listed c.in-Some.ensures
+    first_misplaced_at c.args.model.now.program c.args.dec.now c.in-Ok.standing.homes.items c.as_slice.result.now c.listed.result.now c.in-Some.var
+    c.as_slice.ensures.value c.listed.ensures
+    c.in-Ok.ensures.homes c.requires.listed c.in-Some.ensures
 
 pub returns-then-are_large-clause-fault : goal.returns-then-are_large-clause-fault
 returns-then-are_large-clause-fault c = (
-  none_misplaced_at c.args.model.now.program c.args.dec.now c.in-Ok.source.homes.items c.as_slice-2.result.now c.listed.result.now
-      c.as_slice-2.ensures.value c.listed.ensures
-      (homes_at c.args.model.now c.args.dec.now c.in-Ok.source c.in-Ok.ensures.model c.in-Ok.ensures.dec c.in-Ok.ensures.source) c.requires.listed
+  none_misplaced_at c.args.model.now.program c.args.dec.now c.in-Ok.standing.homes.items c.as_slice.result.now c.listed.result.now
+      c.as_slice.ensures.value c.listed.ensures
+      c.in-Ok.ensures.homes c.requires.listed
       c.in_default-first_elsewhere.ensures,
-  large_at c.args.model.now c.args.dec.now c.in-Ok.source c.in-Ok.ensures.model c.in-Ok.ensures.dec c.if-are_large.ensures,
+  c.if-are_large.ensures,
 )
 
 pub returns-clause-parts : goal.returns-clause-parts
 returns-clause-parts c =
     parts_bare c.args.model.now c.args.dec.now c.in-Ok-made_parts.parts.0 c.in-Ok-made_parts.parts.1
-    (kept_at c.args.model.now c.in-Ok.source c.in-Ok.ensures.model c.in-Ok.ensures.source) c.requires.places
-    (λ large. c.if-are_large.ensures
-    (subst (λ (e : Decomposition). HasLargeLinks c.in-Ok.source.model.now.program e) (sym c.in-Ok.ensures.dec)
-    (subst (λ (m : NamedProgram). HasLargeLinks m.program c.args.dec.now) (sym c.in-Ok.ensures.model) large)))
-    (made_here c.args.model.now c.args.dec.now c.in-Ok.source c.in-Ok-made_parts.parts.0 c.in-Ok-made_parts.parts.1 c.in-Ok.ensures.model c.in-Ok.ensures.dec
-    (c.in-Ok.ensures.cuts ∙ c.as_slice.ensures.value ∙ c.new-cuts.ensures.items) c.in-Ok-made_parts.ensures)
+    (kept_at c.args.model.now c.in-Ok-source_of.source c.in-Ok-source_of.ensures.model c.in-Ok-source_of.ensures.source) c.requires.places c.if-are_large.ensures
+    (made_here c.args.model.now c.args.dec.now c.in-Ok-source_of.source c.in-Ok-made_parts.parts.0 c.in-Ok-made_parts.parts.1 c.in-Ok-source_of.ensures.model c.in-Ok-source_of.ensures.dec
+    (c.in-Ok-source_of.ensures.cuts ∙ c.as_slice-3.ensures.value ∙ c.new-cuts.ensures.items) c.in-Ok-made_parts.ensures)
 
 pub returns-clause-placed : goal.returns-clause-placed
 returns-clause-placed c =
-    none_misplaced_at c.args.model.now.program c.args.dec.now c.in-Ok.source.homes.items c.as_slice-2.result.now c.listed.result.now
-    c.as_slice-2.ensures.value c.listed.ensures
-    (homes_at c.args.model.now c.args.dec.now c.in-Ok.source c.in-Ok.ensures.model c.in-Ok.ensures.dec c.in-Ok.ensures.source) c.requires.listed
+    none_misplaced_at c.args.model.now.program c.args.dec.now c.in-Ok.standing.homes.items c.as_slice.result.now c.listed.result.now
+    c.as_slice.ensures.value c.listed.ensures
+    c.in-Ok.ensures.homes c.requires.listed
     c.in_default-first_elsewhere.ensures

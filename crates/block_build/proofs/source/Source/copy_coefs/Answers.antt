@@ -1,4 +1,4 @@
-use Rattle.std.proofs.Common.{◌≡◌, ◌∙◌, ◌+◌, ◌<◌, ◌∷◌, [], ℕ, suc, List, length, sym, ap, arith}
+use Rattle.std.proofs.Common.{◌≡◌, ◌∙◌, ◌+◌, ◌<◌, ◌∷◌, [], ℕ, List, length, sym, arith}
 use Rattle.std.specs.Prelude.{ℤ, negsuc}
 use Rattle.std.proofs.lemmas.List.{get_or_read}
 use Rattle.block_build.specs.Source.{copy_in, first_entries}
