@@ -232,14 +232,14 @@ limited_all m d cuts kept small =
 
 -- few copies and rows, and small costs and activities
 record IsSmallBlock (spans : List Span) (block : Block) : Type 0 where
-  copies : length block.copies ≤ 4096
-  rows : length block.rows ≤ 8192
+  copies : length block.copies ≤ 524288
+  rows : length block.rows ≤ 524288
   costs : cost_size (spans_of spans block) (costs_of block) < 2 ^ 62
   acts : (row : ℕ) → cost_size (spans_of spans block) (coefs_of block row) < 2 ^ 62
 
 -- copies of different variables are small
 copies_small : (m : NamedProgram) (d : Decomposition) (cuts : List Row) (k : ℕ) (first : ℕ → Bool) (vs : List ℕ) (rows : List Row) → IsKept m
-    → AllByRecursion (KeepsActivity m.program) cuts → Ascends 0 vs → length vs ≤ 4096 → length rows ≤ 8192
+    → AllByRecursion (KeepsActivity m.program) cuts → Ascends 0 vs → length vs ≤ 524288 → length rows ≤ 524288
     → IsSmallBlock m.program.spans (record { copies = map (λ v. copy_of m.program (proof_rows m.program d cuts) (first v) v k) vs; rows = rows })
 unfolding IsLimited bounding
 copies_small m d cuts k first vs rows kept small ascend few few_rows =

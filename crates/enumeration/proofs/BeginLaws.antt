@@ -108,20 +108,20 @@ box_least_so_far (s ∷ ss) (r ∷ rs) (suc k) =
     added : (a b : ℤ) (m n : ℕ) → unsigned_abs a ≤ m → unsigned_abs b ≤ n → unsigned_abs (a +ℤ b) ≤ m + n
     added a b m n h k = omega (arith, ints)
 
-pub cost_fits : (zone : List Span) (costs : List ℤ) (k : ℕ) → k < length zone → cost_size zone costs ≤ 2 ^ 116
+pub cost_fits : (zone : List Span) (costs : List ℤ) (k : ℕ) → k < length zone → cost_size zone costs ≤ 2 ^ 123
     → unsigned_abs (get_or costs k (pos 0)) * reach (span_at zone k) < 2 ^ 127
 cost_fits zone costs k l small = omega (arith, small, cost_at-le zone costs k l)
 
-pub cost_total_fits : (zone : List Span) (costs : List ℤ) (k : ℕ) (sum end : ℤ) → k < length zone → cost_size zone costs ≤ 2 ^ 116
+pub cost_total_fits : (zone : List Span) (costs : List ℤ) (k : ℕ) (sum end : ℤ) → k < length zone → cost_size zone costs ≤ 2 ^ 123
     → sum ≡ box_least (take k zone) costs → end ≡ end_cost (span_at zone k) (get_or costs k (pos 0)) → FitsSigned w128 (sum +ℤ end)
 cost_total_fits zone costs k sum end l small s e =
     fits_signed_from_abs w128 (sum +ℤ end)
     (added sum end
-    (subst (λ z. unsigned_abs z ≤ 2 ^ 116) (sym s) (omega (arith, small, box_least_so_far zone costs k)))
-    (subst (λ z. unsigned_abs z ≤ 2 ^ 116) (sym e)
+    (subst (λ z. unsigned_abs z ≤ 2 ^ 123) (sym s) (omega (arith, small, box_least_so_far zone costs k)))
+    (subst (λ z. unsigned_abs z ≤ 2 ^ 123) (sym e)
     (omega (arith, small, cost_at-le zone costs k l, end_cost-within (span_at zone k) (get_or costs k (pos 0))))))
   where
-    added : (a b : ℤ) → unsigned_abs a ≤ 2 ^ 116 → unsigned_abs b ≤ 2 ^ 116 → unsigned_abs (a +ℤ b) < 2 ^ 127
+    added : (a b : ℤ) → unsigned_abs a ≤ 2 ^ 123 → unsigned_abs b ≤ 2 ^ 123 → unsigned_abs (a +ℤ b) < 2 ^ 127
     added a b h k = omega (arith, ints)
 
 -- a list that has a row's value at each place is the map

@@ -165,12 +165,12 @@ sums_moved f rows narrow j to column before now l is had same shifted =
         ∙ sym (get_or-map (λ (row : Row). reach_by f (set narrow j to) row.terms) rows q none (pos 0) there)
 
 -- differences and sums of costs fit
-pub cost_change_fits : (new old a b : ℤ) → new ≡ a → old ≡ b → unsigned_abs a ≤ 2 ^ 116 → unsigned_abs b ≤ 2 ^ 116 → FitsSigned w128 (new -ℤ old)
+pub cost_change_fits : (new old a b : ℤ) → new ≡ a → old ≡ b → unsigned_abs a ≤ 2 ^ 123 → unsigned_abs b ≤ 2 ^ 123 → FitsSigned w128 (new -ℤ old)
 cost_change_fits new old a b e f h k = fits_signed_from_abs w128 (new -ℤ old) (omega (arith, ints, e, f, h, k))
 
-pub cost_change_small : (result new old a b : ℤ) → result ≡ new -ℤ old → new ≡ a → old ≡ b → unsigned_abs a ≤ 2 ^ 116 → unsigned_abs b ≤ 2 ^ 116
-    → unsigned_abs result ≤ 2 ^ 117
+pub cost_change_small : (result new old a b : ℤ) → result ≡ new -ℤ old → new ≡ a → old ≡ b → unsigned_abs a ≤ 2 ^ 123 → unsigned_abs b ≤ 2 ^ 123
+    → unsigned_abs result ≤ 2 ^ 124
 cost_change_small result new old a b r e f h k = omega (arith, ints, r, e, f, h, k)
 
-pub cost_sum_fits : (a b : ℤ) → unsigned_abs a ≤ 2 ^ 116 → unsigned_abs b ≤ 2 ^ 117 → FitsSigned w128 (a +ℤ b)
+pub cost_sum_fits : (a b : ℤ) → unsigned_abs a ≤ 2 ^ 123 → unsigned_abs b ≤ 2 ^ 124 → FitsSigned w128 (a +ℤ b)
 cost_sum_fits a b h k = fits_signed_from_abs w128 (a +ℤ b) (omega (arith, ints, h, k))

@@ -193,7 +193,7 @@ highs_many f zone costs d t =
     omega (arith, ap length t.highs, length-map f.rows.items (λ (row : Row). high_reach d.zone.items row.terms), d.highs.ok.0)
 
 pub cost_short : (f : Form) (zone : List Span) (costs : List ℤ) (d : Dive) (var : ℕ) (to : Span) → CanMove f zone costs d var to
-    → unsigned_abs (get_or costs var (pos 0)) * reach to ≤ 2 ^ 116
+    → unsigned_abs (get_or costs var (pos 0)) * reach to ≤ 2 ^ 123
 cost_short f zone costs d var to m =
     omega (
       arith,
@@ -203,9 +203,9 @@ cost_short f zone costs d var to m =
     )
 
 pub cost_short_from : (f : Form) (zone : List Span) (costs : List ℤ) (d : Dive) (var : ℕ) (to : Span) → CanMove f zone costs d var to
-    → (from : Span) → from ≡ get_or d.zone.items var from → unsigned_abs (get_or costs var (pos 0)) * reach from ≤ 2 ^ 116
+    → (from : Span) → from ≡ get_or d.zone.items var from → unsigned_abs (get_or costs var (pos 0)) * reach from ≤ 2 ^ 123
 cost_short_from f zone costs d var to m from s =
-    subst (λ (u : Span). unsigned_abs (get_or costs var (pos 0)) * reach u ≤ 2 ^ 116) (sym (from_is f zone costs d var m.tracked m.there from s))
+    subst (λ (u : Span). unsigned_abs (get_or costs var (pos 0)) * reach u ≤ 2 ^ 123) (sym (from_is f zone costs d var m.tracked m.there from s))
     (omega (
       arith,
       product_inside (unsigned_abs (get_or costs var (pos 0))) (span_at d.zone.items var) (span_at zone var)
@@ -215,9 +215,9 @@ cost_short_from f zone costs d var to m from s =
     ))
 
 pub least_short : (f : Form) (zone : List Span) (costs : List ℤ) (d : Dive) → IsPriceable f.spans.items zone costs → IsTracked f.rows.items zone costs d
-    → unsigned_abs d.least ≤ 2 ^ 116
+    → unsigned_abs d.least ≤ 2 ^ 123
 least_short f zone costs d p t =
-    subst (λ z. unsigned_abs z ≤ 2 ^ 116) (sym t.least)
+    subst (λ z. unsigned_abs z ≤ 2 ^ 123) (sym t.least)
     (omega (
       arith,
       box_least_small d.zone.items zone costs (recursion_from_All (λ (s : Span). s.lo ≤ℤ s.hi) d.zone.items t.proper) t.inside,

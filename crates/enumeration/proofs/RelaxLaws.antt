@@ -202,21 +202,21 @@ paid_cost f zone r a var l read e = get_or_read r.costs.items var read (omega (a
 
 pub paid_short : (f : Form) (zone : List Span) (costs : List ℤ) (r : Relaxed) (d : Dive) (var : ℕ) (to : Span)
     → IsPriceable f.spans.items zone r.costs.items → IsPaid r d → CanMove f zone costs d var to
-    → (read : ℤ) → read ≡ get_or r.costs.items var read → unsigned_abs read * reach to ≤ 2 ^ 116
+    → (read : ℤ) → read ≡ get_or r.costs.items var read → unsigned_abs read * reach to ≤ 2 ^ 123
 paid_short f zone costs r d var to a p m read e =
-    subst (λ z. unsigned_abs z * reach to ≤ 2 ^ 116) (sym (paid_cost f zone r a var m.there read e))
+    subst (λ z. unsigned_abs z * reach to ≤ 2 ^ 123) (sym (paid_cost f zone r a var m.there read e))
     (cost_short f zone r.costs.items (paid_dive d) var to (paid_move f zone costs r d var to a p m))
 
 pub paid_short_from : (f : Form) (zone : List Span) (costs : List ℤ) (r : Relaxed) (d : Dive) (var : ℕ) (to : Span)
     → IsPriceable f.spans.items zone r.costs.items → IsPaid r d → CanMove f zone costs d var to
     → (from : Span) → from ≡ get_or d.zone.items var from
-    → (read : ℤ) → read ≡ get_or r.costs.items var read → unsigned_abs read * reach from ≤ 2 ^ 116
+    → (read : ℤ) → read ≡ get_or r.costs.items var read → unsigned_abs read * reach from ≤ 2 ^ 123
 paid_short_from f zone costs r d var to a p m from s read e =
-    subst (λ z. unsigned_abs z * reach from ≤ 2 ^ 116) (sym (paid_cost f zone r a var m.there read e))
+    subst (λ z. unsigned_abs z * reach from ≤ 2 ^ 123) (sym (paid_cost f zone r a var m.there read e))
     (cost_short_from f zone r.costs.items (paid_dive d) var to (paid_move f zone costs r d var to a p m) from s)
 
 pub paid_least_short : (f : Form) (zone : List Span) (costs : List ℤ) (r : Relaxed) (d : Dive)
-    → IsPriceable f.spans.items zone r.costs.items → IsPaid r d → IsTracked f.rows.items zone costs d → unsigned_abs d.paid ≤ 2 ^ 116
+    → IsPriceable f.spans.items zone r.costs.items → IsPaid r d → IsTracked f.rows.items zone costs d → unsigned_abs d.paid ≤ 2 ^ 123
 paid_least_short f zone costs r d a p t =
     least_short f zone r.costs.items (paid_dive d) a (paid_tracked f.rows.items zone costs r d t p)
 

@@ -22,7 +22,7 @@ use Rattle.enumeration.proofs.ReachLaws.{inside_at, span_at-set, span_at-set_oth
 use Rattle.enumeration.proofs.PlaceLaws.{set_inside}
 
 -- a small number that was written
-pub written : (z : ℤ) → unsigned_abs z ≤ 2 ^ 116 → to_z w128 (of_z w128 z) ≡ z
+pub written : (z : ℤ) → unsigned_abs z ≤ 2 ^ 123 → to_z w128 (of_z w128 z) ≡ z
 written z h = to_z-of_z w128 z (fits_signed_from_abs w128 z (omega (arith, h)))
 
 -- a cost that the best doesn't cover is no worse than the best

@@ -25,7 +25,7 @@ pub use form::Form;
 pub use frame::Frame;
 pub use moves::rows_can_meet;
 pub use multipliers::Multipliers;
-pub use order::set_order;
+pub use order::{Key, set_order};
 pub use relax::Relaxed;
 pub use search::explore;
 pub use start::{begin, least_cost};

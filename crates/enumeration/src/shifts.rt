@@ -72,10 +72,10 @@ pub fn shift_highs(highs: &mut Vec<i128>, column: &[Entry], from: &Span, to: &Sp
 
 /// By how much the least of a cost's products changes from one span to another.
 pub fn change_of_cost(cost: &i128, from: &Span, to: &Span) -> i128
-    requires from { unsigned_abs cost.now * reach from.now ≤ 2 ^ 116 }
-    requires to { unsigned_abs cost.now * reach to.now ≤ 2 ^ 116 }
+    requires from { unsigned_abs cost.now * reach from.now ≤ 2 ^ 123 }
+    requires to { unsigned_abs cost.now * reach to.now ≤ 2 ^ 123 }
     ensures change { result ≡ end_cost to.now cost.now -ℤ end_cost from.now cost.now }
-    ensures small { unsigned_abs result ≤ 2 ^ 117 }
+    ensures small { unsigned_abs result ≤ 2 ^ 124 }
 {
     let new = least_end(to, cost);
     let old = least_end(from, cost);

@@ -79,7 +79,7 @@ fn sum_of_highs(terms: &[Term], zone: &[Span], spans: &[Span]) -> i128
 /// The least cost in a zone, rows aside.
 pub fn least_cost(zone: &[Span], costs: &[i128]) -> i128
     requires each { length costs.now ≡ length zone.now }
-    requires sizes { cost_size zone.now costs.now ≤ 2 ^ 116 }
+    requires sizes { cost_size zone.now costs.now ≤ 2 ^ 123 }
     ensures { result ≡ box_least zone.now costs.now }
 {
     let mut sum = 0;

@@ -63,9 +63,9 @@ coefs_many f zone costs p =
 pub narrow : (f : Form) → All (λ a. unsigned_abs a < 2 ^ 62) f.coefs.items
 narrow f = subst (λ as'. All (λ a. unsigned_abs a < 2 ^ 62) as') (sym f.dense_coefs) (coefs_narrow (first_terms f.rows.items) f.spans.items (terms_small f))
 
-pub size_small : (f : Form) (zone : List Span) (costs : List ℤ) → IsPriceable f.spans.items zone costs → cost_size zone f.coefs.items ≤ 2 ^ 116
+pub size_small : (f : Form) (zone : List Span) (costs : List ℤ) → IsPriceable f.spans.items zone costs → cost_size zone f.coefs.items ≤ 2 ^ 123
 size_small f zone costs p =
-    subst (λ as'. cost_size zone as' ≤ 2 ^ 116) (sym f.dense_coefs)
+    subst (λ as'. cost_size zone as' ≤ 2 ^ 123) (sym f.dense_coefs)
     (omega (arith, terms_small f, coefs_size (first_terms f.rows.items) f.spans.items zone p.in_root.proper p.in_root.inside))
 
 pub shorts : (f : Form) (zone : List Span) (costs : List ℤ) → IsPriceable f.spans.items zone costs → All HasShortEnds zone
@@ -97,9 +97,9 @@ small f zone costs p items is =
     (omega (arith, reach_fits f, coefs_reach (first_terms f.rows.items) f.spans.items zone p.in_root.proper p.in_root.inside)))))
 
 pub cheap : (f : Form) (zone : List Span) (costs : List ℤ) → IsPriceable f.spans.items zone costs → (items : List Item) → items ≡ items_of f.coefs.items zone costs
-    → worth_size items ≤ 2 ^ 117
+    → worth_size items ≤ 2 ^ 124
 cheap f zone costs p items is =
-    subst (λ (xs : List Item). worth_size xs ≤ 2 ^ 117) (sym is) (omega (arith, p.sizes, items_worth f.coefs.items zone costs))
+    subst (λ (xs : List Item). worth_size xs ≤ 2 ^ 124) (sym is) (omega (arith, p.sizes, items_worth f.coefs.items zone costs))
 
 pub items_many : (f : Form) (zone : List Span) (costs : List ℤ) → IsPriceable f.spans.items zone costs → (items : List Item) → items ≡ items_of f.coefs.items zone costs
     → length items ≡ length zone
@@ -118,9 +118,9 @@ full f zone costs p items is =
     )))
 
 -- the coefficients' size at the root
-pub root_small : (f : Form) → cost_size f.spans.items f.coefs.items ≤ 2 ^ 116
+pub root_small : (f : Form) → cost_size f.spans.items f.coefs.items ≤ 2 ^ 123
 root_small f =
-    subst (λ as'. cost_size f.spans.items as' ≤ 2 ^ 116) (sym f.dense_coefs)
+    subst (λ as'. cost_size f.spans.items as' ≤ 2 ^ 123) (sym f.dense_coefs)
     (omega (
       arith,
       terms_small f,
@@ -212,22 +212,22 @@ answer_some f zone costs row r items its base top u v base_cost point t picked i
     (is ∙ ap (λ z. z +ℤ u) (b ∙ ap (λ as'. dot costs (point_of as' zone costs (none_of as'))) coefs))))
 
 -- a cost and a load's cost fit together
-pub total_fits : (items : List Item) (row : Row) (base : ℤ) (top : ℕ) (us : List ℕ) (base_cost u : ℤ) → IsLeastLoad items row base top us u → worth_size items ≤ 2 ^ 117
-    → unsigned_abs base_cost ≤ 2 ^ 116 → FitsSigned w128 (base_cost +ℤ u)
+pub total_fits : (items : List Item) (row : Row) (base : ℤ) (top : ℕ) (us : List ℕ) (base_cost u : ℤ) → IsLeastLoad items row base top us u → worth_size items ≤ 2 ^ 124
+    → unsigned_abs base_cost ≤ 2 ^ 123 → FitsSigned w128 (base_cost +ℤ u)
 total_fits items row base top us base_cost u l small cost =
     fits_signed_from_abs w128 (base_cost +ℤ u)
-    (added base_cost u cost (subst (λ z. unsigned_abs z ≤ 2 ^ 117) l.costs (omega (arith, small, worth_small items us l.way.fits))))
+    (added base_cost u cost (subst (λ z. unsigned_abs z ≤ 2 ^ 124) l.costs (omega (arith, small, worth_small items us l.way.fits))))
   where
-    added : (a b : ℤ) → unsigned_abs a ≤ 2 ^ 116 → unsigned_abs b ≤ 2 ^ 117 → unsigned_abs (a +ℤ b) < 2 ^ 127
+    added : (a b : ℤ) → unsigned_abs a ≤ 2 ^ 123 → unsigned_abs b ≤ 2 ^ 124 → unsigned_abs (a +ℤ b) < 2 ^ 127
     added a b h k = omega (arith, ints, h, k)
 
 -- a load's cost comes back as it was
-pub least_passed : (items : List Item) (row : Row) (base : ℤ) (top : ℕ) (us : List ℕ) (u : ℤ) → IsLeastLoad items row base top us u → worth_size items ≤ 2 ^ 117
+pub least_passed : (items : List Item) (row : Row) (base : ℤ) (top : ℕ) (us : List ℕ) (u : ℤ) → IsLeastLoad items row base top us u → worth_size items ≤ 2 ^ 124
     → to_z w128 (of_z w128 u) ≡ u
 least_passed items row base top us u l small =
-    to_z-of_z w128 u (fits_signed_from_abs w128 u (near u (subst (λ z. unsigned_abs z ≤ 2 ^ 117) l.costs (omega (arith, small, worth_small items us l.way.fits)))))
+    to_z-of_z w128 u (fits_signed_from_abs w128 u (near u (subst (λ z. unsigned_abs z ≤ 2 ^ 124) l.costs (omega (arith, small, worth_small items us l.way.fits)))))
   where
-    near : (a : ℤ) → unsigned_abs a ≤ 2 ^ 117 → unsigned_abs a < 2 ^ 127
+    near : (a : ℤ) → unsigned_abs a ≤ 2 ^ 124 → unsigned_abs a < 2 ^ 127
     near a h = omega (arith, h)
 
 -- how many cells a table has, by what it is made of

@@ -13,7 +13,7 @@ use Rattle.knapsack_table.specs.Choices.{MeetsAt, IsChosen, HasNoLoad, IsLeastLo
 use Rattle.knapsack_table.proofs.StepLaws.{length-items_of, length-point_of}
 
 -- the numbers of tables in 128 bits, and in 64 bits
-pub apart : (size : ℕ) → size ≤ 2 ^ 117 → AreApart size no_way far
+pub apart : (size : ℕ) → size ≤ 2 ^ 124 → AreApart size no_way far
 apart size h = record { below = omega (arith, ints, h); above = omega (arith, ints, h) }
 
 pub short_apart : (size : ℕ) → size ≤ 2 ^ 59 → AreApart size short_no_way short_far

@@ -72,10 +72,10 @@ product_small (s ∷ ss) [] (n ∷ ns) k h l = nothing (get_or (n ∷ ns) k (pos
 product_small (s ∷ ss) (f ∷ fs) (n ∷ ns) zero h l = omega (arith, product-within f n s (number-le_reach s n h.0))
 product_small (s ∷ ss) (f ∷ fs) (n ∷ ns) (suc k) h l = omega (arith, product_small ss fs ns k h.1 (omega arith))
 
-pub small_product_fits : (a : ℤ) (m : ℕ) → unsigned_abs a ≤ m → m ≤ 2 ^ 116 → FitsSigned w128 a
+pub small_product_fits : (a : ℤ) (m : ℕ) → unsigned_abs a ≤ m → m ≤ 2 ^ 123 → FitsSigned w128 a
 small_product_fits a m h k = fits_signed_from_abs w128 a (omega (arith, h, k))
 
-pub small_sum_fits : (a b : ℤ) → unsigned_abs a ≤ 2 ^ 116 → unsigned_abs b ≤ 2 ^ 116 → FitsSigned w128 (a +ℤ b)
+pub small_sum_fits : (a b : ℤ) → unsigned_abs a ≤ 2 ^ 123 → unsigned_abs b ≤ 2 ^ 123 → FitsSigned w128 (a +ℤ b)
 small_sum_fits a b h k = fits_signed_from_abs w128 (a +ℤ b) (omega (arith, ints, h, k))
 
 -- a cost is within the size of the costs

@@ -51,8 +51,8 @@ fn pick_long(
         knapsack.now.costs.now }
     requires heavy { All (λ item. 0 < item.width → 0 < item.weight) knapsack.now.items.now }
     requires small { All (λ item. item.weight * item.width ≤ 2 ^ 20) knapsack.now.items.now }
-    requires cost { worth_size knapsack.now.items.now ≤ 2 ^ 117 }
-    requires base { unsigned_abs base.now ≤ 2 ^ 116 }
+    requires cost { worth_size knapsack.now.items.now ≤ 2 ^ 124 }
+    requires base { unsigned_abs base.now ≤ 2 ^ 123 }
     requires top { top ≤ 2 ^ 20 }
     requires room { (length knapsack.now.zone.now + 1) * (top + 1) ≤ vec_len cells.old }
     ensures cells { vec_len cells.new ≡ vec_len cells.old }
@@ -91,7 +91,7 @@ fn pick_short(
     requires heavy { All (λ item. 0 < item.width → 0 < item.weight) knapsack.now.items.now }
     requires small { All (λ item. item.weight * item.width ≤ 2 ^ 20) knapsack.now.items.now }
     requires cost { worth_size knapsack.now.items.now ≤ 2 ^ 59 }
-    requires base { unsigned_abs base.now ≤ 2 ^ 116 }
+    requires base { unsigned_abs base.now ≤ 2 ^ 123 }
     requires top { top ≤ 2 ^ 20 }
     requires room { (length knapsack.now.zone.now + 1) * (top + 1) ≤ vec_len cells.old }
     ensures cells { vec_len cells.new ≡ vec_len cells.old }
@@ -129,8 +129,8 @@ pub fn pick(
         knapsack.now.costs.now }
     requires heavy { All (λ item. 0 < item.width → 0 < item.weight) knapsack.now.items.now }
     requires small { All (λ item. item.weight * item.width ≤ 2 ^ 20) knapsack.now.items.now }
-    requires cost { worth_size knapsack.now.items.now ≤ 2 ^ 117 }
-    requires base { unsigned_abs base.now ≤ 2 ^ 116 }
+    requires cost { worth_size knapsack.now.items.now ≤ 2 ^ 124 }
+    requires base { unsigned_abs base.now ≤ 2 ^ 123 }
     requires top { top ≤ 2 ^ 20 }
     requires room { (length knapsack.now.zone.now + 1) * (top + 1) ≤ count_of cells.old }
     ensures cells { count_of cells.new ≡ count_of cells.old }

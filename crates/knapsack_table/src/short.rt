@@ -19,7 +19,7 @@ const MOST_SIZE: u128 = 1 << 59;
 
 /// The greatest magnitude of what units of an item cost.
 fn size_of_item(item: &Item) -> u128
-    requires { unsigned_abs item.now.cost * item.now.width ≤ 2 ^ 117 }
+    requires { unsigned_abs item.now.cost * item.now.width ≤ 2 ^ 124 }
     ensures { result ≡ unsigned_abs item.now.cost * item.now.width }
 {
     item.cost.unsigned_abs() * u128::from(item.width)
@@ -27,7 +27,7 @@ fn size_of_item(item: &Item) -> u128
 
 /// The greatest magnitude of a load's cost.
 fn size_of(items: &[Item]) -> u128
-    requires { worth_size items.now ≤ 2 ^ 117 }
+    requires { worth_size items.now ≤ 2 ^ 124 }
     ensures { result ≡ worth_size items.now }
 {
     let mut sum = 0;
@@ -39,7 +39,7 @@ fn size_of(items: &[Item]) -> u128
 
 /// Whether costs are short: no load costs more than 2 to the 59 in magnitude.
 pub fn are_short(items: &[Item]) -> bool
-    requires { worth_size items.now ≤ 2 ^ 117 }
+    requires { worth_size items.now ≤ 2 ^ 124 }
     ensures { OnTrue result (worth_size items.now ≤ 2 ^ 59) }
 {
     size_of(items) <= MOST_SIZE

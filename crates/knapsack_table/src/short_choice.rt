@@ -23,7 +23,7 @@ fn improves(cells: &[i64], start: usize, weight: usize, best: Option<usize>) -> 
 pub fn choose(cells: &[i64], start: usize, row: &Row, base: &i128, top: usize) -> Option<usize>
     requires room { start + top < length cells.now }
     requires small { top ≤ 2 ^ 20 }
-    requires base { unsigned_abs base.now ≤ 2 ^ 116 }
+    requires base { unsigned_abs base.now ≤ 2 ^ 123 }
     ensures { IsChosen short_no_way (row_from cells.now start) row.now base.now (top + 1) result }
 {
     let mut best = None;
@@ -44,7 +44,7 @@ fn better_of(
 ) -> Option<usize>
     requires there { start + weight < length cells.now }
     requires small { weight ≤ 2 ^ 20 }
-    requires base { unsigned_abs base.now ≤ 2 ^ 116 }
+    requires base { unsigned_abs base.now ≤ 2 ^ 123 }
     requires best { IsChosen short_no_way (row_from cells.now start) row.now base.now weight best }
     ensures { IsChosen short_no_way (row_from cells.now start) row.now base.now (weight + 1) result }
 {

@@ -20,9 +20,9 @@ use pricing_problem::{least_end, plus, times};
 pub fn product_sum(factors: &[i128], numbers: &[i64], zone: &[Span]) -> i128
     requires each { length factors.now ≡ length zone.now }
     requires inside { IsInside zone.now numbers.now }
-    requires small { cost_size zone.now factors.now ≤ 2 ^ 116 }
+    requires small { cost_size zone.now factors.now ≤ 2 ^ 123 }
     ensures value { result ≡ dot factors.now numbers.now }
-    ensures small { unsigned_abs result ≤ 2 ^ 116 }
+    ensures small { unsigned_abs result ≤ 2 ^ 123 }
 {
     let mut sum = 0;
     for k in 0..zone.len() {
@@ -35,9 +35,9 @@ pub fn product_sum(factors: &[i128], numbers: &[i64], zone: &[Span]) -> i128
 /// The least that a row can add up to within spans, by the coefficients of each variable.
 pub fn least_sum(coefs: &[i128], spans: &[Span]) -> i128
     requires each { length coefs.now ≡ length spans.now }
-    requires small { cost_size spans.now coefs.now ≤ 2 ^ 116 }
+    requires small { cost_size spans.now coefs.now ≤ 2 ^ 123 }
     ensures value { result ≡ box_least spans.now coefs.now }
-    ensures small { unsigned_abs result ≤ 2 ^ 116 }
+    ensures small { unsigned_abs result ≤ 2 ^ 123 }
 {
     let mut sum = 0;
     for k in 0..spans.len() {
@@ -74,7 +74,7 @@ pub fn set_items(
     requires proper { IsProper zone.now }
     requires short { All HasShortEnds zone.now }
     requires narrow { All (λ a. unsigned_abs a < 2 ^ 62) coefs.now }
-    requires small { cost_size zone.now costs.now ≤ 2 ^ 116 }
+    requires small { cost_size zone.now costs.now ≤ 2 ^ 123 }
     ensures items { items.new.items ≡ items_of coefs.now zone.now costs.now }
     ensures point { point.new.items ≡ point_of coefs.now zone.now costs.now (none_of coefs.now) }
 {
@@ -111,7 +111,7 @@ fn is_least(sum: &i128, side: &i64) -> bool
 
 /// The greatest weight up to a reach that a row's upper side leaves above a base.
 pub fn top_of(row: &Row, base: &i128, reach: usize) -> usize
-    requires base { unsigned_abs base.now ≤ 2 ^ 116 }
+    requires base { unsigned_abs base.now ≤ 2 ^ 123 }
     ensures { result ≡ room_for row.now.sense row.now.rhs base.now reach }
 {
     match row.sense {
@@ -122,7 +122,7 @@ pub fn top_of(row: &Row, base: &i128, reach: usize) -> usize
 
 /// How far a side is above a base, up to a reach.
 fn room_of(side: &i64, base: &i128, reach: usize) -> usize
-    requires base { unsigned_abs base.now ≤ 2 ^ 116 }
+    requires base { unsigned_abs base.now ≤ 2 ^ 123 }
     ensures { result ≡ min reach (int_gap base.now side.now) }
 {
     let room = i128::from(*side) - *base;
@@ -151,7 +151,7 @@ fn improves(cells: &[i128], start: usize, weight: usize, best: Option<usize>) ->
 pub fn choose(cells: &[i128], start: usize, row: &Row, base: &i128, top: usize) -> Option<usize>
     requires room { start + top < length cells.now }
     requires small { top ≤ 2 ^ 20 }
-    requires base { unsigned_abs base.now ≤ 2 ^ 116 }
+    requires base { unsigned_abs base.now ≤ 2 ^ 123 }
     ensures { IsChosen no_way (row_from cells.now start) row.now base.now (top + 1) result }
 {
     let mut best = None;
@@ -172,7 +172,7 @@ fn better_of(
 ) -> Option<usize>
     requires there { start + weight < length cells.now }
     requires small { weight ≤ 2 ^ 20 }
-    requires base { unsigned_abs base.now ≤ 2 ^ 116 }
+    requires base { unsigned_abs base.now ≤ 2 ^ 123 }
     requires best { IsChosen no_way (row_from cells.now start) row.now base.now weight best }
     ensures { IsChosen no_way (row_from cells.now start) row.now base.now (weight + 1) result }
 {
@@ -189,7 +189,7 @@ fn better_of(
 /// A sum that is so much greater.
 pub fn moved(base: &i128, weight: usize) -> i128
     requires small { weight ≤ 2 ^ 20 }
-    requires base { unsigned_abs base.now ≤ 2 ^ 116 }
+    requires base { unsigned_abs base.now ≤ 2 ^ 123 }
     ensures { result ≡ base.now +ℤ pos weight }
 {
     *base + weight as i128

@@ -24,8 +24,8 @@ fn lesser(a: &i128, b: &i128) -> i128
 fn relax(cells: &mut [i128], start: usize, weight: usize, shift: usize, gain: &i128)
     requires there { start + weight < length cells.old }
     requires shift { shift ≤ weight }
-    requires small { unsigned_abs (row_from cells.old start (weight - shift)) ≤ 2 ^ 126 + 2 ^ 118 }
-    requires gain { unsigned_abs gain.now ≤ 2 ^ 118 }
+    requires small { unsigned_abs (row_from cells.old start (weight - shift)) ≤ 2 ^ 126 + 2 ^ 125 }
+    requires gain { unsigned_abs gain.now ≤ 2 ^ 124 }
     ensures len { length cells.new ≡ length cells.old }
     ensures lesser { IsLesser (row_from cells.old start weight)
         (row_from cells.old start (weight - shift) +ℤ gain.now) (row_from cells.new start weight) }
@@ -38,9 +38,9 @@ fn relax(cells: &mut [i128], start: usize, weight: usize, shift: usize, gain: &i
 /// What so many units cost.
 pub fn cost_of(cost: &i128, units: u64) -> i128
     requires units { units < 2 ^ 31 }
-    requires small { unsigned_abs cost.now * units ≤ 2 ^ 118 }
+    requires small { unsigned_abs cost.now * units ≤ 2 ^ 124 }
     ensures value { result ≡ cost.now *ℤ pos units }
-    ensures small { unsigned_abs result ≤ 2 ^ 118 }
+    ensures small { unsigned_abs result ≤ 2 ^ 124 }
 {
     let number = units as i64;
     times(cost, &number)
@@ -52,8 +52,8 @@ fn add_part(cells: &mut [i128], start: usize, item: &Item, units: u64, top: usiz
     requires top { top ≤ 2 ^ 20 }
     requires small { item.now.weight * units ≤ 2 ^ 20 }
     requires units { units < 2 ^ 31 }
-    requires cost { unsigned_abs item.now.cost * units ≤ 2 ^ 118 }
-    requires bounded { AreBounded (2 ^ 126 + 2 ^ 118) top (row_from cells.old start) }
+    requires cost { unsigned_abs item.now.cost * units ≤ 2 ^ 124 }
+    requires bounded { AreBounded (2 ^ 126 + 2 ^ 125) top (row_from cells.old start) }
     ensures len { length cells.new ≡ length cells.old }
     ensures part { HasPart (item.now.weight * units) (item.now.cost *ℤ pos units) top
         (row_from cells.old start) (row_from cells.new start) }
@@ -84,8 +84,8 @@ fn add_item(cells: &mut [i128], start: usize, item: &Item, top: usize)
     requires top { top ≤ 2 ^ 20 }
     requires heavy { 0 < item.now.width → 0 < item.now.weight }
     requires small { item.now.weight * item.now.width ≤ 2 ^ 20 }
-    requires cost { unsigned_abs item.now.cost * item.now.width ≤ 2 ^ 117 }
-    requires bounded { AreBounded (2 ^ 126 + 2 ^ 117) top (row_from cells.old start) }
+    requires cost { unsigned_abs item.now.cost * item.now.width ≤ 2 ^ 124 }
+    requires bounded { AreBounded (2 ^ 126 + 2 ^ 124) top (row_from cells.old start) }
     ensures len { length cells.new ≡ length cells.old }
     ensures tried { IsTried item.now item.now.width top (row_from cells.old start)
         (row_from cells.new (start + (top + 1))) }
@@ -114,7 +114,7 @@ fn fill_rows(cells: &mut [i128], items: &[Item], top: usize)
     requires top { top ≤ 2 ^ 20 }
     requires heavy { All (λ item. 0 < item.width → 0 < item.weight) items.now }
     requires small { All (λ item. item.weight * item.width ≤ 2 ^ 20) items.now }
-    requires cost { worth_size items.now ≤ 2 ^ 117 }
+    requires cost { worth_size items.now ≤ 2 ^ 124 }
     ensures len { length cells.new ≡ length cells.old }
     ensures rows { AreRows far items.now top (row_at cells.new top) }
 {
@@ -132,7 +132,7 @@ pub fn fill(cells: &mut Vec<i128>, items: &[Item], top: usize)
     requires top { top ≤ 2 ^ 20 }
     requires heavy { All (λ item. 0 < item.width → 0 < item.weight) items.now }
     requires small { All (λ item. item.weight * item.width ≤ 2 ^ 20) items.now }
-    requires cost { worth_size items.now ≤ 2 ^ 117 }
+    requires cost { worth_size items.now ≤ 2 ^ 124 }
     ensures len { vec_len cells.new ≡ vec_len cells.old }
     ensures rows { AreRows far items.now top (row_at cells.new.items top) }
 {

@@ -23,8 +23,8 @@ fn follows(
     requires fits { units ≤ item.now.width }
     requires small { item.now.weight * item.now.width ≤ 2 ^ 20 }
     requires heavy { 0 < item.now.width → 0 < item.now.weight }
-    requires cost { unsigned_abs item.now.cost * item.now.width ≤ 2 ^ 117 }
-    requires bounded { AreBounded (2 ^ 126 + 2 ^ 117) weight (row_from cells.now above) }
+    requires cost { unsigned_abs item.now.cost * item.now.width ≤ 2 ^ 124 }
+    requires bounded { AreBounded (2 ^ 126 + 2 ^ 124) weight (row_from cells.now above) }
     ensures { IsTrue result ↔ Follows item.now (row_from cells.now above) weight cell.now units }
 {
     let shift = (item.weight * units) as usize;
@@ -41,8 +41,8 @@ fn units_at(cells: &[i128], here: usize, above: usize, item: &Item, weight: usiz
     requires above { above + weight < length cells.now }
     requires small { item.now.weight * item.now.width ≤ 2 ^ 20 }
     requires heavy { 0 < item.now.width → 0 < item.now.weight }
-    requires cost { unsigned_abs item.now.cost * item.now.width ≤ 2 ^ 117 }
-    requires bounded { AreBounded (2 ^ 126 + 2 ^ 117) weight (row_from cells.now above) }
+    requires cost { unsigned_abs item.now.cost * item.now.width ≤ 2 ^ 124 }
+    requires bounded { AreBounded (2 ^ 126 + 2 ^ 124) weight (row_from cells.now above) }
     requires some { (u : ℕ) × (u ≤ item.now.width) ×
         Follows item.now (row_from cells.now above) weight (row_from cells.now here weight) u }
     ensures fits { result ≤ item.now.width }
@@ -69,7 +69,7 @@ pub fn trace(point: &mut Vec<i64>, cells: &[i128], knapsack: &Knapsack, top: usi
         knapsack.now.costs.now }
     requires heavy { All (λ item. 0 < item.width → 0 < item.weight) knapsack.now.items.now }
     requires small { All (λ item. item.weight * item.width ≤ 2 ^ 20) knapsack.now.items.now }
-    requires cost { worth_size knapsack.now.items.now ≤ 2 ^ 117 }
+    requires cost { worth_size knapsack.now.items.now ≤ 2 ^ 124 }
     requires room { (length knapsack.now.zone.now + 1) * (top + 1) ≤ length cells.now }
     requires rows { AreRows far knapsack.now.items.now top (row_at cells.now top) }
     requires weight { weight ≤ top }

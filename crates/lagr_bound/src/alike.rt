@@ -21,7 +21,7 @@ use reduced_costs::{base, is_picked};
 
 /// The weak Lagrangian bound of a proof in a zone with the zone's classes, whose picked blocks are priced once a class:
 /// the lowest picked block, since blocks that are the same in the zone have the same least. It is the sum over all
-/// blocks, as that of `sum_bound`, and its magnitude is below `2^116`. After a whole bound `Work::point` tells a point
+/// blocks, as that of `sum_bound`, and its magnitude is below `2^123`. After a whole bound `Work::point` tells a point
 /// of each such block that reaches its least.
 pub fn bound(
     work: &mut Work,

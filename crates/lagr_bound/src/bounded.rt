@@ -29,7 +29,7 @@ pub enum Bounded {
 /// The weak Lagrangian bound of a proof in a zone, where each picked block is priced by itself: what the proof gives before
 /// the blocks, for each picked block the least of its reduced costs over its points, and for each other block that over
 /// its box. `Cut` comes only under a cap that the block's beginnings of assignments exceed. A whole bound's magnitude is
-/// below `2^116`.
+/// below `2^123`.
 pub fn sum_bound(work: &mut Work, b: &Blocked, zone: &Zone, proof: &Proof, cap: Cap) -> Bounded
     requires made_for { forms_of work.old ≡ forms_in b.now }
     requires zone { IsZone b.now.named.program.spans zone.now }

@@ -11,7 +11,7 @@ use pricing_problem::plus;
 use reduced_costs::{base, box_least};
 
 /// The weak Lagrangian bound of a proof that picks no block: what it gives before the blocks, and for each block the
-/// least of its reduced costs over its box in the zone. Its magnitude is below `2^116`.
+/// least of its reduced costs over its box in the zone. Its magnitude is below `2^123`.
 pub fn box_bound(b: &Blocked, zone: &Zone, proof: &Proof) -> i128
     requires zone { IsZone b.now.named.program.spans zone.now }
     requires fits { Fits b.now.blocking proof.now }

@@ -107,7 +107,7 @@ placed spans k ts us h i t l =
 
 -- ---- all together
 
-form_of : (p : Program) (k : Block) → length p.spans ≤ 4096 → length p.rows ≤ 8192 → All HasSmallEnds p.spans → All (KeepsActivity p) p.rows
+form_of : (p : Program) (k : Block) → length p.spans ≤ 524288 → length p.rows ≤ 524288 → All HasSmallEnds p.spans → All (KeepsActivity p) p.rows
     → IsFew p k → All (λ row. (full : Row) × Contains p.rows full × Mirrors k row full) k.rows → IsForm k.rows (spans_of p.spans k)
 form_of p k vars many ends small few mirrored =
     let wide : length (spans_of p.spans k) ≡ length k.copies = length-map k.copies (λ (c : Copy). span_at p.spans c.var) in

@@ -41,7 +41,7 @@ cost_size [] rs = 0
 cost_size (s ∷ ss) [] = 0
 cost_size (s ∷ ss) (r ∷ rs) = unsigned_abs r * reach s + cost_size ss rs
 
--- a zone inside the root spans in which each span has a number, and a cost for each place, of at most 2 to the 116 together
+-- a zone inside the root spans in which each span has a number, and a cost for each place, of at most 2 to the 123 together
 pub record IsPriceable (spans zone : List Span) (costs : List ℤ) : Type 0 where
   pub in_root : IsZone spans zone
   pub each : length costs ≡ length zone

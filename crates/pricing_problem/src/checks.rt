@@ -12,7 +12,7 @@ use bp_theory::{Row, Span, Term};
 const ROW_LIMIT: u128 = 1 << 62;
 
 /// The greatest size of costs.
-const COST_LIMIT: u128 = 1 << 116;
+const COST_LIMIT: u128 = 1 << 123;
 
 /// One more than the most rows or spans.
 const COUNT_LIMIT: usize = 1 << 32;

@@ -13,7 +13,7 @@ use Rattle.std.proofs.lemmas.List.{length-map, get_or_past}
 use Rattle.std.proofs.lemmas.List.Elements.{recursion_from_All, All-from_recursion, All-filter, All-map}
 use Rattle.std.proofs.lemmas.List.FromFn.{length-enumerate_from}
 use Rattle.std.proofs.lemmas.List.Sums.{sum_by-cons, sum_by-le, get_or-le-sum_by, length-filter, count_by-le-length}
-use Rattle.bp_theory.specs.Limits.{price_limit}
+use Rattle.bp_theory.specs.Limits.{most_lines, price_limit}
 use Rattle.bp_theory.specs.Sums.{sum_of, sum_at}
 use Rattle.bp_theory.specs.Program.{Program, coefficient, span_at, reach, KeepsActivity}
 use Rattle.bp_theory.specs.Blocking.{Copy, Block, Blocking, all_copies, coef_in, row_at, sides_of}
@@ -21,6 +21,7 @@ use Rattle.bp_theory.specs.Decomposition.{Decomposition, is_in, is_first, member
 use Rattle.bp_theory.specs.Cuts.{cut_row, cut_rows}
 use Rattle.bp_theory.specs.Bound.{reduced_cost, side, side_at, Fits}
 use Rattle.bp_theory.specs.Trees.{IsZone, IsSubspan}
+use Rattle.bp_theory.specs.declared.Limits.TheVariants.{Large}
 use Rattle.bp_theory.specs.declared.Span.{Span}
 use Rattle.bp_theory.specs.declared.Term.{Term}
 use Rattle.bp_theory.specs.declared.Row.{Row}
@@ -28,6 +29,7 @@ use Rattle.bp_theory.specs.declared.MasterRow.{MasterRow}
 use Rattle.bp_theory.specs.declared.Cut.{Cut}
 use Rattle.bp_theory.specs.declared.Sense.TheVariants.{Eq}
 use Rattle.bp_theory.specs.declared.Proof.{Proof}
+use Rattle.bp_theory.proofs.LimitLaws.{few_lines}
 use Rattle.bp_theory.proofs.SumLaws.{sum_of-same, sum_of-within, sum_of-le, sum_of-add}
 use Rattle.bp_theory.proofs.ZipLaws.{AllZip_at, AllZip-length}
 use Rattle.bp_theory.proofs.KeyLaws.{if_same, if_other}
@@ -131,8 +133,8 @@ limited b formed =
     (limited_cuts p (cuts_of b) (recursion_from_All (KeepsActivity p) (cuts_of b) formed.cuts_kept.bounded)
     (recursion_from_All (λ row. HasVariablesBelow (length p.spans) row.terms) (cuts_of b) (cuts_closed b)))
 
-few_links : (p : Program) (d : Decomposition) → (HasLargeLinks p d → ⊥) → length p.rows + link_count p d ≤ 8192
-few_links p d moderate = ⊎_elim (λ large. absurd (moderate (inl large))) (λ few. few) (cases_lt 8192 (length p.rows + link_count p d))
+few_links : (p : Program) (d : Decomposition) → (HasLargeLinks p d → ⊥) → length p.rows + link_count p d ≤ most_lines Large
+few_links p d moderate = ⊎_elim (λ large. absurd (moderate (inl large))) (λ few. omega (arith, few, few_lines p.limits)) (cases_lt (most_lines p.limits) (length p.rows + link_count p d))
 
 as_many_cuts : (p : Program) (d : Decomposition) (earlier : List Row) (cuts : List Cut) → length (cut_rows p d earlier cuts) ≡ length earlier + length cuts
 as_many_cuts p d earlier [] = omega arith
@@ -140,7 +142,7 @@ as_many_cuts p d earlier (cut ∷ cuts) =
     let row : Row = cut_row p (proof_rows p d earlier) cut in
     omega (arith, as_many_cuts p d (earlier ++ row ∷ []) cuts, length-append earlier (row ∷ []))
 
-few_rows : (b : BlockedProgram) → IsFormed b → length (proof_rows b.named.program b.dec (cuts_of b)) ≤ 8448
+few_rows : (b : BlockedProgram) → IsFormed b → length (proof_rows b.named.program b.dec (cuts_of b)) ≤ 1048832
 few_rows b formed =
     let p : Program = b.named.program in
     let own : List ProofRow = map (λ (e : Row × Option ℕ). proof_row e.0 e.1) (zip p.rows b.dec.places) in
@@ -199,7 +201,7 @@ entries P a [] h = tt
 entries P a (z ∷ zs) h = (h.0, entries P (a + 1) zs h.1)
 
 copy_small : (p : Program) (rows : List ProofRow) (first : Bool) (v k : ℕ) → cost_limit p < 2 ^ 62 → AllByRecursion (IsLimited p) rows
-    → length rows ≤ 8448 → IsSmallCopy (copy_of p rows first v k)
+    → length rows ≤ 1048832 → IsSmallCopy (copy_of p rows first v k)
 copy_small p rows first v k cost rows_limited few =
     let zs : List ℤ = map (copy_coefficient first v k) rows in
     record {
@@ -687,7 +689,7 @@ bound_small b zone proof formed in_root fits =
     each P h [] = tt
     each P h (x ∷ xs) = (h x, each P h xs)
 
--- a block has at most 4,096 copies
+-- a block has no more copies than there are variables
 few_copies : (n : ℕ) (cs : List Copy) → IsStrictlyIncreasing (map (λ (c : Copy). c.var) cs) → All (λ (c : Copy). c.var < n) cs → length cs ≤ n
 few_copies n cs ascend below =
     let none : Copy = record { var = 0; cost = pos 0; coefs = [] } in

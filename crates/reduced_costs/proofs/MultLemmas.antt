@@ -146,8 +146,8 @@ by_multipliers ms cs =
 
 -- the sum so far keeps its limit
 pub payment_within : (ms cs : List (ℕ × ℤ)) (i : ℕ) → IsStrictlyIncreasing (rows_of ms) → All (λ (m : ℕ × ℤ). unsigned_abs m.1 ≤ 2 ^ 40) ms
-    → length cs ≤ 8448 → All (λ (e : ℕ × ℤ). unsigned_abs e.1 < 2 ^ 62) cs
-    → unsigned_abs (sum_of (λ (e : ℕ × ℤ). sum_at (λ (m : ℕ × ℤ). m.0) (λ m. m.1) ms e.0 *ℤ e.1) (take i cs)) ≤ 2 ^ 116
+    → length cs ≤ 1048832 → All (λ (e : ℕ × ℤ). unsigned_abs e.1 < 2 ^ 62) cs
+    → unsigned_abs (sum_of (λ (e : ℕ × ℤ). sum_at (λ (m : ℕ × ℤ). m.0) (λ m. m.1) ms e.0 *ℤ e.1) (take i cs)) ≤ 2 ^ 123
 payment_within ms cs i ascend sizes few coefs =
     let f : ℕ × ℤ → ℤ = λ e. sum_at (λ (m : ℕ × ℤ). m.0) (λ m. m.1) ms e.0 *ℤ e.1 in
     let all : sum_by (λ e. unsigned_abs (f e)) cs ≤ length cs * (2 ^ 40 * 2 ^ 62) =
@@ -168,9 +168,9 @@ pub payment_step : (ms cs : List (ℕ × ℤ)) (i : ℕ) (sum more : ℤ) → i 
     → sum ≡ sum_of (λ (e : ℕ × ℤ). sum_at (λ (m : ℕ × ℤ). m.0) (λ m. m.1) ms e.0 *ℤ e.1) (take i cs)
     → more ≡ sum_at (λ (m : ℕ × ℤ). m.0) (λ m. m.1) ms (get_or cs i (0, pos 0)).0 *ℤ (get_or cs i (0, pos 0)).1
     → IsStrictlyIncreasing (rows_of ms) → All (λ (m : ℕ × ℤ). unsigned_abs m.1 ≤ 2 ^ 40) ms
-    → length cs ≤ 8448 → All (λ (e : ℕ × ℤ). unsigned_abs e.1 < 2 ^ 62) cs
+    → length cs ≤ 1048832 → All (λ (e : ℕ × ℤ). unsigned_abs e.1 < 2 ^ 62) cs
     → (sum +ℤ more ≡ sum_of (λ (e : ℕ × ℤ). sum_at (λ (m : ℕ × ℤ). m.0) (λ m. m.1) ms e.0 *ℤ e.1) (take (i + 1) cs))
-    × (unsigned_abs (sum +ℤ more) ≤ 2 ^ 116)
+    × (unsigned_abs (sum +ℤ more) ≤ 2 ^ 123)
 payment_step ms cs i sum more l so_far next ascend sizes few coefs =
     let f : ℕ × ℤ → ℤ = λ e. sum_at (λ (m : ℕ × ℤ). m.0) (λ m. m.1) ms e.0 *ℤ e.1 in
     let step : sum +ℤ more ≡ sum_of f (take (i + 1) cs) = omega (arith, ints, sum_of_more f cs i (0, pos 0) l, so_far, next) in

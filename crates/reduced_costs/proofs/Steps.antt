@@ -59,8 +59,8 @@ base_within b proof = omega (arith, ints, sum_of-within (side_term b) proof.mult
 -- ---- reduced costs
 
 -- what is scaled and what is paid differ by no more than the limit of prices
-pub reduced_fits : (scale : ℕ) (cost scaled paid : ℤ) → scale < 2 ^ 32 → scaled ≡ pos scale *ℤ cost → unsigned_abs cost < 2 ^ 62 → unsigned_abs paid ≤ 2 ^ 116
-    → unsigned_abs (scaled -ℤ paid) < 2 ^ 117
+pub reduced_fits : (scale : ℕ) (cost scaled paid : ℤ) → scale < 2 ^ 32 → scaled ≡ pos scale *ℤ cost → unsigned_abs cost < 2 ^ 62 → unsigned_abs paid ≤ 2 ^ 123
+    → unsigned_abs (scaled -ℤ paid) < 2 ^ 124
 reduced_fits scale cost scaled paid small e h g =
     let size = unsigned_abs-mul (pos scale) cost in
     let most : scale * unsigned_abs cost ≤ 2 ^ 32 * 2 ^ 62 = product scale (unsigned_abs cost) small h in

@@ -1,17 +1,18 @@
 -- How large the sums of a bound can be.
 use Rattle.std.specs.Prelude.{ℕ, ◌+◌, ◌<◌, ◌≤◌, unsigned_abs, sum_by, List, map, length, ℤ, pos, ◌*ℤ◌, All}
-use Rattle.bp_theory.specs.Limits.{greatest_multiplier, greatest_scale, most_cuts, most_rows, most_variables, number_limit, price_limit}
+use Rattle.bp_theory.specs.Limits.{greatest_multiplier, greatest_scale, most_cuts, most_lines, most_variables, number_limit, price_limit}
 use Rattle.std.specs.List.Sorted.{IsStrictlyIncreasing}
 use Rattle.bp_theory.specs.Blocking.{Copy, Block, Blocking, row_at}
 use Rattle.bp_theory.specs.Bound.{spans_of, reduced_cost, side_at, end_cost, box_least}
 use Rattle.bp_theory.specs.Program.{span_at}
+use Rattle.bp_theory.specs.declared.Limits.TheVariants.{Large}
 use Rattle.bp_theory.specs.declared.Span.{Span}
 use Rattle.bp_theory.specs.declared.Proof.{Proof}
 use Rattle.pricing_problem.specs.Form.{cost_size}
 
 -- the most rows that proofs may name: a model's with the link rows, and cuts
 abbrev pub most_named_rows : ℕ
-most_named_rows = most_rows + most_cuts
+most_named_rows = most_lines Large + most_cuts
 
 -- a copy has a cost and coefficients of numbers of a model, and no more of them than rows that proofs may name
 pub record IsSmallCopy (c : Copy) : Type 0 where
@@ -51,7 +52,7 @@ base_size b proof =
 -- prices together
 pub record IsSmallBlock (zone : List Span) (proof : Proof) (block : Block) : Type 0 where
   pub copies : All IsSmallCopy block.copies
-  pub few : length block.copies ≤ most_variables
+  pub few : length block.copies ≤ most_variables Large
   pub there : All (λ c. c.var < length zone) block.copies
   pub size : block_size zone proof block ≤ price_limit
 

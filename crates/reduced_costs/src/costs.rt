@@ -69,7 +69,7 @@ fn payment(mults: &[(u32, i64)], coefs: &[(u32, i64)]) -> i128
     requires coefs { All (λ e. unsigned_abs e.1 < number_limit) coefs.now }
     ensures value { result ≡ sum_of (λ m. m.1 *ℤ sum_at (λ e. e.0) (λ e. e.1) coefs.now m.0)
         mults.now }
-    ensures size { unsigned_abs result ≤ 2 ^ 116 }
+    ensures size { unsigned_abs result ≤ price_limit }
 {
     let mut sum = 0;
     for coef in coefs {

@@ -1,6 +1,8 @@
 // Costs and spans of a block, written into room that is there.
 ghost use Rattle.std.specs.Prelude.{◌≡◌, ◌≤◌, ◌<◌, length, vec_len, All};
+ghost use Rattle.bp_theory.specs.Limits.{most_variables};
 ghost use Rattle.bp_theory.specs.Bound.{spans_of};
+ghost use Rattle.bp_theory.specs.declared.Limits.TheVariants.{Large};
 ghost use Rattle.reduced_costs.specs.Sizes.{IsSmallCopy, IsSmallProof, reduced_costs};
 
 use crate::costs::reduced_cost;
@@ -10,7 +12,7 @@ use bp_theory::{Proof, Span};
 /// Writes a block's reduced costs.
 pub fn fill_costs(costs: &mut Vec<i128>, block: &Block, proof: &Proof)
     requires room { vec_len costs.old ≡ length block.now.block.copies }
-    requires few { length block.now.block.copies ≤ 4096 }
+    requires few { length block.now.block.copies ≤ most_variables Large }
     requires copies { All IsSmallCopy block.now.block.copies }
     requires proof { IsSmallProof proof.now }
     ensures { costs.new.items ≡ reduced_costs proof.now block.now.block }

@@ -5,8 +5,8 @@ ghost use Rattle.enumeration.specs.Sizes.{HasPlaces};
 use block_program::Block;
 use bp_theory::Span;
 use enumeration::{
-    Dive, Form, Frame, Multipliers, Relaxed, Subproblem, begin, explore, least_cost, rows_can_meet,
-    set_order, visits_under,
+    Dive, Form, Frame, Key, Multipliers, Relaxed, Subproblem, begin, explore, least_cost,
+    rows_can_meet, set_order, visits_under,
 };
 use pricing_problem::{Cap, Priced, Pricer};
 use std::alloc::{AllocError, Global};
@@ -22,7 +22,7 @@ pub struct SearchPricer {
     multipliers: Multipliers,
     order: Vec<usize>,
     frames: Vec<Frame>,
-    keys: Vec<u128>,
+    keys: Vec<Key>,
     ghost adjusted: { vec_len relaxed.costs ≡ vec_len form.spans },
     ghost places: { HasPlaces form dive },
     ghost long: { vec_len order ≡ vec_len form.spans },
@@ -63,7 +63,7 @@ impl SearchPricer {
             multipliers: Multipliers::make(alloc, rows.len())?,
             order: Vec::from_elem(alloc, 0, spans.len())?,
             frames: Vec::from_elem(alloc, Frame::Passed, spans.len())?,
-            keys: Vec::from_elem(alloc, 0, spans.len())?,
+            keys: Vec::from_elem(alloc, Key { rows: 0, size: 0 }, spans.len())?,
         })
     }
 }

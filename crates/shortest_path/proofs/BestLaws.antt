@@ -71,25 +71,25 @@ chosen_cheapest label span cost y h k = by (int_lt cost (pos 0)) refl
     by false e = rises cost (int_max label.lo span.lo) y (is_more cost e) (low label.lo span.lo y h.above k.above)
 
 -- its product is short
-pub own_small : (label span : Span) (cost : ℤ) → IsOpen label span → unsigned_abs cost * reach span ≤ 2 ^ 116 → unsigned_abs (cost *ℤ chosen_number label span cost) ≤ 2 ^ 116
+pub own_small : (label span : Span) (cost : ℤ) → IsOpen label span → unsigned_abs cost * reach span ≤ 2 ^ 123 → unsigned_abs (cost *ℤ chosen_number label span cost) ≤ 2 ^ 123
 own_small label span cost h small =
     omega (arith, small, product-within cost (chosen_number label span cost) span (number-le_reach span (chosen_number label span cost) (chosen_within label span cost h).1))
 
-pub own_fits : (a : ℤ) → unsigned_abs a ≤ 2 ^ 116 → FitsSigned w128 a
+pub own_fits : (a : ℤ) → unsigned_abs a ≤ 2 ^ 123 → FitsSigned w128 a
 own_fits a h = fits_signed_from_abs w128 a (omega (arith, h))
 
-pub total_fits : (a b : ℤ) → unsigned_abs a ≤ 2 ^ 116 → unsigned_abs b ≤ 2 ^ 116 → FitsSigned w128 (a +ℤ b)
+pub total_fits : (a b : ℤ) → unsigned_abs a ≤ 2 ^ 123 → unsigned_abs b ≤ 2 ^ 123 → FitsSigned w128 (a +ℤ b)
 total_fits a b h k = fits_signed_from_abs w128 (a +ℤ b) (omega (arith, ints, h, k))
 
-pub total_small : (a b v : ℤ) → v ≡ a +ℤ b → unsigned_abs a ≤ 2 ^ 116 → unsigned_abs b ≤ 2 ^ 116 → unsigned_abs v ≤ 2 ^ 117
+pub total_small : (a b v : ℤ) → v ≡ a +ℤ b → unsigned_abs a ≤ 2 ^ 123 → unsigned_abs b ≤ 2 ^ 123 → unsigned_abs v ≤ 2 ^ 124
 total_small a b v e h k = omega (arith, ints, e, h, k)
 
 -- a short number is below that of no way
-pub small_below : (v : ℤ) → unsigned_abs v ≤ 2 ^ 117 → v <ℤ no_way
+pub small_below : (v : ℤ) → unsigned_abs v ≤ 2 ^ 124 → v <ℤ no_way
 small_below v h = omega (arith, ints, h)
 
 -- and comes back as it was where it was passed by reference
-pub small_passed : (v : ℤ) → unsigned_abs v ≤ 2 ^ 117 → to_z w128 (of_z w128 v) ≡ v
+pub small_passed : (v : ℤ) → unsigned_abs v ≤ 2 ^ 124 → to_z w128 (of_z w128 v) ≡ v
 small_passed (pos n) h = passed (pos n) (omega (arith, h))
 small_passed (negsuc n) h = passed (negsuc n) (omega (arith, h))
 

@@ -151,7 +151,7 @@ pair_sum next span cost dead node target y own there at_dead ready small is = �
     low : (a b : ℤ) → unsigned_abs a ≤ 2 ^ 60 → unsigned_abs b ≤ 2 ^ 60 → (a +ℤ b) ≤ℤ most_cost
     low a b h k = omega (arith, ints, h, k)
 
-    short : (a b : ℤ) → unsigned_abs a ≤ 2 ^ 60 → unsigned_abs b ≤ 2 ^ 60 → unsigned_abs (a +ℤ b) ≤ 2 ^ 117
+    short : (a b : ℤ) → unsigned_abs a ≤ 2 ^ 60 → unsigned_abs b ≤ 2 ^ 60 → unsigned_abs (a +ℤ b) ≤ 2 ^ 124
     short a b h k = omega (arith, ints, h, k)
 
     live : (target ≡ dead → ⊥) → IsReady (cell_at next target) → IsCostOf (label_of y) span cost own

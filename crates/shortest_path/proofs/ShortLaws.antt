@@ -124,7 +124,7 @@ total_way next span cost arc own v there ready small way (inl (meets, value)) is
     own_is : unsigned_abs own ≤ 2 ^ 60
     own_is = subst (λ z. unsigned_abs z ≤ 2 ^ 60) (sym value) (short_product arc.label span cost meets small)
 
-    low : (a b v : ℤ) → unsigned_abs a ≤ 2 ^ 60 → unsigned_abs b ≤ 2 ^ 60 → v ≡ a +ℤ b → unsigned_abs v ≤ 2 ^ 117
+    low : (a b v : ℤ) → unsigned_abs a ≤ 2 ^ 60 → unsigned_abs b ≤ 2 ^ 60 → v ≡ a +ℤ b → unsigned_abs v ≤ 2 ^ 124
     low a b v h k e = omega (arith, ints, h, k, e)
 
     less : (a b v : ℤ) → unsigned_abs a ≤ 2 ^ 60 → unsigned_abs b ≤ 2 ^ 60 → v ≡ a +ℤ b → v <ℤ far

@@ -44,7 +44,7 @@ cost_by next span cost arc = cell_at next arc.to +ℤ cost *ℤ chosen_number ar
 pub record IsCostBy (next : List ℤ) (span : Span) (cost : ℤ) (arc : Arc) (v : ℤ) : Type 0 where
   pub usable : IsUsable next span arc
   pub value : v ≡ cost_by next span cost arc
-  pub small : unsigned_abs v ≤ 2 ^ 117
+  pub small : unsigned_abs v ≤ 2 ^ 124
 
 -- cells and picks after a cost and an arc were tried at a node: they are kept where the cell is no greater
 abbrev pub IsTried : (cells : List ℤ) (picks : List ℕ) (node : ℕ) (total : ℤ) (place : ℕ) (now : List ℤ) (picked : List ℕ) → Type 0

@@ -65,7 +65,7 @@ pub fn long_least(graph: &Graph, work: &mut Work, zone: &[Span], costs: &[i128])
     requires room { HasRoom graph.now work.old }
     requires zone { length zone.now ≡ vec_len graph.now.steps }
     requires costs { length costs.now ≡ vec_len graph.now.steps }
-    requires sizes { cost_size zone.now costs.now ≤ 2 ^ 116 }
+    requires sizes { cost_size zone.now costs.now ≤ 2 ^ 123 }
     ensures room { HasRoom graph.now work.new }
     ensures least { IsLeastFrom graph.now.steps.items work.new.picks.items zone.now costs.now 0
         result }

@@ -81,8 +81,8 @@ pub fn has_way(cell: &i128) -> bool
 /// The least cost by an arc, if it has a number of the zone's span and leads to a node with a way.
 fn cost_through(arc: &Arc, next: &Vec<i128>, span: &Span, cost: &i128) -> Option<i128>
     requires there { arc.now.to < vec_len next.now }
-    requires bounded { AreBounded (2 ^ 116) next.now.items }
-    requires cost { unsigned_abs cost.now * reach span.now ≤ 2 ^ 116 }
+    requires bounded { AreBounded (2 ^ 123) next.now.items }
+    requires cost { unsigned_abs cost.now * reach span.now ≤ 2 ^ 123 }
     ensures { MatchOption result (IsUsable next.now.items span.now arc.now → ⊥)
         (λ v. IsCostBy next.now.items span.now cost.now arc.now v) }
 {
@@ -125,8 +125,8 @@ fn relax(
     requires safe { All (IsArcSafe (vec_len now.old)) arcs.now }
     requires picks { length picks.old ≡ vec_len now.old }
     requires next { vec_len next.now ≡ vec_len now.old }
-    requires bounded { AreBounded (2 ^ 116) next.now.items }
-    requires cost { unsigned_abs cost.now * reach span.now ≤ 2 ^ 116 }
+    requires bounded { AreBounded (2 ^ 123) next.now.items }
+    requires cost { unsigned_abs cost.now * reach span.now ≤ 2 ^ 123 }
     ensures cells { vec_len now.new ≡ vec_len now.old }
     ensures picks { length picks.new ≡ length picks.old }
     ensures best { (node : ℕ) → IsBest arcs.now next.now.items span.now cost.now place node
@@ -168,8 +168,8 @@ fn relax_layer(
     requires safe { IsStepSafe (vec_len now.old) arcs.now }
     requires picks { length picks.old ≡ vec_len now.old }
     requires next { vec_len next.now ≡ vec_len now.old }
-    requires bounded { AreBounded (2 ^ 116) next.now.items }
-    requires cost { unsigned_abs cost.now * reach span.now ≤ 2 ^ 116 }
+    requires bounded { AreBounded (2 ^ 123) next.now.items }
+    requires cost { unsigned_abs cost.now * reach span.now ≤ 2 ^ 123 }
     ensures cells { vec_len now.new ≡ vec_len now.old }
     ensures picks { length picks.new ≡ length picks.old }
     ensures best { (node : ℕ) → node < vec_len now.old →
@@ -187,7 +187,7 @@ pub fn pass(work: &mut Work, graph: &Graph, zone: &[Span], costs: &[i128])
     requires room { HasRoom graph.now work.old }
     requires zone { length zone.now ≡ vec_len graph.now.steps }
     requires costs { length costs.now ≡ vec_len graph.now.steps }
-    requires sizes { cost_size zone.now costs.now ≤ 2 ^ 116 }
+    requires sizes { cost_size zone.now costs.now ≤ 2 ^ 123 }
     ensures room { HasRoom graph.now work.new }
     ensures least { AreLeast graph.now.steps.items work.new.picks.items zone.now costs.now
         graph.now.wide work.new.next.items }

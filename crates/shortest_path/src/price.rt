@@ -57,7 +57,7 @@ fn price_long(graph: &Graph, work: &mut Work, zone: &[Span], costs: &[i128]) -> 
     requires room { HasRoom graph.now work.old }
     requires zone { length zone.now ≡ vec_len graph.now.steps }
     requires costs { length costs.now ≡ vec_len graph.now.steps }
-    requires sizes { cost_size zone.now costs.now ≤ 2 ^ 116 }
+    requires sizes { cost_size zone.now costs.now ≤ 2 ^ 123 }
     ensures room { HasRoom graph.now work.new }
     ensures answer { (rows : List Row) (spans : List Span) →
         IsFaithful rows spans graph.now.steps.items → IsPriceable spans zone.now costs.now →
@@ -80,7 +80,7 @@ pub fn price_zone(
     requires linked { AreLinked graph.now.wide graph.now.steps.items lists.now }
     requires zone { length zone.now ≡ vec_len graph.now.steps }
     requires costs { length costs.now ≡ vec_len graph.now.steps }
-    requires sizes { cost_size zone.now costs.now ≤ 2 ^ 116 }
+    requires sizes { cost_size zone.now costs.now ≤ 2 ^ 123 }
     ensures room { HasRoom graph.now work.new }
     ensures answer { (rows : List Row) (spans : List Span) →
         IsFaithful rows spans graph.now.steps.items →

@@ -53,15 +53,16 @@ impl StatePricer {
     ghost use Rattle.state_price.specs.Kept.{rows_of, spans_of, kept_point};
     ghost use Rattle.state_graph.specs.Limits.{beginnings, IsBeyond};
 
-    /// The pricer of a block, if its graph keeps the limits: at most 2^18 arcs and 2^25 windows that they lead to
-    /// (arcs times rows), at most 2^22 windows that the arcs of a layer lead to, at most 2^21 nodes if each layer had as many
-    /// as the widest once nodes with the same arcs are one, at most 2^20 coefficients with zeros counted, and at most 4,096
-    /// numbers of a variable. So it holds at most 52 MiB, two of them for the pairs of layers of binaries (8 bytes a node), and
-    /// while it is made at most 230 MiB. There is none only where a graph with an arc for each beginning of an assignment would
-    /// pass one of these, or where there are no variables and no point (`IsBeyond`): a block of few beginnings has a graph. One of
-    /// many beginnings may have a graph too, since its beginnings share states; whether it has, no clause tells. The graph takes
-    /// the block's variables in the order that a rule gives (`variable_order`), or in the block's own where the rule gives none, or none
-    /// whose graph keeps the limits and took no more arcs than there are beginnings.
+    /// The pricer of a block, if its graph keeps the limits: at most 2^18 arcs and 2^25 windows that they lead to (arcs times
+    /// rows), at most 2^22 windows that the arcs of a layer lead to, at most 2^21 nodes if each layer had as many as the widest
+    /// once nodes with the same arcs are one, at most 2^20 coefficients with zeros counted, and at most 4,096 numbers of a
+    /// variable. So it holds at most 52 MiB of a block of at most 4,096 variables, two of them for the pairs of layers of binaries
+    /// (8 bytes a node), and while it is made at most 230 MiB; of a longer block some 400 bytes more for each further variable.
+    /// There is none only where a graph with an arc for each beginning of an assignment would pass one of these, or where there are
+    /// no variables and no point (`IsBeyond`): a block of few beginnings has a graph. One of many beginnings may have a graph too,
+    /// since its beginnings share states; whether it has, no clause tells. The graph takes the block's variables in the order that
+    /// a rule gives (`variable_order`), or in the block's own where the rule gives none, or none whose graph keeps the limits and
+    /// took no more arcs than there are beginnings.
     pub fn make(alloc: Global, block: &Block) -> Result<Option<StatePricer>, AllocError>
         requires { IsForm block.now.block.rows block.now.spans }
         ensures none { IfOk result (λ made. IfNone made
@@ -96,7 +97,8 @@ impl StatePricer {
     /// Finds points in a zone beside the cheapest one, and ranks them by cost, the least first: for each variable a cheapest
     /// point with another number of it than the cheapest point has. Tells how many there are, none where costs need more
     /// than 64 bits; the same point may have several ranks. The first call takes memory for both passes: at most 16 bytes
-    /// for a node, as if each layer had as many as the widest, and 39 MiB in all.
+    /// for a node, as if each layer had as many as the widest, and 39 MiB in all of a block of at most 4,096 variables, some
+    /// 150 bytes more for each further one.
     pub fn rank(
         &mut self,
         alloc: Global,
@@ -263,7 +265,7 @@ fn price_arranged(
     requires steps { vec_len graph.now.steps ≡ vec_len arranged.old.order.vars }
     requires zone { length zone.now ≡ vec_len graph.now.steps }
     requires costs { length costs.now ≡ vec_len graph.now.steps }
-    requires sizes { cost_size zone.now costs.now ≤ 2 ^ 116 }
+    requires sizes { cost_size zone.now costs.now ≤ 2 ^ 123 }
     ensures room { HasRoom graph.now work.new }
     ensures order { arranged.new.order ≡ arranged.old.order }
     ensures answer { (rows : List Row) (spans : List Span) →
@@ -303,7 +305,7 @@ fn price_by(
     requires whole { length (graph_spans arranged.old zone.now) ≡ length zone.now }
     requires zone { length zone.now ≡ vec_len graph.now.steps }
     requires costs { length costs.now ≡ vec_len graph.now.steps }
-    requires sizes { cost_size zone.now costs.now ≤ 2 ^ 116 }
+    requires sizes { cost_size zone.now costs.now ≤ 2 ^ 123 }
     ensures room { HasRoom graph.now work.new }
     ensures rows { (rows : List Row) → graph_rows arranged.new rows ≡ graph_rows arranged.old rows }
     ensures spans { (spans : List Span) →

@@ -244,7 +244,7 @@ priceable_by count vars places spans zone rs o many h = record {
         (λ k d l. h.in_root.proper (get_or vars k d) none (omega (arith, o.below k d l, many)));
   };
   each = length-map vars (value_at rs) ∙ sym (length-map vars (span_at zone));
-  sizes = subst (λ n. n ≤ 2 ^ 116) (sym (size_by count vars places zone rs o many (h.each ∙ many))) h.sizes;
+  sizes = subst (λ n. n ≤ 2 ^ 123) (sym (size_by count vars places zone rs o many (h.each ∙ many))) h.sizes;
 }
 
 -- the terms of a row are as large by an order

@@ -71,7 +71,7 @@ pub plus-dive-requires : goal.plus-dive-requires
 plus-dive-requires c =
     cost_sum_fits c.args.dive.now.least (to_z w128 (of_z w128 c.change_of_cost-change.result))
     (least_short c.args.form.now c.args.zone.now c.args.costs.now c.args.dive.now c.requires.priceable c.requires.tracked)
-    (subst (λ z. unsigned_abs z ≤ 2 ^ 117) (sym (passed c.change_of_cost-change.result c.change_of_cost-change.type_inv)) c.change_of_cost-change.ensures.small)
+    (subst (λ z. unsigned_abs z ≤ 2 ^ 124) (sym (passed c.change_of_cost-change.result c.change_of_cost-change.type_inv)) c.change_of_cost-change.ensures.small)
 
 pub index_mut-requires : goal.index_mut-requires
 index_mut-requires c =
@@ -118,7 +118,7 @@ pub plus-dive-requires-2 : goal.plus-dive-requires-2
 plus-dive-requires-2 c =
     cost_sum_fits c.args.dive.now.paid (to_z w128 (of_z w128 c.change_of_cost-change_paid.result))
     (paid_least_short c.args.form.now c.args.zone.now c.args.costs.now c.args.relaxed.now c.args.dive.now c.requires.adjusted c.requires.paid c.requires.tracked)
-    (subst (λ z. unsigned_abs z ≤ 2 ^ 117) (sym (passed c.change_of_cost-change_paid.result c.change_of_cost-change_paid.type_inv)) c.change_of_cost-change_paid.ensures.small)
+    (subst (λ z. unsigned_abs z ≤ 2 ^ 124) (sym (passed c.change_of_cost-change_paid.result c.change_of_cost-change_paid.type_inv)) c.change_of_cost-change_paid.ensures.small)
 
 pub returns-clause-paid : goal.returns-clause-paid
 returns-clause-paid c =

@@ -39,7 +39,7 @@ product_sum-base-requires-clause-inside c =
 
 pub product_sum-base-requires-clause-small : goal.product_sum-base-requires-clause-small
 product_sum-base-requires-clause-small c =
-    subst (λ as'. cost_size c.args.zone.now as' ≤ 2 ^ 116) (sym c.deref-2.ensures.value) (size_small c.args.form.now c.args.zone.now c.args.costs.now c.requires.priceable)
+    subst (λ as'. cost_size c.args.zone.now as' ≤ 2 ^ 123) (sym c.deref-2.ensures.value) (size_small c.args.form.now c.args.zone.now c.args.costs.now c.requires.priceable)
 
 pub product_sum-base_cost-requires-clause-inside : goal.product_sum-base_cost-requires-clause-inside
 product_sum-base_cost-requires-clause-inside c =
@@ -95,7 +95,7 @@ plus-requires c =
     (total_fits (items_of c.args.form.now.coefs.items c.args.zone.now c.args.costs.now) c.index-row.result.now (to_z w128 (of_z w128 c.product_sum-base.result)) c.top_of-top.result c.in-Some.ensures.picked.0 (to_z w128 (of_z w128 c.product_sum-base_cost.result)) c.in-Some.least
     picked
     (cheap c.args.form.now c.args.zone.now c.args.costs.now c.requires.priceable (items_of c.args.form.now.coefs.items c.args.zone.now c.args.costs.now) refl)
-    (subst (λ z. unsigned_abs z ≤ 2 ^ 116) (sym (passed c.product_sum-base_cost.result c.product_sum-base_cost.type_inv)) c.product_sum-base_cost.ensures.small))
+    (subst (λ z. unsigned_abs z ≤ 2 ^ 123) (sym (passed c.product_sum-base_cost.result c.product_sum-base_cost.type_inv)) c.product_sum-base_cost.ensures.small))
 
 pub returns-in-Some-clause-room : goal.returns-in-Some-clause-room
 returns-in-Some-clause-room c = record {

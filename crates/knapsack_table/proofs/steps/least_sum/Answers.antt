@@ -17,9 +17,9 @@ least_end-end-requires c = omega (arith, c.requires.small, end_fits c.args.spans
 pub plus-sum-requires : goal.plus-sum-requires
 plus-sum-requires c =
     small_sum_fits (to_z w128 c.loop-k.sum-bits) (to_z w128 (of_z w128 c.least_end-end.result))
-    (subst (λ z. unsigned_abs z ≤ 2 ^ 116) (sym c.loop-k.invariant)
+    (subst (λ z. unsigned_abs z ≤ 2 ^ 123) (sym c.loop-k.invariant)
     (omega (arith, c.requires.small, box_least_so_far c.args.spans.now c.args.coefs.now c.loop-k.k)))
-    (subst (λ z. unsigned_abs z ≤ 2 ^ 116) (sym (passed c.least_end-end.result c.least_end-end.type_inv ∙ c.least_end-end.ensures))
+    (subst (λ z. unsigned_abs z ≤ 2 ^ 123) (sym (passed c.least_end-end.result c.least_end-end.type_inv ∙ c.least_end-end.ensures))
     (omega (
       arith,
       c.requires.small,
@@ -37,5 +37,5 @@ loop-k-preserved c =
 
 pub returns-clause-small : goal.returns-clause-small
 returns-clause-small c =
-    subst (λ z. unsigned_abs z ≤ 2 ^ 116) (sym c.loop-k.invariant)
+    subst (λ z. unsigned_abs z ≤ 2 ^ 123) (sym c.loop-k.invariant)
     (omega (arith, c.requires.small, box_least_so_far c.args.spans.now c.args.coefs.now c.loop-k.k))

@@ -21,9 +21,9 @@ times-more-requires c =
 pub plus-sum-requires : goal.plus-sum-requires
 plus-sum-requires c =
     small_sum_fits (to_z w128 c.loop-k.sum-bits) (to_z w128 (of_z w128 c.times-more.result))
-    (subst (λ z. unsigned_abs z ≤ 2 ^ 116) (sym c.loop-k.invariant)
+    (subst (λ z. unsigned_abs z ≤ 2 ^ 123) (sym c.loop-k.invariant)
     (omega (arith, c.requires.small, dot_small c.args.zone.now c.args.factors.now c.args.numbers.now c.loop-k.k c.requires.inside)))
-    (subst (λ z. unsigned_abs z ≤ 2 ^ 116) (sym (passed c.times-more.result c.times-more.type_inv ∙ c.times-more.ensures))
+    (subst (λ z. unsigned_abs z ≤ 2 ^ 123) (sym (passed c.times-more.result c.times-more.type_inv ∙ c.times-more.ensures))
     (omega (arith, c.requires.small, product_small c.args.zone.now c.args.factors.now c.args.numbers.now c.loop-k.k c.requires.inside c.loop-k-test.true)))
 
 pub loop-k-preserved : goal.loop-k-preserved
@@ -37,5 +37,5 @@ loop-k-preserved c =
 
 pub returns-clause-small : goal.returns-clause-small
 returns-clause-small c =
-    subst (λ z. unsigned_abs z ≤ 2 ^ 116) (sym c.loop-k.invariant)
+    subst (λ z. unsigned_abs z ≤ 2 ^ 123) (sym c.loop-k.invariant)
     (omega (arith, c.requires.small, dot_small c.args.zone.now c.args.factors.now c.args.numbers.now c.loop-k.k c.requires.inside))

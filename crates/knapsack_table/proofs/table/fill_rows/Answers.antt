@@ -11,7 +11,7 @@ add_item-requires-clause-cost c =
 
 pub add_item-requires-clause-bounded : goal.add_item-requires-clause-bounded
 add_item-requires-clause-bounded c = λ w t.
-    subst (λ n. unsigned_abs (row_from c.loop-k.cells n w) ≤ 2 ^ 126 + 2 ^ 117) (sym c.loop-k.invariant.start)
+    subst (λ n. unsigned_abs (row_from c.loop-k.cells n w) ≤ 2 ^ 126 + 2 ^ 124) (sym c.loop-k.invariant.start)
     (omega (
       arith,
       rows_bounded far (drop c.loop-k.k c.args.items.now) c.args.top (row_at c.loop-k.cells c.args.top) c.loop-k.invariant.rows w t,

@@ -79,7 +79,7 @@ units_at-units-requires-clause-bounded c = λ w t.
     let above : c.loop-k.here - (c.args.top + 1) ≡ (length c.args.knapsack.now.items.now - (c.loop-k.k + 1)) * (c.args.top + 1) =
     ap (λ m. m - (c.args.top + 1)) here ∙ next_row (length c.args.knapsack.now.items.now) c.loop-k.k c.args.top there in
     let low : c.loop-k.left ≤ c.args.top = omega (arith, c.loop-k.invariant.below, c.requires.weight) in
-    subst (λ m. unsigned_abs (row_from c.args.cells.now m w) ≤ 2 ^ 126 + 2 ^ 117) (sym above)
+    subst (λ m. unsigned_abs (row_from c.args.cells.now m w) ≤ 2 ^ 126 + 2 ^ 124) (sym above)
     (omega (
       arith,
       rows_bounded_at far c.args.knapsack.now.items.now c.args.top (row_at c.args.cells.now c.args.top) c.requires.rows (c.loop-k.k + 1) (omega (arith, there)) w (omega (arith, t, low)),

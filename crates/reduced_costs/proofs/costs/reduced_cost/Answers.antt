@@ -12,7 +12,7 @@ none = record { var = 0; cost = pos 0; coefs = [] }
 
 pub payment-paid-requires-clause-few : goal.payment-paid-requires-clause-few
 payment-paid-requires-clause-few c =
-    subst (λ (xs : List (ℕ × ℤ)). length xs ≤ 8448) (sym (c.master.ensures none)) (c.requires.copies c.args.place none c.requires.there).few
+    subst (λ (xs : List (ℕ × ℤ)). length xs ≤ 1048832) (sym (c.master.ensures none)) (c.requires.copies c.args.place none c.requires.there).few
 
 pub payment-paid-requires-clause-coefs : goal.payment-paid-requires-clause-coefs
 payment-paid-requires-clause-coefs c =

@@ -23,8 +23,8 @@ plus-requires c =
     let own : to_z w128 (of_z w128 c.times-own.result) ≡ c.args.cost.now *ℤ chosen_number c.args.arc.now.label c.args.span.now c.args.cost.now =
     passed c.times-own.result c.times-own.type_inv ∙ c.times-own.ensures ∙ ap (λ z. c.args.cost.now *ℤ z) (passed_short c.number_of-number.result c.number_of-number.type_inv ∙ c.number_of-number.ensures) in
     total_fits c.index-rest.result.now (to_z w128 (of_z w128 c.times-own.result))
-    (subst (λ z. unsigned_abs z ≤ 2 ^ 116) (sym read) (c.requires.bounded c.args.arc.now.to (omega (arith, there, c.args.next.now.ok.0)) (subst (λ z. z <ℤ no_way) read way)))
-    (subst (λ z. unsigned_abs z ≤ 2 ^ 116) (sym own) (own_small c.args.arc.now.label c.args.span.now c.args.cost.now (c.if-not-is_open.ensures.0 refl) c.requires.cost))
+    (subst (λ z. unsigned_abs z ≤ 2 ^ 123) (sym read) (c.requires.bounded c.args.arc.now.to (omega (arith, there, c.args.next.now.ok.0)) (subst (λ z. z <ℤ no_way) read way)))
+    (subst (λ z. unsigned_abs z ≤ 2 ^ 123) (sym own) (own_small c.args.arc.now.label c.args.span.now c.args.cost.now (c.if-not-is_open.ensures.0 refl) c.requires.cost))
 
 pub returns : goal.returns
 returns c =

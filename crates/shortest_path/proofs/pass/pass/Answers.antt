@@ -9,7 +9,7 @@ use Rattle.shortest_path.proofs.pass.pass.Goals as goal
 pub relax_layer-requires-clause-bounded : goal.relax_layer-requires-clause-bounded
 relax_layer-requires-clause-bounded c =
     least_bounded (drop c.loop-k.k c.args.graph.now.steps.items) (drop c.loop-k.k c.loop-k.work.picks.items) (drop c.loop-k.k c.args.zone.now) (drop c.loop-k.k c.args.costs.now)
-    c.args.graph.now.wide c.loop-k.work.next.items (2 ^ 116)
+    c.args.graph.now.wide c.loop-k.work.next.items (2 ^ 123)
     (omega (arith, length-drop c.loop-k.k c.args.zone.now, length-drop c.loop-k.k c.args.graph.now.steps.items, c.requires.zone, c.args.graph.now.steps.ok.0))
     (omega (arith, length-drop c.loop-k.k c.args.costs.now, length-drop c.loop-k.k c.args.graph.now.steps.items, c.requires.costs, c.args.graph.now.steps.ok.0))
     c.loop-k.invariant.room.next

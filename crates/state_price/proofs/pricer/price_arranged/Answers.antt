@@ -15,9 +15,9 @@ price_zone-least-requires-clause-sizes c =
     let zone : c.as_slice.result.now ≡ spans_by order.vars.items c.args.zone.now = c.as_slice.ensures.value ∙ c.set_costs.ensures.zone ∙ c.set_zone.ensures.zone in
     let costs : c.as_slice-2.result.now ≡ numbers_by order.vars.items c.args.costs.now =
     c.as_slice-2.ensures.value ∙ c.set_costs.ensures.costs ∙ ap (λ (o : Order). numbers_by o.vars.items c.args.costs.now) c.set_zone.ensures.order in
-    subst (λ (ss : List Span). cost_size ss c.as_slice-2.result.now ≤ 2 ^ 116) (sym zone)
-    (subst (λ (rs : List ℤ). cost_size (spans_by order.vars.items c.args.zone.now) rs ≤ 2 ^ 116) (sym costs)
-    (subst (λ n. n ≤ 2 ^ 116)
+    subst (λ (ss : List Span). cost_size ss c.as_slice-2.result.now ≤ 2 ^ 123) (sym zone)
+    (subst (λ (rs : List ℤ). cost_size (spans_by order.vars.items c.args.zone.now) rs ≤ 2 ^ 123) (sym costs)
+    (subst (λ n. n ≤ 2 ^ 123)
     (sym (size_by (length order.vars.items) order.vars.items order.places.items c.args.zone.now c.args.costs.now order.order
     (omega (arith, c.requires.zone, c.requires.steps, order.vars.ok.0)) (omega (arith, c.requires.costs, c.requires.steps, order.vars.ok.0)))) c.requires.sizes))
 

@@ -10,5 +10,5 @@ least_sum-base-requires-clause-each c =
 
 pub least_sum-base-requires-clause-small : goal.least_sum-base-requires-clause-small
 least_sum-base-requires-clause-small c =
-    subst (λ (ss : List Span). cost_size ss c.deref-2.result.now ≤ 2 ^ 116) (sym c.deref-3.ensures.value)
-    (subst (λ as'. cost_size c.args.self.now.spans.items as' ≤ 2 ^ 116) (sym c.deref-2.ensures.value) (root_small c.args.self.now))
+    subst (λ (ss : List Span). cost_size ss c.deref-2.result.now ≤ 2 ^ 123) (sym c.deref-3.ensures.value)
+    (subst (λ as'. cost_size c.args.self.now.spans.items as' ≤ 2 ^ 123) (sym c.deref-2.ensures.value) (root_small c.args.self.now))
