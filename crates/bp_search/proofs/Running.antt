@@ -2,6 +2,7 @@
 use Rattle.std.proofs.Common.{◌≡◌, ◌∙◌, refl, sym, ap, subst, ℕ, ◌+◌, ◌<◌, ◌≤◌, ◌^◌, List, Option, Some, None, ℤ, length, arith}
 use Rattle.std.specs.Prelude.{IfSome, unsigned_abs}
 use Rattle.std.proofs.lemmas.Int.{ints}
+use Rattle.bp_theory.proofs.LimitLaws.{few_deep}
 use Rattle.bp_theory.specs.Program.{Program, cost}
 use Rattle.bp_theory.specs.Trees.{steps}
 use Rattle.bp_theory.specs.declared.Span.{Span}
@@ -82,8 +83,8 @@ can_grow b g best turn given verdict formed run alive right =
         let p : Program = b.named.program in
         let shallow = stays_shallow_lem.forked p g.tree turn.path (leaf_of_turn turn) v at proof bound (is_sized b formed) run.search.grove.splits alive.live
         k.split k.timely run.search.shallow in
-        let most = stays_shallow_lem.depth (fork_at g.tree turn.path v at proof bound) p.spans shallow in
-        (h.split, h.sound, h.keeps, omega (arith, alive.far, most, depth_fork g.tree turn.path (leaf_of_turn turn) v at proof bound alive.live))
+        let most = stays_shallow_lem.depth p.limits (fork_at g.tree turn.path v at proof bound) p.spans shallow in
+        (h.split, h.sound, h.keeps, omega (arith, alive.far, most, few_deep p.limits, depth_fork g.tree turn.path (leaf_of_turn turn) v at proof bound alive.live))
 
 -- the search runs on
 pub runs_on : (b : BlockedProgram) (g after : GroveState) (turn : Turn) (best new : Option Kept) (given : Option ℤ) (verdict : Verdict) → IsFormed b → IsRunning b g best

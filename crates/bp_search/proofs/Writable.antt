@@ -17,6 +17,7 @@ use Rattle.search_laws.specs.Grove.{GrowingTree, live, shut, fork, leaves_below,
 use Rattle.search_laws.specs.GroveFacts.{IsSearch, IsGrove, IsKept, IsRemainingBound, best_cost}
 use Rattle.search_laws.specs.declared.Side.{Side}
 use Rattle.search_laws.specs.declared.Side.TheVariants.{Low, High}
+use Rattle.search_laws.proofs.DepthProof.{stays_shallow_lem}
 use Rattle.search_laws.proofs.Places.{recursion_parts, recursion-append}
 use Rattle.branch_tree.specs.Groves.{GroveState, IsGroveOf}
 use Rattle.branch_tree.specs.declared.outcome.Outcome.{Outcome}
@@ -90,21 +91,25 @@ grove_of_program b g best root search = record {
 writable : (b : BlockedProgram) → IsFormed b → (most : ℕ) (o : Outcome) → EndsWithin b most o → IsWritable b o
 writable b formed most (Optimal g point value) is = record {
   grove = grove_of_program b g (Some point) is.searched.root is.searched.search;
+  shallow = stays_shallow_lem.depth b.named.program.limits g.tree b.named.program.spans is.searched.search.shallow;
   numbers = subst IsSmall (sym is.is_cost) (small_cost b point formed is.searched.search.feasible);
   point = small_point b point formed is.searched.search.feasible;
 }
 writable b formed most (Infeasible g) is = record {
   grove = grove_of_program b g None is.searched.root is.searched.search;
+  shallow = stays_shallow_lem.depth b.named.program.limits g.tree b.named.program.spans is.searched.search.shallow;
   numbers = tt;
   point = tt;
 }
 writable b formed most (Budget g None bound) is = record {
   grove = grove_of_program b g None is.searched.root is.searched.search;
+  shallow = stays_shallow_lem.depth b.named.program.limits g.tree b.named.program.spans is.searched.search.shallow;
   numbers = (small_remaining b g.tree None bound formed is.searched.search is.remaining, tt);
   point = tt;
 }
 writable b formed most (Budget g (Some kept) bound) is = record {
   grove = grove_of_program b g (Some kept.0) is.searched.root is.searched.search;
+  shallow = stays_shallow_lem.depth b.named.program.limits g.tree b.named.program.spans is.searched.search.shallow;
   numbers = (
     small_remaining b g.tree (Some kept.0) bound formed is.searched.search is.remaining,
     subst IsSmall (sym is.kept.1) (small_cost b kept.0 formed is.kept.0),

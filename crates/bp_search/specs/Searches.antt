@@ -1,6 +1,7 @@
 -- What stands at every moment of a search.
 use Rattle.std.specs.Prelude.{◌≡◌, ◌<◌, Bool, true, int_lt, List, Option, Some, None, option_map, IfSome, ℤ}
 use Rattle.bp_theory.specs.Limits.{greatest_depth}
+use Rattle.bp_theory.specs.declared.Limits.TheVariants.{Large}
 use Rattle.bp_theory.specs.Program.{Program, cost}
 use Rattle.bp_theory.specs.Blocking.{Blocking}
 use Rattle.bp_theory.specs.Trees.{IsSoundSplit}
@@ -43,4 +44,4 @@ pub record IsRunning (b : BlockedProgram) (g : GroveState) (best : Option Kept) 
 abbrev pub CanGrow : Blocking → Turn → Next → Type 0
 CanGrow b turn (Shut proof) = IsSoundProof b proof
 CanGrow b turn (Fork v at proof bound) =
-    IsSoundSplit turn.zone v at × IsSoundProof b proof × KeepsBound b turn.zone proof bound × (turn.depth < greatest_depth)
+    IsSoundSplit turn.zone v at × IsSoundProof b proof × KeepsBound b turn.zone proof bound × (turn.depth < greatest_depth Large)

@@ -1,5 +1,7 @@
 -- The grove that a tree is made into.
 use Rattle.std.proofs.Common.{◌≡◌, ℕ, ◌+◌, ◌<◌, ◌≤◌, ◌^◌, List, [], Some, None, sym, subst, ap, ◌∙◌, arith, zero-add}
+use Rattle.bp_theory.specs.declared.Limits.TheVariants.{Large}
+use Rattle.bp_theory.specs.Limits.{greatest_depth}
 use Rattle.bp_theory.specs.Trees.{HasSoundSplits, IsProper, IsZone, steps, depth}
 use Rattle.bp_theory.specs.declared.Span.{Span}
 use Rattle.block_program.specs.Blocked.{BlockedProgram, IsFormed}
@@ -40,7 +42,7 @@ queue_filled t after filled = record {
 
 pub adopt_whole : (b : BlockedProgram) (root : List Span) (t : GrowingTree) (after : Entries) (lives count deepest : ℕ)
     → root ≡ b.named.program.spans → IsZone b.named.program.spans root
-    → IsGrove b.blocking b.named.program.spans t → depth (certificate_tree t) ≤ 8256 → made t < 2 ^ 62
+    → IsGrove b.blocking b.named.program.spans t → depth (certificate_tree t) ≤ greatest_depth Large → made t < 2 ^ 62
     → IsFilled (λ _ _. None) t [] 0 (queue_of after) → lives ≡ live_count t → count ≡ steps (certificate_tree t) → deepest ≡ depth (certificate_tree t)
     → IsStanding (record { tree = t; root = root; queue = after }) × AreCounts t lives count deepest
 adopt_whole b root t after lives count deepest root_is zone kept deep few filled lives_is count_is deepest_is = (

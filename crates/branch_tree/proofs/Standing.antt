@@ -4,6 +4,8 @@ use Rattle.std.specs.Prelude.{IfSome, unsigned_abs}
 use Rattle.std.specs.Ordering.{is_eq}
 use Rattle.std.proofs.lemmas.Bool.{cases_eq}
 use Rattle.std.proofs.lemmas.Int.{ints, by_lt_z}
+use Rattle.bp_theory.specs.declared.Limits.TheVariants.{Large}
+use Rattle.bp_theory.specs.Limits.{greatest_depth}
 use Rattle.bp_theory.specs.Blocking.{Blocking}
 use Rattle.bp_theory.specs.Bound.{IsBound, plain_proof}
 use Rattle.bp_theory.specs.Trees.{HasSoundSplits, IsProper, IsZone, IsSoundSplit, steps, depth, low_part, high_part}
@@ -197,7 +199,7 @@ forked_queue t before after number n path leaf v at proof bound queue h there d 
 pub standing_fork : (t : GrowingTree) (root : List Span) (before after : Entries) (path : List Side) (leaf : LiveLeaf) (v : ℕ) (at : ℤ) (proof : Proof) (bound : ℤ) (n : ℕ)
     → IsStanding (record { tree = t; root = root; queue = before }) → live_at t path ≡ Some leaf → queue_of before leaf.bound n ≡ Some path
     → IsDivided (queue_of before) leaf.bound n bound (made t) (path ++ Low ∷ []) (path ++ High ∷ []) (queue_of after)
-    → IsSoundSplit (zone_at t root path) v at → length path < 8256 → steps (certificate_tree t) < 2 ^ 63 - 1
+    → IsSoundSplit (zone_at t root path) v at → length path < greatest_depth Large → steps (certificate_tree t) < 2 ^ 63 - 1
     → IsStanding (record { tree = fork_at t path v at proof bound; root = root; queue = after })
 standing_fork t root before after path leaf v at proof bound n s h there d split short few =
     let new : GrowingTree = fork_at t path v at proof bound in
@@ -345,7 +347,7 @@ fork_fits t root q lives count deepest g is s few =
 pub fork_whole : (t : GrowingTree) (root : List Span) (q : Entries) (lives count deepest deeper : ℕ) (g : GroveState) (turn : Turn) (v : ℕ) (at : ℤ) (proof : Proof) (bound : ℤ)
     (number : ℕ) (after : Entries) (new : GrowingTree)
     → record { tree = t; root = root; queue = q } ≡ g → IsStanding (record { tree = t; root = root; queue = q }) × AreCounts t lives count deepest
-    → IsLiveTurn g turn → IsSoundSplit turn.zone v at → turn.depth < 8256 → steps (certificate_tree g.tree) < 2 ^ 63 - 1 → number ≡ lives + count
+    → IsLiveTurn g turn → IsSoundSplit turn.zone v at → turn.depth < greatest_depth Large → steps (certificate_tree g.tree) < 2 ^ 63 - 1 → number ≡ lives + count
     → IsParted (queue_of q) turn.path bound number (queue_of after) → new ≡ fork_at t turn.path v at proof bound → deeper ≡ max deepest (turn.depth + 1)
     → IsStanding (record { tree = new; root = root; queue = after }) × AreCounts new (lives + 1) (count + 1) deeper
 fork_whole t root q lives count deepest deeper g turn v at proof bound number after new is s alive split short few number_is p becomes deeper_is =

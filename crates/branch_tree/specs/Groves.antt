@@ -1,5 +1,6 @@
 -- What a grove is, what it keeps, and what is done with it.
 use Rattle.std.specs.Prelude.{◌≡◌, ℕ, ◌+◌, ◌<◌, ◌≤◌, ◌^◌, List, [], ◌∷◌, ◌++◌, length, Some, None, ℤ, unsigned_abs, refl}
+use Rattle.bp_theory.specs.declared.Limits.TheVariants.{Large}
 use Rattle.bp_theory.specs.Limits.{greatest_depth, number_limit}
 use Rattle.std.specs.Coded.{Coded, code_by, coded×, coded_list, coded_ℕ}
 use base.Stored.{coded_ℤ}
@@ -34,13 +35,13 @@ coded_grove =
 abbrev pub made : GrowingTree → ℕ
 made t = live_count t + steps (certificate_tree t)
 
--- what a grove keeps at every moment: sound splits, a queue of exactly the live leaves, a depth of at most 8,256, and
+-- what a grove keeps at every moment: sound splits, a queue of exactly the live leaves, a depth within the large limits, and
 -- few enough leaves that all counts fit 64 bits
 pub record IsStanding (g : GroveState) : Type 0 where
   pub proper : IsProper g.root
   pub splits : HasSoundSplits (certificate_tree g.tree) g.root
   pub queued : IsQueue g.tree (queue_of g.queue) (made g.tree)
-  pub deep : depth (certificate_tree g.tree) ≤ greatest_depth
+  pub deep : depth (certificate_tree g.tree) ≤ greatest_depth Large
   pub few : made g.tree < 2 ^ 64
   pub fewer : live_count g.tree ≤ steps (certificate_tree g.tree) + 1
 

@@ -1,5 +1,6 @@
 -- What a live leaf keeps when it is handed out.
 use Rattle.std.specs.Prelude.{◌≡◌, ◌≤◌, length}
+use Rattle.bp_theory.specs.declared.Limits.TheVariants.{Large}
 use Rattle.bp_theory.specs.Limits.{greatest_depth}
 use Rattle.bp_theory.specs.Trees.{IsZone}
 use Rattle.block_program.specs.Blocked.{BlockedProgram}
@@ -13,4 +14,4 @@ pub record IsTurn (b : BlockedProgram) (turn : Turn) : Type 0 where
   pub sound : IsSoundProof b.blocking turn.proof
   pub keeps : KeepsBound b.blocking turn.zone turn.proof turn.bound
   pub length : turn.depth ≡ length turn.path
-  pub shallow : turn.depth ≤ greatest_depth
+  pub shallow : turn.depth ≤ greatest_depth Large

@@ -8,9 +8,6 @@ use open_nodes::{
 use search_laws::Side;
 use std::alloc::{AllocError, Global};
 
-/// The greatest depth of a tree: a root zone of 8,192 bits, and 64 splits that need not be at the middle.
-pub const MAX_DEPTH: u32 = 8256;
-
 /// The tree of a search and the zone of its root, with the queue of the live leaves: by bound, and of equal bounds by the
 /// order in which they were made.
 pub struct Grove {
@@ -53,7 +50,9 @@ impl std::marker::Model for Grove {
 
 impl Grove {
     ghost use Rattle.std.specs.Prelude.{◌≡◌, ◌+◌, ◌-◌, ◌<◌, ◌≤◌, ◌^◌, IfOk, OnOk, OnErr, IfSome, MatchOption};
+    ghost use Rattle.bp_theory.specs.Limits.{greatest_depth};
     ghost use Rattle.bp_theory.specs.Trees.{IsSoundSplit, steps, depth};
+    ghost use Rattle.bp_theory.specs.declared.Limits.TheVariants.{Large};
     ghost use Rattle.search_laws.specs.Grove.{shut_at, fork_at, live_count, live_bounds, certificate_tree};
     ghost use Rattle.search_laws.specs.GroveFacts.{IsGrove, IsSoundProof, KeepsBound, IsLeastOf};
     ghost use Rattle.block_program.specs.Blocked.{BlockedProgram};
@@ -84,11 +83,11 @@ impl Grove {
         })
     }
 
-    /// The grove of a tree that keeps its facts for the program's spans, with a depth of at most 8,256 and fewer than
+    /// The grove of a tree that keeps its facts for the program's spans, with a depth within the large limits and fewer than
     /// `2^62` nodes. Its live leaves count as made in preorder.
     pub fn adopt(alloc: Global, b: &Blocked, tree: Tree) -> Result<Grove, AllocError>
         requires kept { IsGrove b.now.blocking b.now.named.program.spans (tree_of tree) }
-        requires deep { depth (certificate_tree (tree_of tree)) ≤ 8256 }
+        requires deep { depth (certificate_tree (tree_of tree)) ≤ greatest_depth Large }
         requires few { made (tree_of tree) < 2 ^ 62 }
         ensures adopted { IfOk result (IsAdopted b.now (tree_of tree)) }
         ensures kept { IfOk result (IsGroveOf b.now) }
@@ -197,7 +196,7 @@ impl Grove {
         requires split { IsSoundSplit turn.now.zone fork.var fork.at }
         requires sound { IsSoundProof b.now.blocking fork.proof }
         requires keeps { KeepsBound b.now.blocking turn.now.zone fork.proof fork.bound }
-        requires depth { turn.now.depth < 8256 }
+        requires depth { turn.now.depth < greatest_depth Large }
         requires count { steps (certificate_tree self.old.tree) < 2 ^ 63 - 1 }
         ensures same { OnErr result (self.new ≡ self.old) }
         ensures tree { OnOk result (self.new.tree ≡ fork_at self.old.tree turn.now.path fork.var

@@ -6,7 +6,7 @@ mod grove;
 mod loaded;
 mod outcome;
 
-pub use crate::grove::{Grove, MAX_DEPTH};
+pub use crate::grove::Grove;
 pub use crate::loaded::Loaded;
 pub use crate::outcome::Outcome;
 pub use open_nodes::{Fork, GrowingNode, Tree, Turn, grown, proof_copy};

@@ -1,6 +1,8 @@
 // The queue of a tree's live leaves, its steps and its depth. Each walks over the tree with a list of the nodes that are
 // still to come, the next one last: no more than two for each level of the tree.
 ghost use Rattle.std.specs.Prelude.{◌≡◌, ◌<◌, ◌≤◌, ◌^◌, ◌++◌, [], take, option_to_list, IfOk, OnOk, None};
+ghost use Rattle.bp_theory.specs.Limits.{greatest_depth};
+ghost use Rattle.bp_theory.specs.declared.Limits.TheVariants.{Large};
 ghost use Rattle.bp_theory.specs.Trees.{steps, depth};
 ghost use Rattle.search_laws.specs.Grove.{live_count, certificate_tree};
 ghost use Rattle.open_nodes.specs.Trees.{tree_of};
@@ -104,7 +106,7 @@ struct AtDepth<'a> {
 
 /// The greatest depth of a tree's nodes.
 pub fn depth_in(alloc: Global, tree: &Tree) -> Result<u32, AllocError>
-    requires { depth (certificate_tree (tree_of tree.now)) ≤ 8256 }
+    requires { depth (certificate_tree (tree_of tree.now)) ≤ greatest_depth Large }
     ensures { IfOk result (λ deepest. deepest ≡ depth (certificate_tree (tree_of tree.now))) }
 {
     let mut ahead: Vec<AtDepth> = Vec::new(alloc);

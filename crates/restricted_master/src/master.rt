@@ -13,7 +13,8 @@ use primal_heuristics::{product, reduced_cost};
 use std::alloc::{AllocError, Global};
 use std::num::{nearest_i64_to_f64, saturating_f64_to_i64};
 
-/// How many columns of a pool a class of one block begins with, and how many times as many one of several blocks.
+/// How many columns of a pool a class of one block begins with, and how many times as many one of several blocks, or
+/// twice as many as there are lines where that is more.
 const FIRST_COLUMNS: usize = 50;
 
 const ALIKE_TIMES: usize = 4;
@@ -21,8 +22,9 @@ const ALIKE_TIMES: usize = 4;
 /// How many pivots one solution may take.
 const MOST_PIVOTS: u32 = 5_000;
 
-/// How many pivots times lines the solutions of a node may take.
-const MOST_WORK: u64 = 1 << 22;
+/// How many pivots times lines the solutions of a node may take at least: a master of many lines needs about half as many
+/// pivots as the square of its lines, and may take more.
+const LEAST_WORK: u64 = 1 << 22;
 
 // What stands for no line and no class.
 pub const NONE: u32 = u32::MAX;
@@ -211,7 +213,7 @@ impl RestrictedMaster {
             return Ok(());
         };
         let many = if self.size(class) > 1 {
-            FIRST_COLUMNS * ALIKE_TIMES
+            (FIRST_COLUMNS * ALIKE_TIMES).max(self.program.rows().saturating_mul(2))
         } else {
             FIRST_COLUMNS
         };
@@ -333,7 +335,8 @@ impl RestrictedMaster {
     // How many pivots may be made.
     fn pivots_left(&self, most: u32) -> u32 {
         let lines = (self.program.rows() as u64).max(1);
-        let left = MOST_WORK.saturating_sub(self.spent) / lines;
+        let needed = lines.saturating_mul(lines).saturating_mul(lines) / 2;
+        let left = LEAST_WORK.max(needed).saturating_sub(self.spent) / lines;
         match u32::try_from(left) {
             Ok(left) => left.min(most).min(MOST_PIVOTS),
             Err(_) => most.min(MOST_PIVOTS),

@@ -3,6 +3,9 @@ use Rattle.std.proofs.Common.{◌≡◌, refl, sym, ap, subst, ◌∙◌, ◌+�
 use Rattle.std.proofs.Math.IntN.{ℤ}
 use Rattle.std.specs.Prelude.{int_lt, if◌then◌else◌, IfSome}
 use Rattle.bp_theory.specs.Program.{Program, cost}
+use Rattle.bp_theory.proofs.LimitLaws.{few_deep}
+use Rattle.bp_theory.specs.Limits.{greatest_depth}
+use Rattle.bp_theory.specs.declared.Limits.TheVariants.{Large}
 use Rattle.bp_theory.specs.Trees.{depth, steps}
 use Rattle.block_program.specs.Blocked.{BlockedProgram, IsFormed}
 use Rattle.search_laws.specs.Grove.{GrowingTree, certificate_tree}
@@ -74,8 +77,9 @@ few_merged best other m t u is few =
     let same : made m ≡ made (merged_by (cost_in best) (cost_in other) t u) = ap made is in
     omega (arith, less, same, few)
 
-pub deep_merged : (b : BlockedProgram) (m : GrowingTree) (best : Option (List ℤ)) → IsSearch b.named.program b.blocking m best → depth (certificate_tree m) ≤ 8256
-deep_merged b m best search = stays_shallow_lem.depth m b.named.program.spans search.shallow
+pub deep_merged : (b : BlockedProgram) (m : GrowingTree) (best : Option (List ℤ)) → IsSearch b.named.program b.blocking m best → depth (certificate_tree m) ≤ greatest_depth Large
+deep_merged b m best search =
+    omega (arith, stays_shallow_lem.depth b.named.program.limits m b.named.program.spans search.shallow, few_deep b.named.program.limits)
 
 pub few_steps : (g : GroveState) (m : GrowingTree) → g.tree ≡ m → made m < 2 ^ 62 → steps (certificate_tree g.tree) < 2 ^ 62
 few_steps g m is few =

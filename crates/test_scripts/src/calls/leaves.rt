@@ -6,8 +6,8 @@ ghost use Rattle.branch_tree.specs.Turns.{IsTurn};
 use crate::calls::told::Told;
 use crate::calls::zones::is_sound;
 use block_program::{Blocked, Zone};
-use bp_theory::Proof;
-use branch_tree::{Fork, Grove, MAX_DEPTH, Turn, proof_copy};
+use bp_theory::{Limits, Proof};
+use branch_tree::{Fork, Grove, Turn, proof_copy};
 use std::alloc::{AllocError, Global};
 
 // The variable whose span is split.
@@ -121,7 +121,7 @@ fn fork_leaf(
         told.line("fork: not tried, a part has no number");
         return Ok(());
     }
-    if turn.depth >= MAX_DEPTH || grove.count() >= MOST_STEPS {
+    if turn.depth >= Limits::Large.depth() || grove.count() >= MOST_STEPS {
         told.line("fork: not tried, the tree is too deep or has too many steps");
         return Ok(());
     }

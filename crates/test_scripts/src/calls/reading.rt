@@ -6,6 +6,7 @@ ghost use Rattle.bp_model.specs.Dec.{HasListed};
 use block_form::check_blocks;
 use block_program::Blocked;
 use bp_model::{Dec, Model};
+use bp_theory::Limits;
 use dec_read::read_dec;
 use lp_read::read_lp;
 use std::alloc::Global;
@@ -13,7 +14,7 @@ use std::alloc::Global;
 /// The program in blocks that a model's text and that of its decomposition mean. None where a text or the decomposition is
 /// refused, or memory is short. Without a decomposition every row is a master row.
 pub fn blocks_of(alloc: Global, text: &str, dec: Option<&str>) -> Option<Blocked> {
-    let Ok(model) = read_lp(alloc, text.as_bytes()) else {
+    let Ok(model) = read_lp(alloc, Limits::Usual, text.as_bytes()) else {
         return None;
     };
     let Some(dec) = dec_of(alloc, &model, dec) else {
