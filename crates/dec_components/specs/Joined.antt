@@ -46,11 +46,11 @@ pub record IsFound (p : Program) (master : List ℕ) (d : Decomposition) : Type 
   pub numbered : (r j k : ℕ) → place_at d r ≡ Some k → j < k → (s : ℕ) × (s < r) × (place_at d s ≡ Some j)
   pub unlisted : d.listed ≡ []
 
--- more blocks result than a decomposition may have
+-- more blocks result than a decomposition may have under the program's limits
 pub record HasTooMany (p : Program) (master : List ℕ) : Type 0 where
   pub found : Decomposition
   pub is_found : IsFound p master found
-  pub many : most_blocks < found.blocks
+  pub many : most_blocks p.limits < found.blocks
 
 -- a decomposition has these master rows
 abbrev pub HasMaster : Program → (master : List ℕ) → Decomposition → Type 0

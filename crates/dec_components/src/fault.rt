@@ -8,8 +8,8 @@ use thiserror::Error;
 /// Why master rows leave no decomposition.
 #[derive(Clone, Copy, Debug, PartialEq, Eq, Error)]
 pub enum FindFault {
-    /// More than 4,096 blocks result.
-    #[error("more than 4096 blocks")]
+    /// More blocks result than the limits of the model allow.
+    #[error("more blocks than the limit")]
     Blocks,
     /// Want of memory.
     #[error("want of memory")]

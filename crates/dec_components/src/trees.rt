@@ -1,5 +1,7 @@
 // The blocks of the rows that master rows leave.
 ghost use Rattle.std.specs.Prelude.{◌≡◌, ◌≤◌, ◌<◌, ◌+◌, ◌↔◌, [], ℕ, List, IfOk, OnOk, All, IsTrue, Contains, length};
+ghost use Rattle.bp_theory.specs.Limits.{most_rows};
+ghost use Rattle.bp_theory.specs.declared.Limits.TheVariants.{Large};
 ghost use Rattle.bp_theory.specs.Program.{Program};
 ghost use Rattle.dec_components.specs.Joined.{IsFound};
 ghost use Rattle.dec_components.specs.Forest.{AreMarks, IsForest, IsTied, IsNumbered};
@@ -32,7 +34,7 @@ impl Places {
     fn add(&mut self, parents: &[u32], is_master: bool) -> Result<(), AllocError>
         requires forest { IsForest parents.now }
         requires there { length self.old.places.items < length parents.now }
-        requires few { self.old.blocks ≤ 8192 }
+        requires few { self.old.blocks ≤ most_rows Large }
         ensures numbered { (p : Program) (master : List ℕ) →
             (IsTrue is_master ↔ Contains master (length self.old.places.items)) →
             IsTied p master parents.now →
@@ -63,7 +65,7 @@ impl Places {
 pub fn numbered(alloc: Global, parents: &[u32], marks: &[bool]) -> Result<Places, AllocError>
     requires forest { IsForest parents.now }
     requires each { length marks.now ≡ length parents.now }
-    requires few { length parents.now ≤ 8192 }
+    requires few { length parents.now ≤ most_rows Large }
     ensures { (p : Program) (master : List ℕ) → AreMarks p master marks.now →
         IsTied p master parents.now →
         IfOk result (λ found. IsFound p master

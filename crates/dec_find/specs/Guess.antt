@@ -13,7 +13,7 @@ marked_rows p marks = filter (λ r. slice_index_or marks r false) (range_with_le
 
 -- the decomposition of a program beside master rows, or where that has too many blocks the one with master rows alone
 abbrev pub IsFoundOrPlain : Program → (master : List ℕ) → Decomposition → Type 0
-IsFoundOrPlain p master d = (IsFound p master d × (d.blocks ≤ most_blocks)) ⊎ (HasTooMany p master × (d ≡ plain_of p))
+IsFoundOrPlain p master d = (IsFound p master d × (d.blocks ≤ most_blocks p.limits)) ⊎ (HasTooMany p master × (d ≡ plain_of p))
 
 -- the decomposition of a program beside some master rows
 abbrev pub IsGuess : Program → Decomposition → Type 0

@@ -9,11 +9,11 @@ use bp_model::{Dec, Model};
 use std::alloc::{AllocError, Global};
 
 /// The decomposition of a model whose master rows are those that are marked, by their numbers; rows past the last mark
-/// are not. There is none where it has more blocks than the 4,096 that a decomposition may have.
+/// are not. There is none where it has more blocks than the model's limits allow.
 pub fn beside(alloc: Global, m: &Model, marks: &[bool]) -> Result<Option<Dec>, AllocError>
     ensures found { IfOk result (λ found. IfSome found
         (IsFound m.now.program (marked_rows m.now.program marks.now))) }
-    ensures few { IfOk result (λ found. IfSome found (λ dec. dec.blocks ≤ most_blocks)) }
+    ensures few { IfOk result (λ found. IfSome found (λ dec. dec.blocks ≤ most_blocks m.now.program.limits)) }
     ensures many { IfOk result (λ found. IfNone found
         (HasTooMany m.now.program (marked_rows m.now.program marks.now))) }
 {
@@ -25,12 +25,13 @@ pub fn beside(alloc: Global, m: &Model, marks: &[bool]) -> Result<Option<Dec>, A
     }
 }
 
-/// The decomposition of a model whose master rows are those that are marked, or where that has more than 4,096 blocks the
-/// one with every row a master row.
+/// The decomposition of a model whose master rows are those that are marked, or where that has more blocks than the model's
+/// limits allow the one with every row a master row.
 pub fn beside_or_plain(alloc: Global, m: &Model, marks: &[bool]) -> Result<Dec, AllocError>
     ensures found { IfOk result
         (IsFoundOrPlain m.now.program (marked_rows m.now.program marks.now)) }
     ensures guess { IfOk result (IsGuess m.now.program) }
+    ensures few { IfOk result (λ dec. dec.blocks ≤ most_blocks m.now.program.limits) }
 {
     let found = beside(alloc, m, marks)?;
     match found {

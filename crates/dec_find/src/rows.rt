@@ -1,5 +1,6 @@
 // The master rows that a text lists by their names.
 ghost use Rattle.std.specs.Prelude.{◌<◌, ◌≤◌, All, IfOk, IfErr, length};
+ghost use Rattle.bp_theory.specs.Limits.{most_bytes};
 ghost use Rattle.dec_write.specs.Rows.{ListsRows, IsRowsFault};
 
 use bp_model::Model;
@@ -8,16 +9,13 @@ use dec_write::{Listing, RowsFault, RowsKind};
 use name_table::IndexedModel;
 use std::alloc::Global;
 
-/// The greatest length of a text in bytes.
-const MOST_BYTES: usize = 16_777_216;
-
 /// The rows that a text lists by their names, by number and in the text's order, or the text's first fault.
 pub fn read_rows(alloc: Global, bytes: &[u8], m: &Model) -> Result<Vec<u32>, RowsFault>
     ensures rows { IfOk result (λ rows. ListsRows bytes.now m.now rows.items) }
     ensures below { IfOk result (λ rows. All (λ r. r < length m.now.program.rows) rows.items) }
     ensures fault { IfErr result (λ fault. IsRowsFault bytes.now m.now fault) }
 {
-    if MOST_BYTES < bytes.len() {
+    if m.limits().bytes() < bytes.len() {
         return Err(RowsFault::At {
             line: 0,
             kind: RowsKind::Limit,
@@ -29,7 +27,7 @@ pub fn read_rows(alloc: Global, bytes: &[u8], m: &Model) -> Result<Vec<u32>, Row
 
 // The rows that a text of no more than the greatest length lists, or the text's first fault.
 fn read_words(alloc: Global, bytes: &[u8], m: &IndexedModel<'_>) -> Result<Vec<u32>, RowsFault>
-    requires { length bytes.now ≤ 16777216 }
+    requires { length bytes.now ≤ most_bytes m.now.program.limits }
     ensures rows { IfOk result (λ rows. ListsRows bytes.now m.now rows.items) }
     ensures below { IfOk result (λ rows. All (λ r. r < length m.now.program.rows) rows.items) }
     ensures fault { IfErr result (λ fault. IsRowsFault bytes.now m.now fault) }

@@ -1,6 +1,7 @@
 // The text of a decomposition.
-ghost use Rattle.std.specs.Prelude.{◌≡◌, [], IfOk, All};
+ghost use Rattle.std.specs.Prelude.{◌≡◌, ◌≤◌, [], IfOk, All};
 ghost use Rattle.std.specs.List.{zip};
+ghost use Rattle.bp_theory.specs.Limits.{most_blocks};
 ghost use Rattle.bp_theory.specs.Decomposition.{HasPlaces};
 ghost use Rattle.dec_read.specs.Reading.{ReadsDecomposition};
 ghost use Rattle.dec_write.specs.Text.{IsRowName, text_of, AreLines};
@@ -27,6 +28,7 @@ pub fn dec_text(alloc: Global, m: &Model, dec: &Dec) -> Result<Vec<u8>, AllocErr
     requires places { HasPlaces m.now.program dec.now }
     requires unlisted { dec.now.listed ≡ [] }
     requires names { All IsRowName m.now.row_names }
+    requires few { dec.now.blocks ≤ most_blocks m.now.program.limits }
     ensures text { IfOk result (λ text. text.items ≡ text_of m.now dec.now) }
     ensures read_back { IfOk result (λ text. ReadsDecomposition text.items m.now dec.now) }
 {

@@ -1,5 +1,6 @@
 // The decomposition of the best of many lists of master rows.
-ghost use Rattle.std.specs.Prelude.{IfOk};
+ghost use Rattle.std.specs.Prelude.{◌≤◌, IfOk};
+ghost use Rattle.bp_theory.specs.Limits.{most_blocks};
 ghost use Rattle.bp_model.specs.Named.{IsKept};
 ghost use Rattle.dec_find.specs.Guess.{IsGuess};
 
@@ -315,7 +316,8 @@ fn lengths_of(alloc: Global, m: &Model) -> Result<Vec<usize>, AllocError> {
 /// the structure of the model, or every row a master row where no list of them promises anything.
 pub fn guess(alloc: Global, m: &Model) -> Result<Dec, AllocError>
     requires kept { IsKept m.now }
-    ensures { IfOk result (IsGuess m.now.program) }
+    ensures guess { IfOk result (IsGuess m.now.program) }
+    ensures few { IfOk result (λ dec. dec.blocks ≤ most_blocks m.now.program.limits) }
 {
     let mut best = Proposal {
         marks: Vec::from_elem(alloc, true, m.rows() as usize)?,

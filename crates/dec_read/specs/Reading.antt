@@ -13,18 +13,18 @@ use Rattle.dec_read.specs.declared.fault.DecFault.TheVariants.{At, NoMemory}
 
 -- the decomposition that a text means: neither a token nor the end is at fault
 pub record ReadsDecomposition (text : List ℕ) (m : NamedProgram) (d : Decomposition) : Type 0 where
-  pub short : length text ≤ most_bytes
+  pub short : length text ≤ most_bytes m.program.limits
   pub faultless : (i : ℕ) → fault_at m (tokens text) i ≡ None
   pub ended : end_fault m (parts_of text) ≡ None
   pub meant : d ≡ decomposition_of m (parts_of text)
 
 -- the first fault of a text: its length, else its first token at fault, else its end
 pub data HasDecTextFault (text : List ℕ) (m : NamedProgram) (line : ℕ) (kind : DecKind) : Type 0 where
-  too_long : most_bytes < length text → line ≡ 0 → kind ≡ Limit → HasDecTextFault text m line kind
-  at_token : length text ≤ most_bytes → (i : ℕ) → (token : Token) → slice_get (tokens text) i ≡ Some token
+  too_long : most_bytes m.program.limits < length text → line ≡ 0 → kind ≡ Limit → HasDecTextFault text m line kind
+  at_token : length text ≤ most_bytes m.program.limits → (i : ℕ) → (token : Token) → slice_get (tokens text) i ≡ Some token
       → fault_at m (tokens text) i ≡ Some kind → ((k : ℕ) → k < i → fault_at m (tokens text) k ≡ None)
       → line ≡ token.line → HasDecTextFault text m line kind
-  at_end : length text ≤ most_bytes → ((i : ℕ) → fault_at m (tokens text) i ≡ None)
+  at_end : length text ≤ most_bytes m.program.limits → ((i : ℕ) → fault_at m (tokens text) i ≡ None)
       → end_fault m (parts_of text) ≡ Some kind → line ≡ end_line text → HasDecTextFault text m line kind
 
 -- what an error of reading says

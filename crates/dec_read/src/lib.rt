@@ -4,10 +4,12 @@
 
 mod fault;
 
-ghost use Rattle.std.specs.Prelude.{◌≡◌, ◌≤◌, ◌⊎◌, ℕ, List, length, IfOk, IfErr};
+ghost use Rattle.std.specs.Prelude.{◌≡◌, ◌≤◌, ◌⊎◌, [], ℕ, List, length, IfOk, IfErr};
 ghost use Rattle.bp_theory.specs.Decomposition.{Decomposition, HasPlaces};
+ghost use Rattle.bp_theory.specs.Limits.{most_blocks, most_bytes};
 ghost use Rattle.bp_model.specs.Dec.{HasListed};
 ghost use Rattle.bp_model.specs.Named.{NamedProgram};
+ghost use Rattle.dec_syntax.specs.State.{Keeps};
 ghost use Rattle.dec_syntax.specs.declared.kind.DecKind.{DecKind};
 ghost use Rattle.dec_read.specs.Reading.{ReadsDecomposition, HasDecTextFault, IsFault};
 
@@ -17,9 +19,6 @@ use dec_syntax::{Cursor, Reader, end_line, next_word};
 pub use fault::DecFault;
 use name_table::IndexedModel;
 use std::alloc::Global;
-
-/// The greatest length of a text in bytes.
-const MOST_BYTES: usize = 16_777_216;
 
 /// A text means at most one decomposition of a model.
 pub fn one_decomposition()
@@ -49,31 +48,33 @@ pub fn decomposition_or_first_fault()
 /// The decomposition of a model that a text means, or the text's first fault.
 pub fn read_dec(alloc: Global, bytes: &[u8], m: &Model) -> Result<Dec, DecFault>
     ensures dec { IfOk result (λ d. ReadsDecomposition bytes.now m.now d) }
-    ensures blocks { IfOk result (λ d. d.blocks ≤ 4096) }
+    ensures blocks { IfOk result (λ d. d.blocks ≤ most_blocks m.now.program.limits) }
     ensures places { IfOk result (λ d. HasPlaces m.now.program d) }
     ensures listed { IfOk result (λ d. HasListed m.now.program d) }
     ensures fault { IfErr result (λ fault. IsFault bytes.now m.now fault) }
 {
-    if MOST_BYTES < bytes.len() {
+    if m.limits().bytes() < bytes.len() {
         return Err(DecFault::At {
             line: 0,
             kind: DecKind::Limit,
         });
     }
+    let reader = Reader::new(alloc, m)?;
     let indexed = IndexedModel::of(alloc, m)?;
-    read_tokens(alloc, bytes, &indexed)
+    read_tokens(bytes, &indexed, reader)
 }
 
-// The decomposition of a model that a text of no more than the greatest length means, or the text's first fault.
-fn read_tokens(alloc: Global, bytes: &[u8], m: &IndexedModel<'_>) -> Result<Dec, DecFault>
-    requires { length bytes.now ≤ 16777216 }
+// The decomposition of a model that a text of no more than the greatest length means, or the text's first fault, by a reader
+// before its first token.
+fn read_tokens(bytes: &[u8], m: &IndexedModel<'_>, mut reader: Reader) -> Result<Dec, DecFault>
+    requires short { length bytes.now ≤ most_bytes m.now.program.limits }
+    requires keeps { Keeps m.now reader [] }
     ensures dec { IfOk result (λ d. ReadsDecomposition bytes.now m.now d) }
-    ensures blocks { IfOk result (λ d. d.blocks ≤ 4096) }
+    ensures blocks { IfOk result (λ d. d.blocks ≤ most_blocks m.now.program.limits) }
     ensures places { IfOk result (λ d. HasPlaces m.now.program d) }
     ensures listed { IfOk result (λ d. HasListed m.now.program d) }
     ensures fault { IfErr result (λ fault. IsFault bytes.now m.now fault) }
 {
-    let mut reader = Reader::new(alloc, m)?;
     let mut cursor = Cursor {
         at: 0,
         line: 1,

@@ -7,6 +7,7 @@ use Rattle.std.specs.Prelude.{nat_le, slice_get}
 use Rattle.std.specs.List.{AllByRecursion}
 use Rattle.std.specs.Str.{bytes_eq}
 use Rattle.bp_theory.specs.Decomposition.{Decomposition, IsPlace, HasPlaces}
+use Rattle.bp_theory.specs.Limits.{most_blocks}
 use Rattle.bp_model.specs.Named.{NamedProgram, IsKept}
 use Rattle.bp_model.specs.Dec.{HasListed}
 use Rattle.dec_syntax.specs.Cut.{Token, tokens}
@@ -39,7 +40,7 @@ abbrev Listed : ℕ → ℕ → List (ℕ × Option ℕ) → Type 0
 Listed vars blocks listed = AllByRecursion (λ e. (e.0 < vars) × IsPlace blocks e.1) listed
 
 record IsSound (m : NamedProgram) (earlier : List Part) : Type 0 where
-  few : block_count earlier ≤ 4096
+  few : block_count earlier ≤ most_blocks m.program.limits
   uncounted : has_come earlier Nblocks ≡ false → block_count earlier ≡ 0
   awaited : IsUncounted (block_count earlier) (has_come earlier Nblocks) (section_behind earlier)
   section : HasKnownPlace (block_count earlier) (section_behind earlier)
@@ -98,7 +99,7 @@ unfolding section_behind has_come block_count refuses_unlisted rows_listed vars_
 number_sound m earlier s Nblocks n is e =
     let awaited : (block_count earlier ≡ 0) × (has_come earlier Nblocks ≡ true) = subst (IsUncounted (block_count earlier) (has_come earlier Nblocks)) is s.awaited in
     record {
-      few = leb-true n 4096 (passes (nat_le n 4096) kinds.Limit e);
+      few = leb-true n (most_blocks m.program.limits) (passes (nat_le n (most_blocks m.program.limits)) kinds.Limit e);
       uncounted = λ none. absurd (both_ways (has_come earlier Nblocks) none awaited.1);
       awaited = tt;
       section = tt;
@@ -205,7 +206,7 @@ places_known blocks listing (n ∷ names) p = (place_known blocks listing n p, p
 
 -- what the decomposition that a text means keeps
 pub record IsPlaced (m : NamedProgram) (d : Decomposition) : Type 0 where
-  pub few : d.blocks ≤ 4096
+  pub few : d.blocks ≤ most_blocks m.program.limits
   pub places : HasPlaces m.program d
   pub listed : HasListed m.program d
 

@@ -6,6 +6,9 @@ use Rattle.std.specs.Prelude.{◌==◌, nat_le, slice_get, Contains, IfNone, IfO
 use Rattle.std.specs.Option.{option_map}
 use Rattle.std.specs.List.{list_any}
 use Rattle.std.specs.declared.alloc.AllocError.{AllocError}
+use Rattle.bp_theory.specs.Limits.{most_blocks}
+use Rattle.bp_theory.specs.declared.Limits.{Limits}
+use Rattle.bp_theory.proofs.LimitLaws.{few_blocks}
 use Rattle.bp_model.specs.Named.{NamedProgram}
 use Rattle.dec_syntax.specs.Cut.{token_of}
 use Rattle.dec_syntax.specs.Words.{has_bad_byte, keyword_of, number_of}
@@ -49,10 +52,10 @@ variable_new names k name e = sym (ap (λ (t : Bool). cond t None (Some kinds.Un
 
 -- before the first token
 pub kept_new : (m : NamedProgram) (reader : Reader) (n : ℕ) → reader.section ≡ Outside → reader.presolved ≡ false → reader.counted ≡ false → reader.defaulted ≡ false → reader.blocks ≡ 0 → reader.strict ≡ false
-    → n ≡ length m.program.rows → length m.row_names ≡ length m.program.rows
+    → reader.limits ≡ m.program.limits → n ≡ length m.program.rows → length m.row_names ≡ length m.program.rows
     → reader.rows.places.items ≡ replicate n None → reader.rows.seen.items ≡ replicate n false → reader.listed.items ≡ [] → Keeps m reader []
 unfolding section_behind has_come block_count refuses_unlisted rows_listed vars_listed
-kept_new m reader n outside presolved counted defaulted blocks strict e named places seen none =
+kept_new m reader n outside presolved counted defaulted blocks strict limits e named places seen none =
     let count : n ≡ length m.row_names = e ∙ sym named in
     record {
       section = outside;
@@ -62,6 +65,7 @@ kept_new m reader n outside presolved counted defaulted blocks strict e named pl
       blocks = blocks;
       few = omega arith;
       strict = strict;
+      limits = limits;
       rows = record {
         places = places ∙ ap (λ (k : ℕ). replicate {A = Option ℕ} k None) count ∙ places_none m.row_names;
         seen = seen ∙ ap (λ (k : ℕ). replicate k false) count ∙ listed_none m.row_names;
@@ -161,6 +165,7 @@ keyword_kept m reader earlier keeps Presolved = record {
   blocks = keeps.blocks;
   few = keeps.few;
   strict = keeps.strict;
+  limits = keeps.limits;
   rows = keeps.rows;
   listed = keeps.listed;
 }
@@ -172,6 +177,7 @@ keyword_kept m reader earlier keeps Nblocks = record {
   blocks = keeps.blocks;
   few = keeps.few;
   strict = keeps.strict;
+  limits = keeps.limits;
   rows = keeps.rows;
   listed = keeps.listed;
 }
@@ -183,6 +189,7 @@ keyword_kept m reader earlier keeps ConsDefaultMaster = record {
   blocks = keeps.blocks;
   few = keeps.few;
   strict = keeps.strict;
+  limits = keeps.limits;
   rows = keeps.rows;
   listed = keeps.listed;
 }
@@ -194,6 +201,7 @@ keyword_kept m reader earlier keeps _ = record {
   blocks = keeps.blocks;
   few = keeps.few;
   strict = keeps.strict;
+  limits = keeps.limits;
   rows = keeps.rows;
   listed = keeps.listed;
 }
@@ -208,39 +216,47 @@ keyword_taken m reader new earlier line first word k fault keeps good is e after
     (if_none fault (new ≡ noted reader k) (Keeps m new (keyword k ∷ earlier)) (λ same. subst (λ (r : Reader). Keeps m r (keyword k ∷ earlier)) (sym same) (keyword_kept m reader earlier keeps k)) after)
 
 -- numbers
-capped : {A : Type 0} (f : ℕ → A) (v : ℕ) → (4097 ≤ v → f 4097 ≡ f v) → f (min v 4097) ≡ f v
-capped f v h = elim (cases_lt v 4097) [
-  | inl l ↦ (let same : min v 4097 ≡ v = omega arith in ap f same)
-  | inr l ↦ (let same : min v 4097 ≡ 4097 = omega arith in ap f same ∙ h l)
+capped : {A : Type 0} (f : ℕ → A) (v : ℕ) → (131073 ≤ v → f 131073 ≡ f v) → f (min v 131073) ≡ f v
+capped f v h = elim (cases_lt v 131073) [
+  | inl l ↦ (let same : min v 131073 ≡ v = omega arith in ap f same)
+  | inr l ↦ (let same : min v 131073 ≡ 131073 = omega arith in ap f same ∙ h l)
 ]
 
-block_past : (blocks v : ℕ) → blocks ≤ 4096 → 4097 ≤ v → block_fault blocks v ≡ Some kinds.BlockNumber
+block_past : (blocks v : ℕ) → blocks ≤ 131072 → 131073 ≤ v → block_fault blocks v ≡ Some kinds.BlockNumber
 block_past blocks v few l = ap (λ (t : Bool). cond t None (Some kinds.BlockNumber)) (and_right (nat_le 1 v) (nat_le v blocks) (lt-leb v blocks (omega arith)))
 
-past : (blocks v : ℕ) → blocks ≤ 4096 → 4097 ≤ v → (k : Keyword) → number_fault blocks k 4097 ≡ number_fault blocks k v
-past blocks v few l Presolved = sym (ap (λ (t : Bool). cond t None (cond (v == 1) (Some kinds.Presolved) (Some kinds.Syntax))) (ne_eqb v 0 (λ e. omega arith)) ∙ ap (λ (t : Bool). cond t (Some kinds.Presolved) (Some kinds.Syntax)) (ne_eqb v 1 (λ e. omega arith)))
-past blocks v few l Nblocks = sym (ap (λ (t : Bool). cond t None (Some kinds.Limit)) (lt-leb v 4096 (omega arith)))
-past blocks v few l ConsDefaultMaster = sym (ap (λ (t : Bool). cond t None (Some kinds.Syntax)) (lt-leb v 1 (omega arith)))
-past blocks v few l Block = block_past blocks 4097 few (omega arith) ∙ sym (block_past blocks v few l)
-past blocks v few l BlockVars = block_past blocks 4097 few (omega arith) ∙ sym (block_past blocks v few l)
-past blocks v few l _ = refl
+count_past : (limits : Limits) (blocks v : ℕ) → 131073 ≤ v → number_fault limits blocks Nblocks v ≡ Some kinds.Limit
+count_past limits blocks v l = ap (λ (t : Bool). cond t None (Some kinds.Limit)) (lt-leb v (most_blocks limits) (omega (arith, l, few_blocks limits)))
 
-number_same : (blocks n v : ℕ) → blocks ≤ 4096 → n ≡ min v 4097 → (k : Keyword) → number_fault blocks k n ≡ number_fault blocks k v
-number_same blocks n v few e k = ap (number_fault blocks k) e ∙ capped (number_fault blocks k) v (λ l. past blocks v few l k)
+past : (limits : Limits) (blocks v : ℕ) → blocks ≤ 131072 → 131073 ≤ v → (k : Keyword) → number_fault limits blocks k 131073 ≡ number_fault limits blocks k v
+past limits blocks v few l Presolved = sym (ap (λ (t : Bool). cond t None (cond (v == 1) (Some kinds.Presolved) (Some kinds.Syntax))) (ne_eqb v 0 (λ e. omega arith)) ∙ ap (λ (t : Bool). cond t (Some kinds.Presolved) (Some kinds.Syntax)) (ne_eqb v 1 (λ e. omega arith)))
+past limits blocks v few l Nblocks = count_past limits blocks 131073 (omega arith) ∙ sym (count_past limits blocks v l)
+past limits blocks v few l ConsDefaultMaster = sym (ap (λ (t : Bool). cond t None (Some kinds.Syntax)) (lt-leb v 1 (omega arith)))
+past limits blocks v few l Block = block_past blocks 131073 few (omega arith) ∙ sym (block_past blocks v few l)
+past limits blocks v few l BlockVars = block_past blocks 131073 few (omega arith) ∙ sym (block_past blocks v few l)
+past limits blocks v few l _ = refl
+
+number_same : (limits : Limits) (blocks n v : ℕ) → blocks ≤ 131072 → n ≡ min v 131073 → (k : Keyword) → number_fault limits blocks k n ≡ number_fault limits blocks k v
+number_same limits blocks n v few e k = ap (number_fault limits blocks k) e ∙ capped (number_fault limits blocks k) v (λ l. past limits blocks v few l k)
 
 -- a number without fault is the one that was read
-whole : (blocks n v : ℕ) (kind : DecKind) (t : Bool) → blocks ≤ 4096 → n ≡ min v 4097 → (t ≡ true → v ≤ 4096) → cond t None (Some kind) ≡ None → (n ≡ v) × (v ≤ 4096)
-whole blocks n v kind true few e small h = let within : v ≤ 4096 = small refl in (omega arith, within)
-whole blocks n v kind false few e small h = absurd (let odd : ◌≡◌ {A = Option DecKind} (Some kind) None = h in cc)
+whole : (most n v : ℕ) (kind : DecKind) (t : Bool) → most ≤ 131072 → n ≡ min v 131073 → (t ≡ true → v ≤ most) → cond t None (Some kind) ≡ None → (n ≡ v) × (v ≤ most)
+whole most n v kind true few e small h = let within : v ≤ most = small refl in (omega arith, within)
+whole most n v kind false few e small h = absurd (let odd : ◌≡◌ {A = Option DecKind} (Some kind) None = h in cc)
 
-block_whole : (blocks n v : ℕ) → blocks ≤ 4096 → n ≡ min v 4097 → block_fault blocks v ≡ None → n ≡ v
-block_whole blocks n v few e h = (whole blocks n v kinds.BlockNumber (nat_le 1 v && nat_le v blocks) few e (λ t. let le : v ≤ blocks = leb-true v blocks (and_parts (nat_le 1 v) (nat_le v blocks) t).1 in omega arith) h).0
+block_whole : (blocks n v : ℕ) → blocks ≤ 131072 → n ≡ min v 131073 → block_fault blocks v ≡ None → n ≡ v
+block_whole blocks n v few e h = (whole blocks n v kinds.BlockNumber (nat_le 1 v && nat_le v blocks) few e (λ t. leb-true v blocks (and_parts (nat_le 1 v) (nat_le v blocks) t).1) h).0
 
-number_kept : (m : NamedProgram) (reader : Reader) (earlier : List Part) (n v : ℕ) → Keeps m reader earlier → n ≡ min v 4097 → (k : Keyword) → number_fault reader.blocks k v ≡ None
+-- the blocks that a reader has counted are at most those of the large limits
+few_read : (m : NamedProgram) (reader : Reader) (earlier : List Part) → Keeps m reader earlier → reader.blocks ≤ 131072
+few_read m reader earlier keeps = omega (arith, keeps.few, few_blocks m.program.limits)
+
+number_kept : (m : NamedProgram) (reader : Reader) (earlier : List Part) (n v : ℕ) → Keeps m reader earlier → n ≡ min v 131073 → (k : Keyword) → number_fault m.program.limits reader.blocks k v ≡ None
     → Keeps m (with_number reader k n) (number k v ∷ earlier)
 unfolding section_behind has_come block_count refuses_unlisted rows_listed vars_listed
 number_kept m reader earlier n v keeps e Nblocks h =
-    let same = whole reader.blocks n v kinds.Limit (nat_le v 4096) keeps.few e (leb-true v 4096) h in
+    let most = most_blocks m.program.limits in
+    let same = whole most n v kinds.Limit (nat_le v most) (omega (arith, few_blocks m.program.limits)) e (leb-true v most) h in
     record {
       section = refl;
       presolved = keeps.presolved;
@@ -249,6 +265,7 @@ number_kept m reader earlier n v keeps e Nblocks h =
       blocks = same.0;
       few = omega (arith, same.0, same.1);
       strict = keeps.strict;
+      limits = keeps.limits;
       rows = keeps.rows;
       listed = keeps.listed;
     }
@@ -260,28 +277,31 @@ number_kept m reader earlier n v keeps e ConsDefaultMaster h = record {
   blocks = keeps.blocks;
   few = keeps.few;
   strict = ap (λ (k : ℕ). k == 0) e ∙ capped (λ (k : ℕ). k == 0) v (λ l. sym (ne_eqb v 0 (λ z. omega arith)));
+  limits = keeps.limits;
   rows = keeps.rows;
   listed = keeps.listed;
 }
 number_kept m reader earlier n v keeps e Block h = record {
-  section = ap (λ (k : ℕ). Rows (Some (k - 1))) (block_whole reader.blocks n v keeps.few e h);
+  section = ap (λ (k : ℕ). Rows (Some (k - 1))) (block_whole reader.blocks n v (few_read m reader earlier keeps) e h);
   presolved = keeps.presolved;
   counted = keeps.counted;
   defaulted = keeps.defaulted;
   blocks = keeps.blocks;
   few = keeps.few;
   strict = keeps.strict;
+  limits = keeps.limits;
   rows = keeps.rows;
   listed = keeps.listed;
 }
 number_kept m reader earlier n v keeps e BlockVars h = record {
-  section = ap (λ (k : ℕ). Vars (Some (k - 1))) (block_whole reader.blocks n v keeps.few e h);
+  section = ap (λ (k : ℕ). Vars (Some (k - 1))) (block_whole reader.blocks n v (few_read m reader earlier keeps) e h);
   presolved = keeps.presolved;
   counted = keeps.counted;
   defaulted = keeps.defaulted;
   blocks = keeps.blocks;
   few = keeps.few;
   strict = keeps.strict;
+  limits = keeps.limits;
   rows = keeps.rows;
   listed = keeps.listed;
 }
@@ -293,32 +313,34 @@ number_kept m reader earlier n v keeps e _ h = record {
   blocks = keeps.blocks;
   few = keeps.few;
   strict = keeps.strict;
+  limits = keeps.limits;
   rows = keeps.rows;
   listed = keeps.listed;
 }
 
-read_number : (o : Option ℕ) (n : ℕ) → Some n ≡ option_map (λ v. min v 4097) o → (v : ℕ) × (o ≡ Some v) × (n ≡ min v 4097)
+read_number : (o : Option ℕ) (n : ℕ) → Some n ≡ option_map (λ v. min v 131073) o → (v : ℕ) × (o ≡ Some v) × (n ≡ min v 131073)
 read_number None n e = absurd (let odd : ◌≡◌ {A = Option ℕ} (Some n) None = e in cc)
 read_number (Some v) n e = (v, refl, cc)
 
-no_number : (o : Option ℕ) → None ≡ option_map (λ v. min v 4097) o → o ≡ None
+no_number : (o : Option ℕ) → None ≡ option_map (λ v. min v 131073) o → o ≡ None
 no_number None e = refl
-no_number (Some v) e = absurd (let odd : ◌≡◌ {A = Option ℕ} None (Some (min v 4097)) = e in cc)
+no_number (Some v) e = absurd (let odd : ◌≡◌ {A = Option ℕ} None (Some (min v 131073)) = e in cc)
 
-number_after : (m : NamedProgram) (reader new : Reader) (earlier : List Part) (n v : ℕ) (k : Keyword) (fault : Option DecKind) → Keeps m reader earlier → n ≡ min v 4097
-    → fault ≡ number_fault reader.blocks k v → IfNone fault (new ≡ with_number reader k n) → IfNone fault (Keeps m new (number k v ∷ earlier))
+number_after : (m : NamedProgram) (reader new : Reader) (earlier : List Part) (n v : ℕ) (k : Keyword) (fault : Option DecKind) → Keeps m reader earlier → n ≡ min v 131073
+    → fault ≡ number_fault m.program.limits reader.blocks k v → IfNone fault (new ≡ with_number reader k n) → IfNone fault (Keeps m new (number k v ∷ earlier))
 number_after m reader new earlier n v k None keeps e is same = subst (λ (r : Reader). Keeps m r (number k v ∷ earlier)) (sym same) (number_kept m reader earlier n v keeps e k (sym is))
 number_after m reader new earlier n v k (Some kind) keeps e is same = tt
 
 pub number_taken : (m : NamedProgram) (reader new : Reader) (earlier : List Part) (line : ℕ) (first : Bool) (word : List ℕ) (k : Keyword) (n : ℕ) (fault : Option DecKind)
-    → Keeps m reader earlier → has_bad_byte word ≡ false → keyword_of first word ≡ None → reader.section ≡ Awaits k → Some n ≡ option_map (λ v. min v 4097) (number_of word)
-    → fault ≡ number_fault reader.blocks k n → IfNone fault (new ≡ with_number reader k n) → Takes m new earlier (token_of line first word) (Ok fault)
+    → Keeps m reader earlier → has_bad_byte word ≡ false → keyword_of first word ≡ None → reader.section ≡ Awaits k → Some n ≡ option_map (λ v. min v 131073) (number_of word)
+    → fault ≡ number_fault reader.limits reader.blocks k n → IfNone fault (new ≡ with_number reader k n) → Takes m new earlier (token_of line first word) (Ok fault)
 number_taken m reader new earlier line first word k n fault keeps good none awaits is e after =
     let read = read_number (number_of word) n is in
-    let fault_is : fault ≡ number_fault reader.blocks k read.0 = e ∙ number_same reader.blocks n read.0 keeps.few read.2 k in
+    let fault_is : fault ≡ number_fault m.program.limits reader.blocks k read.0 =
+    e ∙ ap (λ (limits : Limits). number_fault limits reader.blocks k n) keeps.limits ∙ number_same m.program.limits reader.blocks n read.0 (few_read m reader earlier keeps) read.2 k in
     taken m new earlier line first word (number k read.0) fault good
     (plain_part m reader earlier first word (Awaits k) keeps none awaits ∙ ap (number_part k) read.1)
-    (fault_is ∙ ap (λ (b : ℕ). number_fault b k read.0) keeps.blocks)
+    (fault_is ∙ ap (λ (b : ℕ). number_fault m.program.limits b k read.0) keeps.blocks)
     (number_after m reader new earlier n read.0 k fault keeps read.2 fault_is after)
 
 -- a token that is at fault wherever it stands in its section
@@ -329,7 +351,7 @@ stray_taken m reader new earlier line first word section part kind keeps good no
     taken m new earlier line first word part (Some kind) good (plain_part m reader earlier first word section keeps none is ∙ in_section) e tt
 
 pub no_number_taken : (m : NamedProgram) (reader new : Reader) (earlier : List Part) (line : ℕ) (first : Bool) (word : List ℕ) (k : Keyword)
-    → Keeps m reader earlier → has_bad_byte word ≡ false → keyword_of first word ≡ None → reader.section ≡ Awaits k → None ≡ option_map (λ v. min v 4097) (number_of word)
+    → Keeps m reader earlier → has_bad_byte word ≡ false → keyword_of first word ≡ None → reader.section ≡ Awaits k → None ≡ option_map (λ v. min v 131073) (number_of word)
     → Takes m new earlier (token_of line first word) (Ok (Some kinds.Syntax))
 no_number_taken m reader new earlier line first word k keeps good none is number_is =
     stray_taken m reader new earlier line first word (Awaits k) stray kinds.Syntax keeps good none is (ap (number_part k) (no_number (number_of word) number_is)) refl
@@ -346,6 +368,7 @@ row_kept m reader rows earlier place name keeps is lists = record {
   blocks = keeps.blocks;
   few = keeps.few;
   strict = keeps.strict;
+  limits = keeps.limits;
   rows = lists;
   listed = keeps.listed;
 }
@@ -371,6 +394,7 @@ variable_kept m reader new earlier place name keeps e = record {
   blocks = keeps.blocks;
   few = keeps.few;
   strict = keeps.strict;
+  limits = keeps.limits;
   rows = keeps.rows;
   listed = e ∙ ap (λ (xs : List (ℕ × Option ℕ)). xs ++ (number_among m.names name, place) ∷ []) keeps.listed;
 }
@@ -398,6 +422,7 @@ linking_kept m reader earlier name keeps = record {
   blocks = keeps.blocks;
   few = keeps.few;
   strict = keeps.strict;
+  limits = keeps.limits;
   rows = keeps.rows;
   listed = keeps.listed;
 }

@@ -2,6 +2,7 @@
 use Rattle.std.specs.Prelude.{◌==◌, ℕ, Bool, true, false, not, ◌&&◌, nat_le, if◌then◌else◌, List, Option, None, Some, slice_get, option_and_then}
 use Rattle.bp_theory.specs.Limits.{most_blocks}
 use Rattle.std.specs.List.{list_any}
+use Rattle.bp_theory.specs.declared.Limits.{Limits}
 use Rattle.bp_model.specs.Named.{NamedProgram}
 use Rattle.dec_syntax.specs.Cut.{Token}
 use Rattle.dec_syntax.specs.Words.{has_bad_byte}
@@ -43,14 +44,14 @@ keyword_fault section come k =
 abbrev pub block_fault : ℕ → ℕ → Option DecKind
 block_fault blocks n = if nat_le 1 n && nat_le n blocks then None else Some kinds.BlockNumber
 
--- what is wrong with a keyword's number
-abbrev pub number_fault : ℕ → Keyword → ℕ → Option DecKind
-number_fault blocks Presolved n = if n == 0 then None else (if n == 1 then Some kinds.Presolved else Some kinds.Syntax)
-number_fault blocks Nblocks n = if nat_le n most_blocks then None else Some kinds.Limit
-number_fault blocks ConsDefaultMaster n = if nat_le n 1 then None else Some kinds.Syntax
-number_fault blocks Block n = block_fault blocks n
-number_fault blocks BlockVars n = block_fault blocks n
-number_fault blocks _ n = None
+-- what is wrong with a keyword's number under limits
+abbrev pub number_fault : Limits → ℕ → Keyword → ℕ → Option DecKind
+number_fault limits blocks Presolved n = if n == 0 then None else (if n == 1 then Some kinds.Presolved else Some kinds.Syntax)
+number_fault limits blocks Nblocks n = if nat_le n (most_blocks limits) then None else Some kinds.Limit
+number_fault limits blocks ConsDefaultMaster n = if nat_le n 1 then None else Some kinds.Syntax
+number_fault limits blocks Block n = block_fault blocks n
+number_fault limits blocks BlockVars n = block_fault blocks n
+number_fault limits blocks _ n = None
 
 -- a row that isn't there, or is listed already
 abbrev pub row_fault : List (List ℕ) → List (List ℕ × Option ℕ) → List ℕ → Option DecKind
@@ -65,7 +66,7 @@ variable_fault names name = if is_among names name then None else Some kinds.Unk
 -- what is wrong with a part behind others
 abbrev pub part_fault : NamedProgram → List Part → Part → Option DecKind
 part_fault m earlier (keyword k) = keyword_fault (section_behind earlier) (has_come earlier) k
-part_fault m earlier (number k n) = number_fault (block_count earlier) k n
+part_fault m earlier (number k n) = number_fault m.program.limits (block_count earlier) k n
 part_fault m earlier (row place name) = row_fault m.row_names (rows_listed earlier) name
 part_fault m earlier (variable place name) = variable_fault m.names name
 part_fault m earlier (linking name) = variable_fault m.names name

@@ -44,8 +44,9 @@ pub record Keeps (m : NamedProgram) (reader : Reader) (earlier : List Part) : Ty
   pub counted : reader.counted ≡ has_come earlier Nblocks
   pub defaulted : reader.defaulted ≡ has_come earlier ConsDefaultMaster
   pub blocks : reader.blocks ≡ block_count earlier
-  pub few : reader.blocks ≤ most_blocks
+  pub few : reader.blocks ≤ most_blocks m.program.limits
   pub strict : reader.strict ≡ refuses_unlisted earlier
+  pub limits : reader.limits ≡ m.program.limits
   pub rows : Lists m.row_names reader.rows (rows_listed earlier)
   pub listed : reader.listed.items ≡ vars_listed m.names earlier
 

@@ -11,8 +11,8 @@ ghost use Rattle.dec_syntax.specs.State.{Lists, HasRoom, Keeps, Takes, came_in, 
 
 use crate::kind::DecKind;
 use crate::words::{Keyword, Section, holds_bad_byte, keyword_of, number};
-use bp_model::Dec;
-use bp_theory::Items;
+use bp_model::{Dec, Model};
+use bp_theory::{Items, Limits};
 use name_table::IndexedModel;
 use std::alloc::{AllocError, Global};
 use std::str;
@@ -25,7 +25,7 @@ pub struct Listing {
 }
 
 /// What a reader keeps: the section, which keywords of those that come at most once have come, the number of blocks,
-/// whether rows that aren't listed are refused, the rows and the variables that are listed.
+/// whether rows that aren't listed are refused, the limits of its model, the rows and the variables that are listed.
 #[derive(Drop)]
 pub struct Reader {
     pub section: Section,
@@ -34,6 +34,7 @@ pub struct Reader {
     pub defaulted: bool,
     pub blocks: u32,
     pub strict: bool,
+    pub limits: Limits,
     pub rows: Listing,
     pub listed: Vec<(u32, Option<u32>)>,
 }
@@ -90,9 +91,9 @@ fn fault_of_block(blocks: u32, n: u32) -> Option<DecKind>
     }
 }
 
-// What is wrong with a keyword's number.
-fn fault_of_number(blocks: u32, keyword: Keyword, n: u32) -> Option<DecKind>
-    ensures { result ≡ number_fault blocks keyword n }
+// What is wrong with a keyword's number under limits.
+fn fault_of_number(limits: Limits, blocks: u32, keyword: Keyword, n: u32) -> Option<DecKind>
+    ensures { result ≡ number_fault limits blocks keyword n }
 {
     match keyword {
         Keyword::Presolved => match n {
@@ -100,7 +101,7 @@ fn fault_of_number(blocks: u32, keyword: Keyword, n: u32) -> Option<DecKind>
             1 => Some(DecKind::Presolved),
             _ => Some(DecKind::Syntax),
         },
-        Keyword::Nblocks => (4096 < n).then_some(DecKind::Limit),
+        Keyword::Nblocks => (limits.blocks() < n).then_some(DecKind::Limit),
         Keyword::ConsDefaultMaster => (1 < n).then_some(DecKind::Syntax),
         Keyword::Block | Keyword::BlockVars => fault_of_block(blocks, n),
         _ => None,
@@ -169,7 +170,7 @@ impl Listing {
 
 impl Reader {
     /// A reader of a text for a model, before its first token.
-    pub fn new(alloc: Global, m: &IndexedModel<'_>) -> Result<Reader, AllocError>
+    pub fn new(alloc: Global, m: &Model) -> Result<Reader, AllocError>
         ensures { IfOk result (λ reader. Keeps m.now reader []) }
     {
         let rows = unlisted(alloc, m.rows() as usize)?;
@@ -180,6 +181,7 @@ impl Reader {
             defaulted: false,
             blocks: 0,
             strict: false,
+            limits: m.limits(),
             rows,
             listed: Vec::new(alloc),
         })
@@ -227,10 +229,10 @@ impl Reader {
 
     // Takes a keyword's number.
     fn count(&mut self, keyword: Keyword, n: u32) -> Option<DecKind>
-        ensures fault { result ≡ number_fault self.old.blocks keyword n }
+        ensures fault { result ≡ number_fault self.old.limits self.old.blocks keyword n }
         ensures counted { IfNone result (self.new ≡ with_number self.old keyword n) }
     {
-        let fault = fault_of_number(self.blocks, keyword, n);
+        let fault = fault_of_number(self.limits, self.blocks, keyword, n);
         if fault.is_some() {
             return fault;
         }
@@ -334,7 +336,7 @@ impl Reader {
 
     /// The decomposition that was read.
     pub fn into_dec(self, m: &IndexedModel<'_>) -> Dec
-        requires { self.blocks ≤ 4096 }
+        requires { self.blocks ≤ 131072 }
         ensures { (all : List Part) → Keeps m.now self all → result ≡ decomposition_of m.now all }
     {
         let Reader {

@@ -36,8 +36,8 @@ pub enum Section {
     Closed,
 }
 
-/// A number that is past every limit; greater ones are read as this one.
-const PAST: u32 = 4097;
+/// A number that is past every limit, also the large ones; greater numbers are read as this one.
+const PAST: u32 = 131_073;
 
 /// Whether a byte isn't a printed character of ASCII.
 pub fn holds_bad_byte(word: &[u8]) -> bool
@@ -102,7 +102,7 @@ fn is_number(word: &[u8]) -> bool
 
 // The value of digits, at most one past every limit.
 fn capped_value(digits: &[u8]) -> u32
-    ensures { result ≡ min (value_of digits.now) 4097 }
+    ensures { result ≡ min (value_of digits.now) 131073 }
 {
     let mut value: u32 = 0;
     for digit in digits {
@@ -113,7 +113,7 @@ fn capped_value(digits: &[u8]) -> u32
 
 /// The number that a word is, if it is one, at most one past every limit.
 pub fn number(word: &[u8]) -> Option<u32>
-    ensures { result ≡ option_map (λ n. min n 4097) (number_of word.now) }
+    ensures { result ≡ option_map (λ n. min n 131073) (number_of word.now) }
 {
     if is_number(word) {
         Some(capped_value(word))

@@ -6,6 +6,10 @@ use Rattle.std.proofs.lemmas.Bool.{cases_lt}
 use Rattle.std.proofs.lemmas.Bool.Decides.{eqb_tells}
 use Rattle.std.proofs.lemmas.Fmt.{length-decimal-le}
 use Rattle.bp_theory.specs.Decomposition.{Decomposition, HasPlaces, is_block}
+use Rattle.bp_theory.specs.Limits.{most_blocks, most_bytes, most_lines, most_rows}
+use Rattle.bp_theory.specs.declared.Limits.{Limits}
+use Rattle.bp_theory.specs.declared.Limits.TheVariants.{Usual, Large}
+use Rattle.bp_theory.proofs.LimitLaws.{few_blocks}
 use Rattle.bp_model.specs.Named.{NamedProgram, IsKept}
 use Rattle.dec_write.specs.Text.{IsRowName, Line, same_place, names_among, names_of, spaced, block_line, master_line, lines_of, line_bytes, text_of}
 use Rattle.dec_write.proofs.TextLemmas.{names_by, names_step}
@@ -101,20 +105,20 @@ rows_small (n ∷ names) (p ∷ places) h =
 line_size : (line : Line) → length (line_bytes line) ≡ length line.first + size line.words + 1
 line_size line = let a = length-append (line.first ++ spaced line.words) (10 ∷ []) in let b = length-append line.first (spaced line.words) in omega (arith, a, b)
 
-number_size : (n : ℕ) → n < 10 ^ 4 → length (decimal n) ≤ 4
-number_size n l = let small : n < 2 ^ 64 = omega (arith, l) in let some : 0 < 4 = omega arith in length-decimal-le 4 n some l small
+number_size : (n : ℕ) → n < 10 ^ 6 → length (decimal n) ≤ 6
+number_size n l = let small : n < 2 ^ 64 = omega (arith, l) in let some : 0 < 6 = omega arith in length-decimal-le 6 n some l small
 
-block_size : (m : NamedProgram) (d : Decomposition) (a : ℕ) → a < 4096 → length (line_bytes (block_line m d a)) ≤ 11 + size (names_of m d (Some a))
+block_size : (m : NamedProgram) (d : Decomposition) (a : ℕ) → a < most_blocks Large → length (line_bytes (block_line m d a)) ≤ 13 + size (names_of m d (Some a))
 block_size m d a l =
-    let low : a + 1 < 10 ^ 4 = omega (arith, l) in
+    let low : a + 1 < 10 ^ 6 = omega (arith, l) in
     let line = line_size (block_line m d a) in
     let words = length-append (32 ∷ decimal (a + 1)) (spaced (names_of m d (Some a))) in
     let number = number_size (a + 1) low in
     omega (arith, line, words, number)
 
-lines_size : (m : NamedProgram) (d : Decomposition) (len a : ℕ) → a + len ≤ 4096
+lines_size : (m : NamedProgram) (d : Decomposition) (len a : ℕ) → a + len ≤ most_blocks Large
     → length (flat_map line_bytes (map (block_line m d) (range_with_len a len) ++ (master_line m d ∷ [])))
-    ≤ 11 * len + blocks_size a len (zip m.row_names d.places) + (12 + size (names_of m d None))
+    ≤ 13 * len + blocks_size a len (zip m.row_names d.places) + (12 + size (names_of m d None))
 lines_size m d zero a few =
     let all = length-append (line_bytes (master_line m d)) [] in
     let line = line_size (master_line m d) in
@@ -127,17 +131,24 @@ lines_size m d (suc len) a few =
     let rest = lines_size m d len (a + 1) (omega (arith, few)) in
     omega (arith, all, line, rest, blocks_step a len (zip m.row_names d.places))
 
-pub text_short : (m : NamedProgram) (d : Decomposition) → IsKept m → All IsRowName m.row_names → d.blocks ≤ 4096 → length (text_of m d) ≤ 16777216
+-- so many lines of so many rows together are within the limits
+within : (limits : Limits) (blocks rows bytes : ℕ) → blocks ≤ most_blocks limits → rows ≤ most_lines limits → rows ≤ most_rows Large → bytes ≤ 13 * blocks + 256 * rows + 64 → bytes ≤ most_bytes limits
+within Usual blocks rows bytes a b c few = omega (arith, a, b, few)
+within Large blocks rows bytes a b c few = omega (arith, a, c, few)
+
+pub text_short : (m : NamedProgram) (d : Decomposition) → IsKept m → All IsRowName m.row_names → d.blocks ≤ most_blocks m.program.limits → length (text_of m d) ≤ most_bytes m.program.limits
 unfolding text_of
 text_short m d kept names few =
-    let low : d.blocks < 10 ^ 4 = omega (arith, few) in
+    let large : d.blocks ≤ most_blocks Large = omega (arith, few, few_blocks m.program.limits) in
+    let low : d.blocks < 10 ^ 6 = omega (arith, large) in
     let first : Line = record { first = codes "NBLOCKS"; words = decimal d.blocks ∷ [] } in
     let rest = flat_map line_bytes (map (block_line m d) (range_with_len 0 d.blocks) ++ (master_line m d ∷ [])) in
     let all = length-append (line_bytes (record { first = codes "NBLOCKS"; words = decimal d.blocks ∷ [] })) (flat_map line_bytes (map (block_line m d) (range_with_len 0 d.blocks) ++ (master_line m d ∷ []))) in
     let line = line_size (record { first = codes "NBLOCKS"; words = decimal d.blocks ∷ [] }) in
     let words = length-append (32 ∷ decimal d.blocks) [] in
     let number = number_size d.blocks low in
-    let lines = lines_size m d d.blocks 0 (omega (arith, few)) in
+    let lines = lines_size m d d.blocks 0 (omega (arith, large)) in
     let sizes = names_size 0 d.blocks (zip m.row_names d.places) in
     let rows = rows_small m.row_names d.places (λ i l. (names i [] l).short) in
-    omega (arith, all, line, words, number, lines, sizes, rows, kept.rows, kept.row_named)
+    within m.program.limits d.blocks (length m.program.rows) (length (text_of m d)) few kept.lines kept.rows
+    (omega (arith, all, line, words, number, lines, sizes, rows, kept.row_named))

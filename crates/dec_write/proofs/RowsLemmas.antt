@@ -8,6 +8,7 @@ use Rattle.std.proofs.lemmas.Slice.Eq.{bytes_eq-Decides}
 use Rattle.std.specs.Prelude.{slice_get, option_and_then, All}
 use Rattle.std.specs.List.{list_any, IsDistinct}
 use Rattle.std.specs.Str.{bytes_eq}
+use Rattle.bp_theory.specs.Limits.{most_bytes}
 use Rattle.bp_model.specs.Named.{NamedProgram}
 use Rattle.dec_syntax.specs.Cut.{Token, tokens}
 use Rattle.dec_syntax.specs.Scan.{tokens_at}
@@ -119,7 +120,7 @@ stands_more text m listing new left rest token b e none kept =
       keeps = subst (Keeps m.row_names new) (words_next (tokens text) b.place token next.0) kept;
     }
 
-pub stands_fault : (text : List ℕ) (m : NamedProgram) (listing : Listing) (left rest : List Token) (token : Token) (kind : RowsKind) (b : StandsBefore text m listing left) → length text ≤ 16777216
+pub stands_fault : (text : List ℕ) (m : NamedProgram) (listing : Listing) (left rest : List Token) (token : Token) (kind : RowsKind) (b : StandsBefore text m listing left) → length text ≤ most_bytes m.program.limits
     → left ≡ token ∷ rest → word_fault m.row_names (words_in (take b.place (tokens text))) token.bytes ≡ Some kind → HasRowsFault text m token.line kind
 stands_fault text m listing left rest token kind b short e fault =
     let next = next_is (tokens text) b.place token rest (sym e ∙ b.left_is) in
@@ -135,7 +136,7 @@ no_fault_past : (m : NamedProgram) (ts : List Token) (i : ℕ) → length ts ≤
 unfolding fault_at
 no_fault_past m ts i l = ap (option_and_then (λ (t : Token). word_fault m.row_names (words_in (take i ts)) t.bytes)) (slice_get_past ts i l)
 
-pub stands_last : (text : List ℕ) (m : NamedProgram) (listing : Listing) (left : List Token) (b : StandsBefore text m listing left) → length text ≤ 16777216 → left ≡ []
+pub stands_last : (text : List ℕ) (m : NamedProgram) (listing : Listing) (left : List Token) (b : StandsBefore text m listing left) → length text ≤ most_bytes m.program.limits → left ≡ []
     → ListsRows text m listing.rows.items
 stands_last text m listing left b short e =
     let past = none_left (tokens text) b.place (sym e ∙ b.left_is) in
@@ -181,12 +182,12 @@ fault_token m ts i kind e = by (slice_get ts i) refl
         absurd (cc)
 
 pub list_or_fault_lem : (text : List ℕ) (m : NamedProgram) → ((rows : List ℕ) × ListsRows text m rows) ⊎ ((line : ℕ) × (kind : RowsKind) × HasRowsFault text m line kind)
-list_or_fault_lem text m = elim (cases_lt 16777216 (length text)) [
+list_or_fault_lem text m = elim (cases_lt (most_bytes m.program.limits) (length text)) [
   | inl l ↦ inr (0, Limit, too_long l refl refl)
   | inr l ↦ by l (first_or_none m (tokens text) (length (tokens text)))
 ]
   where
-    by : length text ≤ 16777216 → IsFirstBelow m (tokens text) (length (tokens text)) ⊎ ((k : ℕ) → k < length (tokens text) → fault_at m (tokens text) k ≡ None)
+    by : length text ≤ most_bytes m.program.limits → IsFirstBelow m (tokens text) (length (tokens text)) ⊎ ((k : ℕ) → k < length (tokens text) → fault_at m (tokens text) k ≡ None)
         → ((rows : List ℕ) × ListsRows text m rows) ⊎ ((line : ℕ) × (kind : RowsKind) × HasRowsFault text m line kind)
     by l (inl f) =
         let t = fault_token m (tokens text) f.place f.kind f.here in

@@ -8,6 +8,9 @@ use Rattle.std.proofs.lemmas.Option.{slice_get-get_or}
 use Rattle.std.specs.Prelude.{codes, decimal, is_none, slice_get, All, OnOk}
 use Rattle.std.specs.List.{AllByRecursion, range_with_len, zip, flat_map}
 use Rattle.bp_theory.specs.Decomposition.{Decomposition, HasPlaces, IsPlace, is_block}
+use Rattle.bp_theory.specs.Limits.{most_blocks, most_bytes}
+use Rattle.bp_theory.specs.declared.Limits.TheVariants.{Large}
+use Rattle.bp_theory.proofs.LimitLaws.{few_blocks}
 use Rattle.bp_model.specs.Named.{NamedProgram, IsKept}
 use Rattle.dec_syntax.specs.Cut.{Token}
 use Rattle.dec_syntax.specs.State.{HasRead}
@@ -154,7 +157,7 @@ zip_words P [] places h = tt
 zip_words P (n ∷ names) [] h = tt
 zip_words P (n ∷ names) (p ∷ places) h = (h 0 (omega arith), zip_words P names places (λ i l. h (suc i) (omega (arith, l))))
 
-block_lines : (m : NamedProgram) (d : Decomposition) (len a : ℕ) → IsWritable m d → a + len ≤ 4096
+block_lines : (m : NamedProgram) (d : Decomposition) (len a : ℕ) → IsWritable m d → a + len ≤ most_blocks Large
     → AllByRecursion IsLine (map (block_line m d) (range_with_len a len) ++ (master_line m d ∷ []))
 block_lines m d zero a ok few =
     (record { first = keyword_words.2; words = all_words IsWord None (zip m.row_names d.places) (zip_words IsWord m.row_names d.places ok.words) }, tt)
@@ -166,9 +169,10 @@ block_lines m d (suc len) a ok few =
 
 all_lines : (m : NamedProgram) (d : Decomposition) → IsWritable m d → AllByRecursion IsLine (lines_of m d)
 all_lines m d ok =
-    let small : d.blocks < 2 ^ 64 = omega (arith, ok.few) in (
+    let few : d.blocks ≤ most_blocks Large = omega (arith, ok.few, few_blocks m.program.limits) in
+    let small : d.blocks < 2 ^ 64 = omega (arith, few) in (
       record { first = keyword_words.0; words = (decimal_word d.blocks small, tt) },
-      block_lines m d d.blocks 0 ok (omega (arith, ok.few)),
+      block_lines m d d.blocks 0 ok (omega (arith, few)),
     )
 
 text_tokens : (m : NamedProgram) (d : Decomposition) → IsWritable m d → tokens_at (text_of m d) (record { at = 0; line = 1; first = true }) ≡ word_tokens 1 (lines_of m d)
@@ -204,7 +208,7 @@ ended m e section counted lenient = sym (
     ∙ ap (λ (b : Bool). if b && lacks_row (rows_listed e) m.row_names then Some kinds.Unassigned else None) lenient
     )
 
-pub text_reads : (m : NamedProgram) (d : Decomposition) → IsWritable m d → d.listed ≡ [] → length (text_of m d) ≤ 16777216 → ReadsDecomposition (text_of m d) m d
+pub text_reads : (m : NamedProgram) (d : Decomposition) → IsWritable m d → d.listed ≡ [] → length (text_of m d) ≤ most_bytes m.program.limits → ReadsDecomposition (text_of m d) m d
 text_reads m d ok unlisted short =
     let walked = walk_text m d ok in
     let text = text_of m d in
@@ -215,7 +219,7 @@ text_reads m d ok unlisted short =
     (same_parts d.blocks (block_count walked.after) d.places (map (place_in (rows_listed walked.after)) m.row_names) d.listed (vars_listed m.names walked.after)
     (sym walked.kept.blocks) (places_read m d [] ok walked walked) (unlisted ∙ sym walked.kept.unlisted))
 
-pub writable : (m : NamedProgram) (d : Decomposition) → IsKept m → HasPlaces m.program d → All IsRowName m.row_names → d.blocks ≤ 4096 → IsWritable m d
+pub writable : (m : NamedProgram) (d : Decomposition) → IsKept m → HasPlaces m.program d → All IsRowName m.row_names → d.blocks ≤ most_blocks m.program.limits → IsWritable m d
 writable m d kept places names few = record {
   distinct = kept.rows_distinct;
   each = omega (arith, kept.row_named, places.each);

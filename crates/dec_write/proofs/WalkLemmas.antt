@@ -8,6 +8,9 @@ use Rattle.std.proofs.lemmas.Bool.Decides.{eqb_tells}
 use Rattle.std.proofs.lemmas.Option.{slice_get-get_or}
 use Rattle.std.proofs.lemmas.Slice.Eq.{bytes_eq-Decides}
 use Rattle.bp_theory.specs.Decomposition.{Decomposition, is_block}
+use Rattle.bp_theory.specs.Limits.{most_blocks}
+use Rattle.bp_theory.specs.declared.Limits.{Limits}
+use Rattle.bp_theory.proofs.LimitLaws.{few_blocks}
 use Rattle.bp_model.specs.Named.{NamedProgram}
 use Rattle.dec_syntax.specs.Cut.{Token, token_of, line_tokens, tokens}
 use Rattle.dec_syntax.specs.Words.{keyword_of, has_bad_byte, number_of}
@@ -50,7 +53,7 @@ pub record IsWritable (m : NamedProgram) (d : Decomposition) : Type 0 where
   pub each : length d.places ≡ length m.row_names
   pub known : (i k : ℕ) → place_at d i ≡ Some k → k < d.blocks
   pub words : (i : ℕ) → i < length m.row_names → IsWord (get_or m.row_names i [])
-  pub few : d.blocks ≤ 4096
+  pub few : d.blocks ≤ most_blocks m.program.limits
 
 -- what is kept of the text so far
 pub record Kept (m : NamedProgram) (d : Decomposition) (e : List Part) : Type 0 where
@@ -332,7 +335,7 @@ keyword_step m e n word k is good faultless =
     )
 
 -- a number behind its keyword
-number_step : (m : NamedProgram) (e : List Part) (n x : ℕ) (k : Keyword) → x < 2 ^ 64 → section_behind e ≡ Awaits k → number_fault (block_count e) k x ≡ None
+number_step : (m : NamedProgram) (e : List Part) (n x : ℕ) (k : Keyword) → x < 2 ^ 64 → section_behind e ≡ Awaits k → number_fault m.program.limits (block_count e) k x ≡ None
     → (token_fault m e (token_of n false (decimal x)) ≡ None) × (part_of e (token_of n false (decimal x)) ≡ number k x)
 unfolding token_fault part_of keyword_of
 number_step m e n x k l section faultless =
@@ -366,8 +369,8 @@ open_block e waits counted =
 open_master : (e : List Part) → awaits_number (section_behind e) ≡ false → keyword_fault (section_behind e) (has_come e) MasterConss ≡ None
 open_master e waits = ap (λ (b : Bool). if b then Some kinds.Syntax else None) waits
 
-block_known : (blocks a : ℕ) → a < blocks → number_fault blocks Block (a + 1) ≡ None
-block_known blocks a l =
+block_known : (limits : Limits) (blocks a : ℕ) → a < blocks → number_fault limits blocks Block (a + 1) ≡ None
+block_known limits blocks a l =
     ap (λ (b : Bool). if b && nat_le (a + 1) blocks then None else Some kinds.BlockNumber) (le-leb 1 (a + 1) (omega arith))
     ∙ ap (λ (b : Bool). if b then None else Some kinds.BlockNumber) (le-leb (a + 1) blocks (omega arith))
 
@@ -422,9 +425,9 @@ walk_block : (m : NamedProgram) (d : Decomposition) (n a : ℕ) (e : List Part) 
 walk_block m d n a e ok low waits kept done =
     let one = keyword_step m e n (codes "BLOCK") Block block_word (word_good (codes "BLOCK") keyword_words.1) (open_block e waits kept.counted) in
     let kept1 = (kept_keyword m d e kept).0 in
-    let small : a + 1 < 2 ^ 64 = omega (arith, ok.few, low) in
+    let small : a + 1 < 2 ^ 64 = omega (arith, ok.few, low, few_blocks m.program.limits) in
     let two = number_step m (keyword Block ∷ e) n (a + 1) Block small (section_keyword Block e)
-    (ap (λ (b : ℕ). number_fault b Block (a + 1)) kept1.blocks ∙ block_known d.blocks a low) in
+    (ap (λ (b : ℕ). number_fault m.program.limits b Block (a + 1)) kept1.blocks ∙ block_known m.program.limits d.blocks a low) in
     let back : a + 1 - 1 ≡ a = omega arith in
     let section = section_number Block (a + 1) (keyword Block ∷ e) ∙ ap (λ (x : ℕ). Rows (Some x)) back in
     let walked = walk_names m d (Some a) n 0 (zip m.row_names d.places) (number Block (a + 1) ∷ keyword Block ∷ e) ok (λ k same. subst (λ (x : ℕ). x < d.blocks) (one_some a k same) low) refl section
@@ -490,16 +493,16 @@ start_open : keyword_fault (section_behind []) (has_come []) Nblocks ≡ None
 unfolding section_behind has_come
 start_open = refl
 
-count_known : (blocks : ℕ) → blocks ≤ 4096 → number_fault (block_count (keyword Nblocks ∷ [])) Nblocks blocks ≡ None
-count_known blocks l = ap (λ (b : Bool). if b then None else Some kinds.Limit) (le-leb blocks 4096 l)
+count_known : (limits : Limits) (blocks : ℕ) → blocks ≤ most_blocks limits → number_fault limits (block_count (keyword Nblocks ∷ [])) Nblocks blocks ≡ None
+count_known limits blocks l = ap (λ (b : Bool). if b then None else Some kinds.Limit) (le-leb blocks (most_blocks limits) l)
 
 pub walk_text : (m : NamedProgram) (d : Decomposition) → IsWritable m d
     → Walked m d None [] (word_tokens 1 (record { first = codes "NBLOCKS"; words = decimal d.blocks ∷ [] } ∷ (map (block_line m d) (range_with_len 0 d.blocks) ++ (master_line m d ∷ [])))) d.blocks (length m.row_names)
 unfolding counted_parts
 walk_text m d ok =
     let one = keyword_step m [] 1 (codes "NBLOCKS") Nblocks count_word (word_good (codes "NBLOCKS") keyword_words.0) start_open in
-    let small : d.blocks < 2 ^ 64 = omega (arith, ok.few) in
-    let two = number_step m (keyword Nblocks ∷ []) 1 d.blocks Nblocks small (section_keyword Nblocks []) (count_known d.blocks ok.few) in
+    let small : d.blocks < 2 ^ 64 = omega (arith, ok.few, few_blocks m.program.limits) in
+    let two = number_step m (keyword Nblocks ∷ []) 1 d.blocks Nblocks small (section_keyword Nblocks []) (count_known m.program.limits d.blocks ok.few) in
     let rest = walk_lines m d d.blocks 0 2 (counted_parts d) ok (omega arith) (start_waits d) (start_kept m d) (start_done m d) in
     record {
       after = rest.after;

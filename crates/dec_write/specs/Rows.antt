@@ -29,14 +29,14 @@ fault_at m tokens i = option_and_then (λ (t : Token). word_fault m.row_names (w
 
 -- the rows, by number, that a text lists: none of its tokens is at fault
 pub record ListsRows (text : List ℕ) (m : NamedProgram) (rows : List ℕ) : Type 0 where
-  pub short : length text ≤ most_bytes
+  pub short : length text ≤ most_bytes m.program.limits
   pub faultless : (i : ℕ) → fault_at m (tokens text) i ≡ None
   pub meant : rows ≡ map (number_among m.row_names) (words_in (tokens text))
 
 -- the first fault of a text: its length, else its first token at fault
 pub data HasRowsFault (text : List ℕ) (m : NamedProgram) (line : ℕ) (kind : RowsKind) : Type 0 where
-  too_long : most_bytes < length text → line ≡ 0 → kind ≡ Limit → HasRowsFault text m line kind
-  at_token : length text ≤ most_bytes → (i : ℕ) → (token : Token) → slice_get (tokens text) i ≡ Some token
+  too_long : most_bytes m.program.limits < length text → line ≡ 0 → kind ≡ Limit → HasRowsFault text m line kind
+  at_token : length text ≤ most_bytes m.program.limits → (i : ℕ) → (token : Token) → slice_get (tokens text) i ≡ Some token
       → fault_at m (tokens text) i ≡ Some kind → ((k : ℕ) → k < i → fault_at m (tokens text) k ≡ None)
       → line ≡ token.line → HasRowsFault text m line kind
 

@@ -14,7 +14,7 @@ pub enum RowsKind {
     UnknownRow,
     /// A row's second listing.
     RowTwice,
-    /// More than 4,096 blocks beside the master rows; no fault of the text.
+    /// More blocks beside the master rows than the limits allow; no fault of the text.
     Blocks,
     /// A text that is too long.
     Limit,

@@ -1,6 +1,8 @@
 // The lines of the text of a decomposition.
 ghost use Rattle.std.specs.Prelude.{◌≡◌, ◌≤◌, ◌<◌, ◌++◌, ◌∷◌, [], ℕ, List, Option, IfOk, OnOk, length, decimal};
 ghost use Rattle.std.specs.List.{zip};
+ghost use Rattle.bp_theory.specs.Limits.{most_blocks};
+ghost use Rattle.bp_theory.specs.declared.Limits.TheVariants.{Large};
 ghost use Rattle.bp_theory.specs.Decomposition.{Decomposition, IsPlace};
 ghost use Rattle.bp_model.specs.Named.{NamedProgram};
 ghost use Rattle.dec_write.specs.Text.{text_of, block_head, AreLines};
@@ -24,7 +26,7 @@ fn push_number(text: &mut Vec<u8>, number: u32) -> Result<(), AllocError>
 
 // The front of a block's line.
 fn head_of(alloc: Global, block: u32) -> Result<Vec<u8>, AllocError>
-    requires { block < 4096 }
+    requires { block < most_blocks Large }
     ensures { IfOk result (λ head. head.items ≡ block_head block) }
 {
     let mut head = Vec::from_slice(alloc, b"BLOCK ")?;
@@ -43,7 +45,7 @@ fn push_name(line: &mut Vec<u8>, name: &[u8]) -> Result<(), AllocError>
 impl Lines {
     /// The lines of so many blocks, without names.
     pub fn new(alloc: Global, blocks: u32) -> Result<Lines, AllocError>
-        requires { blocks ≤ 4096 }
+        requires { blocks ≤ most_blocks Large }
         ensures { IfOk result (AreLines blocks []) }
     {
         let mut heads = Vec::new(alloc);

@@ -1,5 +1,8 @@
 -- What is noted of tokens with one token more.
-use Rattle.std.proofs.Common.{◌≡◌, ℕ, suc, ◌+◌, ◌⊎◌, Bool, true, false, cond, ◌||◌, List, [], ◌∷◌, ◌++◌, map, drop, length, refl, sym, ◌∙◌, ap, inl, inr, arith, Option, None, Some, add-one, length-append}
+use Rattle.std.proofs.Common.{◌≡◌, ℕ, suc, ◌+◌, ◌⊎◌, Bool, true, false, cond, ◌||◌, List, [], ◌∷◌, ◌++◌, map, drop, length, refl, sym, ◌∙◌, ap, subst, inl, inr, arith, Option, None, Some, Result, Ok, Err, IfErr, add-one, length-append}
+use Rattle.bp_theory.specs.Limits.{most_rows, most_terms, most_variables}
+use Rattle.bp_theory.specs.declared.Limits.{Limits}
+use Rattle.bp_theory.specs.declared.Limits.TheVariants.{Usual, Large}
 use Rattle.std.proofs.lemmas.Bool.{cases_Bool, or_cases, or_left, or_right, or_parts, cond-true, cond-false}
 use Rattle.std.proofs.lemmas.List.{append-nil, map-append}
 use Rattle.std.proofs.lemmas.List.Elements.{filter-append, filter_map-append}
@@ -10,13 +13,15 @@ use Rattle.std.specs.Str.{bytes_eq}
 use Rattle.lp_token.specs.declared.LpKind.{LpKind}
 use Rattle.lp_token.specs.declared.LpKind.TheVariants.{RowTwice, Limit}
 use Rattle.lp_read.specs.declared.notes.Notes.{Notes}
+use Rattle.lp_read.specs.declared.notes.ParseFault.{ParseFault}
+use Rattle.lp_read.specs.declared.notes.ParseFault.TheVariants.{At}
 use Rattle.lp_syntax.specs.Tree.{Name, Symbol}
 use Rattle.lp_syntax.specs.declared.tree.Site.{Site}
 use Rattle.lp_syntax.specs.declared.tree.Site.TheVariants.{ObjectiveFirst as objective_first, ObjectiveMore as objective_more, RowFirst as row_first, RowMore as row_more, Listed as listed, Other as other}
 use Rattle.lp_semantics.specs.Meaning.{has_name}
 use Rattle.lp_semantics.specs.Reading.{place_of, row_places}
 use Rattle.lp_syntax.specs.Roles.{Seen, seen, first_of_symbols, variable_of, counts_as_term, row_of, firsts, has_twice, names_from, variables, row_names, term_count, is_over_limit, role_fault}
-use Rattle.lp_read.specs.Noted.{with_name, with_token, names_with, tokens_with, row_name, rows_with, row_tokens_with, is_repeated, is_repeated_in, terms_with, noted, are_too_many, AreNoted}
+use Rattle.lp_read.specs.Noted.{with_name, with_token, names_with, tokens_with, row_name, rows_with, row_tokens_with, is_repeated, is_repeated_in, terms_with, with_rows, with_variables, noted, are_too_many, IsRoleFault, AreNoted}
 use Rattle.lp_read.proofs.NameLists.{itself, firsts_has, firsts_push, rows_push, once_push, twice_push}
 
 -- what a token names
@@ -158,44 +163,46 @@ terms_push tokens t =
     go n false = omega arith
 
 -- what is noted, with one token more
-pub notes_more : (tokens : List Seen) (r : Notes) (t : Seen) → AreNoted tokens r → AreNoted (tokens ++ t ∷ []) (noted r (length tokens) t)
-notes_more tokens r t h = record {
+pub notes_more : (limits : Limits) (tokens : List Seen) (r : Notes) (t : Seen) → AreNoted limits tokens r → AreNoted limits (tokens ++ t ∷ []) (noted r (length tokens) t)
+notes_more limits tokens r t h = record {
   names = ap (λ l. names_with l (names t)) h.names ∙ sym (variables_push tokens t);
   first_tokens = ap (λ l. tokens_with l r.first_tokens (length tokens) (names t)) h.names ∙ ap (λ l. tokens_with (variables tokens) l (length tokens) (names t)) h.first_tokens ∙ sym (first_tokens_push tokens t);
   row_names = ap (λ l. rows_with l (row_at t)) h.row_names ∙ sym (row_names_push tokens t);
   row_tokens = ap (λ l. row_tokens_with l (length tokens) (row_at t)) h.row_tokens ∙ sym (row_tokens_push 0 tokens t ∙ ap (λ k. row_tokens_with (row_places 0 tokens) k (row_at t)) (let e : 0 + length tokens ≡ length tokens = omega arith in e));
   terms = ap (λ k. terms_with k (counts_as_term t.site t.symbol t.next)) h.terms ∙ sym (terms_push tokens t);
+  same_limits = h.same_limits;
 }
 
 -- no fault by names and counts
-pub no_fault : (tokens : List Seen) → has_twice (row_names tokens) ≡ false → is_over_limit tokens ≡ false → role_fault tokens ≡ None
+pub no_fault : (limits : Limits) (tokens : List Seen) → has_twice (row_names tokens) ≡ false → is_over_limit limits tokens ≡ false → role_fault limits tokens ≡ None
 unfolding role_fault
-no_fault tokens a b = cond-false _ _ _ a ∙ cond-false _ _ _ b
+no_fault limits tokens a b = cond-false _ _ _ a ∙ cond-false _ _ _ b
 
-pub twice_fault : (tokens : List Seen) → has_twice (row_names tokens) ≡ true → role_fault tokens ≡ Some RowTwice
+pub twice_fault : (limits : Limits) (tokens : List Seen) → has_twice (row_names tokens) ≡ true → role_fault limits tokens ≡ Some RowTwice
 unfolding role_fault
-twice_fault tokens a = cond-true _ _ _ a
+twice_fault limits tokens a = cond-true _ _ _ a
 
-pub limit_fault : (tokens : List Seen) → has_twice (row_names tokens) ≡ false → is_over_limit tokens ≡ true → role_fault tokens ≡ Some Limit
+pub limit_fault : (limits : Limits) (tokens : List Seen) → has_twice (row_names tokens) ≡ false → is_over_limit limits tokens ≡ true → role_fault limits tokens ≡ Some Limit
 unfolding role_fault
-limit_fault tokens a b = cond-false _ _ _ a ∙ cond-true _ _ _ b
+limit_fault limits tokens a b = cond-false _ _ _ a ∙ cond-true _ _ _ b
 
 -- then no row has an earlier one's name
-pub sound_rows : (tokens : List Seen) → role_fault tokens ≡ None → has_twice (row_names tokens) ≡ false
+pub sound_rows : (limits : Limits) (tokens : List Seen) → role_fault limits tokens ≡ None → has_twice (row_names tokens) ≡ false
 unfolding role_fault
-sound_rows tokens h = go (has_twice (row_names tokens)) _ h
+sound_rows limits tokens h = go (has_twice (row_names tokens)) _ h
   where
     go : (b : Bool) (o : Option LpKind) → cond b (Some RowTwice) o ≡ None → b ≡ false
     go false o h = refl
     go true o h = absurd cc
 
 -- the counts are those noted
-counts_same : (tokens : List Seen) (r : Notes) → AreNoted tokens r → are_too_many r ≡ is_over_limit tokens
+counts_same : (limits : Limits) (tokens : List Seen) (r : Notes) → AreNoted limits tokens r → are_too_many r ≡ is_over_limit limits tokens
 unfolding is_over_limit
-counts_same tokens r h =
-    ap (λ l. nat_lt 4096 (length l) || (nat_lt 8192 (length r.row_names) || nat_lt 65536 r.terms)) h.names
-    ∙ ap (λ l. nat_lt 4096 (length (variables tokens)) || (nat_lt 8192 (length l) || nat_lt 65536 r.terms)) h.row_names
-    ∙ ap (λ k. nat_lt 4096 (length (variables tokens)) || (nat_lt 8192 (length (row_names tokens)) || nat_lt 65536 k)) h.terms
+counts_same limits tokens r h =
+    ap (λ l. nat_lt (most_variables l) (length r.names) || (nat_lt (most_rows l) (length r.row_names) || nat_lt (most_terms l) r.terms)) h.same_limits
+    ∙ ap (λ l. nat_lt (most_variables limits) (length l) || (nat_lt (most_rows limits) (length r.row_names) || nat_lt (most_terms limits) r.terms)) h.names
+    ∙ ap (λ l. nat_lt (most_variables limits) (length (variables tokens)) || (nat_lt (most_rows limits) (length l) || nat_lt (most_terms limits) r.terms)) h.row_names
+    ∙ ap (λ k. nat_lt (most_variables limits) (length (variables tokens)) || (nat_lt (most_rows limits) (length (row_names tokens)) || nat_lt (most_terms limits) k)) h.terms
 
 -- whether a name stands twice, with one row more
 rows_once : (rows : List Name) (o : Option (Option Name)) → has_twice rows ≡ false → is_repeated rows o ≡ false → has_twice (rows_with rows o) ≡ false
@@ -207,23 +214,23 @@ rows_twice rows None e = absurd cc
 rows_twice rows (Some label) e = twice_push rows (row_name (length rows + 1) label) e
 
 -- one token more without a fault
-pub sound_more : (tokens : List Seen) (r : Notes) (t : Seen) → AreNoted tokens r → role_fault tokens ≡ None → is_repeated_in r t ≡ false → are_too_many (noted r (length tokens) t) ≡ false → role_fault (tokens ++ t ∷ []) ≡ None
-sound_more tokens r t h e a b =
-    no_fault (tokens ++ t ∷ [])
-    (ap has_twice (row_names_push tokens t) ∙ rows_once (row_names tokens) (row_at t) (sound_rows tokens e) (ap (λ l. is_repeated l (row_at t)) (sym h.row_names) ∙ a))
-    (sym (counts_same (tokens ++ t ∷ []) (noted r (length tokens) t) (notes_more tokens r t h)) ∙ b)
+pub sound_more : (limits : Limits) (tokens : List Seen) (r : Notes) (t : Seen) → AreNoted limits tokens r → role_fault limits tokens ≡ None → is_repeated_in r t ≡ false → are_too_many (noted r (length tokens) t) ≡ false → role_fault limits (tokens ++ t ∷ []) ≡ None
+sound_more limits tokens r t h e a b =
+    no_fault limits (tokens ++ t ∷ [])
+    (ap has_twice (row_names_push tokens t) ∙ rows_once (row_names tokens) (row_at t) (sound_rows limits tokens e) (ap (λ l. is_repeated l (row_at t)) (sym h.row_names) ∙ a))
+    (sym (counts_same limits (tokens ++ t ∷ []) (noted r (length tokens) t) (notes_more limits tokens r t h)) ∙ b)
 
 -- one token more with a row's name that an earlier one has
-pub twice_more : (tokens : List Seen) (r : Notes) (t : Seen) → AreNoted tokens r → is_repeated_in r t ≡ true → role_fault (tokens ++ t ∷ []) ≡ Some RowTwice
-twice_more tokens r t h a =
-    twice_fault (tokens ++ t ∷ []) (ap has_twice (row_names_push tokens t) ∙ rows_twice (row_names tokens) (row_at t) (ap (λ l. is_repeated l (row_at t)) (sym h.row_names) ∙ a))
+pub twice_more : (limits : Limits) (tokens : List Seen) (r : Notes) (t : Seen) → AreNoted limits tokens r → is_repeated_in r t ≡ true → role_fault limits (tokens ++ t ∷ []) ≡ Some RowTwice
+twice_more limits tokens r t h a =
+    twice_fault limits (tokens ++ t ∷ []) (ap has_twice (row_names_push tokens t) ∙ rows_twice (row_names tokens) (row_at t) (ap (λ l. is_repeated l (row_at t)) (sym h.row_names) ∙ a))
 
 -- one token too many
-pub limit_more : (tokens : List Seen) (r : Notes) (t : Seen) → AreNoted tokens r → role_fault tokens ≡ None → is_repeated_in r t ≡ false → are_too_many (noted r (length tokens) t) ≡ true → role_fault (tokens ++ t ∷ []) ≡ Some Limit
-limit_more tokens r t h e a b =
-    limit_fault (tokens ++ t ∷ [])
-    (ap has_twice (row_names_push tokens t) ∙ rows_once (row_names tokens) (row_at t) (sound_rows tokens e) (ap (λ l. is_repeated l (row_at t)) (sym h.row_names) ∙ a))
-    (sym (counts_same (tokens ++ t ∷ []) (noted r (length tokens) t) (notes_more tokens r t h)) ∙ b)
+pub limit_more : (limits : Limits) (tokens : List Seen) (r : Notes) (t : Seen) → AreNoted limits tokens r → role_fault limits tokens ≡ None → is_repeated_in r t ≡ false → are_too_many (noted r (length tokens) t) ≡ true → role_fault limits (tokens ++ t ∷ []) ≡ Some Limit
+limit_more limits tokens r t h e a b =
+    limit_fault limits (tokens ++ t ∷ [])
+    (ap has_twice (row_names_push tokens t) ∙ rows_once (row_names tokens) (row_at t) (sound_rows limits tokens e) (ap (λ l. is_repeated l (row_at t)) (sym h.row_names) ∙ a))
+    (sym (counts_same limits (tokens ++ t ∷ []) (noted r (length tokens) t) (notes_more limits tokens r t h)) ∙ b)
 
 -- one symbol more in its site
 pub seen_more : (sites : List Site) (all : List Symbol) (site : Site) (s : Symbol) → slice_get all (length sites) ≡ Some s
@@ -237,10 +244,25 @@ seen_more (x ∷ sites) [] site s h = absurd cc
 seen_more (x ∷ sites) (a ∷ all) site s h = ap (λ l. record { site = x; symbol = a; next = first_of_symbols all } ∷ l) (seen_more sites all site s h)
 
 -- nothing is noted of no tokens
-pub no_tokens : role_fault [] ≡ None
+pub no_tokens : (limits : Limits) → role_fault limits [] ≡ None
 unfolding role_fault row_names is_over_limit variables term_count
-no_tokens = refl
+no_tokens Usual = refl
+no_tokens Large = refl
 
-pub none_noted : AreNoted [] (record { names = []; first_tokens = []; row_names = []; row_tokens = []; terms = 0 })
+pub none_noted : (limits : Limits) → AreNoted limits [] (record { names = []; first_tokens = []; row_names = []; row_tokens = []; terms = 0; limits = limits })
 unfolding row_names variables term_count
-none_noted = record { names = refl; first_tokens = refl; row_names = refl; row_tokens = refl; terms = refl }
+none_noted limits = record { names = refl; first_tokens = refl; row_names = refl; row_tokens = refl; terms = refl; same_limits = refl }
+
+-- what is noted of one token, step by step
+pub noted_as : (notes one two r : Notes) (at : ℕ) (t : Seen) (counts : Bool) → one ≡ with_rows notes at t → two ≡ with_variables one at t
+    → counts ≡ counts_as_term t.site t.symbol t.next → ◌≡◌ {A = Notes} r (record two { terms = terms_with two.terms counts }) → r ≡ noted notes at t
+noted_as notes one two r at t counts rows variables counted last =
+    last
+    ∙ ap (λ b. record two { terms = terms_with two.terms b }) counted
+    ∙ ap (λ (n : Notes). record n { terms = terms_with n.terms (counts_as_term t.site t.symbol t.next) }) (variables ∙ ap (λ (n : Notes). with_variables n at t) rows)
+
+-- where there are too many, the token is refused
+pub over_refused : (notes r : Notes) (at : ℕ) (t : Seen) (result : Result Notes ParseFault) → r ≡ noted notes at t → is_repeated_in notes t ≡ false
+    → IfErr result (λ f. (f ≡ At at Limit) × (are_too_many r ≡ true)) → IfErr result (IsRoleFault notes at t)
+over_refused notes r at t (Ok kept) same new h = tt
+over_refused notes r at t (Err f) same new h = subst (IsRoleFault notes at t) (sym h.0) (refl, inr (refl, new, ap are_too_many (sym same) ∙ h.1))

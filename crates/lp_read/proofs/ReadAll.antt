@@ -1,5 +1,6 @@
 -- Reading all symbols of a text.
 use Rattle.std.proofs.Common.{◌≡◌, ℕ, zero, suc, ◌+◌, ◌<◌, ◌≤◌, List, [], ◌∷◌, map, drop, length, refl, sym, ap, subst, arith, Option, Some}
+use Rattle.bp_theory.specs.declared.Limits.{Limits}
 use Rattle.std.specs.Prelude.{slice_get, get_or, Result, Ok, Err, IfOk, IfErr, IsErrAnd}
 use Rattle.lp_syntax.specs.declared.symbol as rust
 use Rattle.lp_parser.specs.declared.stage.Stage.TheVariants as variants
@@ -31,41 +32,41 @@ is_next : (text : List ℕ) (xs : List rust.Symbol.Symbol) (i : ℕ) (d : rust.S
 is_next text xs i d next l e = record { here = get_mapped (symbol_in text) xs i d l; behind = e }
 
 -- nothing is read at the start
-pub at_start : (text : List ℕ) (all : List Symbol) (notes : Notes) → notes ≡ record { names = []; first_tokens = []; row_names = []; row_tokens = []; terms = 0 }
-    → IsRead text all 0 (record { stage = variants.Start; notes = notes }) × HaveRoom notes
-at_start text all notes e = (
-  read_none text all (record { stage = variants.Start; notes = notes }) refl (subst (λ (r : Notes). AreNoted [] r) (sym e) none_noted),
+pub at_start : (limits : Limits) (text : List ℕ) (all : List Symbol) (notes : Notes) → notes ≡ record { names = []; first_tokens = []; row_names = []; row_tokens = []; terms = 0; limits = limits }
+    → IsRead limits text all 0 (record { stage = variants.Start; notes = notes }) × HaveRoom notes
+at_start limits text all notes e = (
+  read_none limits text all (record { stage = variants.Start; notes = notes }) refl (subst (λ (r : Notes). AreNoted limits [] r) (sym e) (none_noted limits)),
   subst (λ (r : Notes). HaveRoom r) (sym e) (omega arith, omega arith, omega arith),
 )
 
 -- one more is read
-pub goes_on : (text : List ℕ) (xs : List rust.Symbol.Symbol) (i : ℕ) (d : rust.Symbol.Symbol) (next : Option rust.Symbol.Symbol) (state more : State) → i < length xs
-    → ((t : List ℕ) → first_of_symbols (drop (i + 1) (map (symbol_in t) xs)) ≡ next_in t next) → IsRead text (map (symbol_in text) xs) i state → ReadsOn text i (get_or xs i d) next state more
-    → IsRead text (map (symbol_in text) xs) (i + 1) more
+pub goes_on : (limits : Limits) (text : List ℕ) (xs : List rust.Symbol.Symbol) (i : ℕ) (d : rust.Symbol.Symbol) (next : Option rust.Symbol.Symbol) (state more : State) → i < length xs
+    → ((t : List ℕ) → first_of_symbols (drop (i + 1) (map (symbol_in t) xs)) ≡ next_in t next) → IsRead limits text (map (symbol_in text) xs) i state → ReadsOn text i (get_or xs i d) next state more
+    → IsRead limits text (map (symbol_in text) xs) (i + 1) more
 unfolding ReadsOn
-goes_on text xs i d next state more l e h r = r (map (symbol_in text) xs) h (is_next text xs i d next l (e text))
+goes_on limits text xs i d next state more l e h r = r limits (map (symbol_in text) xs) h (is_next text xs i d next l (e text))
 
 -- or a fault stands there
-pub stops : (text : List ℕ) (xs : List rust.Symbol.Symbol) (i : ℕ) (d : rust.Symbol.Symbol) (next : Option rust.Symbol.Symbol) (state : State) (f : ParseFault) → i < length xs
-    → ((t : List ℕ) → first_of_symbols (drop (i + 1) (map (symbol_in t) xs)) ≡ next_in t next) → IsRead text (map (symbol_in text) xs) i state → StopsAt text i (get_or xs i d) next state f
-    → IsParseFault (map (symbol_in text) xs) f
+pub stops : (limits : Limits) (text : List ℕ) (xs : List rust.Symbol.Symbol) (i : ℕ) (d : rust.Symbol.Symbol) (next : Option rust.Symbol.Symbol) (state : State) (f : ParseFault) → i < length xs
+    → ((t : List ℕ) → first_of_symbols (drop (i + 1) (map (symbol_in t) xs)) ≡ next_in t next) → IsRead limits text (map (symbol_in text) xs) i state → StopsAt text i (get_or xs i d) next state f
+    → IsParseFault limits (map (symbol_in text) xs) f
 unfolding StopsAt
-stops text xs i d next state f l e h r = r (map (symbol_in text) xs) h (is_next text xs i d next l (e text))
+stops limits text xs i d next state f l e h r = r limits (map (symbol_in text) xs) h (is_next text xs i d next l (e text))
 
 -- at the end
-pub finished : (text : List ℕ) (xs : List rust.Symbol.Symbol) (n : ℕ) (state : State) (r : Result Parsed ParseFault) → length xs ≤ n → n ≤ length xs → IsRead text (map (symbol_in text) xs) n state
-    → IfOk r (λ p. (state.stage ≡ variants.Done p.tree) × (p.notes ≡ state.notes)) → IfOk r (IsParsed text (map (symbol_in text) xs))
-finished text xs n state (Ok p) l m h d =
+pub finished : (limits : Limits) (text : List ℕ) (xs : List rust.Symbol.Symbol) (n : ℕ) (state : State) (r : Result Parsed ParseFault) → length xs ≤ n → n ≤ length xs → IsRead limits text (map (symbol_in text) xs) n state
+    → IfOk r (λ p. (state.stage ≡ variants.Done p.tree) × (p.notes ≡ state.notes)) → IfOk r (IsParsed limits text (map (symbol_in text) xs))
+finished limits text xs n state (Ok p) l m h d =
     let e : length (map (symbol_in text) xs) ≡ length xs = count_mapped (symbol_in text) xs in
-    read_whole text (map (symbol_in text) xs) n state p (omega arith) (omega arith) h d.0 d.1
-finished text xs n state (Err f) l m h d = tt
+    read_whole limits text (map (symbol_in text) xs) n state p (omega arith) (omega arith) h d.0 d.1
+finished limits text xs n state (Err f) l m h d = tt
 
-pub unfinished : (text : List ℕ) (xs : List rust.Symbol.Symbol) (n : ℕ) (state : State) (r : Result Parsed ParseFault) → length xs ≤ n → n ≤ length xs → IsRead text (map (symbol_in text) xs) n state
-    → IfErr r (λ f. (f ≡ NoEnd) × ((tree : trees.Tree) → state.stage ≡ variants.Done tree → ⊥)) → IfErr r (IsParseFault (map (symbol_in text) xs))
-unfinished text xs n state (Ok p) l m h d = tt
-unfinished text xs n state (Err f) l m h d =
+pub unfinished : (limits : Limits) (text : List ℕ) (xs : List rust.Symbol.Symbol) (n : ℕ) (state : State) (r : Result Parsed ParseFault) → length xs ≤ n → n ≤ length xs → IsRead limits text (map (symbol_in text) xs) n state
+    → IfErr r (λ f. (f ≡ NoEnd) × ((tree : trees.Tree) → state.stage ≡ variants.Done tree → ⊥)) → IfErr r (IsParseFault limits (map (symbol_in text) xs))
+unfinished limits text xs n state (Ok p) l m h d = tt
+unfinished limits text xs n state (Err f) l m h d =
     let e : length (map (symbol_in text) xs) ≡ length xs = count_mapped (symbol_in text) xs in
-    subst (λ (g : ParseFault). IsParseFault (map (symbol_in text) xs) g) (sym d.0) (read_unended text (map (symbol_in text) xs) n state (omega arith) (omega arith) h d.1)
+    subst (λ (g : ParseFault). IsParseFault limits (map (symbol_in text) xs) g) (sym d.0) (read_unended limits text (map (symbol_in text) xs) n state (omega arith) (omega arith) h d.1)
 
 -- a fault that is handed on
 pub handed : (r : Result Parsed ParseFault) (P : ParseFault → Type 0) (e : ParseFault) → IsErrAnd r (λ f. f ≡ e) → P e → IfErr r P

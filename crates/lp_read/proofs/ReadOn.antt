@@ -1,5 +1,6 @@
 -- What reading one symbol more shows.
 use Rattle.std.proofs.Common.{◌≡◌, ℕ, zero, suc, ◌+◌, ◌<◌, ◌≤◌, ◌⊎◌, true, false, List, [], ◌∷◌, ◌++◌, map, drop, length, refl, sym, ◌∙◌, ap, subst, inl, inr, arith, Option, None, Some, add-one}
+use Rattle.bp_theory.specs.declared.Limits.{Limits}
 use Rattle.std.proofs.lemmas.List.{map-append, length-take-le, take_all}
 use Rattle.std.proofs.lemmas.Option.{slice_get_within}
 use Rattle.std.proofs.lemmas.Bool.{cases_Bool, or_cases}
@@ -45,27 +46,27 @@ seen-length (x ∷ sites) (a ∷ all) l = ap suc (seen-length sites all (omega a
 within : (text : List ℕ) (all : List Symbol) (n : ℕ) (symbol : rust.Symbol.Symbol) (next : Option rust.Symbol.Symbol) → IsNext text all n symbol next → n < length all
 within text all n symbol next h = slice_get_within all n (symbol_in text symbol) h.here
 
-sound_so_far : (text : List ℕ) (all : List Symbol) (n : ℕ) (state : State) (ws : List Written) → n ≤ length all → IsReadBy text all n state ws → AreSound all n
-sound_so_far text all n state ws l h = reads_sound all n (stage_in text state.stage) ws h.read l h.sound
+sound_so_far : (limits : Limits) (text : List ℕ) (all : List Symbol) (n : ℕ) (state : State) (ws : List Written) → n ≤ length all → IsReadBy limits text all n state ws → AreSound limits all n
+sound_so_far limits text all n state ws l h = reads_sound limits all n (stage_in text state.stage) ws h.read l h.sound
 
 -- a fault of its own
-pub own_at : (text : List ℕ) (all : List Symbol) (n : ℕ) (state : State) (symbol : rust.Symbol.Symbol) (next : Option rust.Symbol.Symbol) (kind : LpKind) → own_fault (symbol_in text symbol) ≡ Some kind
-    → IsRead text all n state → IsNext text all n symbol next → IsParseFault all (At n kind)
-own_at text all n state symbol next kind e h g =
+pub own_at : (limits : Limits) (text : List ℕ) (all : List Symbol) (n : ℕ) (state : State) (symbol : rust.Symbol.Symbol) (next : Option rust.Symbol.Symbol) (kind : LpKind) → own_fault (symbol_in text symbol) ≡ Some kind
+    → IsRead limits text all n state → IsNext text all n symbol next → IsParseFault limits all (At n kind)
+own_at limits text all n state symbol next kind e h g =
     let l : n < length all = within text all n symbol next g in
-    (sound_so_far text all n state h.0 (omega arith) h.1, own_stands all n (symbol_in text symbol) kind g.here e)
+    (sound_so_far limits text all n state h.0 (omega arith) h.1, own_stands limits all n (symbol_in text symbol) kind g.here e)
 
 -- no text goes on so
-pub stuck_at : (text : List ℕ) (all : List Symbol) (n : ℕ) (state : State) (symbol : rust.Symbol.Symbol) (next : Option rust.Symbol.Symbol) → own_fault (symbol_in text symbol) ≡ None → step (stage_in text state.stage) (symbol_in text symbol) ≡ None
-    → IsRead text all n state → IsNext text all n symbol next → IsParseFault all (At n Syntax)
-stuck_at text all n state symbol next o e h g =
+pub stuck_at : (limits : Limits) (text : List ℕ) (all : List Symbol) (n : ℕ) (state : State) (symbol : rust.Symbol.Symbol) (next : Option rust.Symbol.Symbol) → own_fault (symbol_in text symbol) ≡ None → step (stage_in text state.stage) (symbol_in text symbol) ≡ None
+    → IsRead limits text all n state → IsNext text all n symbol next → IsParseFault limits all (At n Syntax)
+stuck_at limits text all n state symbol next o e h g =
     let l : n < length all = within text all n symbol next g in
-    (sound_so_far text all n state h.0 (omega arith) h.1, stuck_stands all n (stage_in text state.stage) h.0 (symbol_in text symbol) h.1.read g.here o e)
+    (sound_so_far limits text all n state h.0 (omega arith) h.1, stuck_stands limits all n (stage_in text state.stage) h.0 (symbol_in text symbol) h.1.read g.here o e)
 
 -- the tokens with one more
-one_seen : (text : List ℕ) (all : List Symbol) (n : ℕ) (state : State) (symbol : rust.Symbol.Symbol) (next : Option rust.Symbol.Symbol) (site : Site) (ws : List Written) → IsReadBy text all n state ws → IsNext text all n symbol next
+one_seen : (limits : Limits) (text : List ℕ) (all : List Symbol) (n : ℕ) (state : State) (symbol : rust.Symbol.Symbol) (next : Option rust.Symbol.Symbol) (site : Site) (ws : List Written) → IsReadBy limits text all n state ws → IsNext text all n symbol next
     → seen (map (λ w. w.site) (ws ++ record { symbol = symbol_in text symbol; site = site } ∷ [])) all ≡ seen (map (λ w. w.site) ws) all ++ seen_in text site symbol next ∷ []
-one_seen text all n state symbol next site ws h g =
+one_seen limits text all n state symbol next site ws h g =
     let l : n < length all = within text all n symbol next g in
     let count : length (map (λ w. w.site) ws) ≡ n = site_count all n (stage_in text state.stage) ws h.read (omega arith) in
     let behind : first_of_symbols (drop (suc (length (map (λ w. w.site) ws))) all) ≡ next_in text next
@@ -75,67 +76,67 @@ one_seen text all n state symbol next site ws h g =
     ∙ ap (λ x. seen (map (λ w. w.site) ws) all ++ record { site = site; symbol = symbol_in text symbol; next = x } ∷ []) behind
 
 -- how many tokens are noted
-noted_count : (text : List ℕ) (all : List Symbol) (n : ℕ) (state : State) (ws : List Written) → IsReadBy text all n state ws → n ≤ length all → length (seen (map (λ w. w.site) ws) all) ≡ n
-noted_count text all n state ws h l =
+noted_count : (limits : Limits) (text : List ℕ) (all : List Symbol) (n : ℕ) (state : State) (ws : List Written) → IsReadBy limits text all n state ws → n ≤ length all → length (seen (map (λ w. w.site) ws) all) ≡ n
+noted_count limits text all n state ws h l =
     let count : length (map (λ w. w.site) ws) ≡ n = site_count all n (stage_in text state.stage) ws h.read l in
     seen-length (map (λ w. w.site) ws) all (omega arith) ∙ count
 
 -- one symbol more is read
-pub read_on : (text : List ℕ) (all : List Symbol) (n : ℕ) (state more : State) (symbol : rust.Symbol.Symbol) (next : Option rust.Symbol.Symbol) (site : Site)
+pub read_on : (limits : Limits) (text : List ℕ) (all : List Symbol) (n : ℕ) (state more : State) (symbol : rust.Symbol.Symbol) (next : Option rust.Symbol.Symbol) (site : Site)
     → step (stage_in text state.stage) (symbol_in text symbol) ≡ Some (site, stage_in text more.stage)
     → more.notes ≡ noted state.notes n (seen_in text site symbol next) → is_repeated_in state.notes (seen_in text site symbol next) ≡ false → are_too_many more.notes ≡ false
-    → IsRead text all n state → IsNext text all n symbol next → IsRead text all (n + 1) more
-read_on text all n state more symbol next site e f a b h g =
+    → IsRead limits text all n state → IsNext text all n symbol next → IsRead limits text all (n + 1) more
+read_on limits text all n state more symbol next site e f a b h g =
     let l : n < length all = within text all n symbol next g in
     let tokens : List Seen = seen (map (λ w. w.site) h.0) all in
-    let count : length (seen (map (λ w. w.site) h.0) all) ≡ n = noted_count text all n state h.0 h.1 (omega arith) in
+    let count : length (seen (map (λ w. w.site) h.0) all) ≡ n = noted_count limits text all n state h.0 h.1 (omega arith) in
     let w : Written = record { symbol = symbol_in text symbol; site = site } in
-    let whole : seen (map (λ w. w.site) (h.0 ++ w ∷ [])) all ≡ tokens ++ seen_in text site symbol next ∷ [] = one_seen text all n state symbol next site h.0 h.1 g in
+    let whole : seen (map (λ w. w.site) (h.0 ++ w ∷ [])) all ≡ tokens ++ seen_in text site symbol next ∷ [] = one_seen limits text all n state symbol next site h.0 h.1 g in
     let same : more.notes ≡ noted state.notes (length tokens) (seen_in text site symbol next) = f ∙ ap (λ k. noted state.notes k (seen_in text site symbol next)) (sym count) in (
       h.0 ++ w ∷ [],
       record {
         read = reads_more all n (stage_in text state.stage) (stage_in text more.stage) h.0 (symbol_in text symbol) site h.1.read g.here e;
-        notes = subst (λ (x : List Seen). AreNoted x more.notes) (sym whole) (subst (λ (r : Notes). AreNoted (tokens ++ seen_in text site symbol next ∷ []) r) (sym same) (notes_more tokens state.notes (seen_in text site symbol next) h.1.notes));
-        sound = ap role_fault whole ∙ sound_more tokens state.notes (seen_in text site symbol next) h.1.notes h.1.sound a (ap are_too_many (sym same) ∙ b);
+        notes = subst (λ (x : List Seen). AreNoted limits x more.notes) (sym whole) (subst (λ (r : Notes). AreNoted limits (tokens ++ seen_in text site symbol next ∷ []) r) (sym same) (notes_more limits tokens state.notes (seen_in text site symbol next) h.1.notes));
+        sound = ap (role_fault limits) whole ∙ sound_more limits tokens state.notes (seen_in text site symbol next) h.1.notes h.1.sound a (ap are_too_many (sym same) ∙ b);
       },
     )
 
 -- a fault by names and counts
-pub role_at : (text : List ℕ) (all : List Symbol) (n : ℕ) (state : State) (y : stages.Stage) (symbol : rust.Symbol.Symbol) (next : Option rust.Symbol.Symbol) (site : Site) (f : ParseFault) → own_fault (symbol_in text symbol) ≡ None
+pub role_at : (limits : Limits) (text : List ℕ) (all : List Symbol) (n : ℕ) (state : State) (y : stages.Stage) (symbol : rust.Symbol.Symbol) (next : Option rust.Symbol.Symbol) (site : Site) (f : ParseFault) → own_fault (symbol_in text symbol) ≡ None
     → step (stage_in text state.stage) (symbol_in text symbol) ≡ Some (site, stage_in text y) → IsRoleFault state.notes n (seen_in text site symbol next) f
-    → IsRead text all n state → IsNext text all n symbol next → IsParseFault all f
-role_at text all n state y symbol next site NoMemory o e r h g = tt
-role_at text all n state y symbol next site NoEnd o e r h g = absurd r
-role_at text all n state y symbol next site (At i kind) o e r h g =
+    → IsRead limits text all n state → IsNext text all n symbol next → IsParseFault limits all f
+role_at limits text all n state y symbol next site NoMemory o e r h g = tt
+role_at limits text all n state y symbol next site NoEnd o e r h g = absurd r
+role_at limits text all n state y symbol next site (At i kind) o e r h g =
     let l : n < length all = within text all n symbol next g in
-    subst (λ k. AreSound all k × StandsAt all k kind) (sym r.0) (
-      sound_so_far text all n state h.0 (omega arith) h.1,
-      role_stands all n (stage_in text y) (h.0 ++ record { symbol = symbol_in text symbol; site = site } ∷ []) (symbol_in text symbol) kind
+    subst (λ k. AreSound limits all k × StandsAt limits all k kind) (sym r.0) (
+      sound_so_far limits text all n state h.0 (omega arith) h.1,
+      role_stands limits all n (stage_in text y) (h.0 ++ record { symbol = symbol_in text symbol; site = site } ∷ []) (symbol_in text symbol) kind
           (reads_more all n (stage_in text state.stage) (stage_in text y) h.0 (symbol_in text symbol) site h.1.read g.here e) g.here o
-          (ap role_fault (one_seen text all n state symbol next site h.0 h.1 g) ∙ fault r.1),
+          (ap (role_fault limits) (one_seen limits text all n state symbol next site h.0 h.1 g) ∙ fault r.1),
     )
   where
     tokens : List Seen
     tokens = seen (map (λ w. w.site) h.0) all
 
     count : n < length all → length (seen (map (λ w. w.site) h.0) all) ≡ n
-    count l = noted_count text all n state h.0 h.1 (omega arith)
+    count l = noted_count limits text all n state h.0 h.1 (omega arith)
 
     fault : ((kind ≡ RowTwice) × (is_repeated_in state.notes (seen_in text site symbol next) ≡ true)) ⊎ ((kind ≡ Limit) × (is_repeated_in state.notes (seen_in text site symbol next) ≡ false) × (are_too_many (noted state.notes n (seen_in text site symbol next)) ≡ true))
-        → role_fault (seen (map (λ w. w.site) h.0) all ++ seen_in text site symbol next ∷ []) ≡ Some kind
-    fault (inl a) = twice_more (seen (map (λ w. w.site) h.0) all) state.notes (seen_in text site symbol next) h.1.notes a.1 ∙ ap Some (sym a.0)
+        → role_fault limits (seen (map (λ w. w.site) h.0) all ++ seen_in text site symbol next ∷ []) ≡ Some kind
+    fault (inl a) = twice_more limits (seen (map (λ w. w.site) h.0) all) state.notes (seen_in text site symbol next) h.1.notes a.1 ∙ ap Some (sym a.0)
     fault (inr a) =
-        limit_more (seen (map (λ w. w.site) h.0) all) state.notes (seen_in text site symbol next) h.1.notes h.1.sound a.1
+        limit_more limits (seen (map (λ w. w.site) h.0) all) state.notes (seen_in text site symbol next) h.1.notes h.1.sound a.1
         (ap (λ k. are_too_many (noted state.notes k (seen_in text site symbol next))) (count (within text all n symbol next g)) ∙ a.2) ∙ ap Some (sym a.0)
 
 -- nothing is read yet
-pub read_none : (text : List ℕ) (all : List Symbol) (state : State) → state.stage ≡ variants.Start → AreNoted [] state.notes → IsRead text all 0 state
-read_none text all state e h = ([], record { read = subst (λ (x : stages.Stage). HasRead all 0 (stage_in text x) []) (sym e) (reads_start all); notes = h; sound = no_tokens })
+pub read_none : (limits : Limits) (text : List ℕ) (all : List Symbol) (state : State) → state.stage ≡ variants.Start → AreNoted limits [] state.notes → IsRead limits text all 0 state
+read_none limits text all state e h = ([], record { read = subst (λ (x : stages.Stage). HasRead all 0 (stage_in text x) []) (sym e) (reads_start all); notes = h; sound = no_tokens limits })
 
 -- all is read, up to the end
-pub read_whole : (text : List ℕ) (all : List Symbol) (n : ℕ) (state : State) (p : Parsed) → length all ≤ n → n ≤ length all → IsRead text all n state → state.stage ≡ variants.Done p.tree → p.notes ≡ state.notes → IsParsed text all p
+pub read_whole : (limits : Limits) (text : List ℕ) (all : List Symbol) (n : ℕ) (state : State) (p : Parsed) → length all ≤ n → n ≤ length all → IsRead limits text all n state → state.stage ≡ variants.Done p.tree → p.notes ≡ state.notes → IsParsed limits text all p
 unfolding tokens_of
-read_whole text all n state p l m h e f =
+read_whole limits text all n state p l m h e f =
     let k : n ≡ length all = omega arith in
     let last : HasRead all (length all) (done (tree_in text p.tree)) h.0 = subst (λ (x : stages.Stage). HasRead all (length all) (stage_in text x) h.0) e (subst (λ i. HasRead all i (stage_in text state.stage) h.0) k h.1.read) in
     let r : IsText (tree_in text p.tree) × (spelling (tree_in text p.tree) ≡ all) × (sites (tree_in text p.tree) ≡ map (λ w. w.site) h.0) = reads_text all (tree_in text p.tree) h.0 last in
@@ -143,8 +144,8 @@ read_whole text all n state p l m h e f =
     record {
       grammar = r.0;
       spelled = r.1;
-      roles = ap role_fault same ∙ h.1.sound;
-      notes = subst (λ (x : List Seen). AreNoted x p.notes) (sym same) (subst (λ (x : Notes). AreNoted (seen (map (λ w. w.site) h.0) all) x) (sym f) h.1.notes);
+      roles = ap (role_fault limits) same ∙ h.1.sound;
+      notes = subst (λ (x : List Seen). AreNoted limits x p.notes) (sym same) (subst (λ (x : Notes). AreNoted limits (seen (map (λ w. w.site) h.0) all) x) (sym f) h.1.notes);
     }
 
 -- the word `end` leads to the end
@@ -194,11 +195,11 @@ not_done text (variants.Bounds w (bounds.Named n c signs)) t h e = cc
 not_done text (variants.Done tree) t h e = h tree refl
 
 -- all is read, and no word `end` stands there
-pub read_unended : (text : List ℕ) (all : List Symbol) (n : ℕ) (state : State) → length all ≤ n → n ≤ length all → IsRead text all n state → ((tree : trees.Tree) → state.stage ≡ variants.Done tree → ⊥) → IsParseFault all NoEnd
-read_unended text all n state l m h e =
+pub read_unended : (limits : Limits) (text : List ℕ) (all : List Symbol) (n : ℕ) (state : State) → length all ≤ n → n ≤ length all → IsRead limits text all n state → ((tree : trees.Tree) → state.stage ≡ variants.Done tree → ⊥) → IsParseFault limits all NoEnd
+read_unended limits text all n state l m h e =
     let k : n ≡ length all = omega arith in
     let whole : map (λ w. w.symbol) h.0 ≡ all = h.1.read.symbols ∙ take_all n all l in
-    (subst (λ i. AreSound all i) k (sound_so_far text all n state h.0 m h.1), go (cases_Bool (is_ended all)) whole)
+    (subst (λ i. AreSound limits all i) k (sound_so_far limits text all n state h.0 m h.1), go (cases_Bool (is_ended all)) whole)
   where
     go : (is_ended all ≡ true) ⊎ (is_ended all ≡ false) → map (λ w. w.symbol) h.0 ≡ all → is_ended all ≡ false
     go (inr f) whole = f
@@ -224,24 +225,24 @@ pub reads_on : (text : List ℕ) (n : ℕ) (state more : State) (symbol : rust.S
     → more.notes ≡ noted state.notes n (seen_in text site symbol next) → is_repeated_in state.notes (seen_in text site symbol next) ≡ false → are_too_many more.notes ≡ false
     → ReadsOn text n symbol next state more
 unfolding ReadsOn
-reads_on text n state more symbol next site e f a b = λ all h g. read_on text all n state more symbol next site e f a b h g
+reads_on text n state more symbol next site e f a b = λ limits all h g. read_on limits text all n state more symbol next site e f a b h g
 
 pub stops_own : (text : List ℕ) (n : ℕ) (state : State) (symbol : rust.Symbol.Symbol) (next : Option rust.Symbol.Symbol) (kind : LpKind) → own_fault (symbol_in text symbol) ≡ Some kind → StopsAt text n symbol next state (At n kind)
 unfolding StopsAt
-stops_own text n state symbol next kind e = λ all h g. own_at text all n state symbol next kind e h g
+stops_own text n state symbol next kind e = λ limits all h g. own_at limits text all n state symbol next kind e h g
 
 pub stops_stuck : (text : List ℕ) (n : ℕ) (state : State) (symbol : rust.Symbol.Symbol) (next : Option rust.Symbol.Symbol) → own_fault (symbol_in text symbol) ≡ None → step (stage_in text state.stage) (symbol_in text symbol) ≡ None → StopsAt text n symbol next state (At n Syntax)
 unfolding StopsAt
-stops_stuck text n state symbol next o e = λ all h g. stuck_at text all n state symbol next o e h g
+stops_stuck text n state symbol next o e = λ limits all h g. stuck_at limits text all n state symbol next o e h g
 
 pub stops_role : (text : List ℕ) (n : ℕ) (state : State) (y : stages.Stage) (symbol : rust.Symbol.Symbol) (next : Option rust.Symbol.Symbol) (site : Site) (f : ParseFault) → own_fault (symbol_in text symbol) ≡ None
     → step (stage_in text state.stage) (symbol_in text symbol) ≡ Some (site, stage_in text y) → IsRoleFault state.notes n (seen_in text site symbol next) f → StopsAt text n symbol next state f
 unfolding StopsAt
-stops_role text n state y symbol next site f o e r = λ all h g. role_at text all n state y symbol next site f o e r h g
+stops_role text n state y symbol next site f o e r = λ limits all h g. role_at limits text all n state y symbol next site f o e r h g
 
 pub stops_memory : (text : List ℕ) (n : ℕ) (state : State) (symbol : rust.Symbol.Symbol) (next : Option rust.Symbol.Symbol) → StopsAt text n symbol next state NoMemory
 unfolding StopsAt
-stops_memory text n state symbol next = λ all h g. tt
+stops_memory text n state symbol next = λ limits all h g. tt
 
 -- what advancing gives
 pub advanced : (text : List ℕ) (n : ℕ) (state : State) (y : stages.Stage) (symbol : rust.Symbol.Symbol) (next : Option rust.Symbol.Symbol) (site : Site) (r : Result State ParseFault)

@@ -1,5 +1,6 @@
 -- What is noted of the tokens that are read, by what they name and count as.
 use Rattle.std.specs.Prelude.{◌≡◌, ◌⊎◌, ℕ, ◌+◌, ◌≤◌, Bool, true, false, ◌||◌, nat_lt, if◌then◌else◌, List, [], ◌∷◌, ◌++◌, map, length, Option, None, Some, decimal}
+use Rattle.bp_theory.specs.declared.Limits.{Limits}
 use Rattle.bp_theory.specs.Limits.{most_rows, most_terms, most_variables}
 use Rattle.lp_token.specs.declared.LpKind.TheVariants.{RowTwice, Limit}
 use Rattle.lp_read.specs.declared.notes.Notes.{Notes}
@@ -71,14 +72,14 @@ is_repeated_in r t = is_repeated r.row_names (row_of t.site t.symbol t.next)
 
 -- whether there is a variable, a row or a term too many
 abbrev pub are_too_many : Notes → Bool
-are_too_many r = nat_lt most_variables (length r.names) || (nat_lt most_rows (length r.row_names) || nat_lt most_terms r.terms)
+are_too_many r = nat_lt (most_variables r.limits) (length r.names) || (nat_lt (most_rows r.limits) (length r.row_names) || nat_lt (most_terms r.limits) r.terms)
 
 -- there are as many as may be, at most
 abbrev pub HaveRoom : Notes → Type 0
-HaveRoom r = (length r.names ≤ most_variables) × (length r.row_names ≤ most_rows) × (r.terms ≤ most_terms)
+HaveRoom r = (length r.names ≤ most_variables r.limits) × (length r.row_names ≤ most_rows r.limits) × (r.terms ≤ most_terms r.limits)
 
 abbrev pub HaveRoomForVariables : Notes → Type 0
-HaveRoomForVariables r = length r.names ≤ most_variables
+HaveRoomForVariables r = length r.names ≤ most_variables r.limits
 
 -- a row of this name is refused at its token, since an earlier one has it, or memory is wanting
 abbrev pub IsTwice : List Name → Name → ℕ → ParseFault → Type 0
@@ -98,10 +99,11 @@ IsRoleFault r at t (At token kind) = (token ≡ at)
 IsRoleFault r at t NoEnd = ⊥
 IsRoleFault r at t NoMemory = Unit {0}
 
--- what is noted of some tokens
-pub record AreNoted (tokens : List Seen) (r : Notes) : Type 0 where
+-- what is noted of some tokens, under limits
+pub record AreNoted (limits : Limits) (tokens : List Seen) (r : Notes) : Type 0 where
   pub names : r.names ≡ variables tokens
   pub first_tokens : r.first_tokens ≡ map (λ n. place_of n tokens) (variables tokens)
   pub row_names : r.row_names ≡ row_names tokens
   pub row_tokens : r.row_tokens ≡ row_places 0 tokens
   pub terms : r.terms ≡ term_count tokens
+  pub same_limits : r.limits ≡ limits

@@ -1,5 +1,6 @@
 -- What a reader of a text's symbols keeps, and what it gives.
 use Rattle.std.specs.Prelude.{◌≡◌, ℕ, ◌+◌, List, map, take, drop, length, Option, None, Some, slice_get, IsFalse}
+use Rattle.bp_theory.specs.declared.Limits.{Limits}
 use Rattle.lp_syntax.specs.declared.symbol as symbols
 use Rattle.lp_read.specs.declared.notes.ParseFault.{ParseFault}
 use Rattle.lp_read.specs.declared.notes.ParseFault.TheVariants.{At, NoEnd, NoMemory}
@@ -20,13 +21,13 @@ pub record HasRead (all : List Symbol) (n : ℕ) (x : Stage) (ws : List Written)
   pub symbols : map (λ w. w.symbol) ws ≡ take n all
 
 -- a reader has read the first n symbols in these sites, and noted them
-pub record IsReadBy (text : List ℕ) (all : List Symbol) (n : ℕ) (state : State) (ws : List Written) : Type 0 where
+pub record IsReadBy (limits : Limits) (text : List ℕ) (all : List Symbol) (n : ℕ) (state : State) (ws : List Written) : Type 0 where
   pub read : HasRead all n (stage_in text state.stage) ws
-  pub notes : AreNoted (seen (map (λ w. w.site) ws) all) state.notes
-  pub sound : role_fault (seen (map (λ w. w.site) ws) all) ≡ None
+  pub notes : AreNoted limits (seen (map (λ w. w.site) ws) all) state.notes
+  pub sound : role_fault limits (seen (map (λ w. w.site) ws) all) ≡ None
 
-abbrev pub IsRead : List ℕ → List Symbol → ℕ → State → Type 0
-IsRead text all n state = (ws : List Written) × IsReadBy text all n state ws
+abbrev pub IsRead : Limits → List ℕ → List Symbol → ℕ → State → Type 0
+IsRead limits text all n state = (ws : List Written) × IsReadBy limits text all n state ws
 
 -- the symbol that stands next, and the one behind it
 pub record IsNext (text : List ℕ) (all : List Symbol) (n : ℕ) (symbol : symbols.Symbol.Symbol) (next : Option symbols.Symbol.Symbol) : Type 0 where
@@ -34,21 +35,21 @@ pub record IsNext (text : List ℕ) (all : List Symbol) (n : ℕ) (symbol : symb
   pub behind : first_of_symbols (drop (n + 1) all) ≡ next_in text next
 
 -- the first fault of symbols, or want of memory
-abbrev pub IsParseFault : List Symbol → ParseFault → Type 0
-IsParseFault all (At i kind) = AreSound all i × StandsAt all i kind
-IsParseFault all NoEnd = AreSound all (length all) × IsFalse (is_ended all)
-IsParseFault all NoMemory = Unit {0}
+abbrev pub IsParseFault : Limits → List Symbol → ParseFault → Type 0
+IsParseFault limits all (At i kind) = AreSound limits all i × StandsAt limits all i kind
+IsParseFault limits all NoEnd = AreSound limits all (length all) × IsFalse (is_ended all)
+IsParseFault limits all NoMemory = Unit {0}
 
--- Whatever the symbols are, one more is read up to a further state, or a fault stands at it.
+-- Whatever the limits and the symbols are, one more is read up to a further state, or a fault stands at it.
 unfoldable pub ReadsOn : List ℕ → ℕ → symbols.Symbol.Symbol → Option symbols.Symbol.Symbol → State → State → Type 0
-ReadsOn text n symbol next state more = (all : List Symbol) → IsRead text all n state → IsNext text all n symbol next → IsRead text all (n + 1) more
+ReadsOn text n symbol next state more = (limits : Limits) (all : List Symbol) → IsRead limits text all n state → IsNext text all n symbol next → IsRead limits text all (n + 1) more
 
 unfoldable pub StopsAt : List ℕ → ℕ → symbols.Symbol.Symbol → Option symbols.Symbol.Symbol → State → ParseFault → Type 0
-StopsAt text n symbol next state fault = (all : List Symbol) → IsRead text all n state → IsNext text all n symbol next → IsParseFault all fault
+StopsAt text n symbol next state fault = (limits : Limits) (all : List Symbol) → IsRead limits text all n state → IsNext text all n symbol next → IsParseFault limits all fault
 
 -- a text's tree, with what is noted of its tokens
-pub record IsParsed (text : List ℕ) (all : List Symbol) (p : Parsed) : Type 0 where
+pub record IsParsed (limits : Limits) (text : List ℕ) (all : List Symbol) (p : Parsed) : Type 0 where
   pub grammar : IsText (tree_in text p.tree)
   pub spelled : spelling (tree_in text p.tree) ≡ all
-  pub roles : role_fault (tokens_of (tree_in text p.tree)) ≡ None
-  pub notes : AreNoted (tokens_of (tree_in text p.tree)) p.notes
+  pub roles : role_fault limits (tokens_of (tree_in text p.tree)) ≡ None
+  pub notes : AreNoted limits (tokens_of (tree_in text p.tree)) p.notes

@@ -1,5 +1,7 @@
 // What the tokens of a text name and count as.
 ghost use Rattle.std.specs.Prelude.{◌≡◌, ℕ, ◌+◌, ◌<◌, ◌^◌, ◌≤◌, List, [], ◌++◌, ◌∷◌, length, IfOk, IfErr, IfSome, IsTrue, IsFalse, Option, Some, false, true};
+ghost use Rattle.bp_theory.specs.Limits.{most_terms};
+ghost use Rattle.bp_theory.specs.declared.Limits.TheVariants.{Large};
 ghost use Rattle.lp_token.specs.declared.LpKind.TheVariants.{RowTwice, Limit};
 ghost use Rattle.std.specs.Option.{ForSome};
 ghost use Rattle.lp_token.specs.Lexeme.{is_name};
@@ -12,8 +14,7 @@ ghost use Rattle.lp_syntax.specs.declared.symbol.Symbol.TheVariants as symbols;
 ghost use Rattle.lp_semantics.specs.Meaning.{has_name};
 ghost use Rattle.lp_read.specs.declared.notes.ParseFault.TheVariants.{At, NoMemory};
 
-use bp_model::{MAX_ROWS, MAX_TERMS, MAX_VARS};
-use bp_theory::Items;
+use bp_theory::{Items, Limits};
 use lp_syntax::{Site, Symbol, TextRange, name_at};
 use lp_token::LpKind;
 use name_table::NameTable;
@@ -38,7 +39,8 @@ impl From<AllocError> for ParseFault {
     }
 }
 
-/// The variables and the rows so far with the tokens where they first stand, and how many terms there are.
+/// The variables and the rows so far with the tokens where they first stand, how many terms there are, and the limits
+/// that all of them keep.
 #[derive(Drop)]
 pub struct Notes {
     pub names: NameTable,
@@ -46,16 +48,18 @@ pub struct Notes {
     pub row_names: NameTable,
     pub row_tokens: Items<usize>,
     pub terms: u32,
+    pub limits: Limits,
 }
 
 /// Nothing yet.
-pub fn no_notes(alloc: Global) -> Notes
+pub fn no_notes(alloc: Global, limits: Limits) -> Notes
     ensures { result ≡ record {
       names = [];
       first_tokens = [];
       row_names = [];
       row_tokens = [];
       terms = 0;
+      limits = limits;
     } }
 {
     Notes {
@@ -64,6 +68,7 @@ pub fn no_notes(alloc: Global) -> Notes
         row_names: NameTable::new(alloc),
         row_tokens: Items::new(alloc),
         terms: 0,
+        limits,
     }
 }
 
@@ -283,7 +288,7 @@ fn note_variable(
 
 /// With the term that a symbol counts as, if it does.
 fn note_term(notes: Notes, counts: bool) -> Notes
-    requires { notes.terms ≤ 65536 }
+    requires { notes.terms ≤ most_terms Large }
     ensures { result ≡ record notes { terms = terms_with notes.terms counts } }
 {
     let mut notes = notes;
@@ -297,7 +302,10 @@ fn note_term(notes: Notes, counts: bool) -> Notes
 fn too_many(notes: &Notes) -> bool
     ensures { result ≡ are_too_many notes.now }
 {
-    notes.names.len() > MAX_VARS || notes.row_names.len() > MAX_ROWS || notes.terms > MAX_TERMS
+    let limits = notes.limits;
+    notes.names.len() > limits.variables()
+        || notes.row_names.len() > limits.rows()
+        || notes.terms > limits.terms()
 }
 
 /// The notes, unless there are too many.

@@ -11,6 +11,7 @@ ghost use Rattle.lp_parser.specs.declared.stage.Stage.TheVariants as stages;
 ghost use Rattle.lp_read.specs.declared.notes.ParseFault.TheVariants as faults;
 
 use crate::notes::{Notes, ParseFault, let_notes_go, no_notes, note};
+use bp_theory::Limits;
 use lp_parser::{Stage, let_go, step};
 use lp_syntax::{Site, Symbol, Tree};
 use lp_token::LpKind;
@@ -156,14 +157,19 @@ fn finish(state: State) -> Result<Parsed, ParseFault>
 }
 
 /// The tree of a text's symbols, with what is noted of them; or their first fault.
-pub fn parse(alloc: Global, bytes: &[u8], symbols: &[Symbol]) -> Result<Parsed, ParseFault>
+pub fn parse(
+    alloc: Global,
+    limits: Limits,
+    bytes: &[u8],
+    symbols: &[Symbol],
+) -> Result<Parsed, ParseFault>
     requires { All (IsNamed bytes.now) symbols.now }
-    ensures text { IfOk result (IsParsed bytes.now (map (symbol_in bytes.now) symbols.now)) }
-    ensures fault { IfErr result (IsParseFault (map (symbol_in bytes.now) symbols.now)) }
+    ensures text { IfOk result (IsParsed limits bytes.now (map (symbol_in bytes.now) symbols.now)) }
+    ensures fault { IfErr result (IsParseFault limits (map (symbol_in bytes.now) symbols.now)) }
 {
     let mut state = State {
         stage: Stage::Start,
-        notes: no_notes(alloc),
+        notes: no_notes(alloc, limits),
     };
     for at in 0..symbols.len() {
         let next = symbol_behind(symbols, at);

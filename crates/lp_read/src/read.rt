@@ -1,5 +1,6 @@
 // The model that an LP text means, or its first fault.
 ghost use Rattle.std.specs.Prelude.{◌≡◌, ◌+◌, ◌≤◌, ◌^◌, length, count_by, slice_index_or, IfOk, IfErr};
+ghost use Rattle.bp_theory.specs.Limits.{most_bytes};
 ghost use Rattle.lp_token.specs.Cut.{Cut, is_line_feed, line_at};
 ghost use Rattle.lp_syntax.specs.Symbols.{symbols};
 ghost use Rattle.lp_syntax.specs.TreeIn.{tree_in};
@@ -13,44 +14,46 @@ ghost use Rattle.lp_semantics.specs.Model.{Means, IsFaultOf};
 use crate::notes::{Notes, ParseFault};
 use crate::parse::{Parsed, parse};
 use bp_model::Model;
-use bp_theory::Items;
+use bp_theory::{Items, Limits};
 use lp_semantics::{MeaningFault, model_of};
 use lp_syntax::{Tree, symbols_of};
 use lp_token::{LpFault, LpKind, Tok, tokens};
 use name_table::NameTable;
 use std::alloc::Global;
 
-/// The greatest number of bytes of a text.
-pub const MAX_TEXT: usize = 16_777_216;
-
-/// The model that an LP text means, or the text's first fault: its size, the first byte that can't be cut, the first
+/// The model that an LP text means under limits, or the text's first fault: its size, the first byte that can't be cut, the first
 /// token at fault, a lack of the word `end`, and then what the text means.
-pub fn read_lp(alloc: Global, bytes: &[u8]) -> Result<Model, LpFault>
-    ensures read { IfOk result (λ model. Means bytes.now model) }
-    ensures fault { IfErr result (λ fault. IsFaultOf bytes.now fault) }
+pub fn read_lp(alloc: Global, limits: Limits, bytes: &[u8]) -> Result<Model, LpFault>
+    ensures read { IfOk result (λ model. Means limits bytes.now model) }
+    ensures fault { IfErr result (λ fault. IsFaultOf limits bytes.now fault) }
 {
-    if bytes.len() > MAX_TEXT {
+    if bytes.len() > limits.bytes() {
         return Err(LpFault::At {
             line: 0,
             kind: LpKind::Limit,
         });
     }
     match tokens(alloc, bytes) {
-        Ok(cut) => read_tokens(alloc, bytes, cut.as_slice()),
+        Ok(cut) => read_tokens(alloc, limits, bytes, cut.as_slice()),
         Err(fault) => Err(fault),
     }
 }
 
 /// The model of a text's tokens, or their first fault.
-fn read_tokens(alloc: Global, bytes: &[u8], tokens: &[Tok]) -> Result<Model, LpFault>
-    requires size { length bytes.now ≤ 2 ^ 24 }
+fn read_tokens(
+    alloc: Global,
+    limits: Limits,
+    bytes: &[u8],
+    tokens: &[Tok],
+) -> Result<Model, LpFault>
+    requires size { length bytes.now ≤ most_bytes limits }
     requires cut { Cut bytes.now tokens.now }
-    ensures read { IfOk result (λ model. Means bytes.now model) }
-    ensures fault { IfErr result (λ fault. IsFaultOf bytes.now fault) }
+    ensures read { IfOk result (λ model. Means limits bytes.now model) }
+    ensures fault { IfErr result (λ fault. IsFaultOf limits bytes.now fault) }
 {
     let symbols = symbols_of(alloc, bytes, tokens)?;
-    match parse(alloc, bytes, symbols.as_slice()) {
-        Ok(parsed) => read_tree(alloc, bytes, tokens, parsed),
+    match parse(alloc, limits, bytes, symbols.as_slice()) {
+        Ok(parsed) => read_tree(alloc, limits, bytes, tokens, parsed),
         Err(ParseFault::At { token, kind }) => Err(LpFault::At {
             line: line_of(tokens, token),
             kind,
@@ -64,12 +67,18 @@ fn read_tokens(alloc: Global, bytes: &[u8], tokens: &[Tok]) -> Result<Model, LpF
 }
 
 /// The model of a text's tree, or the tree's first fault.
-fn read_tree(alloc: Global, bytes: &[u8], tokens: &[Tok], parsed: Parsed) -> Result<Model, LpFault>
-    requires size { length bytes.now ≤ 2 ^ 24 }
+fn read_tree(
+    alloc: Global,
+    limits: Limits,
+    bytes: &[u8],
+    tokens: &[Tok],
+    parsed: Parsed,
+) -> Result<Model, LpFault>
+    requires size { length bytes.now ≤ most_bytes limits }
     requires cut { Cut bytes.now tokens.now }
-    requires parsed { IsParsed bytes.now (symbols bytes.now tokens.now) parsed }
-    ensures read { IfOk result (λ model. Means bytes.now model) }
-    ensures fault { IfErr result (λ fault. IsFaultOf bytes.now fault) }
+    requires parsed { IsParsed limits bytes.now (symbols bytes.now tokens.now) parsed }
+    ensures read { IfOk result (λ model. Means limits bytes.now model) }
+    ensures fault { IfErr result (λ fault. IsFaultOf limits bytes.now fault) }
 {
     let Parsed { tree, notes } = parsed;
     let Notes {
@@ -78,8 +87,9 @@ fn read_tree(alloc: Global, bytes: &[u8], tokens: &[Tok], parsed: Parsed) -> Res
         row_names,
         row_tokens,
         terms: _,
+        limits: _,
     } = notes;
-    match model_of_tree(alloc, bytes, tree, names, row_names) {
+    match model_of_tree(alloc, limits, bytes, tree, names, row_names) {
         Ok(model) => Ok(model),
         Err(MeaningFault::At { variable, kind }) => Err(LpFault::At {
             line: line_of(tokens, place_at(&first_tokens, variable)),
@@ -100,18 +110,19 @@ fn read_tree(alloc: Global, bytes: &[u8], tokens: &[Tok], parsed: Parsed) -> Res
 /// The model that a text's tree means, or its first fault, by which time the tree is let go.
 fn model_of_tree(
     alloc: Global,
+    limits: Limits,
     text: &[u8],
     tree: Tree,
     names: NameTable,
     row_names: NameTable,
 ) -> Result<Model, MeaningFault>
-    requires text_of { IsTextOfSome text.now (tree_in text.now tree) }
+    requires text_of { IsTextOfSome limits text.now (tree_in text.now tree) }
     requires variables { names ≡ roles.variables (tokens_of (tree_in text.now tree)) }
     requires row_names { row_names ≡ roles.row_names (tokens_of (tree_in text.now tree)) }
-    ensures model { IfOk result (IsModelOf (tree_in text.now tree)) }
-    ensures fault { IfErr result (IsRefused (tree_in text.now tree)) }
+    ensures model { IfOk result (IsModelOf limits (tree_in text.now tree)) }
+    ensures fault { IfErr result (IsRefused limits (tree_in text.now tree)) }
 {
-    model_of(alloc, text, &tree, names, row_names)
+    model_of(alloc, limits, text, &tree, names, row_names)
 }
 
 /// The place of a number, 0 where there is none.
@@ -144,7 +155,7 @@ fn line_feeds(bytes: &[u8]) -> usize
 
 /// The line of a text's end.
 fn last_line(bytes: &[u8]) -> u32
-    requires { length bytes.now ≤ 2 ^ 24 }
+    requires { length bytes.now ≤ 2 ^ 28 }
     ensures { result ≡ line_at bytes.now (length bytes.now) }
 {
     1 + line_feeds(bytes) as u32

@@ -9,7 +9,7 @@ use Rattle.lp_syntax.specs.declared.tree.Comparison.{Comparison}
 use Rattle.lp_syntax.specs.Tree.{Name, Symbol, word, name, number, infinity, sign, comparison, colon, unfit, Written, placed, headed, comparison_of, spelled_signs, spelled_signed, spelled_factor, spelled_term, spelled_item, spelled_value, spelled_sum, spelled_label, spelled_row, written_row, written_bound, written_part, written_objective, written_word, written, spelling, sites}
 use Rattle.lp_syntax.specs.declared.tree.Sign.{Sign}
 use Rattle.lp_syntax.specs.declared.tree.Site.{Site}
-use Rattle.lp_syntax.specs.declared.tree.Site.TheVariants.{ObjectiveFirst as objective_first, ObjectiveMore as objective_more, RowFirst as row_first, RowMore as row_more, Listed as listed, Other as other}
+use Rattle.lp_syntax.specs.declared.tree.Site.TheVariants.{ObjectiveFirst as objective_first, ObjectiveMore as objective_more, RowFirst as row_first, RowMore as row_more}
 use Rattle.lp_syntax.specs.Roles.{is_colon, counts_as_term}
 use Rattle.lp_syntax.specs.TreeIn.{name_in, term_in, item_in, sum_in, row_in, part_in, label_in, tree_in}
 use Rattle.lp_syntax.specs.declared.tree.TextRange.{TextRange}

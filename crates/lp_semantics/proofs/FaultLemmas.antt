@@ -1,5 +1,7 @@
 -- The first fault of a tree's variables, by their numbers.
 use Rattle.std.proofs.Common.{◌≡◌, ◌∙◌, refl, sym, ap, subst, ℕ, zero, suc, ◌+◌, ◌<◌, ◌≤◌, Bool, true, false, not, List, [], ◌∷◌, map, take, length, get_or, Option, Some, None, All, arith, if◌then◌else◌, add-one}
+use Rattle.bp_theory.specs.Limits.{most_digits}
+use Rattle.bp_theory.specs.declared.Limits.{Limits}
 use Rattle.std.specs.Prelude.{sum_by, filter}
 use Rattle.std.specs.Str.{bytes_eq}
 use Rattle.std.specs.List.{IsDistinct, AllByRecursion}
@@ -153,22 +155,22 @@ bits_of_names t spans i e =
     ∙ ap zone_bits (take-map (λ n. span_of (ends t n)) i (variables (tokens_of t)))
     ∙ fold-map (λ a s. a + span_bits s) (λ n. span_of (ends t n)) 0 (take i (variables (tokens_of t)))
 
-pub few_digits : (t : SyntaxTree) (spans : List Span) → spans ≡ map (λ n. span_of (ends t n)) (variables (tokens_of t)) → zone_bits spans ≤ 8192 → digits_fault t ≡ None
+pub few_digits : (limits : Limits) (t : SyntaxTree) (spans : List Span) → spans ≡ map (λ n. span_of (ends t n)) (variables (tokens_of t)) → zone_bits spans ≤ most_digits limits → digits_fault limits t ≡ None
 unfolding digits_fault
-few_digits t spans e l =
+few_digits limits t spans e l =
     let whole : zone_bits spans ≡ sum_by (λ n. span_bits (span_of (ends t n))) (variables (tokens_of t)) =
     ap zone_bits e ∙ fold-map (λ a s. a + span_bits s) (λ n. span_of (ends t n)) 0 (variables (tokens_of t)) in
     ap (λ o. elim o [ None ↦ None | Some n ↦ Some (place_of n (tokens_of t), Limit) ])
-    (past_none (λ n. span_bits (span_of (ends t n))) 8192 0 (variables (tokens_of t)) (omega (arith, whole, l)))
+    (past_none (λ n. span_bits (span_of (ends t n))) (most_digits limits) 0 (variables (tokens_of t)) (omega (arith, whole, l)))
 
-pub many_digits : (t : SyntaxTree) (spans : List Span) (v : ℕ) → spans ≡ map (λ n. span_of (ends t n)) (variables (tokens_of t)) → IsFirstPast spans v
-    → digits_fault t ≡ Some (place_of (get_or (variables (tokens_of t)) v []) (tokens_of t), Limit)
+pub many_digits : (limits : Limits) (t : SyntaxTree) (spans : List Span) (v : ℕ) → spans ≡ map (λ n. span_of (ends t n)) (variables (tokens_of t)) → IsFirstPast limits spans v
+    → digits_fault limits t ≡ Some (place_of (get_or (variables (tokens_of t)) v []) (tokens_of t), Limit)
 unfolding digits_fault
-many_digits t spans v e past =
+many_digits limits t spans v e past =
     let names : List Name = variables (tokens_of t) in
     let long : length spans ≡ length names = ap length e ∙ length-map names (λ n. span_of (ends t n)) in
-    let after : 8192 < sum_by (λ n. span_bits (span_of (ends t n))) (take (suc v) names) =
-    subst (λ i. 8192 < sum_by (λ n. span_bits (span_of (ends t n))) (take i names)) (add-one v) (omega (arith, past.past, bits_of_names t spans (v + 1) e)) in
+    let after : most_digits limits < sum_by (λ n. span_bits (span_of (ends t n))) (take (suc v) names) =
+    subst (λ i. most_digits limits < sum_by (λ n. span_bits (span_of (ends t n))) (take i names)) (add-one v) (omega (arith, past.past, bits_of_names t spans (v + 1) e)) in
     ap (λ o. elim o [ None ↦ None | Some n ↦ Some (place_of n (tokens_of t), Limit) ])
-    (past_some (λ n. span_bits (span_of (ends t n))) 8192 0 names v (omega (arith, past.there, long))
+    (past_some (λ n. span_bits (span_of (ends t n))) (most_digits limits) 0 names v (omega (arith, past.there, long))
     (omega (arith, past.before, bits_of_names t spans v e)) (omega (arith, after)))

@@ -1,5 +1,8 @@
 -- A text names its variables, has numbers of texts and few terms.
 use Rattle.std.proofs.Common.{◌≡◌, ◌∙◌, refl, sym, ap, subst, ℕ, ◌≤◌, Bool, true, false, not, ◌||◌, ◌&&◌, List, [], ◌∷◌, map, length, Option, Some, None, Contains, arith, if◌then◌else◌}
+use Rattle.bp_theory.specs.Limits.{most_rows, most_terms, most_variables}
+use Rattle.bp_theory.specs.declared.Limits.{Limits}
+use Rattle.bp_theory.proofs.LimitLaws.{few_terms}
 use Rattle.std.specs.Prelude.{filter, unwrap_or, nat_le, nat_lt, slice_range, codes}
 use Rattle.std.specs.Str.{bytes_eq, str_to_ascii_lowercase}
 use Rattle.std.specs.List.{list_any, AllByRecursion}
@@ -121,13 +124,13 @@ of_symbols [] h = tt
 of_symbols (w ∷ ws) h = (h.0, of_symbols ws h.1)
 
 -- names and counts that are in order are within their limits
-pub within_limits : (tokens : List Seen) → role_fault tokens ≡ None
-    → (length (variables tokens) ≤ 4096) × (length (row_names tokens) ≤ 8192) × (term_count tokens ≤ 65536)
+pub within_limits : (limits : Limits) (tokens : List Seen) → role_fault limits tokens ≡ None
+    → (length (variables tokens) ≤ most_variables limits) × (length (row_names tokens) ≤ most_rows limits) × (term_count tokens ≤ most_terms limits)
 unfolding role_fault is_over_limit
-within_limits tokens h =
-    let none : (nat_lt 4096 (length (variables tokens)) ≡ false) × (nat_lt 8192 (length (row_names tokens)) ≡ false) × (nat_lt 65536 (term_count tokens) ≡ false) =
-    by (has_twice (row_names tokens)) (nat_lt 4096 (length (variables tokens))) (nat_lt 8192 (length (row_names tokens))) (nat_lt 65536 (term_count tokens)) h in
-    (ltb-false 4096 (length (variables tokens)) none.0, ltb-false 8192 (length (row_names tokens)) none.1, ltb-false 65536 (term_count tokens) none.2)
+within_limits limits tokens h =
+    let none : (nat_lt (most_variables limits) (length (variables tokens)) ≡ false) × (nat_lt (most_rows limits) (length (row_names tokens)) ≡ false) × (nat_lt (most_terms limits) (term_count tokens) ≡ false) =
+    by (has_twice (row_names tokens)) (nat_lt (most_variables limits) (length (variables tokens))) (nat_lt (most_rows limits) (length (row_names tokens))) (nat_lt (most_terms limits) (term_count tokens)) h in
+    (ltb-false (most_variables limits) (length (variables tokens)) none.0, ltb-false (most_rows limits) (length (row_names tokens)) none.1, ltb-false (most_terms limits) (term_count tokens) none.2)
   where
     by : (a b c d : Bool) → (if a then Some RowTwice else (if (b || (c || d)) then Some Limit else None)) ≡ None → (b ≡ false) × (c ≡ false) × (d ≡ false)
     by true b c d e = absurd cc
@@ -146,11 +149,11 @@ unfolding term_count tokens_of sites spelling
 terms_are t = seen_counted (written t)
 
 -- a text's tree is in order
-pub fine_text : (text : List ℕ) (tokens : List Tok) (t : SyntaxTree) (names : List Name) → IsTextOf text tokens t → names ≡ variables (tokens_of t)
+pub fine_text : (limits : Limits) (text : List ℕ) (tokens : List Tok) (t : SyntaxTree) (names : List Name) → IsTextOf limits text tokens t → names ≡ variables (tokens_of t)
     → Fine names None (written t)
 unfolding spelling symbols
-fine_text text tokens t names h e = record {
+fine_text limits text tokens t names h e = record {
   known = subst (λ all. AllByRecursion (Contains all) (named None (written t))) (sym (e ∙ variables_are t)) (firsts_known (named None (written t)));
   small = of_symbols (written t) (subst (AllByRecursion IsSmallSymbol) (sym h.spelled) (symbols_small false text tokens));
-  few = omega (arith, (within_limits (tokens_of t) h.roles).2, terms_are t);
+  few = omega (arith, (within_limits limits (tokens_of t) h.roles).2, few_terms limits, terms_are t);
 }

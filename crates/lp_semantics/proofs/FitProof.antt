@@ -1,5 +1,7 @@
 -- A text's tree has names of the list, numbers of texts and few terms.
 use Rattle.std.proofs.Common.{◌≡◌, ◌∙◌, refl, ap, subst, ℕ, ◌≤◌, false, List, [], ◌∷◌, ◌++◌, map, length, Option, Some, None, MatchOption, arith, if◌then◌else◌}
+use Rattle.bp_theory.specs.Limits.{most_terms}
+use Rattle.bp_theory.specs.declared.Limits.TheVariants.{Large}
 use Rattle.std.specs.Prelude.{flat_map}
 use Rattle.std.specs.List.{AllByRecursion}
 use Rattle.std.specs.Option.{option_map}
@@ -66,7 +68,7 @@ length_weight (m ∷ more) = omega (arith, length_weight more)
 -- the further terms of a row
 fit_further : (text : List ℕ) (names : List Name) (next : Option Symbol) (more : List (Sign × Term))
     → Fine names next (placed row_more (further (λ t. spelled_term (term_in text t)) more))
-    → AllByRecursion (λ (m : Sign × Term). IsFitTerm text names m.1) more × (length more ≤ 65536)
+    → AllByRecursion (λ (m : Sign × Term). IsFitTerm text names m.1) more × (length more ≤ most_terms Large)
 fit_further text names next more h = (
   fit_more (IsFitTerm text names) (λ t. spelled_term (term_in text t)) names next row_more (λ t n g. fit_term text names n row_more t row_plain g) more h,
   omega (
@@ -80,11 +82,11 @@ fit_further text names next more h = (
 -- a row's sum behind other symbols
 fit_sum : (text : List ℕ) (names : List Name) (next : Option Symbol) (e : Sum Term)
     → Fine names next (placed row_more (spelled_sum spelled_term (sum_in (term_in text) e)))
-    → IsFitSum (IsFitTerm text names) e × (sum_size e ≤ 65536)
+    → IsFitSum (IsFitTerm text names) e × (sum_size e ≤ most_terms Large)
 fit_sum text names next e h =
     let g : Fine names next (placed row_more (spelled_term (term_in text e.first) ++ further (λ t. spelled_term (term_in text t)) e.more)) =
     subst (λ ss. Fine names next (placed row_more (spelled_term (term_in text e.first) ++ ss))) (further_in (term_in text) spelled_term e.more) h in
-    let r : AllByRecursion (λ (m : Sign × Term). IsFitTerm text names m.1) e.more × (length e.more ≤ 65536) =
+    let r : AllByRecursion (λ (m : Sign × Term). IsFitTerm text names m.1) e.more × (length e.more ≤ most_terms Large) =
     fit_further text names next e.more (placed_right names next row_more (spelled_term (term_in text e.first)) (further (λ t. spelled_term (term_in text t)) e.more) g) in (
       record {
         first = fit_term text names (follow next (placed row_more (further (λ t. spelled_term (term_in text t)) e.more))) row_more e.first row_plain
@@ -108,7 +110,7 @@ apart_end spelled site next apart (m ∷ more) = refl
 -- a row's sum at its front
 fit_front : (text : List ℕ) (names : List Name) (next : Option Symbol) (e : Sum Term) (c : Comparison) (ys : List Symbol)
     → Fine names next (headed row_first row_more (spelled_sum spelled_term (sum_in (term_in text) e) ++ (comparison c ∷ ys)))
-    → IsFitSum (IsFitTerm text names) e × (sum_size e ≤ 65536) × Fine names next (placed row_more ys)
+    → IsFitSum (IsFitTerm text names) e × (sum_size e ≤ most_terms Large) × Fine names next (placed row_more ys)
 fit_front text names next e c ys h =
     let more : List Symbol = further (λ t. spelled_term (term_in text t)) e.more in
     let first : List Symbol = spelled_term (term_in text e.first) in
@@ -118,7 +120,7 @@ fit_front text names next e c ys h =
     head_term text names next row_first row_more e.first (more ++ (comparison c ∷ ys)) row_head row_plain
     (apart_more (λ t. spelled_term (term_in text t)) row_more next c ys e.more)
     (subst (λ ss. Fine names next (headed row_first row_more ss)) regroup h) in
-    let q : AllByRecursion (λ (m : Sign × Term). IsFitTerm text names m.1) e.more × (length e.more ≤ 65536) =
+    let q : AllByRecursion (λ (m : Sign × Term). IsFitTerm text names m.1) e.more × (length e.more ≤ most_terms Large) =
     fit_further text names (follow next (placed row_more (comparison c ∷ ys))) e.more (placed_left names next row_more more (comparison c ∷ ys) r.1) in (
       record { first = r.0; more = All-from_recursion (λ (m : Sign × Term). IsFitTerm text names m.1) e.more q.0 },
       q.1,
@@ -134,18 +136,18 @@ row_size (rows.Ranged label v d e w) = sum_size e
 -- a number-first row behind its label, and behind its number
 fit_behind_number : (text : List ℕ) (names : List Name) (next : Option Symbol) (c : Comparison) (e : Sum Term)
     → Fine names next (placed row_more (comparison c ∷ spelled_sum spelled_term (sum_in (term_in text) e)))
-    → IsFitSum (IsFitTerm text names) e × (sum_size e ≤ 65536)
+    → IsFitSum (IsFitTerm text names) e × (sum_size e ≤ most_terms Large)
 fit_behind_number text names next c e h =
     fit_sum text names next e (placed_right names next row_more (comparison c ∷ []) (spelled_sum spelled_term (sum_in (term_in text) e)) h)
 
 fit_behind_ranged : (text : List ℕ) (names : List Name) (next : Option Symbol) (c : Comparison) (e : Sum Term) (w : Signed)
     → Fine names next (placed row_more (comparison c ∷ (spelled_sum spelled_term (sum_in (term_in text) e) ++ (comparison c ∷ spelled_signed w))))
-    → IsFitSum (IsFitTerm text names) e × (sum_size e ≤ 65536) × IsSmall w
+    → IsFitSum (IsFitTerm text names) e × (sum_size e ≤ most_terms Large) × IsSmall w
 fit_behind_ranged text names next c e w h =
     let sum : List Symbol = spelled_sum spelled_term (sum_in (term_in text) e) in
     let g : Fine names next (placed row_more (sum ++ (comparison c ∷ spelled_signed w))) =
     placed_right names next row_more (comparison c ∷ []) (sum ++ (comparison c ∷ spelled_signed w)) h in
-    let s : IsFitSum (IsFitTerm text names) e × (sum_size e ≤ 65536) =
+    let s : IsFitSum (IsFitTerm text names) e × (sum_size e ≤ most_terms Large) =
     fit_sum text names (follow next (placed row_more (comparison c ∷ spelled_signed w))) e (placed_left names next row_more sum (comparison c ∷ spelled_signed w) g) in (
       s.0,
       s.1,
@@ -154,16 +156,16 @@ fit_behind_ranged text names next c e w h =
     )
 
 fit_row : (text : List ℕ) (names : List Name) (next : Option Symbol) (r : Row) → Fine names next (written_row (row_in text r))
-    → IsFitRow text names r × (row_size r ≤ 65536)
+    → IsFitRow text names r × (row_size r ≤ most_terms Large)
 fit_row text names next (rows.ExpressionFirst None e c v) h =
-    let s : IsFitSum (IsFitTerm text names) e × (sum_size e ≤ 65536) × Fine names next (placed row_more (spelled_signed v)) =
+    let s : IsFitSum (IsFitTerm text names) e × (sum_size e ≤ most_terms Large) × Fine names next (placed row_more (spelled_signed v)) =
     fit_front text names next e c (spelled_signed v) h in
     ((s.0, fit_signed names next row_more v s.2), s.1)
 fit_row text names next (rows.ExpressionFirst (Some l) e c v) h =
     let sum : List Symbol = spelled_sum spelled_term (sum_in (term_in text) e) in
     let g : Fine names next (placed row_more (sum ++ (comparison c ∷ spelled_signed v))) =
     behind names next row_first row_more (name (name_in text l)) (colon ∷ []) (sum ++ (comparison c ∷ spelled_signed v)) h in
-    let s : IsFitSum (IsFitTerm text names) e × (sum_size e ≤ 65536) =
+    let s : IsFitSum (IsFitTerm text names) e × (sum_size e ≤ most_terms Large) =
     fit_sum text names (follow next (placed row_more (comparison c ∷ spelled_signed v))) e (placed_left names next row_more sum (comparison c ∷ spelled_signed v) g) in (
       (
         s.0,
@@ -175,27 +177,27 @@ fit_row text names next (rows.ExpressionFirst (Some l) e c v) h =
 fit_row text names next (rows.NumberFirst None v c e) h =
     let r : IsSmall v × Fine names next (placed row_more (comparison c ∷ spelled_sum spelled_term (sum_in (term_in text) e))) =
     head_constant names next row_first row_more v (comparison c ∷ spelled_sum spelled_term (sum_in (term_in text) e)) h in
-    let s : IsFitSum (IsFitTerm text names) e × (sum_size e ≤ 65536) = fit_behind_number text names next c e r.1 in
+    let s : IsFitSum (IsFitTerm text names) e × (sum_size e ≤ most_terms Large) = fit_behind_number text names next c e r.1 in
     ((s.0, r.0), s.1)
 fit_row text names next (rows.NumberFirst (Some l) v c e) h =
     let rest : List Symbol = comparison c ∷ spelled_sum spelled_term (sum_in (term_in text) e) in
     let g : Fine names next (placed row_more (spelled_signed v ++ rest)) =
     behind names next row_first row_more (name (name_in text l)) (colon ∷ []) (spelled_signed v ++ rest) h in
-    let s : IsFitSum (IsFitTerm text names) e × (sum_size e ≤ 65536) =
+    let s : IsFitSum (IsFitTerm text names) e × (sum_size e ≤ most_terms Large) =
     fit_behind_number text names next c e (placed_right names next row_more (spelled_signed v) rest g) in
     ((s.0, fit_signed names (follow next (placed row_more rest)) row_more v (placed_left names next row_more (spelled_signed v) rest g)), s.1)
 fit_row text names next (rows.Ranged None v d e w) h =
     let c : Comparison = comparison_of d in
     let rest : List Symbol = comparison c ∷ (spelled_sum spelled_term (sum_in (term_in text) e) ++ (comparison c ∷ spelled_signed w)) in
     let r : IsSmall v × Fine names next (placed row_more rest) = head_constant names next row_first row_more v rest h in
-    let s : IsFitSum (IsFitTerm text names) e × (sum_size e ≤ 65536) × IsSmall w = fit_behind_ranged text names next c e w r.1 in
+    let s : IsFitSum (IsFitTerm text names) e × (sum_size e ≤ most_terms Large) × IsSmall w = fit_behind_ranged text names next c e w r.1 in
     ((s.0, r.0, s.2), s.1)
 fit_row text names next (rows.Ranged (Some l) v d e w) h =
     let c : Comparison = comparison_of d in
     let rest : List Symbol = comparison c ∷ (spelled_sum spelled_term (sum_in (term_in text) e) ++ (comparison c ∷ spelled_signed w)) in
     let g : Fine names next (placed row_more (spelled_signed v ++ rest)) =
     behind names next row_first row_more (name (name_in text l)) (colon ∷ []) (spelled_signed v ++ rest) h in
-    let s : IsFitSum (IsFitTerm text names) e × (sum_size e ≤ 65536) × IsSmall w =
+    let s : IsFitSum (IsFitTerm text names) e × (sum_size e ≤ most_terms Large) × IsSmall w =
     fit_behind_ranged text names next c e w (placed_right names next row_more (spelled_signed v) rest g) in
     ((s.0, fit_signed names (follow next (placed row_more rest)) row_more v (placed_left names next row_more (spelled_signed v) rest g), s.2), s.1)
 
@@ -219,7 +221,7 @@ objective_symbols (Some e) = spelled_sum spelled_item e
 -- the items behind a label
 fit_items : (text : List ℕ) (names : List Name) (next : Option Symbol) (more : List (Sign × Item))
     → Fine names next (placed objective_more (further (λ i. spelled_item (item_in text i)) more))
-    → AllByRecursion (λ (m : Sign × Item). IsFitItem text names m.1) more × (weight_of item_weight more ≤ 65536)
+    → AllByRecursion (λ (m : Sign × Item). IsFitItem text names m.1) more × (weight_of item_weight more ≤ most_terms Large)
 fit_items text names next more h = (
   fit_more (IsFitItem text names) (λ i. spelled_item (item_in text i)) names next objective_more (λ i n g. fit_item text names n objective_more i objective_plain g) more h,
   omega (arith, h.few, more_counted (λ i. spelled_item (item_in text i)) item_weight next objective_more (λ i n. item_counted text i n) more),
@@ -227,7 +229,7 @@ fit_items text names next more h = (
 
 fit_objective : (text : List ℕ) (names : List Name) (next : Option Symbol) (label : Option TextRange) (objective : Option (Sum Item)) → is_colon next ≡ false
     → Fine names next (headed objective_first objective_more (spelled_label (label_in text label) ++ objective_symbols (option_map (sum_in (item_in text)) objective)))
-    → MatchOption objective (Unit {0}) (IsFitSum (IsFitItem text names)) × (objective_size objective ≤ 65536)
+    → MatchOption objective (Unit {0}) (IsFitSum (IsFitItem text names)) × (objective_size objective ≤ most_terms Large)
 fit_objective text names next label None apart h = (tt, omega arith)
 fit_objective text names next None (Some e) apart h =
     let more : List Symbol = further (λ i. spelled_item (item_in text i)) e.more in
@@ -235,7 +237,7 @@ fit_objective text names next None (Some e) apart h =
     head_item text names next objective_first objective_more e.first more objective_head objective_plain
     (apart_end (λ i. spelled_item (item_in text i)) objective_more next apart e.more)
     (subst (λ ss. Fine names next (headed objective_first objective_more (spelled_item (item_in text e.first) ++ ss))) (further_in (item_in text) spelled_item e.more) h) in
-    let q : AllByRecursion (λ (m : Sign × Item). IsFitItem text names m.1) e.more × (weight_of item_weight e.more ≤ 65536) = fit_items text names next e.more r.1 in
+    let q : AllByRecursion (λ (m : Sign × Item). IsFitItem text names m.1) e.more × (weight_of item_weight e.more ≤ most_terms Large) = fit_items text names next e.more r.1 in
     (record { first = r.0; more = All-from_recursion (λ (m : Sign × Item). IsFitItem text names m.1) e.more q.0 }, q.1)
 fit_objective text names next (Some l) (Some e) apart h =
     let more : List Symbol = further (λ i. spelled_item (item_in text i)) e.more in
@@ -243,7 +245,7 @@ fit_objective text names next (Some l) (Some e) apart h =
     let g : Fine names next (placed objective_more (first ++ more)) =
     subst (λ ss. Fine names next (placed objective_more (first ++ ss))) (further_in (item_in text) spelled_item e.more)
     (behind names next objective_first objective_more (name (name_in text l)) (colon ∷ []) (spelled_sum spelled_item (sum_in (item_in text) e)) h) in
-    let q : AllByRecursion (λ (m : Sign × Item). IsFitItem text names m.1) e.more × (weight_of item_weight e.more ≤ 65536) =
+    let q : AllByRecursion (λ (m : Sign × Item). IsFitItem text names m.1) e.more × (weight_of item_weight e.more ≤ most_terms Large) =
     fit_items text names next e.more (placed_right names next objective_more first more g) in (
       record {
         first = fit_item text names (follow next (placed objective_more more)) objective_more e.first objective_plain (placed_left names next objective_more first more g);
@@ -316,8 +318,8 @@ fit_part text names next (parts.Binaries ns) h =
 -- a tree that fits, with how many terms it has at most
 pub record FitsWell (text : List ℕ) (names : List Name) (t : Tree) : Type 0 where
   pub fit : IsFitTree text names t
-  pub few_costs : objective_size t.objective ≤ 65536
-  pub few_terms : AllByRecursion (λ r. row_size r ≤ 65536) t.rows
+  pub few_costs : objective_size t.objective ≤ most_terms Large
+  pub few_terms : AllByRecursion (λ r. row_size r ≤ most_terms Large) t.rows
 
 pub fit_tree : (text : List ℕ) (names : List Name) (t : Tree) → Fine names None (written (tree_in text t)) → FitsWell text names t
 unfolding written
@@ -331,7 +333,7 @@ fit_tree text names t h =
     let body : Fine names None (front ++ tail) =
     subst (λ ss. Fine names None (headed objective_first objective_more (spelled_label (label_in text t.label) ++ ss) ++ tail)) (same_symbols (option_map (sum_in (item_in text)) t.objective))
     (fine_right names None begin (written_objective (tree_in text t) ++ tail) h) in
-    let o : MatchOption t.objective (Unit {0}) (IsFitSum (IsFitItem text names)) × (objective_size t.objective ≤ 65536) =
+    let o : MatchOption t.objective (Unit {0}) (IsFitSum (IsFitItem text names)) × (objective_size t.objective ≤ most_terms Large) =
     fit_objective text names (Some (word sections.Rows)) t.label t.objective refl (fine_left names None front tail body) in
     let behind_rows : Fine names None (rs ++ (ps ++ end)) =
     fine_right names None (written_word sections.Rows ∷ []) (rs ++ (ps ++ end)) (fine_right names None front tail body) in
@@ -349,7 +351,7 @@ fit_tree text names t h =
             (fit_each (IsFitPart text names) (λ p. written_part (part_in text p)) names (follow None end) (λ p n k. fit_part text names n p k) t.parts parts_fine);
       };
       few_costs = o.1;
-      few_terms = fit_each (λ r. row_size r ≤ 65536) (λ r. written_row (row_in text r)) names (follow None (ps ++ end)) (λ r n k. (fit_row text names n r k).1) t.rows rows_fine;
+      few_terms = fit_each (λ r. row_size r ≤ most_terms Large) (λ r. written_row (row_in text r)) names (follow None (ps ++ end)) (λ r n k. (fit_row text names n r k).1) t.rows rows_fine;
     }
   where
     same_symbols : (o : Option (plain.Sum plain.Item)) → (elim o [ None ↦ [] | Some e ↦ spelled_sum spelled_item e ]) ≡ objective_symbols o

@@ -1,5 +1,7 @@
 -- The parts of a text's tree keep the limits of a model.
 use Rattle.std.proofs.Common.{◌≡◌, ◌∙◌, refl, sym, ap, subst, ℕ, ◌+◌, ◌<◌, ◌≤◌, ◌^◌, Bool, true, false, not, ◌||◌, ◌&&◌, List, [], ◌∷◌, ◌++◌, map, length, get_or, Option, Some, None, All, arith, if◌then◌else◌}
+use Rattle.bp_theory.specs.Limits.{most_rows, most_terms, most_variables}
+use Rattle.bp_theory.specs.declared.Limits.{Limits}
 use Rattle.std.specs.Prelude.{ℤ, pos, int_le, int_lt, unsigned_abs, flat_map, filter_map, sum_by, ◌≤ℤ◌}
 use Rattle.std.specs.List.{AllByRecursion}
 use Rattle.std.specs.Option.{option_map}
@@ -201,22 +203,23 @@ items_length text names turned (Some e) =
         ∙ ap (λ k. item_weight m.1 + k) (each more)
 
 -- the parts of a text keep the limits
-pub parts_limited : (text : List ℕ) (tokens : List Tok) (t : Tree) (p : Parts) → IsTextOf text tokens (tree_in text t) → ArePartsOf (tree_in text t) p → IsWithinLimits p
-parts_limited text tokens t p h are =
+pub parts_limited : (limits : Limits) (text : List ℕ) (tokens : List Tok) (t : Tree) (p : Parts) → IsTextOf limits text tokens (tree_in text t) → ArePartsOf limits (tree_in text t) p → IsWithinLimits p
+parts_limited limits text tokens t p h are =
     let names : List Name = variables (tokens_of (tree_in text t)) in
-    let fit : FitsWell text names t = text_fits text tokens t names h refl in
-    let limits : (length (variables (tokens_of (tree_in text t))) ≤ 4096) × (length (row_names (tokens_of (tree_in text t))) ≤ 8192) × (term_count (tokens_of (tree_in text t)) ≤ 65536) =
-    within_limits (tokens_of (tree_in text t)) h.roles in
+    let fit : FitsWell text names t = text_fits limits text tokens t names h refl in
+    let within : (length (variables (tokens_of (tree_in text t))) ≤ most_variables limits) × (length (row_names (tokens_of (tree_in text t))) ≤ most_rows limits) × (term_count (tokens_of (tree_in text t)) ≤ most_terms limits) =
+    within_limits limits (tokens_of (tree_in text t)) h.roles in
     let small : AreSmall (flat_map part_statements (map (part_in text) t.parts)) = parts_small text names t.parts (recursion_from_All (IsFitPart text names) t.parts fit.fit.parts) in
     record {
-      variables = omega (arith, ap length are.spans, length-map names (λ n. span_of (ends (tree_in text t) n)), limits.0);
+      variables = omega (arith, ap length are.spans, length-map names (λ n. span_of (ends (tree_in text t) n)), within.0, ap most_variables are.same_limits);
       rows = omega (
         arith,
         ap length are.rows,
         length-map (map (row_in text) t.rows) (raw_row names),
         length-map t.rows (row_in text),
         length-row_names (tree_in text t),
-        limits.1,
+        within.1,
+        ap most_rows are.same_limits,
       );
       terms = omega (
         arith,
@@ -226,7 +229,8 @@ parts_limited text tokens t p h are =
         rows_length text names t.rows,
         terms_counted text t,
         terms_are (tree_in text t),
-        limits.2,
+        within.2,
+        ap most_terms are.same_limits,
       );
       ends = subst (All HasSmallEnds) (sym are.spans)
           (All-map HasSmallEnds (λ n. span_of (ends (tree_in text t) n)) names (λ k d l. ends_small (tree_in text t) (get_or names k d) small));

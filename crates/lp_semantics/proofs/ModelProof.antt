@@ -1,5 +1,6 @@
 -- The model that a tree's parts make is the tree's, and what the parts are refused for is the tree's first fault.
 use Rattle.std.proofs.Common.{◌≡◌, ◌∙◌, refl, sym, ap, subst, ℕ, zero, suc, ◌+◌, ◌<◌, ◌≤◌, ◌^◌, false, List, [], ◌∷◌, map, length, get_or, Option, Some, None, All, MatchOption, arith, if◌then◌else◌, ⊎_elim, ◌*◌}
+use Rattle.bp_theory.specs.declared.Limits.{Limits}
 use Rattle.bp_theory.specs.Limits.{most_bytes}
 use Rattle.std.specs.Prelude.{pos, unsigned_abs, sum_by, zip, nat_lt, max}
 use Rattle.std.specs.Str.{bytes_eq}
@@ -101,12 +102,12 @@ rows_are text names (r ∷ rs) [] distinct fit h = absurd h
 rows_are text names (r ∷ rs) (m ∷ made) distinct fit h = (row_is text names r m distinct fit.0 h.0, rows_are text names rs made distinct fit.1 h.1)
 
 -- what the parts of a tree make is the program of its meaning
-pub makes_program : (text : List ℕ) (tokens : List Tok) (t : Tree) (p : Parts) (m : NamedProgram) → IsTextOf text tokens (tree_in text t) → ArePartsOf (tree_in text t) p
+pub makes_program : (limits : Limits) (text : List ℕ) (tokens : List Tok) (t : Tree) (p : Parts) (m : NamedProgram) → IsTextOf limits text tokens (tree_in text t) → ArePartsOf limits (tree_in text t) p
     → Makes p m → IsProgramOf (model_of (tree_in text t)) m
 unfolding model_of
-makes_program text tokens t p m h are made =
+makes_program limits text tokens t p m h are made =
     let names : List Name = variables (tokens_of (tree_in text t)) in
-    let fit : FitsWell text names t = text_fits text tokens t names h refl in
+    let fit : FitsWell text names t = text_fits limits text tokens t names h refl in
     let distinct : IsDistinct bytes_eq names = variables_distinct (tree_in text t) in
     record {
       names = made.names ∙ are.names;
@@ -197,11 +198,11 @@ unfolding model_of
 length-model_rows t = length-map t.rows (λ r. model_row (variables (tokens_of t)) (row_meaning r))
 
 -- no sum of a tree is too large
-pub no_activity : (t : plain.SyntaxTree) (m : NamedProgram) → AreVariablesSound t → IsProgramOf (model_of t) m → cost_limit m.program < 2 ^ 62 → All (KeepsActivity m.program) m.program.rows
-    → meaning_fault t ≡ None
+pub no_activity : (limits : Limits) (t : plain.SyntaxTree) (m : NamedProgram) → AreVariablesSound limits t → IsProgramOf (model_of t) m → cost_limit m.program < 2 ^ 62 → All (KeepsActivity m.program) m.program.rows
+    → meaning_fault limits t ≡ None
 unfolding meaning_fault activity_fault
-no_activity t m sound h costs keeps =
-    ap (λ o. or_else o (or_else (digits_fault t) (activity_fault t))) sound.variables
+no_activity limits t m sound h costs keeps =
+    ap (λ o. or_else o (or_else (digits_fault limits t) (activity_fault t))) sound.variables
     ∙ ap (λ o. or_else o (activity_fault t)) sound.digits
     ∙ ap (λ o. or_else o (first_found (row_fault (model_of t).spans) (zip (row_places 0 (tokens_of t)) (model_of t).rows)))
     (small_enough 0 (largest_activity (unsigned_abs (model_of t).constant) (model_of t).costs (model_of t).spans)
@@ -210,22 +211,22 @@ no_activity t m sound h costs keeps =
     (recursion_from_All (KeepsActivity m.program) m.program.rows keeps)
 
 -- the objective's sum is too large
-pub objective_activity : (t : plain.SyntaxTree) (m : NamedProgram) → AreVariablesSound t → IsProgramOf (model_of t) m → 2 ^ 62 ≤ cost_limit m.program → meaning_fault t ≡ Some (0, Activity)
+pub objective_activity : (limits : Limits) (t : plain.SyntaxTree) (m : NamedProgram) → AreVariablesSound limits t → IsProgramOf (model_of t) m → 2 ^ 62 ≤ cost_limit m.program → meaning_fault limits t ≡ Some (0, Activity)
 unfolding meaning_fault activity_fault
-objective_activity t m sound h costs =
-    ap (λ o. or_else o (or_else (digits_fault t) (activity_fault t))) sound.variables
+objective_activity limits t m sound h costs =
+    ap (λ o. or_else o (or_else (digits_fault limits t) (activity_fault t))) sound.variables
     ∙ ap (λ o. or_else o (activity_fault t)) sound.digits
     ∙ ap (λ o. or_else o (first_found (row_fault (model_of t).spans) (zip (row_places 0 (tokens_of t)) (model_of t).rows)))
     (too_large 0 (largest_activity (unsigned_abs (model_of t).constant) (model_of t).costs (model_of t).spans)
     (subst (λ a. 2 ^ 62 ≤ a) (cost_same (model_of t) m (long_costs t) h) costs))
 
 -- a row's sum is too large
-pub row_activity_fault : (t : plain.SyntaxTree) (m : NamedProgram) (i : ℕ) → AreVariablesSound t → IsProgramOf (model_of t) m → cost_limit m.program < 2 ^ 62 → IsFirstLarge m.program i
-    → meaning_fault t ≡ Some (get_or (row_places 0 (tokens_of t)) i 0, Activity)
+pub row_activity_fault : (limits : Limits) (t : plain.SyntaxTree) (m : NamedProgram) (i : ℕ) → AreVariablesSound limits t → IsProgramOf (model_of t) m → cost_limit m.program < 2 ^ 62 → IsFirstLarge m.program i
+    → meaning_fault limits t ≡ Some (get_or (row_places 0 (tokens_of t)) i 0, Activity)
 unfolding meaning_fault activity_fault
-row_activity_fault t m i sound h costs first =
+row_activity_fault limits t m i sound h costs first =
     let d : Row = record { sense = Le; low = pos 0; rhs = pos 0; terms = [] } in
-    ap (λ o. or_else o (or_else (digits_fault t) (activity_fault t))) sound.variables
+    ap (λ o. or_else o (or_else (digits_fault limits t) (activity_fault t))) sound.variables
     ∙ ap (λ o. or_else o (activity_fault t)) sound.digits
     ∙ ap (λ o. or_else o (first_found (row_fault (model_of t).spans) (zip (row_places 0 (tokens_of t)) (model_of t).rows)))
     (small_enough 0 (largest_activity (unsigned_abs (model_of t).constant) (model_of t).costs (model_of t).spans)
@@ -236,30 +237,31 @@ row_activity_fault t m i sound h costs first =
     (λ k l. first.first k d l)
 
 -- what parts are refused for in their sums is the tree's first fault
-pub refused_sums : (text : List ℕ) (tokens : List Tok) (t : Tree) (p : Parts) (fault : ModelFault) (row : Option ℕ) → IsTextOf text tokens (tree_in text t)
-    → ArePartsOf (tree_in text t) p → AreVariablesSound (tree_in text t) → fault ≡ TooLarge row → HasModelFault p fault → IsRefused (tree_in text t) (Sums row)
-refused_sums text tokens t p fault None h are sound e f =
+pub refused_sums : (limits : Limits) (text : List ℕ) (tokens : List Tok) (t : Tree) (p : Parts) (fault : ModelFault) (row : Option ℕ) → IsTextOf limits text tokens (tree_in text t)
+    → ArePartsOf limits (tree_in text t) p → AreVariablesSound limits (tree_in text t) → fault ≡ TooLarge row → HasModelFault p fault → IsRefused limits (tree_in text t) (Sums row)
+refused_sums limits text tokens t p fault None h are sound e f =
     let g : HasModelFault p (TooLarge None) = subst (HasModelFault p) e f in
-    objective_activity (tree_in text t) g.2.0 sound (makes_program text tokens t p g.2.0 h are g.2.1) g.2.2
-refused_sums text tokens t p fault (Some i) h are sound e f =
+    objective_activity limits (tree_in text t) g.2.0 sound (makes_program limits text tokens t p g.2.0 h are g.2.1) g.2.2
+refused_sums limits text tokens t p fault (Some i) h are sound e f =
     let g : HasModelFault p (TooLarge (Some i)) = subst (HasModelFault p) e f in
-    let program : IsProgramOf (model_of (tree_in text t)) g.2.0 = makes_program text tokens t p g.2.0 h are g.2.1 in (
+    let program : IsProgramOf (model_of (tree_in text t)) g.2.0 = makes_program limits text tokens t p g.2.0 h are g.2.1 in (
       omega (arith, g.2.3.there, AllZip-length IsRowOf (model_of (tree_in text t)).rows g.2.0.program.rows program.rows, length-model_rows (tree_in text t)),
-      row_activity_fault (tree_in text t) g.2.0 i sound program g.2.2 g.2.3,
+      row_activity_fault limits (tree_in text t) g.2.0 i sound program g.2.2 g.2.3,
     )
 
 -- the model of parts is that of the tree
-pub model_made : (text : List ℕ) (tokens : List Tok) (t : Tree) (p : Parts) (m : NamedProgram) → IsTextOf text tokens (tree_in text t)
-    → ArePartsOf (tree_in text t) p → AreVariablesSound (tree_in text t) → Makes p m → IsKept m → IsModelOf (tree_in text t) m
-model_made text tokens t p m h are sound made kept =
-    let program : IsProgramOf (model_of (tree_in text t)) m = makes_program text tokens t p m h are made in
-    record { sound = no_activity (tree_in text t) m sound program kept.cost_activity kept.row_activity; program = program }
+pub model_made : (limits : Limits) (text : List ℕ) (tokens : List Tok) (t : Tree) (p : Parts) (m : NamedProgram) → IsTextOf limits text tokens (tree_in text t)
+    → ArePartsOf limits (tree_in text t) p → AreVariablesSound limits (tree_in text t) → Makes p m → IsKept m → IsModelOf limits (tree_in text t) m
+model_made limits text tokens t p m h are sound made kept =
+    let program : IsProgramOf (model_of (tree_in text t)) m = makes_program limits text tokens t p m h are made in
+    record { sound = no_activity limits (tree_in text t) m sound program kept.cost_activity kept.row_activity; program = program; same_limits = made.limits ∙ are.same_limits }
 
 -- a text means the model of its tree
-pub means_text : (text : List ℕ) (tokens : List Tok) (t : plain.SyntaxTree) (m : NamedProgram) → length text ≤ most_bytes → Cut text tokens → IsTextOf text tokens t
-    → IsModelOf t m → Means text m
-means_text text tokens t m size cut h is = (
+pub means_text : (limits : Limits) (text : List ℕ) (tokens : List Tok) (t : plain.SyntaxTree) (m : NamedProgram) → length text ≤ most_bytes limits → Cut text tokens → IsTextOf limits text tokens t
+    → IsModelOf limits t m → Means limits text m
+means_text limits text tokens t m size cut h is = (
   model_of t,
   record { tokens = tokens; tree = t; size = size; cut = cut; text_of = h; sound = is.sound; means = refl },
   is.program,
+  is.same_limits,
 )

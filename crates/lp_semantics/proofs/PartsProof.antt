@@ -1,5 +1,9 @@
 -- The parts of a text's tree fit together.
 use Rattle.std.proofs.Common.{◌≡◌, ◌∙◌, refl, sym, ap, subst, ℕ, ◌+◌, ◌<◌, ◌≤◌, ◌^◌, Bool, false, List, [], ◌∷◌, map, length, Option, Some, None, All, Contains, MatchOption, arith}
+use Rattle.bp_theory.specs.Limits.{most_digits, most_rows, most_terms, most_variables}
+use Rattle.bp_theory.specs.declared.Limits.TheVariants.{Large}
+use Rattle.bp_theory.specs.declared.Limits.{Limits}
+use Rattle.bp_theory.proofs.LimitLaws.{few_rows, few_variables}
 use Rattle.std.specs.Prelude.{filter_map}
 use Rattle.std.specs.List.{AllByRecursion, cons_option}
 use Rattle.std.specs.Option.{option_map}
@@ -54,8 +58,8 @@ use Rattle.lp_semantics.proofs.FaultLemmas.{Tells, table_tells, spans_are, no_va
 use Rattle.lp_semantics.proofs.RowLemmas.{length-row_names}
 
 -- a text's tree fits
-pub text_fits : (text : List ℕ) (tokens : List Tok) (t : Tree) (names : List Name) → IsTextOf text tokens (tree_in text t) → names ≡ variables (tokens_of (tree_in text t)) → FitsWell text names t
-text_fits text tokens t names h e = fit_tree text names t (fine_text text tokens (tree_in text t) names h e)
+pub text_fits : (limits : Limits) (text : List ℕ) (tokens : List Tok) (t : Tree) (names : List Name) → IsTextOf limits text tokens (tree_in text t) → names ≡ variables (tokens_of (tree_in text t)) → FitsWell text names t
+text_fits limits text tokens t names h e = fit_tree text names t (fine_text limits text tokens (tree_in text t) names h e)
 
 -- the names of sections are in the list
 bound_named : (text : List ℕ) (names : List Name) (b : Bound) → IsFitBound text names b → AreNamed names (statements (bound_in text b))
@@ -96,11 +100,11 @@ parts_named text names [] h = tt
 parts_named text names (p ∷ ps) h = (part_named text names p h.0, parts_named text names ps h.1)
 
 -- the table of a text's tree
-pub text_tells : (text : List ℕ) (tokens : List Tok) (t : Tree) (names : List Name) (table : List Stated)
-    → IsTextOf text tokens (tree_in text t) → names ≡ variables (tokens_of (tree_in text t))
+pub text_tells : (limits : Limits) (text : List ℕ) (tokens : List Tok) (t : Tree) (names : List Name) (table : List Stated)
+    → IsTextOf limits text tokens (tree_in text t) → names ≡ variables (tokens_of (tree_in text t))
     → table ≡ table_of names (map (part_in text) t.parts) → Tells (tree_in text t) table
-text_tells text tokens t names table h e made =
-    let fit : FitsWell text names t = text_fits text tokens t names h e in
+text_tells limits text tokens t names table h e made =
+    let fit : FitsWell text names t = text_fits limits text tokens t names h e in
     let there : AllByRecursion (HasNames names) (map (part_in text) t.parts) =
     parts_named text names t.parts (recursion_from_All (IsFitPart text names) t.parts fit.fit.parts) in
     let own : AllByRecursion (HasNames (variables (tokens_of (tree_in text t)))) (map (part_in text) t.parts) =
@@ -108,33 +112,33 @@ text_tells text tokens t names table h e made =
     subst (Tells (tree_in text t)) (sym (made ∙ ap (λ ns. table_of ns (map (part_in text) t.parts)) e)) (table_tells (tree_in text t) own)
 
 -- a fault of variables is the tree's first
-variable_first : (t : plain.SyntaxTree) (f : ℕ × LpKind) → variable_fault t ≡ Some f → meaning_fault t ≡ Some f
+variable_first : (limits : Limits) (t : plain.SyntaxTree) (f : ℕ × LpKind) → variable_fault t ≡ Some f → meaning_fault limits t ≡ Some f
 unfolding meaning_fault
-variable_first t f e = ap (λ o. or_else o (or_else (digits_fault t) (activity_fault t))) e
+variable_first limits t f e = ap (λ o. or_else o (or_else (digits_fault limits t) (activity_fault t))) e
 
-digits_first : (t : plain.SyntaxTree) (f : ℕ × LpKind) → variable_fault t ≡ None → digits_fault t ≡ Some f → meaning_fault t ≡ Some f
+digits_first : (limits : Limits) (t : plain.SyntaxTree) (f : ℕ × LpKind) → variable_fault t ≡ None → digits_fault limits t ≡ Some f → meaning_fault limits t ≡ Some f
 unfolding meaning_fault
-digits_first t f none e = ap (λ o. or_else o (or_else (digits_fault t) (activity_fault t))) none ∙ ap (λ o. or_else o (activity_fault t)) e
+digits_first limits t f none e = ap (λ o. or_else o (or_else (digits_fault limits t) (activity_fault t))) none ∙ ap (λ o. or_else o (activity_fault t)) e
 
 -- what a table's first fault is for the tree
-pub refused : (t : plain.SyntaxTree) (table : List Stated) (fault : MeaningFault) → Tells t table → IsFaultOfTable table fault → IsRefused t fault
-refused t table (At v kind) h first = (omega (arith, first.there, h.long), variable_first t _ (first_variable t table v kind h first))
-refused t table (Sums row) h first = absurd first
-refused t table NoMemory h first = tt
+pub refused : (limits : Limits) (t : plain.SyntaxTree) (table : List Stated) (fault : MeaningFault) → Tells t table → IsFaultOfTable table fault → IsRefused limits t fault
+refused limits t table (At v kind) h first = (omega (arith, first.there, h.long), variable_first limits t _ (first_variable t table v kind h first))
+refused limits t table (Sums row) h first = absurd first
+refused limits t table NoMemory h first = tt
 
 -- what is too many digits for the tree
-pub refused_past : (t : plain.SyntaxTree) (table : List Stated) (spans : List Span) (v : ℕ) → Tells t table → All (λ s. fault_in s ≡ None) table
-    → spans ≡ map (λ s. span_of (ends_in s)) table → IsFirstPast spans v → IsRefused t (At v Limit)
-refused_past t table spans v h sound e past = (
+pub refused_past : (limits : Limits) (t : plain.SyntaxTree) (table : List Stated) (spans : List Span) (v : ℕ) → Tells t table → All (λ s. fault_in s ≡ None) table
+    → spans ≡ map (λ s. span_of (ends_in s)) table → IsFirstPast limits spans v → IsRefused limits t (At v Limit)
+refused_past limits t table spans v h sound e past = (
   omega (arith, past.there, ap length e, length-map table (λ s. span_of (ends_in s)), h.long),
-  digits_first t _ (no_variable t table h sound) (many_digits t spans v (e ∙ spans_are t table h) past),
+  digits_first limits t _ (no_variable t table h sound) (many_digits limits t spans v (e ∙ spans_are t table h) past),
 )
 
-pub variables_sound : (t : plain.SyntaxTree) (table : List Stated) (spans : List Span) → Tells t table → All (λ s. fault_in s ≡ None) table
-    → spans ≡ map (λ s. span_of (ends_in s)) table → zone_bits spans ≤ 8192 → AreVariablesSound t
-variables_sound t table spans h sound e few = record {
+pub variables_sound : (limits : Limits) (t : plain.SyntaxTree) (table : List Stated) (spans : List Span) → Tells t table → All (λ s. fault_in s ≡ None) table
+    → spans ≡ map (λ s. span_of (ends_in s)) table → zone_bits spans ≤ most_digits limits → AreVariablesSound limits t
+variables_sound limits t table spans h sound e few = record {
   variables = no_variable t table h sound;
-  digits = few_digits t spans (e ∙ spans_are t table h) few;
+  digits = few_digits limits t spans (e ∙ spans_are t table h) few;
 }
 
 -- the terms of rows and of the objective name variables of the list, and are few
@@ -162,7 +166,7 @@ sum_below text names e h =
     each [] all = tt
     each (m ∷ more) all = (term_below text names (turned_by false m.0) m.1 all.0, each more all.1)
 
-sum_few : (text : List ℕ) (names : List Name) (e : Sum Term) → sum_size e ≤ 65536
+sum_few : (text : List ℕ) (names : List Name) (e : Sum Term) → sum_size e ≤ most_terms Large
     → length (raw_terms names false (as_items (sum_in (term_in text) e))) < 2 ^ 32
 sum_few text names e l =
     omega (arith, l, ap length (row_raw text names e), length-map e.more (λ (m : Sign × Term). raw_term names (turned_by false m.0) (term_in text m.1)))
@@ -173,7 +177,7 @@ row_below text names (rows.NumberFirst label v c e) h = sum_below text names e h
 row_below text names (rows.Ranged label v upward e w) h = sum_below text names e h.0
 row_below text names (rows.Ranged label v downward e w) h = sum_below text names e h.0
 
-row_few : (text : List ℕ) (names : List Name) (r : Row) → row_size r ≤ 65536 → length (raw_row names (row_in text r)).terms < 2 ^ 32
+row_few : (text : List ℕ) (names : List Name) (r : Row) → row_size r ≤ most_terms Large → length (raw_row names (row_in text r)).terms < 2 ^ 32
 row_few text names (rows.ExpressionFirst label e c v) l = sum_few text names e l
 row_few text names (rows.NumberFirst label v c e) l = sum_few text names e l
 row_few text names (rows.Ranged label v upward e w) l = sum_few text names e l
@@ -216,7 +220,7 @@ pub item_size : (text : List ℕ) (names : List Name) (turned : Bool) (i : Item)
 item_size text names turned (items.Term t) ts = omega arith
 item_size text names turned (items.Constant c) ts = omega arith
 
-items_few : (text : List ℕ) (names : List Name) (turned : Bool) (e : Sum Item) → weight_of item_weight e.more ≤ 65536
+items_few : (text : List ℕ) (names : List Name) (turned : Bool) (e : Sum Item) → weight_of item_weight e.more ≤ most_terms Large
     → length (raw_terms names turned (items_of (sum_in (item_in text) e))) < 2 ^ 32
 items_few text names turned e l =
     omega (
@@ -243,25 +247,25 @@ pub objective_below : (text : List ℕ) (names : List Name) (turned : Bool) (o :
 objective_below text names turned None h = tt
 objective_below text names turned (Some e) h = items_below text names turned e h
 
-objective_few : (text : List ℕ) (names : List Name) (turned : Bool) (o : Option (Sum Item)) → objective_size o ≤ 65536
+objective_few : (text : List ℕ) (names : List Name) (turned : Bool) (o : Option (Sum Item)) → objective_size o ≤ most_terms Large
     → length (raw_terms names turned (elim (option_map (sum_in (item_in text)) o) [ None ↦ [] | Some e ↦ items_of e ])) < 2 ^ 32
 objective_few text names turned None l = omega arith
 objective_few text names turned (Some e) l = items_few text names turned e l
 
 -- the parts fit together
-pub parts_fit : (text : List ℕ) (tokens : List Tok) (t : Tree) (p : Parts) → IsTextOf text tokens (tree_in text t) → ArePartsOf (tree_in text t) p → AreFitting p
-parts_fit text tokens t p h are =
+pub parts_fit : (limits : Limits) (text : List ℕ) (tokens : List Tok) (t : Tree) (p : Parts) → IsTextOf limits text tokens (tree_in text t) → ArePartsOf limits (tree_in text t) p → AreFitting p
+parts_fit limits text tokens t p h are =
     let names : List Name = variables (tokens_of (tree_in text t)) in
-    let fit : FitsWell text names t = text_fits text tokens t names h refl in
-    let limits : (length (variables (tokens_of (tree_in text t))) ≤ 4096) × (length (row_names (tokens_of (tree_in text t))) ≤ 8192) × _ = within_limits (tokens_of (tree_in text t)) h.roles in
+    let fit : FitsWell text names t = text_fits limits text tokens t names h refl in
+    let within : (length (variables (tokens_of (tree_in text t))) ≤ most_variables limits) × (length (row_names (tokens_of (tree_in text t))) ≤ most_rows limits) × _ = within_limits limits (tokens_of (tree_in text t)) h.roles in
     let long : length p.spans ≡ length names = ap length are.spans ∙ length-map names (λ n. span_of (ends (tree_in text t) n)) in
     let tall : length p.rows ≡ length t.rows = ap length are.rows ∙ length-map (map (row_in text) t.rows) (raw_row names) ∙ length-map t.rows (row_in text) in
     let rows_named : length (row_names (tokens_of (tree_in text t))) ≡ length t.rows = length-row_names (tree_in text t) ∙ length-map t.rows (row_in text) in
     record {
       named = ap length are.names ∙ sym long;
       row_named = ap length are.row_names ∙ rows_named ∙ sym tall;
-      variables = omega (arith, long, limits.0);
-      rows = omega (arith, tall, rows_named, limits.1);
+      variables = omega (arith, long, within.0, few_variables limits);
+      rows = omega (arith, tall, rows_named, within.1, few_rows limits);
       few_costs = omega (arith, ap length are.costs, objective_few text names t.maximises t.objective fit.few_costs);
       few_terms = subst (All (λ (row : theory_row.Row). length row.terms < 2 ^ 32)) (sym are.rows)
           (All-from_recursion (λ (row : theory_row.Row). length row.terms < 2 ^ 32) (map (raw_row names) (map (row_in text) t.rows))
@@ -276,7 +280,7 @@ parts_fit text tokens t p h are =
           (below_each t.rows (recursion_from_All (IsFitRow text names) t.rows fit.fit.rows)))));
     }
   where
-    few_each : (rs : List Row) → AllByRecursion (λ r. row_size r ≤ 65536) rs
+    few_each : (rs : List Row) → AllByRecursion (λ r. row_size r ≤ most_terms Large) rs
         → AllByRecursion (λ r. length (raw_row (variables (tokens_of (tree_in text t))) (row_in text r)).terms < 2 ^ 32) rs
     few_each [] all = tt
     few_each (r ∷ rs) all = (row_few text (variables (tokens_of (tree_in text t))) r all.0, few_each rs all.1)

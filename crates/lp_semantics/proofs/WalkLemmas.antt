@@ -1,5 +1,7 @@
 -- What is seen along the written symbols of a tree: the names of variables, the terms and the numbers.
 use Rattle.std.proofs.Common.{◌≡◌, ◌∙◌, refl, sym, ap, subst, ℕ, ◌+◌, ◌<◌, ◌≤◌, ◌^◌, true, false, List, [], ◌∷◌, ◌++◌, map, Option, Some, None, MatchOption, Contains, arith, if◌then◌else◌}
+use Rattle.bp_theory.specs.Limits.{most_terms}
+use Rattle.bp_theory.specs.declared.Limits.TheVariants.{Large}
 use Rattle.std.specs.Prelude.{filter_map, count_by, flat_map}
 use Rattle.std.specs.List.{cons_option, AllByRecursion}
 use Rattle.std.proofs.lemmas.List.{map-append, append_assoc}
@@ -84,7 +86,7 @@ IsSmallSymbol _ = Unit {0}
 pub record Fine (names : List Name) (next : Option Symbol) (ws : List Written) : Type 0 where
   pub known : AllByRecursion (Contains names) (named next ws)
   pub small : AllByRecursion (λ (w : Written). IsSmallSymbol w.symbol) ws
-  pub few : counted next ws ≤ 65536
+  pub few : counted next ws ≤ most_terms Large
 
 pub all_left : {X : Type 0} (P : X → Type 0) (xs ys : List X) → AllByRecursion P (xs ++ ys) → AllByRecursion P xs
 all_left P [] ys h = tt

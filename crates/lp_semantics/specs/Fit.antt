@@ -1,5 +1,5 @@
 -- A tree that was read: its numbers are those of texts, and its names are in the list of variables.
-use Rattle.std.specs.Prelude.{ℕ, ◌<◌, ◌^◌, List, MatchOption, All, Contains}
+use Rattle.std.specs.Prelude.{ℕ, ◌<◌, List, MatchOption, All, Contains}
 use Rattle.bp_theory.specs.Limits.{number_limit}
 use Rattle.lp_syntax.specs.declared.tree.TextRange.{TextRange}
 use Rattle.lp_syntax.specs.declared.tree.Signed.{Signed}

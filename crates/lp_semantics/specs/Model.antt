@@ -1,5 +1,6 @@
 -- The named program that a text means: the model of its tree, with terms in place of rows of coefficients.
 use Rattle.std.specs.Prelude.{◌≡◌, ℕ, List, ℤ, pos, slice_index_or}
+use Rattle.bp_theory.specs.declared.Limits.{Limits}
 use Rattle.std.specs.List.{AllZip}
 use Rattle.bp_theory.specs.Program.{coefficient}
 use Rattle.bp_theory.specs.Decomposition.{IsTidyFrom}
@@ -33,11 +34,11 @@ pub record IsProgramOf (meant : TextModel) (m : NamedProgram) : Type 0 where
   pub constant : m.program.constant ≡ meant.constant
   pub maximises : m.program.maximises ≡ meant.maximises
 
--- a text means a named program
-abbrev pub Means : List ℕ → NamedProgram → Type 0
-Means text m = (meant : TextModel) × ReadsModel text meant × IsProgramOf meant m
+-- under limits, a text means a named program, which has them
+abbrev pub Means : Limits → List ℕ → NamedProgram → Type 0
+Means limits text m = (meant : TextModel) × ReadsModel limits text meant × IsProgramOf meant m × (m.program.limits ≡ limits)
 
 -- the fault that a text is refused for is its first one, or want of memory
-abbrev pub IsFaultOf : List ℕ → LpFault → Type 0
-IsFaultOf text (At line kind) = HasLpTextFault text line kind
-IsFaultOf text NoMemory = Unit {0}
+abbrev pub IsFaultOf : Limits → List ℕ → LpFault → Type 0
+IsFaultOf limits text (At line kind) = HasLpTextFault limits text line kind
+IsFaultOf limits text NoMemory = Unit {0}

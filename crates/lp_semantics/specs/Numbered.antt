@@ -1,5 +1,6 @@
 -- What a tree says of its variables by number: their bounds, and the terms as they are written.
 use Rattle.std.specs.Prelude.{◌≡◌, ℕ, zero, suc, ◌+◌, ◌<◌, ◌≤◌, Bool, true, false, not, ◌||◌, if◌then◌else◌, List, [], ◌∷◌, take, filter_map, fold, length, replicate, slice_set, slice_index_or, Option, Some, None, unwrap_or, pos}
+use Rattle.bp_theory.specs.declared.Limits.{Limits}
 use Rattle.bp_theory.specs.Limits.{most_digits}
 use Rattle.std.specs.Str.{bytes_eq}
 use Rattle.bp_theory.specs.Digits.{zone_bits}
@@ -106,10 +107,10 @@ pub record IsFirstBoundsFault (table : List Stated) (number : ℕ) (kind : LpKin
   pub first : (k : ℕ) → k < number → fault_in (stated_at table k) ≡ None
 
 -- the first variable with which the spans' binary digits are too many
-pub record IsFirstPast (spans : List Span) (number : ℕ) : Type 0 where
+pub record IsFirstPast (limits : Limits) (spans : List Span) (number : ℕ) : Type 0 where
   pub there : number < length spans
-  pub before : zone_bits (take number spans) ≤ most_digits
-  pub past : most_digits < zone_bits (take (number + 1) spans)
+  pub before : zone_bits (take number spans) ≤ most_digits limits
+  pub past : most_digits limits < zone_bits (take (number + 1) spans)
 
 -- a sign in front, or none, that turns what is turned already or not
 abbrev pub turned_by : Bool → Sign → Bool

@@ -1,5 +1,6 @@
 -- The model that a text means, or its first fault.
-use Rattle.std.specs.Prelude.{◌≡◌, ℕ, ◌⊎◌, zip, ◌+◌, ◌<◌, ◌≤◌, ◌^◌, Bool, true, false, not, ◌&&◌, ◌||◌, nat_lt, if◌then◌else◌, List, [], ◌∷◌, ◌++◌, map, take, length, Option, None, Some, slice_get, nat_abs, MatchOption, IsFalse}
+use Rattle.std.specs.Prelude.{◌≡◌, ℕ, ◌⊎◌, zip, ◌+◌, ◌<◌, ◌≤◌, Bool, true, false, not, ◌&&◌, ◌||◌, nat_lt, if◌then◌else◌, List, [], ◌∷◌, ◌++◌, map, take, length, Option, None, Some, slice_get, nat_abs, MatchOption, IsFalse}
+use Rattle.bp_theory.specs.declared.Limits.{Limits}
 use Rattle.bp_theory.specs.Limits.{most_bytes, most_digits}
 use Rattle.std.specs.List.{list_any}
 use Rattle.std.specs.Str.{bytes_eq}
@@ -21,27 +22,27 @@ own_fault (unfit kind) = Some kind
 own_fault _ = None
 
 -- the symbols up to a place begin a text in which they have a fault by what they name or count as
-pub record HasRoleFault (all : List Symbol) (i : ℕ) (kind : LpKind) : Type 0 where
+pub record HasRoleFault (limits : Limits) (all : List Symbol) (i : ℕ) (kind : LpKind) : Type 0 where
   pub tree : SyntaxTree
   pub more : List Symbol
   pub text : IsText tree
   pub spelled : spelling tree ≡ take (i + 1) all ++ more
-  pub fault : role_fault (seen (take (i + 1) (sites tree)) all) ≡ Some kind
+  pub fault : role_fault limits (seen (take (i + 1) (sites tree)) all) ≡ Some kind
 
 -- the symbols up to a place begin no text
 unfoldable pub IsSyntaxFault : List Symbol → ℕ → LpKind → Type 0
 IsSyntaxFault all i kind = (BeginsText (take (i + 1) all) → ⊥) × (kind ≡ Syntax)
 
 -- The fault that stands at a token: its own first, then syntax, then that of its role.
-unfoldable pub StandsAt : List Symbol → ℕ → LpKind → Type 0
+unfoldable pub StandsAt : Limits → List Symbol → ℕ → LpKind → Type 0
 unfolding IsSyntaxFault
-StandsAt all i kind = MatchOption (slice_get all i) ⊥ (λ s.
-    MatchOption (own_fault s) (IsSyntaxFault all i kind ⊎ HasRoleFault all i kind) (λ own. kind ≡ own))
+StandsAt limits all i kind = MatchOption (slice_get all i) ⊥ (λ s.
+    MatchOption (own_fault s) (IsSyntaxFault all i kind ⊎ HasRoleFault limits all i kind) (λ own. kind ≡ own))
 
 -- no fault stands at the first n tokens
-unfoldable pub AreSound : List Symbol → ℕ → Type 0
+unfoldable pub AreSound : Limits → List Symbol → ℕ → Type 0
 unfolding StandsAt
-AreSound all n = (i : ℕ) (kind : LpKind) → i < n → StandsAt all i kind → ⊥
+AreSound limits all n = (i : ℕ) (kind : LpKind) → i < n → StandsAt limits all i kind → ⊥
 
 abbrev pub is_end_word : Symbol → Bool
 is_end_word (word sections.End) = true
@@ -98,10 +99,10 @@ first_past limit so_far [] = None
 first_past limit so_far (p ∷ more) = if nat_lt limit (so_far + p.1) then Some p.0 else first_past limit (so_far + p.1) more
 
 -- more binary digits than may be in all spans
-unfoldable pub digits_fault : SyntaxTree → Option (ℕ × LpKind)
+unfoldable pub digits_fault : Limits → SyntaxTree → Option (ℕ × LpKind)
 unfolding tokens_of
-digits_fault t =
-    let past = first_past most_digits 0 (map (λ n. (n, span_bits (span_of (ends t n)))) (variables (tokens_of t))) in
+digits_fault limits t =
+    let past = first_past (most_digits limits) 0 (map (λ n. (n, span_bits (span_of (ends t n)))) (variables (tokens_of t))) in
     elim past [ None ↦ None | Some n ↦ Some (place_of n (tokens_of t), Limit) ]
 
 -- a sum that may come to more than a number may: the objective's at its word, a row's at its first token
@@ -113,38 +114,38 @@ activity_fault t =
     (first_found (λ p. if nat_lt greatest (row_activity m.spans p.1) then Some (p.0, Activity) else None) (zip (row_places 0 (tokens_of t)) m.rows))
 
 -- the first fault of what a tree means, and the place of its token
-unfoldable pub meaning_fault : SyntaxTree → Option (ℕ × LpKind)
+unfoldable pub meaning_fault : Limits → SyntaxTree → Option (ℕ × LpKind)
 unfolding variable_fault digits_fault activity_fault
-meaning_fault t = or_else (variable_fault t) (or_else (digits_fault t) (activity_fault t))
+meaning_fault limits t = or_else (variable_fault t) (or_else (digits_fault limits t) (activity_fault t))
 
 -- the line of the i-th token
 abbrev pub line_of : List Tok → ℕ → ℕ
 line_of tokens i = elim (slice_get tokens i) [ None ↦ 0 | Some t ↦ t.line ]
 
 -- A text of a tree, whose tokens have no fault.
-pub record IsTextOf (text : List ℕ) (tokens : List Tok) (tree : SyntaxTree) : Type 0 where
+pub record IsTextOf (limits : Limits) (text : List ℕ) (tokens : List Tok) (tree : SyntaxTree) : Type 0 where
   pub grammar : IsText tree
   pub spelled : spelling tree ≡ symbols text tokens
-  pub roles : role_fault (tokens_of tree) ≡ None
+  pub roles : role_fault limits (tokens_of tree) ≡ None
 
--- A text means a model.
-pub record ReadsModel (text : List ℕ) (m : TextModel) : Type 0 where
+-- A text means a model under limits.
+pub record ReadsModel (limits : Limits) (text : List ℕ) (m : TextModel) : Type 0 where
   pub tokens : List Tok
   pub tree : SyntaxTree
-  pub size : length text ≤ most_bytes
+  pub size : length text ≤ most_bytes limits
   pub cut : Cut text tokens
-  pub text_of : IsTextOf text tokens tree
-  pub sound : meaning_fault tree ≡ None
+  pub text_of : IsTextOf limits text tokens tree
+  pub sound : meaning_fault limits tree ≡ None
   pub means : m ≡ model_of tree
 
--- The first fault of a text: its size; its first byte that can't be cut; its first token at fault; a lack of `end`;
--- then what its tree means.
-pub data HasLpTextFault (text : List ℕ) (line : ℕ) (kind : LpKind) : Type 0 where
-  too_long : most_bytes < length text → line ≡ 0 → kind ≡ Limit → HasLpTextFault text line kind
-  uncut : length text ≤ most_bytes → CutFault text line kind → HasLpTextFault text line kind
-  at_token : length text ≤ most_bytes → (tokens : List Tok) → Cut text tokens
-      → (i : ℕ) → AreSound (symbols text tokens) i → StandsAt (symbols text tokens) i kind → line ≡ line_of tokens i → HasLpTextFault text line kind
-  unended : length text ≤ most_bytes → (tokens : List Tok) → Cut text tokens
-      → AreSound (symbols text tokens) (length tokens) → IsFalse (is_ended (symbols text tokens)) → line ≡ line_at text (length text) → kind ≡ NoEnd → HasLpTextFault text line kind
-  in_meaning : length text ≤ most_bytes → (tokens : List Tok) → Cut text tokens
-      → (tree : SyntaxTree) → IsTextOf text tokens tree → (i : ℕ) → meaning_fault tree ≡ Some (i, kind) → line ≡ line_of tokens i → HasLpTextFault text line kind
+-- The first fault of a text under limits: its size; its first byte that can't be cut; its first token at fault; a lack
+-- of `end`; then what its tree means.
+pub data HasLpTextFault (limits : Limits) (text : List ℕ) (line : ℕ) (kind : LpKind) : Type 0 where
+  too_long : most_bytes limits < length text → line ≡ 0 → kind ≡ Limit → HasLpTextFault limits text line kind
+  uncut : length text ≤ most_bytes limits → CutFault text line kind → HasLpTextFault limits text line kind
+  at_token : length text ≤ most_bytes limits → (tokens : List Tok) → Cut text tokens
+      → (i : ℕ) → AreSound limits (symbols text tokens) i → StandsAt limits (symbols text tokens) i kind → line ≡ line_of tokens i → HasLpTextFault limits text line kind
+  unended : length text ≤ most_bytes limits → (tokens : List Tok) → Cut text tokens
+      → AreSound limits (symbols text tokens) (length tokens) → IsFalse (is_ended (symbols text tokens)) → line ≡ line_at text (length text) → kind ≡ NoEnd → HasLpTextFault limits text line kind
+  in_meaning : length text ≤ most_bytes limits → (tokens : List Tok) → Cut text tokens
+      → (tree : SyntaxTree) → IsTextOf limits text tokens tree → (i : ℕ) → meaning_fault limits tree ≡ Some (i, kind) → line ≡ line_of tokens i → HasLpTextFault limits text line kind

@@ -17,6 +17,7 @@ ghost use Rattle.lp_semantics.specs.PartsOf.{IsTextOfSome};
 ghost use Rattle.lp_semantics.specs.PartsOf.{ArePartsOf, AreLimited, AreVariablesSound, IsRefused, IsModelOf};
 
 use bp_model::{Model, ModelFault, Parts};
+use bp_theory::Limits;
 use lp_syntax::Tree;
 use lp_token::LpKind;
 use name_table::NameTable;
@@ -48,26 +49,27 @@ impl From<AllocError> for MeaningFault {
 // fault of its variables' bounds or digits.
 fn parts_of(
     alloc: Global,
+    limits: Limits,
     text: &[u8],
     tree: &Tree,
     names: NameTable,
     row_names: NameTable,
 ) -> Result<Parts, MeaningFault>
-    requires text_of { IsTextOfSome text.now (tree_in text.now tree.now) }
+    requires text_of { IsTextOfSome limits text.now (tree_in text.now tree.now) }
     requires variables { names ≡ roles.variables (tokens_of (tree_in text.now tree.now)) }
     requires row_names { row_names ≡ roles.row_names (tokens_of (tree_in text.now tree.now)) }
-    ensures parts { IfOk result (ArePartsOf (tree_in text.now tree.now)) }
+    ensures parts { IfOk result (ArePartsOf limits (tree_in text.now tree.now)) }
     ensures fitting { IfOk result AreFitting }
     ensures limited { IfOk result AreLimited }
-    ensures sound { IfOk result (λ _. AreVariablesSound (tree_in text.now tree.now)) }
-    ensures fault { IfErr result (IsRefused (tree_in text.now tree.now)) }
+    ensures sound { IfOk result (λ _. AreVariablesSound limits (tree_in text.now tree.now)) }
+    ensures fault { IfErr result (IsRefused limits (tree_in text.now tree.now)) }
 {
     let stated = bounds::stated_of(alloc, text, &names, tree.parts.as_slice())?;
     let spans = match spans::spans_of(alloc, stated.as_slice()) {
         Ok(spans) => spans,
         Err(fault) => return Err(fault),
     };
-    match spans::past_digits(spans.as_slice()) {
+    match spans::past_digits(limits, spans.as_slice()) {
         Some(variable) => return Err(MeaningFault::At {
             variable,
             kind: LpKind::Limit,
@@ -86,24 +88,26 @@ fn parts_of(
         costs: objective.costs,
         constant: objective.constant,
         maximises: tree.maximises,
+        limits,
     })
 }
 
 /// The model that a text's tree means, from its variables and the names of its rows; or the tree's first fault.
 pub fn model_of(
     alloc: Global,
+    limits: Limits,
     text: &[u8],
     tree: &Tree,
     names: NameTable,
     row_names: NameTable,
 ) -> Result<Model, MeaningFault>
-    requires text_of { IsTextOfSome text.now (tree_in text.now tree.now) }
+    requires text_of { IsTextOfSome limits text.now (tree_in text.now tree.now) }
     requires variables { names ≡ roles.variables (tokens_of (tree_in text.now tree.now)) }
     requires row_names { row_names ≡ roles.row_names (tokens_of (tree_in text.now tree.now)) }
-    ensures model { IfOk result (IsModelOf (tree_in text.now tree.now)) }
-    ensures fault { IfErr result (IsRefused (tree_in text.now tree.now)) }
+    ensures model { IfOk result (IsModelOf limits (tree_in text.now tree.now)) }
+    ensures fault { IfErr result (IsRefused limits (tree_in text.now tree.now)) }
 {
-    let parts = match parts_of(alloc, text, tree, names, row_names) {
+    let parts = match parts_of(alloc, limits, text, tree, names, row_names) {
         Ok(parts) => parts,
         Err(fault) => return Err(fault),
     };

@@ -1,6 +1,7 @@
 // The variables' spans, their faults and their binary digits.
 ghost use Rattle.std.specs.Prelude.{◌≡◌, ◌≤◌, ◌<◌, ◌^◌, IfOk, IfErr, IfSome, IfNone, map, All, None, Some, MatchResult, length};
 ghost use Rattle.std.specs.Int.{int_gap};
+ghost use Rattle.bp_theory.specs.Limits.{most_digits};
 ghost use Rattle.bp_theory.specs.Digits.{span_bits, zone_bits};
 ghost use Rattle.lp_semantics.specs.Meaning.{span_of};
 ghost use Rattle.lp_semantics.specs.Numbered.{ends_in, fault_in, IsFirstPast};
@@ -10,8 +11,7 @@ ghost use Rattle.lp_semantics.specs.Reading.{ends_fault};
 use crate::MeaningFault;
 use crate::bounds::Stated;
 use crate::extended::{Ends, Extended, greater_of, is_at_most, lesser_of};
-use bp_model::MAX_BITS;
-use bp_theory::{Items, Span};
+use bp_theory::{Items, Limits, Span};
 use lp_token::LpKind;
 use std::alloc::{AllocError, Global};
 
@@ -99,15 +99,15 @@ fn bits_of(span: &Span) -> u32
 }
 
 /// The variable with which the spans' binary digits are too many, if there is one.
-pub fn past_digits(spans: &[Span]) -> Option<u32>
+pub fn past_digits(limits: Limits, spans: &[Span]) -> Option<u32>
     requires { length spans.now < 2 ^ 32 }
-    ensures few { IfNone result (zone_bits spans.now ≤ 8192) }
-    ensures past { IfSome result (IsFirstPast spans.now) }
+    ensures few { IfNone result (zone_bits spans.now ≤ most_digits limits) }
+    ensures past { IfSome result (IsFirstPast limits spans.now) }
 {
     let mut digits = 0;
     for (number, span) in spans.iter().enumerate() {
         digits += bits_of(span);
-        if digits > MAX_BITS {
+        if digits > limits.digits() {
             return Some(number as u32);
         }
     }

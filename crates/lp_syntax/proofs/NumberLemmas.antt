@@ -262,7 +262,7 @@ zero_test zero t l = ap (λ k. k == 0) (times_zero t)
 zero_test (suc r) t l = ne_eqb (suc r * t) 0 (λ e. let more : suc r * t ≡ r * t + t = omega arith in let none : ⊥ = omega arith in none) ∙ sym (ne_eqb (suc r) 0 (λ e. let none : ⊥ = omega arith in none))
 
 -- the parts of a number's worth
-pub worth_shrunk : (m : List ℕ) (places shift : ℕ) (w : Worth) → length m ≤ 2 ^ 24
+pub worth_shrunk : (m : List ℕ) (places shift : ℕ) (w : Worth) → length m ≤ 2 ^ 28
     → IsWorth (digits_number m % 10 ^ (places + capped shift) == 0) (digits_number m / 10 ^ (places + capped shift)) w
     → IsWorth (digits_number m * 10 ^ 0 % 10 ^ (places + shift) == 0) (digits_number m * 10 ^ 0 / 10 ^ (places + shift)) w
 worth_shrunk m places shift w l h =
@@ -280,7 +280,7 @@ worth_shrunk m places shift w l h =
           worth_by w (ap (λ k. k == 0) (a.rest ∙ sym b.rest)) (a.quotient ∙ sym b.quotient) h)
     ])
 
-pub worth_fraction : (m : ℕ) (places shift : ℕ) (w : Worth) → places ≤ 2 ^ 24 → capped shift < places
+pub worth_fraction : (m : ℕ) (places shift : ℕ) (w : Worth) → places ≤ 2 ^ 28 → capped shift < places
     → IsWorth (m % 10 ^ (places - capped shift) == 0) (m / 10 ^ (places - capped shift)) w
     → IsWorth (m * 10 ^ shift % 10 ^ (places + 0) == 0) (m * 10 ^ shift / 10 ^ (places + 0)) w
 worth_fraction m places shift w l k h =
@@ -306,7 +306,7 @@ capped_times m t l = elim (cases_lt m infinite_from) [
     far : (a b : ℕ) → infinite_from ≤ a → infinite_from ≤ b → capped a ≡ capped b
     far a b l m = omega arith
 
-pub worth_grown : (m : ℕ) (places shift : ℕ) (w : Worth) → places ≤ 2 ^ 24 → places ≤ capped shift
+pub worth_grown : (m : ℕ) (places shift : ℕ) (w : Worth) → places ≤ 2 ^ 28 → places ≤ capped shift
     → IsWorth true (capped (capped m * 10 ^ (capped shift - places))) w
     → IsWorth (m * 10 ^ shift % 10 ^ (places + 0) == 0) (m * 10 ^ shift / 10 ^ (places + 0)) w
 worth_grown m places shift w l k h =
@@ -337,20 +337,20 @@ parted m e shrinks w h k = subst (λ t. IsWorth (digits_number m * 10 ^ (if t th
 pub places_few : (m : List ℕ) → length (after_first is_point m) ≤ length m
 places_few m = (let size : length (drop (position_or_len is_point m + 1) m) ≡ length m - (position_or_len is_point m + 1) = length-drop (position_or_len is_point m + 1) m in omega arith)
 
-pub parted_shrunk : (m e : List ℕ) (p s : ℕ) (w : Worth) → length m ≤ 2 ^ 24 → list_any (λ b. b == 45) e ≡ true → p ≡ length (after_first is_point m) → s ≡ capped (digits_number e)
+pub parted_shrunk : (m e : List ℕ) (p s : ℕ) (w : Worth) → length m ≤ 2 ^ 28 → list_any (λ b. b == 45) e ≡ true → p ≡ length (after_first is_point m) → s ≡ capped (digits_number e)
     → IsWorth (digits_number m % 10 ^ (p + s) == 0) (digits_number m / 10 ^ (p + s)) w → IsParted m e w
 parted_shrunk m e p s w l h a b k =
     let same : p + s ≡ length (after_first is_point m) + capped (digits_number e) = ap (λ n. n + s) a ∙ ap (λ n. length (after_first is_point m) + n) b in
     parted m e true w h (worth_shrunk m (length (after_first is_point m)) (digits_number e) w l (subst (λ n. IsWorth (digits_number m % 10 ^ n == 0) (digits_number m / 10 ^ n) w) same k))
 
-pub parted_fraction : (m e : List ℕ) (p s : ℕ) (w : Worth) → length m ≤ 2 ^ 24 → list_any (λ b. b == 45) e ≡ false → p ≡ length (after_first is_point m) → s ≡ capped (digits_number e) → s < p
+pub parted_fraction : (m e : List ℕ) (p s : ℕ) (w : Worth) → length m ≤ 2 ^ 28 → list_any (λ b. b == 45) e ≡ false → p ≡ length (after_first is_point m) → s ≡ capped (digits_number e) → s < p
     → IsWorth (digits_number m % 10 ^ (p - s) == 0) (digits_number m / 10 ^ (p - s)) w → IsParted m e w
 parted_fraction m e p s w l h a b less k =
     let same : p - s ≡ length (after_first is_point m) - capped (digits_number e) = ap (λ n. n - s) a ∙ ap (λ n. length (after_first is_point m) - n) b in
     let few : length (after_first is_point m) ≤ length m = places_few m in
     parted m e false w h (worth_fraction (digits_number m) (length (after_first is_point m)) (digits_number e) w (omega arith) (omega arith) (subst (λ n. IsWorth (digits_number m % 10 ^ n == 0) (digits_number m / 10 ^ n) w) same k))
 
-pub parted_grown : (m e : List ℕ) (p s n v : ℕ) (w : Worth) → length m ≤ 2 ^ 24 → list_any (λ b. b == 45) e ≡ false → p ≡ length (after_first is_point m) → s ≡ capped (digits_number e) → p ≤ s
+pub parted_grown : (m e : List ℕ) (p s n v : ℕ) (w : Worth) → length m ≤ 2 ^ 28 → list_any (λ b. b == 45) e ≡ false → p ≡ length (after_first is_point m) → s ≡ capped (digits_number e) → p ≤ s
     → n ≡ capped (digits_number m) → v ≡ capped (n * 10 ^ (s - p)) → IsWorth true v w → IsParted m e w
 parted_grown m e p s n v w l h a b less c d k =
     let same : s - p ≡ capped (digits_number e) - length (after_first is_point m) = ap (λ q. q - p) b ∙ ap (λ q. capped (digits_number e) - q) a in

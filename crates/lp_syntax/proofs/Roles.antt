@@ -1,5 +1,7 @@
 -- What is at fault by its role stays so, whatever follows.
 use Rattle.std.proofs.Common.{◌≡◌, ℕ, zero, suc, ◌+◌, ◌<◌, ◌≤◌, Bool, true, false, not, cond, ◌||◌, List, [], ◌∷◌, ◌++◌, take, drop, length, refl, sym, ◌∙◌, ap, arith, Option, None, Some, length-append, inl, inr, ◌⊎◌}
+use Rattle.bp_theory.specs.Limits.{most_rows, most_terms, most_variables}
+use Rattle.bp_theory.specs.declared.Limits.{Limits}
 use Rattle.std.proofs.lemmas.Bool.{or_cases, or_left, or_right, ltb-true, lt-ltb, both_ways}
 use Rattle.std.proofs.lemmas.List.Folds.{list_any-append}
 use Rattle.std.proofs.lemmas.List.{take-append-drop}
@@ -56,28 +58,28 @@ more_terms xs ys =
     let front : length (filter p xs) ≡ count_by p xs = length-filter p xs in
     omega arith
 
-over_more : (xs ys : List Seen) → is_over_limit xs ≡ true → is_over_limit (xs ++ ys) ≡ true
+over_more : (limits : Limits) (xs ys : List Seen) → is_over_limit limits xs ≡ true → is_over_limit limits (xs ++ ys) ≡ true
 unfolding is_over_limit
-over_more xs ys h =
+over_more limits xs ys h =
     let v : (zs : List Name) × (variables (xs ++ ys) ≡ variables xs ++ zs) = more_variables xs ys in
     let r : (zs : List Name) × (row_names (xs ++ ys) ≡ row_names xs ++ zs) = more_rows xs ys in
     let t : term_count xs ≤ term_count (xs ++ ys) = more_terms xs ys in
     let vl : length (variables (xs ++ ys)) ≡ length (variables xs) + length v.0 = ap length v.1 ∙ length-append (variables xs) v.0 in
     let rl : length (row_names (xs ++ ys)) ≡ length (row_names xs) + length r.0 = ap length r.1 ∙ length-append (row_names xs) r.0 in
-    elim (or_cases (nat_lt 4096 (length (variables xs))) (nat_lt 8192 (length (row_names xs)) || nat_lt 65536 (term_count xs)) h) [
+    elim (or_cases (nat_lt (most_variables limits) (length (variables xs))) (nat_lt (most_rows limits) (length (row_names xs)) || nat_lt (most_terms limits) (term_count xs)) h) [
       | inl a ↦
-          let l : 4096 < length (variables xs) = ltb-true _ _ a in
-          let m : 4096 < length (variables (xs ++ ys)) = omega arith in
-          or_left (nat_lt 4096 (length (variables (xs ++ ys)))) _ (lt-ltb _ _ m)
-      | inr b ↦ or_right (nat_lt 4096 (length (variables (xs ++ ys)))) _ (elim (or_cases (nat_lt 8192 (length (row_names xs))) (nat_lt 65536 (term_count xs)) b) [
+          let l : most_variables limits < length (variables xs) = ltb-true _ _ a in
+          let m : most_variables limits < length (variables (xs ++ ys)) = omega arith in
+          or_left (nat_lt (most_variables limits) (length (variables (xs ++ ys)))) _ (lt-ltb _ _ m)
+      | inr b ↦ or_right (nat_lt (most_variables limits) (length (variables (xs ++ ys)))) _ (elim (or_cases (nat_lt (most_rows limits) (length (row_names xs))) (nat_lt (most_terms limits) (term_count xs)) b) [
         | inl a ↦
-            let l : 8192 < length (row_names xs) = ltb-true _ _ a in
-            let m : 8192 < length (row_names (xs ++ ys)) = omega arith in
-            or_left (nat_lt 8192 (length (row_names (xs ++ ys)))) _ (lt-ltb _ _ m)
+            let l : most_rows limits < length (row_names xs) = ltb-true _ _ a in
+            let m : most_rows limits < length (row_names (xs ++ ys)) = omega arith in
+            or_left (nat_lt (most_rows limits) (length (row_names (xs ++ ys)))) _ (lt-ltb _ _ m)
         | inr a ↦
-            let l : 65536 < term_count xs = ltb-true _ _ a in
-            let m : 65536 < term_count (xs ++ ys) = omega arith in
-            or_right (nat_lt 8192 (length (row_names (xs ++ ys)))) _ (lt-ltb _ _ m)
+            let l : most_terms limits < term_count xs = ltb-true _ _ a in
+            let m : most_terms limits < term_count (xs ++ ys) = omega arith in
+            or_right (nat_lt (most_rows limits) (length (row_names (xs ++ ys)))) _ (lt-ltb _ _ m)
       ])
     ]
 
@@ -92,14 +94,14 @@ a_fault false true kind h = inr refl
 a_fault false false kind h = absurd cc
 
 -- a front at fault makes the whole at fault
-pub fault_more : (xs ys : List Seen) (kind : LpKind) → role_fault xs ≡ Some kind → role_fault (xs ++ ys) ≡ None → ⊥
+pub fault_more : (limits : Limits) (xs ys : List Seen) (kind : LpKind) → role_fault limits xs ≡ Some kind → role_fault limits (xs ++ ys) ≡ None → ⊥
 unfolding role_fault
-fault_more xs ys kind h k =
-    let none : (has_twice (row_names (xs ++ ys)) ≡ false) × (is_over_limit (xs ++ ys) ≡ false) = no_fault _ _ k in
+fault_more limits xs ys kind h k =
+    let none : (has_twice (row_names (xs ++ ys)) ≡ false) × (is_over_limit limits (xs ++ ys) ≡ false) = no_fault _ _ k in
     let r : (zs : List Name) × (row_names (xs ++ ys) ≡ row_names xs ++ zs) = more_rows xs ys in
     elim (a_fault _ _ kind h) [
       | inl t ↦ both_ways _ none.0 (ap has_twice r.1 ∙ has_twice-append (row_names xs) r.0 t)
-      | inr o ↦ both_ways _ none.1 (over_more xs ys o)
+      | inr o ↦ both_ways _ none.1 (over_more limits xs ys o)
     ]
 
 -- what is seen of a front of sites is a front of what is seen
@@ -110,6 +112,6 @@ seen-take (suc n) (site ∷ sites) [] = refl
 seen-take (suc n) (site ∷ sites) (s ∷ all) = ap (λ l. record { site = site; symbol = s; next = first_of_symbols all } ∷ l) (seen-take n sites all)
 
 -- no front of a text without such a fault has one
-pub front_sound : (n : ℕ) (sites : List Site) (all : List Symbol) (kind : LpKind) → role_fault (seen (take n sites) all) ≡ Some kind → role_fault (seen sites all) ≡ None → ⊥
-front_sound n sites all kind h k =
-    fault_more (take n (seen sites all)) (drop n (seen sites all)) kind (sym (ap role_fault (seen-take n sites all)) ∙ h) (ap role_fault (take-append-drop n (seen sites all)) ∙ k)
+pub front_sound : (limits : Limits) (n : ℕ) (sites : List Site) (all : List Symbol) (kind : LpKind) → role_fault limits (seen (take n sites) all) ≡ Some kind → role_fault limits (seen sites all) ≡ None → ⊥
+front_sound limits n sites all kind h k =
+    fault_more limits (take n (seen sites all)) (drop n (seen sites all)) kind (sym (ap (role_fault limits) (seen-take n sites all)) ∙ h) (ap (role_fault limits) (take-append-drop n (seen sites all)) ∙ k)

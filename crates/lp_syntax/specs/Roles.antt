@@ -1,5 +1,6 @@
 -- What the tokens of a text begin, name and count as.
 use Rattle.std.specs.Prelude.{ℕ, ◌+◌, Bool, true, false, not, ◌||◌, nat_lt, if◌then◌else◌, List, [], ◌∷◌, length, filter, filter_map, count_by, Option, None, Some, decimal}
+use Rattle.bp_theory.specs.declared.Limits.{Limits}
 use Rattle.bp_theory.specs.Limits.{most_rows, most_terms, most_variables}
 use Rattle.std.specs.List.{list_any}
 use Rattle.std.specs.Str.{bytes_eq}
@@ -86,11 +87,11 @@ unfoldable pub term_count : List Seen → ℕ
 term_count tokens = count_by (λ t. counts_as_term t.site t.symbol t.next) tokens
 
 -- whether there is a variable, a row or a term too many
-unfoldable pub is_over_limit : List Seen → Bool
+unfoldable pub is_over_limit : Limits → List Seen → Bool
 unfolding variables row_names term_count
-is_over_limit tokens = nat_lt most_variables (length (variables tokens)) || (nat_lt most_rows (length (row_names tokens)) || nat_lt most_terms (term_count tokens))
+is_over_limit limits tokens = nat_lt (most_variables limits) (length (variables tokens)) || (nat_lt (most_rows limits) (length (row_names tokens)) || nat_lt (most_terms limits) (term_count tokens))
 
 -- the fault that tokens have by what they name and count as
-unfoldable pub role_fault : List Seen → Option LpKind
+unfoldable pub role_fault : Limits → List Seen → Option LpKind
 unfolding row_names is_over_limit
-role_fault tokens = if has_twice (row_names tokens) then Some RowTwice else (if is_over_limit tokens then Some Limit else None)
+role_fault limits tokens = if has_twice (row_names tokens) then Some RowTwice else (if is_over_limit limits tokens then Some Limit else None)

@@ -167,7 +167,7 @@ fn shifted_worth(mantissa: &[u8], places: u128) -> Worth
 
 /// The worth of a mantissa and an exponent.
 fn parted_worth(mantissa: &[u8], exponent: &[u8]) -> Worth
-    requires { length mantissa.now ≤ 2 ^ 24 }
+    requires { length mantissa.now ≤ 2 ^ 28 }
     ensures { IsParted mantissa.now exponent.now result }
 {
     let shift = capped_number(exponent);
@@ -181,10 +181,10 @@ fn parted_worth(mantissa: &[u8], exponent: &[u8]) -> Worth
     }
 }
 
-/// What a written number of at most 2^24 bytes is worth, exactly, in time linear in its length: no power of ten is made
+/// What a written number of at most 2^28 bytes is worth, exactly, in time linear in its length: no power of ten is made
 /// for its exponent.
 pub fn worth_of(bytes: &[u8]) -> Worth
-    requires { length bytes.now ≤ 2 ^ 24 }
+    requires { length bytes.now ≤ 2 ^ 28 }
     ensures worth { IsWorthOf bytes.now result }
     ensures symbol { (in_bounds : Bool) →
         number_symbol in_bounds bytes.now ≡ worth_symbol in_bounds result }

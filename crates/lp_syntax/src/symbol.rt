@@ -25,7 +25,7 @@ pub enum Symbol {
 
 /// The symbol of a written number, by whether it stands in a bounds section.
 fn number_symbol(bytes: &[u8], in_bounds: bool) -> Symbol
-    requires { length bytes.now ≤ 2 ^ 24 }
+    requires { length bytes.now ≤ 2 ^ 28 }
     ensures other { IsNoName result }
     ensures same { (text : List ℕ) →
         symbol_in text result ≡ specs_number_symbol in_bounds bytes.now }
@@ -97,7 +97,7 @@ fn word_symbol(bytes: &[u8]) -> Symbol
 
 /// The symbol of a token, by whether it stands in a bounds section.
 fn symbol_of(bytes: &[u8], token: &Tok, in_bounds: bool) -> Symbol
-    requires { length bytes.now ≤ 2 ^ 24 }
+    requires { length bytes.now ≤ 2 ^ 28 }
     ensures same { symbol_in bytes.now result ≡ specs_symbol_of in_bounds token.now.kind
         (slice_range bytes.now token.now.from token.now.to) }
     ensures named { IsNameOf token.now result }
@@ -127,7 +127,7 @@ fn stays_in_bounds(in_bounds: bool, symbol: Symbol) -> bool
 
 /// The symbols of a text's tokens.
 pub fn symbols_of(alloc: Global, bytes: &[u8], tokens: &[Tok]) -> Result<Vec<Symbol>, AllocError>
-    requires size { length bytes.now ≤ 2 ^ 24 }
+    requires size { length bytes.now ≤ 2 ^ 28 }
     requires cut { Cut bytes.now tokens.now }
     ensures same { IfOk result (λ found. map (symbol_in bytes.now) found.items ≡
         symbols bytes.now tokens.now) }

@@ -55,7 +55,7 @@ fn fresh_behind(fresh: bool, b: u8) -> bool
 
 /// The first place from a place on that is no white space and in no comment, or the text's end.
 fn skip_blanks(bytes: &[u8], from: Position) -> Position
-    requires size { length bytes.now ≤ 2 ^ 24 }
+    requires size { length bytes.now ≤ 2 ^ 28 }
     requires place { IsPosition bytes.now from }
     requires clear { IsFalse (in_comment bytes.now from.at) }
     ensures place { IsPosition bytes.now result }
@@ -268,11 +268,11 @@ pub fn behind(token: &Tok) -> Position
     }
 }
 
-/// The first token from a place on of a text of at most 2^24 bytes, or none where only white space and comments are left;
+/// The first token from a place on of a text of at most 2^28 bytes, or none where only white space and comments are left;
 /// or the fault that stands there: a byte that begins no token (`BadByte`), or a name of more than 255 characters
 /// (`LongName`).
 pub fn next(bytes: &[u8], from: Position) -> Result<Option<Tok>, LpFault>
-    requires size { length bytes.now ≤ 2 ^ 24 }
+    requires size { length bytes.now ≤ 2 ^ 28 }
     requires place { IsBetween bytes.now from }
     ensures token { IfOk result (IsNextToken bytes.now from.at) }
     ensures fault { IfErr result (IsNextFault bytes.now from.at) }
@@ -287,10 +287,10 @@ pub fn next(bytes: &[u8], from: Position) -> Result<Option<Tok>, LpFault>
     }
 }
 
-/// The tokens of a text of at most 2^24 bytes, up to the section word `end` or the text's end, in one pass; or the first
+/// The tokens of a text of at most 2^28 bytes, up to the section word `end` or the text's end, in one pass; or the first
 /// place that can't be cut: a byte that begins no token (`BadByte`), or a name of more than 255 characters (`LongName`).
 pub fn tokens(alloc: Global, bytes: &[u8]) -> Result<Vec<Tok>, LpFault>
-    requires { length bytes.now ≤ 2 ^ 24 }
+    requires { length bytes.now ≤ 2 ^ 28 }
     ensures cut { IfOk result (λ found. Cut bytes.now found.items) }
     ensures slices { IfOk result (λ found. All (IsSlice bytes.now) found.items) }
     ensures fault { IfErr result (IsCutFault bytes.now) }
@@ -312,10 +312,10 @@ pub fn tokens(alloc: Global, bytes: &[u8]) -> Result<Vec<Tok>, LpFault>
     }
 }
 
-/// Whether a text of at most 2^24 bytes can be cut as `tokens` cuts it, or the first place that can't be cut. It keeps no
+/// Whether a text of at most 2^28 bytes can be cut as `tokens` cuts it, or the first place that can't be cut. It keeps no
 /// token.
 pub fn check_cut(bytes: &[u8]) -> Result<(), LpFault>
-    requires { length bytes.now ≤ 2 ^ 24 }
+    requires { length bytes.now ≤ 2 ^ 28 }
     ensures cut { IfOk result (λ _. HasCut bytes.now) }
     ensures fault { IfErr result (IsCutFault bytes.now) }
 {

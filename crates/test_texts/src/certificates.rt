@@ -1,6 +1,6 @@
 // What texts of certificates read as, and what certificates are written as.
 use crate::tables::{Reading, check, check_none, is_wanted, told};
-use bp_theory::{Claim, Items, Picked, Proof};
+use bp_theory::{Claim, Items, Limits, Picked, Proof};
 use cert_text::{Cert, CertFault, Frame, Sketch, read, rewrite, write};
 use std::alloc::{AllocError, Global};
 use std::test::Fail;
@@ -32,6 +32,7 @@ pub fn frame_of(alloc: Global, shape: Shape) -> Result<Frame, AllocError> {
         masters: Items::from_vec(masters.to_vec(alloc)?),
         links,
         blocks,
+        limits: Limits::Usual,
     })
 }
 

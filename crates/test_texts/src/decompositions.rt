@@ -1,6 +1,7 @@
 // What texts of decompositions of a small model, and lists of its rows, mean or are refused for.
 use crate::tables::{Reading, add, check, told};
 use bp_model::{Dec, Model};
+use bp_theory::Limits;
 use dec_read::{DecFault, read_dec};
 use lp_read::read_lp;
 use std::alloc::{AllocError, Global};
@@ -104,7 +105,12 @@ pub fn short(alloc: Global, dec: &Dec) -> Result<String, AllocError> {
 
 /// What a text means in short, or what it is refused for.
 pub fn answer(alloc: Global, text: &[u8]) -> Result<String, AllocError> {
-    match read_lp(alloc, MODEL) {
+    answer_under(alloc, Limits::Usual, text)
+}
+
+// The same under limits.
+fn answer_under(alloc: Global, limits: Limits, text: &[u8]) -> Result<String, AllocError> {
+    match read_lp(alloc, limits, MODEL) {
         Ok(model) => answer_of(alloc, &model, text),
         Err(_) => String::from_str(alloc, "no model"),
     }
@@ -126,6 +132,25 @@ fn each_text_means_its_decomposition_or_has_its_first_fault(rt: HostRuntime) -> 
         told(rt.alloc(), Reading::Decomposition, TEXTS),
         "41 texts",
     )
+}
+
+/// Texts under the large limits with their answers.
+const LARGE_TEXTS: [(&[u8], &str); 4] = [
+    (b"NBLOCKS 4097", "4097 blocks; - - - - -;"),
+    (
+        b"NBLOCKS 131072\nBLOCK 131072\ncap1",
+        "131072 blocks; - - - 131071 -;",
+    ),
+    (b"NBLOCKS 131073", "1 Limit"),
+    (b"NBLOCKS 131072\nBLOCK 131073\ncap1", "2 BlockNumber"),
+];
+
+#[test]
+fn large_limits_allow_more_blocks(rt: HostRuntime) -> Result<(), Fail> {
+    for (text, want) in LARGE_TEXTS {
+        check(&rt, answer_under(rt.alloc(), Limits::Large, text), want)?;
+    }
+    Ok(())
 }
 
 /// Texts at their greatest length and past it.

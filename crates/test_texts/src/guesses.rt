@@ -2,6 +2,7 @@
 use crate::decompositions::short;
 use crate::tables::{Reading, check, told};
 use bp_model::Model;
+use bp_theory::Limits;
 use dec_propose::guess;
 use lp_read::read_lp;
 use std::alloc::{AllocError, Global};
@@ -22,7 +23,7 @@ const SHARED: &str = "\
 
 /// The decomposition that is chosen for the model of a text, in short.
 pub fn answer(alloc: Global, text: &[u8]) -> Result<String, AllocError> {
-    match read_lp(alloc, text) {
+    match read_lp(alloc, Limits::Usual, text) {
         Ok(model) => chosen(alloc, &model),
         Err(_) => String::from_str(alloc, "no model"),
     }

@@ -3,11 +3,11 @@ mod texts;
 
 use crate::tables::{Reading, add, check, told};
 use bp_model::Model;
-use bp_theory::{Row, Sense, Term};
+use bp_theory::{Limits, Row, Sense, Term};
 use lp_read::{LpFault, read_lp};
 use std::alloc::{AllocError, Global};
 use std::test::Fail;
-use texts::{BLANKS, COMMENTS, SIZES, TEXTS};
+use texts::{BLANKS, COMMENTS, LARGE_SIZES, SIZES, TEXTS};
 
 /// Adds the terms of a sum, each behind a space.
 fn add_terms(
@@ -82,17 +82,17 @@ fn refusal(alloc: Global, fault: LpFault) -> Result<String, AllocError> {
     }
 }
 
-/// What a text means in short, or what it is refused for.
+/// What a text means in short under the usual limits, or what it is refused for.
 pub fn answer(alloc: Global, text: &[u8]) -> Result<String, AllocError> {
-    match read_lp(alloc, text) {
+    match read_lp(alloc, Limits::Usual, text) {
         Ok(model) => short(alloc, &model),
         Err(fault) => refusal(alloc, fault),
     }
 }
 
-/// How many variables and rows a text has, or what it is refused for.
-pub fn counted(alloc: Global, text: &[u8]) -> Result<String, AllocError> {
-    match read_lp(alloc, text) {
+/// How many variables and rows a text has, or what it is refused for under limits.
+pub fn counted(alloc: Global, limits: Limits, text: &[u8]) -> Result<String, AllocError> {
+    match read_lp(alloc, limits, text) {
         Ok(model) => format!(in alloc; "{} variables, {} rows", model.vars(), model.rows()),
         Err(fault) => refusal(alloc, fault),
     }
@@ -105,15 +105,36 @@ fn each_text_means_its_model_or_has_its_first_fault(rt: HostRuntime) -> Result<(
 
 #[test]
 fn sizes_are_limited(rt: HostRuntime) -> Result<(), Fail> {
-    check(&rt, told(rt.alloc(), Reading::Size, SIZES), "94 texts")
+    check(
+        &rt,
+        told(rt.alloc(), Reading::Size(Limits::Usual), SIZES),
+        "94 texts",
+    )
 }
 
 #[test]
 fn blanks_count_up_to_the_greatest_size(rt: HostRuntime) -> Result<(), Fail> {
-    check(&rt, told(rt.alloc(), Reading::Size, BLANKS), "3 texts")
+    check(
+        &rt,
+        told(rt.alloc(), Reading::Size(Limits::Usual), BLANKS),
+        "3 texts",
+    )
 }
 
 #[test]
 fn comments_count_up_to_the_greatest_size(rt: HostRuntime) -> Result<(), Fail> {
-    check(&rt, told(rt.alloc(), Reading::Size, COMMENTS), "3 texts")
+    check(
+        &rt,
+        told(rt.alloc(), Reading::Size(Limits::Usual), COMMENTS),
+        "3 texts",
+    )
+}
+
+#[test]
+fn large_limits_allow_larger_sizes(rt: HostRuntime) -> Result<(), Fail> {
+    check(
+        &rt,
+        told(rt.alloc(), Reading::Size(Limits::Large), LARGE_SIZES),
+        "5 texts",
+    )
 }

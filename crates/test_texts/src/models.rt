@@ -2,6 +2,7 @@
 use crate::lp_texts::short;
 use crate::tables::{add, check, check_none};
 use bp_model::{Items, Miss, Model, ModelFault, NameList, Parts, Row, Sense, Span, Term};
+use bp_theory::Limits;
 use name_table::{IndexedModel, NameTable};
 use std::alloc::{AllocError, Global};
 use std::test::Fail;
@@ -164,6 +165,7 @@ fn nothing(alloc: Global, constant: i128) -> Result<Parts, AllocError> {
         costs: Items::new(alloc),
         constant,
         maximises: false,
+        limits: Limits::Usual,
     })
 }
 

@@ -2,6 +2,7 @@
 use crate::decompositions::short;
 use crate::tables::{Reading, check, told};
 use bp_model::Model;
+use bp_theory::Limits;
 use dec_find::{RowsFault, find, read_rows};
 use lp_read::read_lp;
 use std::alloc::{AllocError, Global};
@@ -38,7 +39,7 @@ end
 
 /// The blocks that the rows of a list leave, in short, or what the list is refused for.
 pub fn answer(alloc: Global, list: &[u8]) -> Result<String, AllocError> {
-    match read_lp(alloc, CHAIN) {
+    match read_lp(alloc, Limits::Usual, CHAIN) {
         Ok(model) => answer_of(alloc, &model, list),
         Err(_) => String::from_str(alloc, "no model"),
     }

@@ -1,6 +1,7 @@
 // Tables of texts, and what is read otherwise than a table says.
 use crate::certificates::{Shape, said};
 use crate::{cuts, decompositions, guesses, lp_texts, row_lists, tokens};
+use bp_theory::Limits;
 use std::alloc::{AllocError, Global};
 use std::process::Abort;
 use std::test::Fail;
@@ -10,8 +11,8 @@ use std::test::Fail;
 pub enum Reading {
     /// A model in short.
     Model,
-    /// The size of a model.
-    Size,
+    /// The size of a model under limits.
+    Size(Limits),
     /// A decomposition in short.
     Decomposition,
     /// The blocks that a list of master rows leaves.
@@ -30,7 +31,7 @@ pub enum Reading {
 pub fn answer(alloc: Global, reading: Reading, text: &[u8]) -> Result<String, AllocError> {
     match reading {
         Reading::Model => lp_texts::answer(alloc, text),
-        Reading::Size => lp_texts::counted(alloc, text),
+        Reading::Size(limits) => lp_texts::counted(alloc, limits, text),
         Reading::Decomposition => decompositions::answer(alloc, text),
         Reading::RowList => row_lists::answer(alloc, text),
         Reading::Guess => guesses::answer(alloc, text),

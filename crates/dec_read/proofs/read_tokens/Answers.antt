@@ -1,4 +1,5 @@
 use Rattle.std.proofs.Common.{ℕ, [], arith, sym, subst}
+use Rattle.bp_theory.proofs.LimitLaws.{few_bytes}
 use Rattle.dec_read.specs.Reading.{HasDecTextFault}
 use Rattle.dec_syntax.specs.Scan.{tokens_at, token_in}
 use Rattle.dec_syntax.proofs.ReadLemmas.{read_none, stands_more}
@@ -7,8 +8,8 @@ use Rattle.dec_read.proofs.read_tokens.Goals as goal
 
 pub loop-word-init : goal.loop-word-init
 loop-word-init c = record {
-  stands = record { inside = omega arith; countable = omega arith };
-  before = record { earlier = []; has_read = read_none c.args.bytes.now c.args.m.now; keeps = c.in_ok-reader.ensures };
+  stands = record { inside = omega arith; countable = omega (arith, c.requires.short, few_bytes c.args.m.now.program.limits) };
+  before = record { earlier = []; has_read = read_none c.args.bytes.now c.args.m.now; keeps = c.requires.keeps };
 }
 
 pub returns-in-Some-2-clause-fault : goal.returns-in-Some-2-clause-fault
@@ -16,7 +17,7 @@ returns-in-Some-2-clause-fault c =
     let before = c.loop-word.invariant.before in
     let text = c.args.bytes.now in
     stands_fault text c.args.m.now c.loop-word.reader c.take.new.self (tokens_at text c.loop-word.cursor) (tokens_at text c.in-Some.next) (token_in text c.in-Some.word) c.in_ok-kind.field-0 c.in-Some-2.kind before
-    (omega arith) c.in-Some.ensures.tokens (c.in_ok-kind.ensures before.earlier c.in-Some.word.line before.keeps) c.in-Some-2.is
+    c.requires.short c.in-Some.ensures.tokens (c.in_ok-kind.ensures before.earlier c.in-Some.word.line before.keeps) c.in-Some-2.is
 
 pub loop-word-preserved : goal.loop-word-preserved
 loop-word-preserved c =
@@ -33,13 +34,13 @@ returns-in-Some-fault_at_end-clause-fault c =
     let before = c.loop-word.invariant.before in
     let text = c.args.bytes.now in
     subst (λ (n : ℕ). HasDecTextFault text c.args.m.now n c.in-Some-fault_at_end.kind) (sym c.end_line.ensures)
-    (end_has_fault text c.args.m.now (tokens_at text c.loop-word.cursor) before.earlier c.in-Some-fault_at_end.kind (omega arith) before.has_read c.in_default.ensures (c.in-Some-fault_at_end.ensures before.earlier before.keeps))
+    (end_has_fault text c.args.m.now (tokens_at text c.loop-word.cursor) before.earlier c.in-Some-fault_at_end.kind c.requires.short before.has_read c.in_default.ensures (c.in-Some-fault_at_end.ensures before.earlier before.keeps))
 
 pub returns-clause-dec : goal.returns-clause-dec
 returns-clause-dec c =
     let before = c.loop-word.invariant.before in
     let text = c.args.bytes.now in
-    end_reads text c.args.m.now (tokens_at text c.loop-word.cursor) before.earlier c.into_dec.result (omega arith) before.has_read c.in_default.ensures
+    end_reads text c.args.m.now (tokens_at text c.loop-word.cursor) before.earlier c.into_dec.result c.requires.short before.has_read c.in_default.ensures
     (c.in_default-fault_at_end.ensures before.earlier before.keeps) (c.into_dec.ensures before.earlier before.keeps)
 
 pub returns-clause-blocks : goal.returns-clause-blocks

@@ -1,5 +1,8 @@
 -- The parts of the model, and what stands in their way.
 use Rattle.std.proofs.Common.{◌≡◌, ◌∙◌, refl, [], ◌∷◌, sym, ap, subst, arith, ℕ, List, length, map, All, ◌<◌, ◌≤◌, ◌^◌}
+use Rattle.bp_theory.specs.Limits.{most_digits}
+use Rattle.bp_theory.specs.declared.Limits.{Limits}
+use Rattle.bp_theory.proofs.LimitLaws as law
 use Rattle.std.specs.Int.{w128}
 use Rattle.std.proofs.lemmas.Int.{to_z-of_z, fits_signed_from_abs}
 use Rattle.std.proofs.lemmas.List.{length-map}
@@ -24,37 +27,37 @@ use Rattle.lp_semantics.proofs.PartsProof.{text_fits, text_tells, refused, refus
 use Rattle.lp_semantics.proofs.parts_of.Goals as goal
 
 -- the table, and how many variables it has
-table_told : (text : List ℕ) (tokens : List Tok) (t : Tree) (names : List Name) (stated table : List Stated)
-    → IsTextOf text tokens (tree_in text t) → names ≡ roles.variables (tokens_of (tree_in text t))
+table_told : (limits : Limits) (text : List ℕ) (tokens : List Tok) (t : Tree) (names : List Name) (stated table : List Stated)
+    → IsTextOf limits text tokens (tree_in text t) → names ≡ roles.variables (tokens_of (tree_in text t))
     → stated ≡ table_of names (map (part_in text) t.parts) → table ≡ stated → Tells (tree_in text t) table
-table_told text tokens t names stated table h e made same = text_tells text tokens t names table h e (same ∙ made)
+table_told limits text tokens t names stated table h e made same = text_tells limits text tokens t names table h e (same ∙ made)
 
-few_variables : (text : List ℕ) (tokens : List Tok) (t : Tree) (table : List Stated) → IsTextOf text tokens (tree_in text t) → Tells (tree_in text t) table → length table < 2 ^ 32
-few_variables text tokens t table h tells = omega (arith, (within_limits (tokens_of (tree_in text t)) h.roles).0, tells.long)
+few_variables : (limits : Limits) (text : List ℕ) (tokens : List Tok) (t : Tree) (table : List Stated) → IsTextOf limits text tokens (tree_in text t) → Tells (tree_in text t) table → length table < 2 ^ 32
+few_variables limits text tokens t table h tells = omega (arith, (within_limits limits (tokens_of (tree_in text t)) h.roles).0, law.few_variables limits, tells.long)
 
 pub stated_of-requires : goal.stated_of-requires
 stated_of-requires c =
     subst (All (IsFitPart c.args.text.now c.args.names)) (sym c.as_slice.ensures)
-    (text_fits c.args.text.now c.requires.text_of.0 c.args.tree.now c.args.names c.requires.text_of.1 c.requires.variables).fit.parts
+    (text_fits c.args.limits c.args.text.now c.requires.text_of.0 c.args.tree.now c.args.names c.requires.text_of.1 c.requires.variables).fit.parts
 
 pub spans_of-requires : goal.spans_of-requires
 spans_of-requires c =
-    few_variables c.args.text.now c.requires.text_of.0 c.args.tree.now c.as_slice-2.result.now c.requires.text_of.1
-    (table_told c.args.text.now c.requires.text_of.0 c.args.tree.now c.args.names c.in_ok-stated.stated.items c.as_slice-2.result.now c.requires.text_of.1 c.requires.variables
+    few_variables c.args.limits c.args.text.now c.requires.text_of.0 c.args.tree.now c.as_slice-2.result.now c.requires.text_of.1
+    (table_told c.args.limits c.args.text.now c.requires.text_of.0 c.args.tree.now c.args.names c.in_ok-stated.stated.items c.as_slice-2.result.now c.requires.text_of.1 c.requires.variables
     (c.in_ok-stated.ensures ∙ ap (λ ps. table_of c.args.names (map (part_in c.args.text.now) ps)) c.as_slice.ensures) c.as_slice-2.ensures.value)
 
 pub rows_of-requires : goal.rows_of-requires
 rows_of-requires c =
     subst (All (IsFitRow c.args.text.now c.args.names)) (sym c.as_slice-4.ensures)
-    (text_fits c.args.text.now c.requires.text_of.0 c.args.tree.now c.args.names c.requires.text_of.1 c.requires.variables).fit.rows
+    (text_fits c.args.limits c.args.text.now c.requires.text_of.0 c.args.tree.now c.args.names c.requires.text_of.1 c.requires.variables).fit.rows
 
 pub objective_of-requires : goal.objective_of-requires
-objective_of-requires c = (text_fits c.args.text.now c.requires.text_of.0 c.args.tree.now c.args.names c.requires.text_of.1 c.requires.variables).fit.objective
+objective_of-requires c = (text_fits c.args.limits c.args.text.now c.requires.text_of.0 c.args.tree.now c.args.names c.requires.text_of.1 c.requires.variables).fit.objective
 
 pub returns-in-Err-clause-fault : goal.returns-in-Err-clause-fault
 returns-in-Err-clause-fault c =
-    refused (tree_in c.args.text.now c.args.tree.now) c.as_slice-2.result.now c.in-Err.fault
-    (table_told c.args.text.now c.requires.text_of.0 c.args.tree.now c.args.names c.in_ok-stated.stated.items c.as_slice-2.result.now c.requires.text_of.1 c.requires.variables
+    refused c.args.limits (tree_in c.args.text.now c.args.tree.now) c.as_slice-2.result.now c.in-Err.fault
+    (table_told c.args.limits c.args.text.now c.requires.text_of.0 c.args.tree.now c.args.names c.in_ok-stated.stated.items c.as_slice-2.result.now c.requires.text_of.1 c.requires.variables
     (c.in_ok-stated.ensures ∙ ap (λ ps. table_of c.args.names (map (part_in c.args.text.now) ps)) c.as_slice.ensures) c.as_slice-2.ensures.value)
     c.in-Err.ensures.fault
 
@@ -64,17 +67,17 @@ few_spans table spans slice l e same = omega (arith, l, ap length e, ap length s
 pub past_digits-requires : goal.past_digits-requires
 past_digits-requires c =
     few_spans c.as_slice-2.result.now c.in-Ok.spans c.as_slice-3.result.now
-    (few_variables c.args.text.now c.requires.text_of.0 c.args.tree.now c.as_slice-2.result.now c.requires.text_of.1
-    (table_told c.args.text.now c.requires.text_of.0 c.args.tree.now c.args.names c.in_ok-stated.stated.items c.as_slice-2.result.now c.requires.text_of.1 c.requires.variables
+    (few_variables c.args.limits c.args.text.now c.requires.text_of.0 c.args.tree.now c.as_slice-2.result.now c.requires.text_of.1
+    (table_told c.args.limits c.args.text.now c.requires.text_of.0 c.args.tree.now c.args.names c.in_ok-stated.stated.items c.as_slice-2.result.now c.requires.text_of.1 c.requires.variables
     (c.in_ok-stated.ensures ∙ ap (λ ps. table_of c.args.names (map (part_in c.args.text.now) ps)) c.as_slice.ensures) c.as_slice-2.ensures.value))
     c.in-Ok.ensures.spans c.as_slice-3.ensures
 
 pub returns-in-Some-clause-fault : goal.returns-in-Some-clause-fault
 returns-in-Some-clause-fault c =
-    refused_past (tree_in c.args.text.now c.args.tree.now) c.as_slice-2.result.now c.in-Ok.spans c.in-Some.variable
-    (table_told c.args.text.now c.requires.text_of.0 c.args.tree.now c.args.names c.in_ok-stated.stated.items c.as_slice-2.result.now c.requires.text_of.1 c.requires.variables
+    refused_past c.args.limits (tree_in c.args.text.now c.args.tree.now) c.as_slice-2.result.now c.in-Ok.spans c.in-Some.variable
+    (table_told c.args.limits c.args.text.now c.requires.text_of.0 c.args.tree.now c.args.names c.in_ok-stated.stated.items c.as_slice-2.result.now c.requires.text_of.1 c.requires.variables
     (c.in_ok-stated.ensures ∙ ap (λ ps. table_of c.args.names (map (part_in c.args.text.now) ps)) c.as_slice.ensures) c.as_slice-2.ensures.value)
-    c.in-Ok.ensures.sound c.in-Ok.ensures.spans (subst (λ ss. IsFirstPast ss c.in-Some.variable) c.as_slice-3.ensures c.in-Some.ensures.past)
+    c.in-Ok.ensures.sound c.in-Ok.ensures.spans (subst (λ ss. IsFirstPast c.args.limits ss c.in-Some.variable) c.as_slice-3.ensures c.in-Some.ensures.past)
 
 rows_made : (text : List ℕ) (names all : List Name) (rs slice : List Row) (made : List theory.Row) → names ≡ all → slice ≡ rs
     → made ≡ map (λ r. raw_row names (row_in text r)) slice → made ≡ map (raw_row all) (map (row_in text) rs)
@@ -91,7 +94,7 @@ returns-clause-parts c = record {
   row_names = c.in_ok-row_names.ensures ∙ c.requires.row_names;
   spans = c.in-Ok.ensures.spans
       ∙ spans_are (tree_in c.args.text.now c.args.tree.now) c.as_slice-2.result.now
-      (table_told c.args.text.now c.requires.text_of.0 c.args.tree.now c.args.names c.in_ok-stated.stated.items c.as_slice-2.result.now c.requires.text_of.1 c.requires.variables
+      (table_told c.args.limits c.args.text.now c.requires.text_of.0 c.args.tree.now c.args.names c.in_ok-stated.stated.items c.as_slice-2.result.now c.requires.text_of.1 c.requires.variables
       (c.in_ok-stated.ensures ∙ ap (λ ps. table_of c.args.names (map (part_in c.args.text.now) ps)) c.as_slice.ensures) c.as_slice-2.ensures.value);
   rows = rows_made c.args.text.now c.args.names (roles.variables (tokens_of (tree_in c.args.text.now c.args.tree.now))) c.args.tree.now.rows c.as_slice-4.result.now c.in_ok-rows.rows
       c.requires.variables c.as_slice-4.ensures c.in_ok-rows.ensures;
@@ -100,21 +103,22 @@ returns-clause-parts c = record {
   constant = to_z-of_z w128 c.in_ok-objective.objective.constant (fits_signed_from_abs w128 c.in_ok-objective.objective.constant c.in_ok-objective.ensures.small)
       ∙ c.in_ok-objective.ensures.constant;
   maximises = refl;
+  same_limits = refl;
 }
 
 pub returns-clause-fitting : goal.returns-clause-fitting
-returns-clause-fitting c = parts_fit c.args.text.now c.requires.text_of.0 c.args.tree.now _ c.requires.text_of.1 (returns-clause-parts c)
+returns-clause-fitting c = parts_fit c.args.limits c.args.text.now c.requires.text_of.0 c.args.tree.now _ c.requires.text_of.1 (returns-clause-parts c)
 
 pub returns-clause-limited : goal.returns-clause-limited
 returns-clause-limited c = record {
   proper = none_crossed c.as_slice-2.result.now c.in-Ok.spans c.in-Ok.ensures.sound c.in-Ok.ensures.spans;
-  bits = subst (λ ss. zone_bits ss ≤ 8192) c.as_slice-3.ensures c.in-None.ensures.few;
-  limits = parts_limited c.args.text.now c.requires.text_of.0 c.args.tree.now _ c.requires.text_of.1 (returns-clause-parts c);
+  bits = subst (λ ss. zone_bits ss ≤ most_digits c.args.limits) c.as_slice-3.ensures c.in-None.ensures.few;
+  limits = parts_limited c.args.limits c.args.text.now c.requires.text_of.0 c.args.tree.now _ c.requires.text_of.1 (returns-clause-parts c);
 }
 
 pub returns-clause-sound : goal.returns-clause-sound
 returns-clause-sound c =
-    variables_sound (tree_in c.args.text.now c.args.tree.now) c.as_slice-2.result.now c.in-Ok.spans
-    (table_told c.args.text.now c.requires.text_of.0 c.args.tree.now c.args.names c.in_ok-stated.stated.items c.as_slice-2.result.now c.requires.text_of.1 c.requires.variables
+    variables_sound c.args.limits (tree_in c.args.text.now c.args.tree.now) c.as_slice-2.result.now c.in-Ok.spans
+    (table_told c.args.limits c.args.text.now c.requires.text_of.0 c.args.tree.now c.args.names c.in_ok-stated.stated.items c.as_slice-2.result.now c.requires.text_of.1 c.requires.variables
     (c.in_ok-stated.ensures ∙ ap (λ ps. table_of c.args.names (map (part_in c.args.text.now) ps)) c.as_slice.ensures) c.as_slice-2.ensures.value)
-    c.in-Ok.ensures.sound c.in-Ok.ensures.spans (subst (λ ss. zone_bits ss ≤ 8192) c.as_slice-3.ensures c.in-None.ensures.few)
+    c.in-Ok.ensures.sound c.in-Ok.ensures.spans (subst (λ ss. zone_bits ss ≤ most_digits c.args.limits) c.as_slice-3.ensures c.in-None.ensures.few)

@@ -462,3 +462,13 @@ pub const COMMENTS: &str = "\
 0 Limit @ 16777204 @ min|\\ @ x @ |st|end|
 0 Limit @ 16777216 @ \x01 @ x @ 
 ";
+
+/// The same of texts that are read under the large limits.
+pub const LARGE_SIZES: &str = "\
+# One more than the usual limits allow of variables, rows, terms and binary digits, and more bytes.
+4097 variables, 0 rows @ 4097 @ min|st|bin| @ v#| @ end|
+1 variables, 8193 rows @ 8193 @ min|st| @ x >= 0| @ bin|x|end|
+1 variables, 0 rows @ 65537 @ min| @ + x| @ st|bin|x|end|
+133 variables, 0 rows @ 132 @ min|st| @ bounds|v# <= 4611686018427387903|gen|v#| @ bounds|w <= 256|gen|w|end|
+0 variables, 0 rows @ 16777206 @ min|st|end| @   @ 
+";

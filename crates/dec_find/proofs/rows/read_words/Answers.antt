@@ -1,4 +1,5 @@
-use Rattle.std.proofs.Common.{◌≡◌, ◌≤◌, ℕ, List, length, [], ◌∷◌, ◌++◌, arith, sym, subst, take, Option, None, Some, Ok, refl, ◌∙◌}
+use Rattle.std.proofs.Common.{◌≡◌, length, [], ◌∷◌, ◌++◌, arith, subst, take, Option, Ok}
+use Rattle.bp_theory.proofs.LimitLaws.{few_bytes}
 use Rattle.dec_syntax.specs.Cut.{tokens}
 use Rattle.dec_syntax.specs.Scan.{tokens_at, token_in}
 use Rattle.dec_write.specs.Rows.{words_in, word_fault}
@@ -13,7 +14,7 @@ loop-word-init c =
     let rows : length names ≡ c.rows.result = omega (arith, c.rows.ensures.kept.row_named, c.rows.ensures.rows) in
     let keeps = c.in_ok-listing.ensures names rows in
     record {
-      stands = record { inside = omega arith; countable = omega arith };
+      stands = record { inside = omega arith; countable = omega (arith, c.requires, few_bytes c.args.m.now.program.limits) };
       before = stands_first c.args.bytes.now c.args.m.now c.in_ok-listing.listing keeps;
       room = seen_room names c.in_ok-listing.listing [] keeps;
     }
@@ -28,7 +29,7 @@ returns-in-Some-2-clause-fault c =
     let told = subst (λ (o : Option RowsKind). Takes (word_fault names earlier token.bytes) names c.take.new.self earlier token.bytes (Ok o)) c.in-Some-2.is
     (c.in_ok-kind.ensures earlier before.keeps) in
     stands_fault text c.args.m.now c.loop-word.listing (tokens_at text c.loop-word.cursor) (tokens_at text c.in-Some.next) token c.in-Some-2.kind before
-    (omega arith) c.in-Some.ensures.tokens told
+    c.requires c.in-Some.ensures.tokens told
 
 pub loop-word-preserved : goal.loop-word-preserved
 loop-word-preserved c =
@@ -48,4 +49,4 @@ loop-word-preserved c =
 
 pub returns-clause-rows : goal.returns-clause-rows
 returns-clause-rows c =
-    stands_last c.args.bytes.now c.args.m.now c.loop-word.listing (tokens_at c.args.bytes.now c.loop-word.cursor) c.loop-word.invariant.before (omega arith) c.in_default.ensures
+    stands_last c.args.bytes.now c.args.m.now c.loop-word.listing (tokens_at c.args.bytes.now c.loop-word.cursor) c.loop-word.invariant.before c.requires c.in_default.ensures

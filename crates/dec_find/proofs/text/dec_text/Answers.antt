@@ -1,4 +1,4 @@
-use Rattle.std.proofs.Common.{◌≤◌, ℕ, List, arith, sym, subst}
+use Rattle.std.proofs.Common.{ℕ, List, sym, subst}
 use Rattle.dec_read.specs.Reading.{ReadsDecomposition}
 use Rattle.dec_write.proofs.TextLemmas.{text_reads, writable}
 use Rattle.dec_write.proofs.LengthLemmas.{text_short}
@@ -11,6 +11,5 @@ pub returns-clause-read_back : goal.returns-clause-read_back
 returns-clause-read_back c =
     let m = c.args.m.now in
     let d = c.args.dec.now in
-    let few : d.blocks ≤ 4096 = omega (arith, c.blocks-2.ensures.few, c.blocks-2.ensures.blocks) in
     subst (λ (t : List ℕ). ReadsDecomposition t m d) (sym (returns-clause-text c))
-    (text_reads m d (writable m d c.rows-rows.ensures.kept c.requires.places c.requires.names few) c.requires.unlisted (text_short m d c.rows-rows.ensures.kept c.requires.names few))
+    (text_reads m d (writable m d c.rows-rows.ensures.kept c.requires.places c.requires.names c.requires.few) c.requires.unlisted (text_short m d c.rows-rows.ensures.kept c.requires.names c.requires.few))

@@ -1,5 +1,4 @@
-use Rattle.std.proofs.Common.{◌≡◌, ◌<◌, ◌≤◌, ℕ, List, [], ◌∷◌, ◌++◌, take, length, arith, refl, sym, ◌∙◌, ap, subst, Option, Some}
-use Rattle.std.specs.Prelude.{slice_get}
+use Rattle.std.proofs.Common.{◌≤◌, ℕ, List, take, length, arith, sym, ◌∙◌, ap, subst, Option, Some}
 use Rattle.std.specs.List.{zip}
 use Rattle.dec_write.specs.Text.{AreLines}
 use Rattle.dec_write.proofs.TextLemmas.{lines_next, zip_all}

@@ -1,4 +1,4 @@
-use Rattle.std.proofs.Common.{◌≡◌, ◌<◌, ℕ, take, length}
+use Rattle.std.proofs.Common.{take}
 use Rattle.std.specs.List.{zip}
 use Rattle.dec_write.specs.Text.{AreLines}
 use Rattle.dec_find.proofs.text.lines_of.Given as goal

@@ -1,12 +1,12 @@
-use Rattle.std.proofs.Common.{◌≡◌, ◌<◌, ℕ, true, List, [], Bool, Option, length, get_or, arith, refl, sym, ◌∙◌, ap, subst}
-use Rattle.bp_theory.specs.Decomposition.{Decomposition}
+use Rattle.std.proofs.Common.{[], arith, refl, sym, ◌∙◌, ap, subst}
+use Rattle.bp_theory.specs.Limits.{most_blocks}
 use Rattle.dec_components.specs.Joined.{IsFound}
 use Rattle.dec_components.specs.Forest.{AreMarks, IsTied}
 use Rattle.dec_components.proofs.FoundLemmas.{same_parts}
 use Rattle.dec_find.proofs.trees.find.Goals as goal
 
-pub returns-then-found-gt-MOST_BLOCKS-clause-many : goal.returns-then-found-gt-MOST_BLOCKS-clause-many
-returns-then-found-gt-MOST_BLOCKS-clause-many c = λ e.
+pub returns-then-blocks-found-clause-many : goal.returns-then-blocks-found-clause-many
+returns-then-blocks-found-clause-many c = λ e.
     let p = c.args.m.now.program in
     let master = c.args.master.now in
     let marks : AreMarks p master c.deref.result.now = subst (AreMarks p master) (sym c.deref.ensures.value) (c.in_ok-marks.ensures.marks p (sym c.rows.ensures.rows)) in
@@ -15,7 +15,7 @@ returns-then-found-gt-MOST_BLOCKS-clause-many c = λ e.
     record {
       found = record { blocks = c.in_ok-found.found.blocks; places = c.in_ok-found.found.places.items; listed = [] };
       is_found = c.in_ok-found.ensures p master marks3 tied;
-      many = c.if-found-gt-MOST_BLOCKS.true;
+      many = omega (arith, c.if-blocks-found.true, c.blocks-2.ensures, ap most_blocks c.limits.ensures);
     }
 
 pub returns-clause-found : goal.returns-clause-found
