@@ -5,6 +5,7 @@ use Rattle.std.specs.Prelude.{nat_lt, nat_le, unsigned_abs}
 use Rattle.std.specs.Cmp.{signed_Decides}
 use Rattle.std.specs.Ordering.{int_eq}
 use Rattle.std.proofs.lemmas.Bool.{lt-ltb, le-ltb, le-leb, true≢false}
+use Rattle.bp_theory.specs.Limits.{greatest_depth}
 use Rattle.cert_format.specs.Cert as texts
 use Rattle.cert_format.specs.Text.{Kind, Token, Words, LineEnd, Version, first_kind, is_deep, is_past, value_fault, row_fault, multiplier_fault, block_fault, scale_fault, variable_fault, claim_lines, cut_lines, tree_lines, tokens_of}
 use Rattle.cert_format.specs.Fault.{AreClean}
@@ -37,8 +38,9 @@ is_small_value z small = le-ltb (2 ^ 62 - 1) (unsigned_abs z) (omega arith)
 pub small_value : (z : ℤ) → unsigned_abs z < 2 ^ 62 → value_fault z ≡ None
 small_value z small = one_none (is_past (2 ^ 62 - 1) z) TooLarge (is_small_value z small)
 
-pub small_scale : (above s : ℕ) → above ≤ 8256 → s ≤ 2 ^ 20 → scale_fault above s ≡ None
-small_scale above s shallow small = two_none (is_deep above) (nat_lt (2 ^ 20) s) Depth TooLarge (le-ltb 8256 above shallow) (le-ltb (2 ^ 20) s small)
+pub small_scale : (frame : texts.Frame) (above s : ℕ) → above ≤ greatest_depth frame.limits → s ≤ 2 ^ 20 → scale_fault frame above s ≡ None
+small_scale frame above s shallow small =
+    two_none (is_deep frame.limits above) (nat_lt (2 ^ 20) s) Depth TooLarge (le-ltb (greatest_depth frame.limits) above shallow) (le-ltb (2 ^ 20) s small)
 
 pub named_row : (named : ℕ → Bool) (last row : ℕ) → last < row → named row ≡ true → row_fault named last row ≡ None
 named_row named last row up is = none_by_both (nat_lt last row) (named row) Number (lt-ltb last row up) is
@@ -53,9 +55,9 @@ small_multiplier row p small some = two_none (is_past (2 ^ 40) p) (int_eq p (pos
 pub known_block : (frame : texts.Frame) (last k : ℕ) → last < k → k ≤ frame.blocks → block_fault frame last k ≡ None
 known_block frame last k up there = none_by_both (nat_lt last k) (nat_le k frame.blocks) Number (lt-ltb last k up) (le-leb k frame.blocks there)
 
-pub known_variable : (frame : texts.Frame) (above v : ℕ) → above ≤ 8256 → v < frame.variables → variable_fault frame above (v + 1) ≡ None
+pub known_variable : (frame : texts.Frame) (above v : ℕ) → above ≤ greatest_depth frame.limits → v < frame.variables → variable_fault frame above (v + 1) ≡ None
 known_variable frame above v shallow there =
-    two_none_both (is_deep above) (nat_lt 0 (v + 1)) (nat_le (v + 1) frame.variables) Depth Number (le-ltb 8256 above shallow) (lt-ltb 0 (v + 1) (omega arith)) (le-leb (v + 1) frame.variables (omega arith))
+    two_none_both (is_deep frame.limits above) (nat_lt 0 (v + 1)) (nat_le (v + 1) frame.variables) Depth Number (le-ltb (greatest_depth frame.limits) above shallow) (lt-ltb 0 (v + 1) (omega arith)) (le-leb (v + 1) frame.variables (omega arith))
 
 -- ---- lists
 

@@ -100,15 +100,15 @@ row_even named above m n k x e = absurd (one_other _ Number number_other k x e)
 block_even : (frame : Frame) (last : ℕ) → IsEven (block_fault frame last)
 block_even frame above m n k x e = absurd (one_other _ Number number_other k x e)
 
-scale_even : (depth : ℕ) → IsEven (scale_fault depth)
-scale_even depth m n k x e = by (is_deep depth) e
+scale_even : (frame : Frame) (depth : ℕ) → IsEven (scale_fault frame depth)
+scale_even frame depth m n k x e = by (is_deep frame.limits depth) e
   where
     by : (b : Bool) → first_kind ((b, Depth) ∷ (nat_lt (2 ^ 20) m, TooLarge) ∷ []) ≡ Some k → first_kind ((b, Depth) ∷ (nat_lt (2 ^ 20) n, TooLarge) ∷ []) ≡ Some k
     by true e = e
     by false e = absurd (one_other _ TooLarge large_other k x e)
 
 variable_even : (frame : Frame) (depth : ℕ) → IsEven (variable_fault frame depth)
-variable_even frame depth m n k x e = by (is_deep depth) e
+variable_even frame depth m n k x e = by (is_deep frame.limits depth) e
   where
     by : (b : Bool) → first_kind ((b, Depth) ∷ (not (nat_lt 0 m && nat_le m frame.variables), Number) ∷ []) ≡ Some k
         → first_kind ((b, Depth) ∷ (not (nat_lt 0 n && nat_le n frame.variables), Number) ∷ []) ≡ Some k
@@ -232,7 +232,7 @@ module _ (E : Type 0) where
   leaf_step : (frame : Frame) (version : Version) (cuts depth : ℕ) (had : List (ℕ × ℤ)) (p q : Proof) (u v : List Token) → (p ≡ q → AreCoherent E u v)
       → AreCoherent E (leaf_line frame version cuts depth had p ++ u) (leaf_line frame version cuts depth had q ++ v)
   leaf_step frame version cuts depth had p q u v more =
-      simp append_assoc (natural p.scale q.scale (scale_fault depth) (scale_even depth) _ _ (λ e. both _ _ _
+      simp append_assoc (natural p.scale q.scale (scale_fault frame depth) (scale_even frame depth) _ _ (λ e. both _ _ _
       (natural (length p.pairs) (length q.pairs) (λ _. None) count_even _ _ (λ long.
       pairs_step (may_name frame cuts) (2 ^ 40) had 0 p.pairs q.pairs _ _ long (λ f. both _ _ _
       (picked_step frame p.picked q.picked _ _ (λ g. both _ _ _ (more (proof_one p q e f g)))))))))

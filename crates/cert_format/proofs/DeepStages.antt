@@ -18,8 +18,8 @@ use Rattle.cert_format.proofs.StageProofs.{ForSomeOf}
 use Rattle.cert_format.proofs.StageMoves.{IsFirst}
 
 -- the number is one of a node that is too deep, or of a cut that is one too many, of this kind
-pub record IsDeepAt (stage : Stage) (j : Kind) : Type 0 where
-  pub deep : is_deep_stage stage ≡ true
+pub record IsDeepAt (frame : Frame) (stage : Stage) (j : Kind) : Type 0 where
+  pub deep : is_deep_stage frame stage ≡ true
   pub kind : deep_kind stage ≡ j
   pub wordless : words stage ≡ []
   pub natural : sort stage ≡ Natural
@@ -30,7 +30,7 @@ first_true true l rest j apart e = (refl, cc)
 first_true false l rest j apart e = absurd (apart e)
 
 -- a number that is at fault for its depth, or for its cut's number
-pub number_deep : (frame : Frame) (stage : Stage) (z : ℤ) (j : Kind) → IsExcess j → number_fault frame stage z ≡ Some j → IsDeepAt stage j
+pub number_deep : (frame : Frame) (stage : Stage) (z : ℤ) (j : Kind) → IsExcess j → number_fault frame stage z ≡ Some j → IsDeepAt frame stage j
 number_deep frame at_bpcert z j x e = absurd (none_other j x e)
 number_deep frame at_version z j x e = absurd (none_other j x e)
 number_deep frame (at_first_end v) z j x e = absurd (none_other j x e)
@@ -49,7 +49,7 @@ number_deep frame (at_first_cut a ws) z j x e = absurd (none_other j x e)
 number_deep frame (at_cuts a ws) z j x e = absurd (none_other j x e)
 number_deep frame (at_node a ws) z j x e = absurd (none_other j x e)
 number_deep frame (at_scale a ws (of_leaf o)) z j x e =
-    let found = first_true (is_deep (length ws)) Depth ((nat_lt (2 ^ 20) (nat_abs z), TooLarge) ∷ []) j (one_other _ TooLarge large_other j x) e in
+    let found = first_true (is_deep frame.limits (length ws)) Depth ((nat_lt (2 ^ 20) (nat_abs z), TooLarge) ∷ []) j (one_other _ TooLarge large_other j x) e in
     record { deep = found.0; kind = found.1; wordless = refl; natural = refl }
 number_deep frame (at_scale a ws of_cut) z j x e =
     let found = first_true (nat_le 256 (length a.cuts)) Limit ((nat_lt (2 ^ 20) (nat_abs z), TooLarge) ∷ (nat_eq (nat_abs z) 0, Number) ∷ []) j (two_other _ _ TooLarge Number large_other number_other j x) e in
@@ -65,7 +65,7 @@ number_deep frame (at_blocks a ws o s ps ks last n) z j x e = absurd (none_other
 number_deep frame (at_block a ws o s ps ks last n) z j x e = absurd (one_other _ Number number_other j x e)
 number_deep frame (leaf_end a ws o p) z j x e = absurd (none_other j x e)
 number_deep frame (at_variable a ws) z j x e =
-    let found = first_true (is_deep (length ws)) Depth ((not (nat_lt 0 (nat_abs z) && nat_le (nat_abs z) frame.variables), Number) ∷ []) j (one_other _ Number number_other j x) e in
+    let found = first_true (is_deep frame.limits (length ws)) Depth ((not (nat_lt 0 (nat_abs z) && nat_le (nat_abs z) frame.variables), Number) ∷ []) j (one_other _ Number number_other j x) e in
     record { deep = found.0; kind = found.1; wordless = refl; natural = refl }
 number_deep frame (variable_gap a ws i) z j x e = absurd (none_other j x e)
 number_deep frame (at_place a ws i) z j x e = absurd (one_other _ TooLarge large_other j x e)
@@ -114,7 +114,7 @@ deep_excess (last_end a t) = inl refl
 deep_excess (over a t) = inl refl
 
 -- where such a number comes, each is at fault so
-pub deep_number : (frame : Frame) (stage : Stage) → is_deep_stage stage ≡ true → (number_fault frame stage (pos 0) ≡ Some (deep_kind stage)) × (words stage ≡ []) × (sort stage ≡ Natural)
+pub deep_number : (frame : Frame) (stage : Stage) → is_deep_stage frame stage ≡ true → (number_fault frame stage (pos 0) ≡ Some (deep_kind stage)) × (words stage ≡ []) × (sort stage ≡ Natural)
 deep_number frame at_bpcert is = absurd (cc)
 deep_number frame at_version is = absurd (cc)
 deep_number frame (at_first_end v) is = absurd (cc)
@@ -177,7 +177,7 @@ word_other k f w.All is = cc
 word_other k f w.End is = cc
 
 -- where such a number may come first, it does
-pub first_deep : (frame : Frame) (stage : Stage) (k : Kind) → IsExcess k → IsFirst frame stage (deep k) → IsDeepAt stage k
+pub first_deep : (frame : Frame) (stage : Stage) (k : Kind) → IsExcess k → IsFirst frame stage (deep k) → IsDeepAt frame stage k
 first_deep frame stage k x first = ⊎_elim
     (λ some. absurd (along (words stage) some))
     (λ n. number_deep frame stage n.0 k x (sym (ap fault_of n.2)))
@@ -195,5 +195,5 @@ no_negative_deep frame stage m k x first of_sort =
     let P : Sort → Type 0 = λ t. IsOfSort t (negsuc m) in
     let wrong : negsuc m ≡ pos (nat_abs (negsuc m)) = subst P (first_deep frame stage k x first).natural of_sort in cc
 
-pub no_shallow_deep : (frame : Frame) (stage : Stage) (k : Kind) → IsExcess k → IsFirst frame stage (deep k) → is_deep_stage stage ≡ false → ⊥
+pub no_shallow_deep : (frame : Frame) (stage : Stage) (k : Kind) → IsExcess k → IsFirst frame stage (deep k) → is_deep_stage frame stage ≡ false → ⊥
 no_shallow_deep frame stage k x first shallow = let wrong : true ≡ false = sym (first_deep frame stage k x first).deep ∙ shallow in cc

@@ -6,6 +6,7 @@ use Rattle.std.specs.Cmp.{signed_Decides}
 use Rattle.std.specs.Ordering.{int_eq}
 use Rattle.std.proofs.lemmas.Bool.{ltb-true, ltb-false, leb-true, leb-false, true≢false}
 use Rattle.std.proofs.lemmas.Grind.{flat_map-append}
+use Rattle.bp_theory.specs.Limits.{greatest_depth}
 use Rattle.cert_format.specs.Cert.{Proof, Tree, Shut, Open, Split, Cut, Cert, Frame, multiplier, with_pair, put, changed}
 use Rattle.cert_format.specs.Text.{Kind, Token, Words, LineEnd, token_text, text_of, first_kind, scale_fault, divisor_fault, variable_fault, value_fault, is_deep, is_past, row_fault, multiplier_fault, block_fault, may_name, may_combine, pairs_behind, picked_words, pairs_word, claim_lines, cut_lines, leaf_line, tree_lines, tokens_of, version_word, Version, One, Two, Three, kept, kept_behind, meant_proof, meant_tree, signed_numeral}
 use Rattle.cert_format.specs.Nodes.{nodes}
@@ -27,10 +28,10 @@ both_true true true k none = (refl, refl)
 both_true true false k none = absurd (cc)
 both_true false b k none = absurd (cc)
 
-pub scale_small : (depth s : ℕ) → scale_fault depth s ≡ None → (depth ≤ 8256) × (s ≤ 2 ^ 20)
-scale_small depth s none =
-    let tests = none_of_two (is_deep depth) (nat_lt (2 ^ 20) s) Depth TooLarge none in
-    (ltb-false 8256 depth tests.0, ltb-false (2 ^ 20) s tests.1)
+pub scale_small : (frame : Frame) (depth s : ℕ) → scale_fault frame depth s ≡ None → (depth ≤ greatest_depth frame.limits) × (s ≤ 2 ^ 20)
+scale_small frame depth s none =
+    let tests = none_of_two (is_deep frame.limits depth) (nat_lt (2 ^ 20) s) Depth TooLarge none in
+    (ltb-false (greatest_depth frame.limits) depth tests.0, ltb-false (2 ^ 20) s tests.1)
 
 row_tested : (named : ℕ → Bool) (last row : ℕ) → row_fault named last row ≡ None → (last < row) × (named row ≡ true)
 row_tested named last row none =
@@ -85,7 +86,7 @@ changed_kept frame cuts before last had (p ∷ ps) clean all =
 
 -- a leaf's proof without a fault
 pub record IsFineLeaf (frame : Frame) (cuts depth : ℕ) (p : Proof) : Type 0 where
-  pub scale : scale_fault depth p.scale ≡ None
+  pub scale : scale_fault frame depth p.scale ≡ None
   pub pairs : AreKept frame cuts p.pairs
   pub picked : AreClean (picked_words frame p.picked)
 

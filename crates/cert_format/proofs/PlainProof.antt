@@ -51,7 +51,7 @@ leaf_plain frame version cuts depth had p us =
     let pairs = pairs_behind named (2 ^ 40) had 0 (map written_pair p.mults) in
     let picked = picked_words frame (written_picked p.picked) in
     let more = Words (codes " priced ") ∷ (picked ++ (LineEnd None ∷ us)) in
-    let line : leaf_line frame version cuts depth had (written_proof p) ++ us ≡ Figure (pos p.scale) (scale_fault depth p.scale) ∷ Words (pairs_word version) ∷ count (length (map written_pair p.mults)) ∷ (pairs ++ more) = simp append_assoc in
+    let line : leaf_line frame version cuts depth had (written_proof p) ++ us ≡ Figure (pos p.scale) (scale_fault frame depth p.scale) ∷ Words (pairs_word version) ∷ count (length (map written_pair p.mults)) ∷ (pairs ++ more) = simp append_assoc in
     let tail : text_of more ≡ codes " priced " ++ (picked_text p.picked ++ (codes "\n" ++ text_of us)) = ap (λ (xs : List ℕ). codes " priced " ++ xs) (flat_map-append token_text picked (LineEnd None ∷ us) ∙ ap (λ (xs : List ℕ). xs ++ (codes "\n" ++ text_of us)) (picked_plain frame p.picked)) in
     let body : text_of (pairs ++ more) ≡ flat_map pair_text p.mults ++ (codes " priced " ++ (picked_text p.picked ++ (codes "\n" ++ text_of us))) =
     flat_map-append token_text pairs more ∙ ap (λ (xs : List ℕ). xs ++ text_of more) (pairs_plain named (2 ^ 40) had 0 p.mults) ∙ ap (λ (xs : List ℕ). flat_map pair_text p.mults ++ xs) tail in

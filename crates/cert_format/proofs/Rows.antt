@@ -1,5 +1,6 @@
 -- Worked certificates, computed.
 use Rattle.std.proofs.Common.{◌≡◌, ℕ, true, false, List, [], ◌∷◌, codes, Some, ℤ, pos, negsuc, refl, rules, arith, take, drop}
+use Rattle.bp_theory.specs.declared.Limits.TheVariants.{Usual}
 use Rattle.cert_format.specs.Cert.{Every, These, Shut, Split, Optimal, Infeasible, Cert, Frame}
 use Rattle.cert_format.specs.declared.fault.CertKind.TheVariants.{Number}
 use Rattle.cert_format.specs.Text.{One, Two, Three, Figure, numeral, digits_before, tokens_of, text_of, meant}
@@ -7,7 +8,7 @@ use Rattle.cert_format.specs.Fault.{AreClean, HasFaultyToken}
 
 -- a model of two variables and two master rows, without decomposition
 abbrev small : Frame
-small = record { variables = 2; rows = 2; is_master = λ _. true; links = 0; blocks = 2 }
+small = record { variables = 2; rows = 2; is_master = λ _. true; links = 0; blocks = 2; limits = Usual }
 
 abbrev one_leaf : ℕ → List (ℕ × ℤ) → Cert
 one_leaf scale pairs = record { claim = Optimal (pos 8) (pos 2 ∷ pos 1 ∷ []); cuts = []; tree = Shut (record { scale = scale; pairs = pairs; picked = These [] }) }
@@ -58,7 +59,7 @@ change_means = refl
 
 -- a model of three variables, of two rows that are in two blocks, and of a link row
 abbrev linked : Frame
-linked = record { variables = 3; rows = 2; is_master = λ _. false; links = 1; blocks = 2 }
+linked = record { variables = 3; rows = 2; is_master = λ _. false; links = 1; blocks = 2; limits = Usual }
 
 abbrev one_link : ℕ → Cert
 one_link row = record { claim = Optimal (pos 4) (pos 0 ∷ pos 1 ∷ pos 1 ∷ []); cuts = []; tree = Shut (record { scale = 1; pairs = (row, negsuc 0) ∷ []; picked = Every }) }
@@ -100,7 +101,7 @@ two_cuts = record {
 
 -- a model of two variables and one equality row
 abbrev equality : Frame
-equality = record { variables = 2; rows = 1; is_master = λ _. true; links = 0; blocks = 2 }
+equality = record { variables = 2; rows = 1; is_master = λ _. true; links = 0; blocks = 2; limits = Usual }
 
 cut_text : text_of (tokens_of equality Three two_cuts) ≡ codes "bpcert 3\nclaim infeasible\ncut 2 rows 1 1 1\ncut 2 rows 1 1 -1\nleaf 0 change 2 2 1 3 1 priced 0\nend\n"
 unfolding numeral digits_before

@@ -29,20 +29,20 @@ module _ (frame : Frame) (version : Version) (cuts depth : ℕ) (had : List (ℕ
   AfterScale s = Prefixed (Words (pairs_word version)) (Numbered (λ _. None) (AfterCount s))
 
   abbrev pub LeafParts : List Token → Type 0
-  LeafParts = Numbered (scale_fault depth) AfterScale
+  LeafParts = Numbered (scale_fault frame depth) AfterScale
 
   -- the same as a whole
   abbrev pub Leaves : List Token → Type 0
   Leaves ts = (p : Proof) × (us : List Token) × G p us × (ts ≡ leaf_line frame version cuts depth had p ++ us)
 
   leaf_split : (p : Proof) (us : List Token) → leaf_line frame version cuts depth had p ++ us
-      ≡ Figure (pos p.scale) (scale_fault depth p.scale) ∷ Words (pairs_word version) ∷ count (length p.pairs) ∷ (pairs_behind (may_name frame cuts) (2 ^ 40) had 0 p.pairs ++ (Words (codes " priced ") ∷ (picked_words frame p.picked ++ (LineEnd None ∷ us))))
+      ≡ Figure (pos p.scale) (scale_fault frame depth p.scale) ∷ Words (pairs_word version) ∷ count (length p.pairs) ∷ (pairs_behind (may_name frame cuts) (2 ^ 40) had 0 p.pairs ++ (Words (codes " priced ") ∷ (picked_words frame p.picked ++ (LineEnd None ∷ us))))
   leaf_split p us = simp append_assoc
 
   pub leaf_to : (ts : List Token) → LeafParts ts → Leaves ts
   leaf_to ts m =
       let s = m.0 in
-      let a : ts ≡ Figure (pos s) (scale_fault depth s) ∷ m.1 = m.2 in
+      let a : ts ≡ Figure (pos s) (scale_fault frame depth s) ∷ m.1 = m.2 in
       let m2 = m.3 in
       let b : m.1 ≡ Words (pairs_word version) ∷ m2.0 = m2.1 in
       let m3 = m2.2 in
@@ -61,7 +61,7 @@ module _ (frame : Frame) (version : Version) (cuts depth : ℕ) (had : List (ℕ
         proof_of s ps q,
         m7.0,
         m7.2,
-        a ∙ ap (λ (xs : List Token). Figure (pos s) (scale_fault depth s) ∷ xs)
+        a ∙ ap (λ (xs : List Token). Figure (pos s) (scale_fault frame depth s) ∷ xs)
             (b ∙ ap (λ (xs : List Token). Words (pairs_word version) ∷ xs)
             (c ∙ ap (λ (n : ℕ). count n ∷ m3.1) (sym long) ∙ ap (λ (xs : List Token). count (length ps) ∷ xs)
             (d ∙ ap (λ (xs : List Token). pairs_behind (may_name frame cuts) (2 ^ 40) had 0 ps ++ xs)
@@ -115,7 +115,7 @@ module _ (frame : Frame) (version : Version) (cuts depth : ℕ) (had : List (ℕ
       let some_scale : (s : ℕ) → (us : List Token) × AfterScale s us = λ s. let w = some_count s 0 in
       (Words (pairs_word version) ∷ count 0 ∷ w.0, (count 0 ∷ w.0, refl, (0, w.0, refl, w.1))) in
       relabel LeafParts Leaves t leaf_to leaf_from
-      (numbered_read (scale_fault depth) AfterScale t some_scale (λ s r1 l1.
+      (numbered_read (scale_fault frame depth) AfterScale t some_scale (λ s r1 l1.
       prefixed_read (Words (pairs_word version)) 32 (word_tail version) (Numbered (λ _. None) (AfterCount s)) r1 (word_is version) (λ r. tt) (count 0 ∷ (some_count s 0).0) (0, (some_count s 0).0, refl, (some_count s 0).1) (λ r2 l2.
       numbered_read (λ _. None) (AfterCount s) r2 (some_count s) (λ n r3 l3.
       pairs_read n (may_name frame cuts) (2 ^ 40) had 0 (AfterPairs s) (λ ps e. some_pairs s ps) r3 (λ ps e r4 l4.

@@ -9,4 +9,4 @@ is_master frame row = nat_lt 0 row && slice_index_or frame.masters (row - 1) fal
 
 -- a frame by numbers in texts
 abbrev pub frame_of : Frame → texts.Frame
-frame_of frame = record { variables = frame.variables; rows = length frame.masters; is_master = is_master frame; links = frame.links; blocks = frame.blocks }
+frame_of frame = record { variables = frame.variables; rows = length frame.masters; is_master = is_master frame; links = frame.links; blocks = frame.blocks; limits = frame.limits }

@@ -49,7 +49,7 @@ pub record IsInNumber (frame : texts.Frame) (stage : Stage) (negative : Bool) (v
   pub reached : Reached frame stage false done
   pub number : ℕ
   pub of_sort : IsOfSort (sort stage) (signed negative number)
-  pub shallow : is_deep_stage stage ≡ false
+  pub shallow : is_deep_stage frame stage ≡ false
   pub positive : IsTrue negative → 0 < number
   pub kept : value ≡ min number (2 ^ 64 - 1)
   pub bytes : text ≡ done ++ signed_numeral (signed negative number)
@@ -60,7 +60,7 @@ pub record IsBehindMinus (frame : texts.Frame) (stage : Stage) (text : List ℕ)
   pub done : List ℕ
   pub reached : Reached frame stage false done
   pub of_sort : sort stage ≡ Whole
-  pub shallow : is_deep_stage stage ≡ false
+  pub shallow : is_deep_stage frame stage ≡ false
   pub bytes : text ≡ done ++ 45 ∷ []
   pub lines : line_behind text ≡ line_behind done
 
@@ -68,7 +68,7 @@ pub record IsBehindMinus (frame : texts.Frame) (stage : Stage) (text : List ℕ)
 pub record IsBehindDeepMinus (frame : texts.Frame) (stage : Stage) (text : List ℕ) : Type 0 where
   pub done : List ℕ
   pub reached : Reached frame stage false done
-  pub deep : is_deep_stage stage ≡ true
+  pub deep : is_deep_stage frame stage ≡ true
   pub bytes : text ≡ done ++ 45 ∷ []
   pub lines : line_behind text ≡ line_behind done
 

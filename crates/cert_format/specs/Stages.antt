@@ -112,14 +112,14 @@ had_by a (of_leaf o) = a.had
 had_by a of_cut = []
 
 -- what is wrong with a leaf's scale or a cut's divisor
-abbrev pub first_fault : Told → List Wait → Owner → ℕ → Option Kind
-first_fault a ws (of_leaf o) = scale_fault (length ws)
-first_fault a ws of_cut = divisor_fault (length a.cuts)
+abbrev pub first_fault : Frame → Told → List Wait → Owner → ℕ → Option Kind
+first_fault frame a ws (of_leaf o) = scale_fault frame (length ws)
+first_fault frame a ws of_cut = divisor_fault (length a.cuts)
 
 -- the node is too deep, or the cut is one too many
-abbrev pub is_excess : Told → List Wait → Owner → Bool
-is_excess a ws (of_leaf o) = is_deep (length ws)
-is_excess a ws of_cut = nat_le 256 (length a.cuts)
+abbrev pub is_excess : Frame → Told → List Wait → Owner → Bool
+is_excess frame a ws (of_leaf o) = is_deep frame.limits (length ws)
+is_excess frame a ws of_cut = nat_le 256 (length a.cuts)
 
 -- the kind of that fault
 abbrev pub excess_kind : Owner → Kind
@@ -283,10 +283,10 @@ IsOfSort Natural z = z ≡ pos (nat_abs z)
 IsOfSort Whole z = Unit {0}
 
 -- the number comes of a node that is too deep, or of a cut that is one too many
-abbrev pub is_deep_stage : Stage → Bool
-is_deep_stage (at_scale a ws o) = is_excess a ws o
-is_deep_stage (at_variable a ws) = is_deep (length ws)
-is_deep_stage _ = false
+abbrev pub is_deep_stage : Frame → Stage → Bool
+is_deep_stage frame (at_scale a ws o) = is_excess frame a ws o
+is_deep_stage frame (at_variable a ws) = is_deep frame.limits (length ws)
+is_deep_stage frame _ = false
 
 -- the kind of that fault
 abbrev pub deep_kind : Stage → Kind
@@ -299,7 +299,7 @@ number_fault frame (at_optimal v) z = value_fault z
 number_fault frame (at_bound v) z = value_fault z
 number_fault frame (at_value v b) z = value_fault z
 number_fault frame (at_coordinate v k zs) z = coordinate_fault frame (length zs + 1) z
-number_fault frame (at_scale a ws o) z = first_fault a ws o (nat_abs z)
+number_fault frame (at_scale a ws o) z = first_fault frame a ws o (nat_abs z)
 number_fault frame (at_row a ws o s ps last n) z = row_fault (may_have frame a o) last (nat_abs z)
 number_fault frame (at_multiplier a ws o s ps r n) z = multiplier_fault (most_of o) (had_by a o) r z
 number_fault frame (at_block a ws o s ps ks last n) z = block_fault frame last (nat_abs z)
@@ -407,7 +407,7 @@ module _ (frame : Frame) (c : Cert) where
   AtRows a ws o s = Prefixed (Words (rows_text a o)) (AtCount a ws o s)
 
   abbrev pub AtScale : Told → List Wait → Owner → List Token → Type 0
-  AtScale a ws o = Numbered (first_fault a ws o) (AtRows a ws o)
+  AtScale a ws o = Numbered (first_fault frame a ws o) (AtRows a ws o)
 
   abbrev pub SplitEnd : Told → List Wait → ℕ → ℤ → List Token → Type 0
   SplitEnd a ws i z = Prefixed (LineEnd None) (AtNode a (low_of i z ∷ ws))

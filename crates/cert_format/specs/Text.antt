@@ -3,6 +3,7 @@ use Rattle.std.specs.Prelude.{◌≡◌, ℕ, suc, zero, ◌<◌, ◌+◌, ◌-�
 use Rattle.std.specs.List.{flat_map}
 use Rattle.std.specs.Ordering.{int_eq}
 use Rattle.bp_theory.specs.Limits.{greatest_depth, greatest_multiplier, greatest_scale, number_limit}
+use Rattle.bp_theory.specs.declared.Limits.{Limits}
 use Rattle.cert_format.specs.declared.fault.CertKind.{CertKind}
 use Rattle.cert_format.specs.declared.fault.CertKind.TheVariants.{TooLarge, Number, Length, Depth, Limit}
 use Rattle.cert_format.specs.Cert.{Picked, Every, These, Proof, Tree, Shut, Open, Split, Claim, Optimal, Infeasible, Bound, BoundValue, Cut, Cert, Frame, multiplier, changed}
@@ -80,17 +81,17 @@ multiplier_fault limit had row p = first_kind ((is_past limit p, TooLarge) ∷ (
 abbrev pub block_fault : Frame → ℕ → ℕ → Option Kind
 block_fault frame last k = first_kind ((not (nat_lt last k && nat_le k frame.blocks), Number) ∷ [])
 
--- a node is deeper than the limit
-abbrev pub is_deep : ℕ → Bool
-is_deep depth = nat_lt greatest_depth depth
+-- a node is deeper than the limits allow
+abbrev pub is_deep : Limits → ℕ → Bool
+is_deep limits depth = nat_lt (greatest_depth limits) depth
 
 -- what is wrong with the scale of a leaf at this depth
-abbrev pub scale_fault : ℕ → ℕ → Option Kind
-scale_fault depth scale = first_kind ((is_deep depth, Depth) ∷ (nat_lt greatest_scale scale, TooLarge) ∷ [])
+abbrev pub scale_fault : Frame → ℕ → ℕ → Option Kind
+scale_fault frame depth scale = first_kind ((is_deep frame.limits depth, Depth) ∷ (nat_lt greatest_scale scale, TooLarge) ∷ [])
 
 -- what is wrong with the variable of a split at this depth
 abbrev pub variable_fault : Frame → ℕ → ℕ → Option Kind
-variable_fault frame depth var = first_kind ((is_deep depth, Depth) ∷ (not (nat_lt 0 var && nat_le var frame.variables), Number) ∷ [])
+variable_fault frame depth var = first_kind ((is_deep frame.limits depth, Depth) ∷ (not (nat_lt 0 var && nat_le var frame.variables), Number) ∷ [])
 
 -- what is wrong with the divisor of a cut behind so many others
 abbrev pub divisor_fault : ℕ → ℕ → Option Kind
@@ -178,7 +179,7 @@ kept_behind version had (Split var at low high) = kept_behind version (kept_behi
 -- the line of a leaf, behind its first word
 abbrev pub leaf_line : Frame → Version → ℕ → ℕ → List (ℕ × ℤ) → Proof → List Token
 leaf_line frame version cuts depth had proof =
-    Figure (pos proof.scale) (scale_fault depth proof.scale)
+    Figure (pos proof.scale) (scale_fault frame depth proof.scale)
     ∷ Words (pairs_word version) ∷ count (length proof.pairs) ∷ pairs_behind (may_name frame cuts) (greatest_multiplier) had 0 proof.pairs
     ++ Words (codes " priced ") ∷ picked_words frame proof.picked ++ LineEnd None ∷ []
 

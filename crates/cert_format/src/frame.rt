@@ -1,7 +1,7 @@
 // What reading a certificate needs to know of a model and its blocks.
 ghost use Rattle.std.specs.Prelude.{length, ◌+◌, ◌≤◌, ◌<◌, ◌^◌};
 
-use bp_theory::Items;
+use bp_theory::{Items, Limits};
 
 /// What reading a certificate needs to know of a model and its blocks.
 #[derive(Drop)]
@@ -14,6 +14,8 @@ pub struct Frame {
     pub links: u32,
     /// How many blocks there are.
     pub blocks: u32,
+    /// The limits that the model keeps.
+    pub limits: Limits,
     ghost few_rows: { length masters + links ≤ 2 ^ 31 },
     ghost few_variables: { variables < 2 ^ 32 },
     ghost few_blocks: { blocks < 2 ^ 32 },

@@ -15,9 +15,6 @@ use cut_sums::MAX_DIVISOR;
 // The most cuts of a certificate.
 const MAX_CUTS: u16 = 256;
 
-// The depth of the deepest node.
-const MAX_DEPTH: u32 = 8256;
-
 /// A number with its sign.
 pub fn signed_of(negative: bool, value: u64) -> i64
     requires { value < 2 ^ 63 }
@@ -78,18 +75,18 @@ pub fn judge_multiplier(limit: u64, had: &i64, negative: bool, value: u64) -> Re
 }
 
 /// Whether a node at a depth is too deep.
-pub fn is_too_deep(depth: usize) -> bool
-    ensures { result ≡ is_deep depth }
+pub fn is_too_deep(frame: &Frame, depth: usize) -> bool
+    ensures { result ≡ is_deep frame.now.limits depth }
 {
-    depth > MAX_DEPTH as usize
+    depth > frame.limits.depth() as usize
 }
 
 /// The scale of a leaf at a depth.
-pub fn judge_scale(depth: usize, value: u64) -> Result<u32, CertKind>
-    ensures { MatchResult result (λ s. (scale_fault depth value ≡ None) × (s ≡ value))
-        (λ kind. scale_fault depth value ≡ Some kind) }
+pub fn judge_scale(frame: &Frame, depth: usize, value: u64) -> Result<u32, CertKind>
+    ensures { MatchResult result (λ s. (scale_fault (frame_of frame.now) depth value ≡ None) ×
+        (s ≡ value)) (λ kind. scale_fault (frame_of frame.now) depth value ≡ Some kind) }
 {
-    if is_too_deep(depth) {
+    if is_too_deep(frame, depth) {
         return Err(CertKind::Depth);
     }
     if value > u64::from(MAX_SCALE) {
@@ -195,7 +192,7 @@ pub fn judge_variable(frame: &Frame, depth: usize, value: u64) -> Result<u32, Ce
     ensures { MatchResult result (λ v. (variable_fault (frame_of frame.now) depth value ≡ None) ×
         (v + 1 ≡ value)) (λ kind. variable_fault (frame_of frame.now) depth value ≡ Some kind) }
 {
-    if is_too_deep(depth) {
+    if is_too_deep(frame, depth) {
         return Err(CertKind::Depth);
     }
     if 1 <= value && value <= u64::from(frame.variables) {

@@ -1,5 +1,5 @@
 -- A search may go on with further cuts.
-use Rattle.std.proofs.Common.{◌≡◌, ◌∙◌, refl, sym, ap, subst, List, ◌++◌}
+use Rattle.std.proofs.Common.{◌≡◌, refl, sym, subst, List, ◌++◌}
 use Rattle.bp_theory.specs.declared.Cut.{Cut}
 use Rattle.block_program.specs.Blocked.{BlockedProgram, IsFormed}
 use Rattle.search_laws.proofs.MoreCutsProof.{further_cuts_keep_lem}

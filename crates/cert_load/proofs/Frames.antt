@@ -1,5 +1,5 @@
 -- What the texts of certificates may name hangs on no cut.
-use Rattle.std.proofs.Common.{◌≡◌, ◌∙◌, refl, sym, ap, ℕ, zero, suc, ◌+◌, ◌-◌, ◌<◌, Bool, List, [], ◌∷◌, ◌++◌, map, length, get_or, Option, None, arith, length-append}
+use Rattle.std.proofs.Common.{◌≡◌, ◌∙◌, refl, sym, ap, ℕ, zero, suc, ◌+◌, ◌<◌, Bool, List, [], ◌∷◌, ◌++◌, map, length, get_or, Option, None, arith, length-append}
 use Rattle.std.specs.Prelude.{is_some, option_map}
 use Rattle.std.specs.List.{range_with_len, flat_map}
 use Rattle.std.proofs.lemmas.List.{length-map, get_or_append_left}
@@ -7,6 +7,7 @@ use Rattle.bp_theory.specs.Program.{Program}
 use Rattle.bp_theory.specs.Blocking.{Blocking, row_at, sides_of}
 use Rattle.bp_theory.specs.Decomposition.{Decomposition, ProofRow, whole_row, proof_rows, links_of, full_row, block_of, lone_block, lone_variables, blocking_of}
 use Rattle.bp_theory.specs.Cuts.{cut_row, cut_rows}
+use Rattle.bp_theory.specs.declared.Limits.{Limits}
 use Rattle.bp_theory.specs.declared.Row.{Row}
 use Rattle.bp_theory.specs.declared.MasterRow.{MasterRow}
 use Rattle.bp_theory.specs.declared.Cut.{Cut}
@@ -78,8 +79,8 @@ map_alike f g a (suc n) alike =
     let rest : map f (range_with_len (a + 1) n) ≡ map g (range_with_len (a + 1) n) = map_alike f g (a + 1) n (λ k l. alike k (omega (arith, l))) in
     rw (first, rest) refl
 
-frames_by : (v : ℕ) (ms ns : List Bool) (l m j k : ℕ) → ms ≡ ns → l ≡ m → j ≡ k → frame_by v ms l j ≡ frame_by v ns m k
-frames_by v ms ns l m j k p q r = rw (p, q, r) refl
+frames_by : (v : ℕ) (ms ns : List Bool) (l m j k : ℕ) (limits : Limits) → ms ≡ ns → l ≡ m → j ≡ k → frame_by v ms l j limits ≡ frame_by v ns m k limits
+frames_by v ms ns l m j k limits p q r = rw (p, q, r) refl
 
 -- the frame of a program with other cuts
 pub same_frame : (b : BlockedProgram) (cuts : List Cut) → IsFormed b → frame_for (with_cuts b cuts) ≡ frame_for b
@@ -103,4 +104,4 @@ same_frame b cuts formed =
     let blocks : length (blocking_of p b.dec theirs).blocks ≡ length b.blocking.blocks =
     blocks_long p b.dec theirs ∙ sym (blocks_long p b.dec mine) ∙ ap (λ (x : Blocking). length x.blocks) (sym formed.blocking) in
     frames_by (length p.spans) (masters_of (with_cuts b cuts)) (masters_of b) (links_behind (with_cuts b cuts)) (links_behind b)
-    (length (blocking_of p b.dec theirs).blocks) (length b.blocking.blocks) masters behind blocks
+    (length (blocking_of p b.dec theirs).blocks) (length b.blocking.blocks) p.limits masters behind blocks

@@ -1,5 +1,5 @@
 -- What is loaded of a whole certificate.
-use Rattle.std.proofs.Common.{◌≡◌, ℕ, zero, suc, ◌+◌, ◌-◌, ◌<◌, ◌≤◌, ◌^◌, Bool, true, false, List, [], ◌∷◌, ◌++◌, length, get_or, Option, Some, None, ◌⊎◌, inl, inr, ⊎_elim, sym, subst, ap, ◌∙◌, refl, arith, lit<, add-zero, zero-add}
+use Rattle.std.proofs.Common.{◌≡◌, ℕ, zero, suc, ◌+◌, ◌<◌, ◌≤◌, ◌^◌, Bool, true, false, List, [], ◌∷◌, ◌++◌, length, get_or, Option, Some, None, inl, inr, ⊎_elim, sym, subst, ap, ◌∙◌, refl, arith, lit<}
 use Rattle.std.proofs.Math.IntN.{ℤ, pos}
 use Rattle.std.specs.Prelude.{IfSome, unsigned_abs, All, option_map}
 use Rattle.std.specs.List.{AllByRecursion}
@@ -12,26 +12,28 @@ use Rattle.bp_theory.specs.Blocking.{Blocking}
 use Rattle.bp_theory.specs.Decomposition.{Decomposition, blocking_of, proof_rows}
 use Rattle.bp_theory.specs.Cuts.{cut_row, cut_rows}
 use Rattle.bp_theory.specs.Bound.{Fits}
-use Rattle.bp_theory.specs.Trees.{Tree, shut_leaf, open_leaf, split, Leaf, leaves, low_part, high_part, depth, steps, HasSoundSplits, IsSoundSplit, IsZone}
-use Rattle.bp_theory.specs.Claims.{Holds, Certificate, Shows, PointFits, IsValid, IsCertified}
+use Rattle.bp_theory.specs.Trees.{Tree, shut_leaf, open_leaf, split, Leaf, leaves, low_part, high_part, depth, steps, HasSoundSplits, IsZone}
+use Rattle.bp_theory.specs.Claims.{Certificate, Shows, PointFits, IsValid, IsCertified}
 use Rattle.bp_theory.specs.Judgement.{Line, tree_lines, point_lines, cut_lines, named_value, blocking_with}
+use Rattle.bp_theory.specs.Limits.{greatest_depth}
+use Rattle.bp_theory.specs.declared.Limits.{Limits}
+use Rattle.bp_theory.specs.declared.Limits.TheVariants.{Large}
 use Rattle.bp_theory.specs.declared.Span.{Span}
 use Rattle.bp_theory.specs.declared.Row.{Row}
 use Rattle.bp_theory.specs.declared.Cut.{Cut}
-use Rattle.bp_theory.specs.declared.Proof.{Proof}
 use Rattle.bp_theory.specs.declared.Claim.{Claim}
 use Rattle.bp_theory.specs.declared.Claim.TheVariants.{Optimal, Infeasible, Bound}
+use Rattle.bp_theory.proofs.LimitLaws.{few_deep}
 use Rattle.block_program.specs.Blocked.{BlockedProgram, IsFormed}
 use Rattle.search_laws.specs.declared.Side.{Side}
 use Rattle.search_laws.specs.declared.Side.TheVariants.{Low, High}
 use Rattle.search_laws.specs.Grove.{GrowingTree, live, shut, fork, leaves_below, growing_leaves, certificate_tree}
-use Rattle.search_laws.specs.GroveFacts.{Settles, IsShallow, IsSearch, IsGrove, best_cost}
+use Rattle.search_laws.specs.GroveFacts.{IsShallow, IsSearch, best_cost}
 use Rattle.search_laws.specs.Loading.{Loads, IsReadable, HasSmallBound}
 use Rattle.search_laws.proofs.Places.{recursion_parts, recursion-append}
 use Rattle.search_laws.proofs.LoadProof.{load_keeps_lem}
-use Rattle.search_laws.proofs.DepthProof.{stays_shallow_lem}
-use Rattle.branch_tree.specs.Groves.{GroveState, IsStanding, IsGroveOf, made}
-use Rattle.branch_tree.specs.Adopted.{IsAdopted, point_in, IsSearchState}
+use Rattle.branch_tree.specs.Groves.{GroveState, IsStanding, made}
+use Rattle.branch_tree.specs.Adopted.{IsAdopted, point_in}
 use Rattle.branch_tree.specs.declared.loaded.Loaded.{Loaded}
 use Rattle.cert_text.specs.Programs.{GoesWith, IsSmallClaim}
 use Rattle.tree_load.specs.Rooms.{rooms, IsFirstDeep, FindsDeep, FindsBehind, root_line, node_count, CanLoadLeaf, CanLoad}
@@ -43,52 +45,52 @@ use Rattle.tree_load.proofs.Descent.{made_of}
 
 -- ---- rooms and depths
 
-one_low : (room : ℕ) → room ≤ 8256 → (k : ℕ) → get_or (room ∷ []) k 0 ≤ 8256
-one_low room low zero = low
-one_low room low (suc k) = omega arith
+one_low : (limits : Limits) (room : ℕ) → room ≤ greatest_depth limits → (k : ℕ) → get_or (room ∷ []) k 0 ≤ greatest_depth limits
+one_low limits room low zero = low
+one_low limits room low (suc k) = omega arith
 
 longer : (path : List Side) (side : Side) → length (path ++ side ∷ []) ≡ length path + 1
 longer path side = length-append path (side ∷ [])
 
 -- where no leaf is too deep, no room is
-rooms_low : (t : GrowingTree) (path : List Side) (zone : List Span) → AllByRecursion IsShallow (leaves_below t path zone)
-    → (k : ℕ) → get_or (rooms t (length path) zone) k 0 ≤ 8256
-rooms_low (live proof bound) path zone shallow = one_low (length path + _) shallow.0
-rooms_low (shut proof) path zone shallow = one_low 0 (omega arith)
-rooms_low (fork v at low high) path zone shallow =
-    let parts = recursion_parts IsShallow (leaves_below low (path ++ Low ∷ []) (low_part zone v at)) (leaves_below high (path ++ High ∷ []) (high_part zone v at)) shallow in
-    both_low (0 ∷ []) (rooms low (length path + 1) (low_part zone v at) ++ rooms high (length path + 1) (high_part zone v at)) (one_low 0 (omega arith))
-    (both_low (rooms low (length path + 1) (low_part zone v at)) (rooms high (length path + 1) (high_part zone v at))
-    (subst (λ d. (k : ℕ) → get_or (rooms low d (low_part zone v at)) k 0 ≤ 8256) (longer path Low) (rooms_low low (path ++ Low ∷ []) (low_part zone v at) parts.0))
-    (subst (λ d. (k : ℕ) → get_or (rooms high d (high_part zone v at)) k 0 ≤ 8256) (longer path High) (rooms_low high (path ++ High ∷ []) (high_part zone v at) parts.1)))
+rooms_low : (limits : Limits) (t : GrowingTree) (path : List Side) (zone : List Span) → AllByRecursion (IsShallow limits) (leaves_below t path zone)
+    → (k : ℕ) → get_or (rooms t (length path) zone) k 0 ≤ greatest_depth limits
+rooms_low limits (live proof bound) path zone shallow = one_low limits (length path + _) shallow.0
+rooms_low limits (shut proof) path zone shallow = one_low limits 0 (omega arith)
+rooms_low limits (fork v at low high) path zone shallow =
+    let parts = recursion_parts (IsShallow limits) (leaves_below low (path ++ Low ∷ []) (low_part zone v at)) (leaves_below high (path ++ High ∷ []) (high_part zone v at)) shallow in
+    both_low limits (0 ∷ []) (rooms low (length path + 1) (low_part zone v at) ++ rooms high (length path + 1) (high_part zone v at)) (one_low limits 0 (omega arith))
+    (both_low limits (rooms low (length path + 1) (low_part zone v at)) (rooms high (length path + 1) (high_part zone v at))
+    (subst (λ d. (k : ℕ) → get_or (rooms low d (low_part zone v at)) k 0 ≤ greatest_depth limits) (longer path Low) (rooms_low limits low (path ++ Low ∷ []) (low_part zone v at) parts.0))
+    (subst (λ d. (k : ℕ) → get_or (rooms high d (high_part zone v at)) k 0 ≤ greatest_depth limits) (longer path High) (rooms_low limits high (path ++ High ∷ []) (high_part zone v at) parts.1)))
 
-left_low : (xs ys : List ℕ) → ((k : ℕ) → get_or (xs ++ ys) k 0 ≤ 8256) → (k : ℕ) → get_or xs k 0 ≤ 8256
-left_low xs ys all k = ⊎_elim
-    (λ l. let same : get_or (xs ++ ys) k 0 ≡ get_or xs k 0 = get_or_append_left xs ys 0 k l in let low : get_or (xs ++ ys) k 0 ≤ 8256 = all k in omega (arith, same, low))
+left_low : (limits : Limits) (xs ys : List ℕ) → ((k : ℕ) → get_or (xs ++ ys) k 0 ≤ greatest_depth limits) → (k : ℕ) → get_or xs k 0 ≤ greatest_depth limits
+left_low limits xs ys all k = ⊎_elim
+    (λ l. let same : get_or (xs ++ ys) k 0 ≡ get_or xs k 0 = get_or_append_left xs ys 0 k l in let low : get_or (xs ++ ys) k 0 ≤ greatest_depth limits = all k in omega (arith, same, low))
     (λ m. let none : get_or xs k 0 ≡ 0 = past xs k m in omega (arith, none))
     (cases_lt k (length xs))
 
-right_low : (xs ys : List ℕ) → ((k : ℕ) → get_or (xs ++ ys) k 0 ≤ 8256) → (k : ℕ) → get_or ys k 0 ≤ 8256
-right_low xs ys all k =
+right_low : (limits : Limits) (xs ys : List ℕ) → ((k : ℕ) → get_or (xs ++ ys) k 0 ≤ greatest_depth limits) → (k : ℕ) → get_or ys k 0 ≤ greatest_depth limits
+right_low limits xs ys all k =
     let same : get_or (xs ++ ys) (length xs + k) 0 ≡ get_or ys k 0 = get_or-append-add xs ys k 0 in
-    let low : get_or (xs ++ ys) (length xs + k) 0 ≤ 8256 = all (length xs + k) in
+    let low : get_or (xs ++ ys) (length xs + k) 0 ≤ greatest_depth limits = all (length xs + k) in
     omega (arith, same, low)
 
 -- where no room is too large and the tree not too deep, no leaf is too deep
-shallow_by : (t : GrowingTree) (path : List Side) (zone : List Span) → ((k : ℕ) → get_or (rooms t (length path) zone) k 0 ≤ 8256)
-    → length path + depth (certificate_tree t) ≤ 8256 → AllByRecursion IsShallow (leaves_below t path zone)
-shallow_by (live proof bound) path zone low deep = (low 0, tt)
-shallow_by (shut proof) path zone low deep = (omega (arith, deep), tt)
-shallow_by (fork v at first second) path zone low deep =
+shallow_by : (limits : Limits) (t : GrowingTree) (path : List Side) (zone : List Span) → ((k : ℕ) → get_or (rooms t (length path) zone) k 0 ≤ greatest_depth limits)
+    → length path + depth (certificate_tree t) ≤ greatest_depth limits → AllByRecursion (IsShallow limits) (leaves_below t path zone)
+shallow_by limits (live proof bound) path zone low deep = (low 0, tt)
+shallow_by limits (shut proof) path zone low deep = (omega (arith, deep), tt)
+shallow_by limits (fork v at first second) path zone low deep =
     let xs : List ℕ = rooms first (length path + 1) (low_part zone v at) in
     let ys : List ℕ = rooms second (length path + 1) (high_part zone v at) in
-    let both : (k : ℕ) → get_or (xs ++ ys) k 0 ≤ 8256 = right_low (0 ∷ []) (xs ++ ys) low in
-    recursion-append IsShallow (leaves_below first (path ++ Low ∷ []) (low_part zone v at)) (leaves_below second (path ++ High ∷ []) (high_part zone v at))
-    (shallow_by first (path ++ Low ∷ []) (low_part zone v at)
-    (subst (λ d. (k : ℕ) → get_or (rooms first d (low_part zone v at)) k 0 ≤ 8256) (sym (longer path Low)) (left_low xs ys both))
+    let both : (k : ℕ) → get_or (xs ++ ys) k 0 ≤ greatest_depth limits = right_low limits (0 ∷ []) (xs ++ ys) low in
+    recursion-append (IsShallow limits) (leaves_below first (path ++ Low ∷ []) (low_part zone v at)) (leaves_below second (path ++ High ∷ []) (high_part zone v at))
+    (shallow_by limits first (path ++ Low ∷ []) (low_part zone v at)
+    (subst (λ d. (k : ℕ) → get_or (rooms first d (low_part zone v at)) k 0 ≤ greatest_depth limits) (sym (longer path Low)) (left_low limits xs ys both))
     (omega (arith, deep, longer path Low)))
-    (shallow_by second (path ++ High ∷ []) (high_part zone v at)
-    (subst (λ d. (k : ℕ) → get_or (rooms second d (high_part zone v at)) k 0 ≤ 8256) (sym (longer path High)) (right_low xs ys both))
+    (shallow_by limits second (path ++ High ∷ []) (high_part zone v at)
+    (subst (λ d. (k : ℕ) → get_or (rooms second d (high_part zone v at)) k 0 ≤ greatest_depth limits) (sym (longer path High)) (right_low limits xs ys both))
     (omega (arith, deep, longer path High)))
 
 -- a loaded tree is as deep as the certificate's
@@ -110,11 +112,11 @@ pub loaded_is_low : (b : BlockedProgram) (cert : Certificate) (from : Loaded) (l
 loaded_is_low b cert from line loaded deep =
     let same : deep.tree ≡ from.grove.tree =
     load_keeps_lem.one b.named.program b.blocking cert.tree (best_cost b.named.program cert.point) deep.tree loaded.tree deep.loads loaded.loads ∙ sym loaded.adopted.tree in
-    let first : IsFirstDeep (rooms from.grove.tree 0 b.named.program.spans) (root_line cert.point cert.cuts) line =
-    subst (λ (t : GrowingTree). IsFirstDeep (rooms t 0 b.named.program.spans) (root_line cert.point cert.cuts) line) same deep.first in
-    let low : get_or (rooms from.grove.tree 0 b.named.program.spans) first.place 0 ≤ 8256 =
-    rooms_low from.grove.tree [] b.named.program.spans (recursion_from_All IsShallow (growing_leaves from.grove.tree b.named.program.spans) loaded.loaded.search.shallow) first.place in
-    let high : 8256 < get_or (rooms from.grove.tree 0 b.named.program.spans) first.place 0 = first.deep in
+    let first : IsFirstDeep b.named.program.limits (rooms from.grove.tree 0 b.named.program.spans) (root_line cert.point cert.cuts) line =
+    subst (λ (t : GrowingTree). IsFirstDeep b.named.program.limits (rooms t 0 b.named.program.spans) (root_line cert.point cert.cuts) line) same deep.first in
+    let low : get_or (rooms from.grove.tree 0 b.named.program.spans) first.place 0 ≤ greatest_depth b.named.program.limits =
+    rooms_low b.named.program.limits from.grove.tree [] b.named.program.spans (recursion_from_All (IsShallow b.named.program.limits) (growing_leaves from.grove.tree b.named.program.spans) loaded.loaded.search.shallow) first.place in
+    let high : greatest_depth b.named.program.limits < get_or (rooms from.grove.tree 0 b.named.program.spans) first.place 0 = first.deep in
     absurd (omega (arith, low, high))
 
 -- ---- a certificate that was read and is valid
@@ -231,20 +233,25 @@ same_cost b (Some k) point is costs = ap (λ (z : ℤ). Some z) costs ∙ ap (be
 -- the facts of a search of what is loaded, where no leaf is too deep
 pub searched_of : (b : BlockedProgram) (cert : Certificate) (t : GrowingTree) → IsFormed b → b.cuts ≡ cert.cuts → GoesWith b cert
     → IsCertified b.named.program b.dec cert → IsLoadedTree b cert t
-    → FindsDeep (rooms t 0 b.named.program.spans) (root_line cert.point cert.cuts) None
+    → FindsDeep b.named.program.limits (rooms t 0 b.named.program.spans) (root_line cert.point cert.cuts) None
     → IsSearch b.named.program b.blocking t cert.point
 searched_of b cert t formed cuts goes valid loads low =
     let depth_is = leaf_depth b.blocking (best_cost b.named.program cert.point) b.named.program.spans cert.tree t loads in
     load_keeps_lem.search b.named.program b.blocking cert t (valid_here b cert formed cuts valid) (readable b cert formed cuts goes) loads
-    (All-from_recursion IsShallow (growing_leaves t b.named.program.spans) (shallow_by t [] b.named.program.spans low (omega (arith, depth_is, goes.shallow))))
+    (All-from_recursion (IsShallow b.named.program.limits) (growing_leaves t b.named.program.spans) (shallow_by b.named.program.limits t [] b.named.program.spans low (omega (arith, depth_is, goes.shallow))))
 
 pub few_made : (b : BlockedProgram) (cert : Certificate) (t : GrowingTree) → GoesWith b cert → IsLoadedTree b cert t → made t < 2 ^ 62
 few_made b cert t goes loads =
     omega (arith, made_of b.blocking (best_cost b.named.program cert.point) b.named.program.spans cert.tree t loads, few_nodes b cert goes)
 
-pub depth_low : (b : BlockedProgram) (cert : Certificate) (t : GrowingTree) → GoesWith b cert → IsLoadedTree b cert t → depth (certificate_tree t) ≤ 8256
+pub depth_low : (b : BlockedProgram) (cert : Certificate) (t : GrowingTree) → GoesWith b cert → IsLoadedTree b cert t → depth (certificate_tree t) ≤ greatest_depth Large
 depth_low b cert t goes loads =
-    omega (arith, leaf_depth b.blocking (best_cost b.named.program cert.point) b.named.program.spans cert.tree t loads, goes.shallow)
+    omega (
+      arith,
+      leaf_depth b.blocking (best_cost b.named.program cert.point) b.named.program.spans cert.tree t loads,
+      goes.shallow,
+      few_deep b.named.program.limits,
+    )
 
 -- what is loaded
 pub loaded_of : (b : BlockedProgram) (cert : Certificate) (t : GrowingTree) (from : Loaded)
@@ -272,19 +279,19 @@ few_steps b t g few adopted = subst (λ (u : GrowingTree). steps (certificate_tr
 -- what a walk from the root finds
 pub record IsLoadedRoot (b : BlockedProgram) (cert : Certificate) (t : GrowingTree) (deep : Option ℕ) : Type 0 where
   pub loads : IsLoadedTree b cert t
-  pub found : FindsDeep (rooms t 0 b.named.program.spans) (root_line cert.point cert.cuts) deep
+  pub found : FindsDeep b.named.program.limits (rooms t 0 b.named.program.spans) (root_line cert.point cert.cuts) deep
 
 pub root_loaded : (b : BlockedProgram) (cert : Certificate) (best : Option ℤ) (at end : Walk) (tree : Tree) (t : GrowingTree)
     → best ≡ best_cost b.named.program cert.point → at.zone ≡ b.named.program.spans → at.depth ≡ 0 → at.line ≡ root_line cert.point cert.cuts → at.deep ≡ None
-    → tree ≡ cert.tree → IsLoadedNode b.blocking best at tree t end → IsLoadedRoot b cert t end.deep
+    → tree ≡ cert.tree → IsLoadedNode b.named.program.limits b.blocking best at tree t end → IsLoadedRoot b cert t end.deep
 root_loaded b cert best at end tree t best_is zone_is depth_is line_is deep_is tree_is node = record {
   loads =
       subst (λ (u : Tree). Loads b.blocking (best_cost b.named.program cert.point) b.named.program.spans u t) tree_is
       (subst (λ (z : List Span). Loads b.blocking (best_cost b.named.program cert.point) z tree t) zone_is
       (subst (λ (o : Option ℤ). Loads b.blocking o at.zone tree t) best_is node.loads));
   found =
-      subst (λ n. FindsDeep (rooms t 0 b.named.program.spans) n end.deep) line_is
-      (subst (λ (z : List Span). FindsDeep (rooms t 0 z) at.line end.deep) zone_is
-      (subst (λ d. FindsDeep (rooms t d at.zone) at.line end.deep) depth_is
-      (subst (λ (o : Option ℕ). FindsBehind o (rooms t at.depth at.zone) at.line end.deep) deep_is node.deep)));
+      subst (λ n. FindsDeep b.named.program.limits (rooms t 0 b.named.program.spans) n end.deep) line_is
+      (subst (λ (z : List Span). FindsDeep b.named.program.limits (rooms t 0 z) at.line end.deep) zone_is
+      (subst (λ d. FindsDeep b.named.program.limits (rooms t d at.zone) at.line end.deep) depth_is
+      (subst (λ (o : Option ℕ). FindsBehind b.named.program.limits o (rooms t at.depth at.zone) at.line end.deep) deep_is node.deep)));
 }

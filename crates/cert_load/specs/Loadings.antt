@@ -29,7 +29,7 @@ pub record IsLoadedOf (b : BlockedProgram) (cert : Certificate) (from : Loaded) 
 pub record IsTooDeep (b : BlockedProgram) (cert : Certificate) (line : ℕ) : Type 0 where
   pub tree : GrowingTree
   pub loads : IsLoadedTree b cert tree
-  pub first : IsFirstDeep (rooms tree 0 b.named.program.spans) (root_line cert.point cert.cuts) line
+  pub first : IsFirstDeep b.named.program.limits (rooms tree 0 b.named.program.spans) (root_line cert.point cert.cuts) line
 
 -- what loading a certificate answers
 abbrev pub LoadsCert : BlockedProgram → Certificate → Result Loaded LoadFault → Type 0

@@ -8,7 +8,8 @@ use thiserror::Error;
 /// Why a valid certificate isn't loaded.
 #[derive(Clone, Copy, Debug, PartialEq, Eq, Error)]
 pub enum LoadFault {
-    /// The leaf of this line would be live, and its depth and the bits of its zone are together above 8,256.
+    /// The leaf of this line would be live, and its depth and the bits of its zone are together above the greatest depth of
+    /// the program's limits.
     #[error("line {0} has a live leaf that is too deep")]
     Deep(u64),
     /// Want of memory.

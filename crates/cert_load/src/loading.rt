@@ -23,8 +23,8 @@ use tree_load::{Walk, load_node};
 /// The tree and the best point of a valid certificate, from which a search goes on. A leaf, open or not, is shut exactly
 /// where its proof shows that its zone has no point cheaper than the certificate's or, where the certificate has none, no
 /// point at all; every other leaf is live, with the bound of its proof rounded up. `Deep` comes exactly where a live leaf's
-/// depth and the bits of its zone are together above 8,256, with the first such line. The program has the certificate's
-/// cuts.
+/// depth and the bits of its zone are together above the greatest depth of the program's limits, with the first such line.
+/// The program has the certificate's cuts.
 pub fn load(alloc: Global, b: &Blocked, cert: &Cert) -> Result<Loaded, LoadFault>
     requires cuts { b.now.cuts ≡ (certificate_of cert.now).cuts }
     requires goes_with { GoesWith b.now (certificate_of cert.now) }
@@ -94,7 +94,7 @@ fn load_nodes(
     requires valid { IsCertified b.now.named.program b.now.dec (certificate_of cert.now) }
     requires best { best.now ≡ best_cost b.now.named.program (certificate_of cert.now).point }
     ensures loads { IfOk result (λ r. IsLoadedTree b.now (certificate_of cert.now) (tree_of r.0)) }
-    ensures deep { IfOk result (λ r. FindsDeep (rooms (tree_of r.0) 0 b.now.named.program.spans)
+    ensures deep { IfOk result (λ r. FindsDeep b.now.named.program.limits (rooms (tree_of r.0) 0 b.now.named.program.spans)
         (root_line (certificate_of cert.now).point (certificate_of cert.now).cuts) r.1) }
 {
     // For the proof alone: `b` is formed.

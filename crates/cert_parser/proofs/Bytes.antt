@@ -446,9 +446,9 @@ few_cuts above root cuts r n s.Over few = tt
 
 -- the fault of a number that is too great to be kept
 big_fault : texts.Frame → Stage → Option Kind
-big_fault frame (at_scale a ws (of_leaf o)) = first_kind ((is_deep (length ws), Depth) ∷ (true, TooLarge) ∷ [])
+big_fault frame (at_scale a ws (of_leaf o)) = first_kind ((is_deep frame.limits (length ws), Depth) ∷ (true, TooLarge) ∷ [])
 big_fault frame (at_scale a ws of_cut) = first_kind ((nat_le most_cuts (length a.cuts), Limit) ∷ (true, TooLarge) ∷ [])
-big_fault frame (at_variable a ws) = first_kind ((is_deep (length ws), Depth) ∷ (true, Number) ∷ [])
+big_fault frame (at_variable a ws) = first_kind ((is_deep frame.limits (length ws), Depth) ∷ (true, Number) ∷ [])
 big_fault frame (at_row a ws o s ps last n) = Some Number
 big_fault frame (at_block a ws o s ps ks last n) = Some Number
 big_fault frame (at_count a ws o s) = None
@@ -462,7 +462,7 @@ big_is frame (at_bound v) z small cuts of_sort big = big_value z big
 big_is frame (at_value v b) z small cuts of_sort big = big_value z big
 big_is frame (at_place a ws i) z small cuts of_sort big = big_value z big
 big_is frame (at_coordinate v k zs) z small cuts of_sort big = big_coordinate frame (length zs + 1) z big
-big_is frame (at_scale a ws (of_leaf o)) z small cuts of_sort big = big_scale (is_deep (length ws)) (nat_abs z) big
+big_is frame (at_scale a ws (of_leaf o)) z small cuts of_sort big = big_scale (is_deep frame.limits (length ws)) (nat_abs z) big
 big_is frame (at_scale a ws of_cut) z small cuts of_sort big = big_divisor (nat_le most_cuts (length a.cuts)) (nat_eq (nat_abs z) 0) (nat_abs z) big
 big_is frame (at_count a ws o s) z small cuts of_sort big = refl
 big_is frame (at_priced a ws o s ps) z small cuts of_sort big = refl
@@ -476,7 +476,7 @@ big_is frame (at_multiplier a ws (of_leaf o) s ps r n) z small cuts of_sort big 
 big_is frame (at_multiplier a ws of_cut s ps r n) z small cuts of_sort big = big_multiplier (2 ^ 20) z (int_eq z (multiplier [] r)) (omega arith) big
 big_is frame (at_block a ws o s ps ks last n) z small cuts of_sort big = ap (λ (t : Bool). first_kind ((not t, Number) ∷ [])) (big_block (nat_lt last (nat_abs z)) frame.blocks (nat_abs z) small.blocks big)
 big_is frame (at_variable a ws) z small cuts of_sort big =
-    ap (λ (t : Bool). first_kind ((is_deep (length ws), Depth) ∷ (not t, Number) ∷ [])) (big_block (nat_lt 0 (nat_abs z)) frame.variables (nat_abs z) small.variables big)
+    ap (λ (t : Bool). first_kind ((is_deep frame.limits (length ws), Depth) ∷ (not t, Number) ∷ [])) (big_block (nat_lt 0 (nat_abs z)) frame.variables (nat_abs z) small.variables big)
 big_is frame at_bpcert z small cuts of_sort big = absurd of_sort
 big_is frame at_version z small cuts of_sort big = absurd of_sort
 big_is frame (at_first_end v) z small cuts of_sort big = absurd of_sort
@@ -513,14 +513,14 @@ big_faulty frame (at_bound v) z of_sort none = absurd (cc)
 big_faulty frame (at_value v b) z of_sort none = absurd (cc)
 big_faulty frame (at_place a ws i) z of_sort none = absurd (cc)
 big_faulty frame (at_coordinate v k zs) z of_sort none = absurd (cc)
-big_faulty frame (at_scale a ws (of_leaf o)) z of_sort none = absurd (some_first (is_deep (length ws)) Depth TooLarge none)
+big_faulty frame (at_scale a ws (of_leaf o)) z of_sort none = absurd (some_first (is_deep frame.limits (length ws)) Depth TooLarge none)
 big_faulty frame (at_scale a ws of_cut) z of_sort none = absurd (some_first (nat_le most_cuts (length a.cuts)) Limit TooLarge none)
 big_faulty frame (at_count a ws o s) z of_sort none = tt
 big_faulty frame (at_priced a ws o s ps) z of_sort none = tt
 big_faulty frame (at_row a ws o s ps last n) z of_sort none = absurd (cc)
 big_faulty frame (at_multiplier a ws o s ps r n) z of_sort none = absurd (cc)
 big_faulty frame (at_block a ws o s ps ks last n) z of_sort none = absurd (cc)
-big_faulty frame (at_variable a ws) z of_sort none = absurd (some_first (is_deep (length ws)) Depth Number none)
+big_faulty frame (at_variable a ws) z of_sort none = absurd (some_first (is_deep frame.limits (length ws)) Depth Number none)
 big_faulty frame at_bpcert z of_sort none = absurd of_sort
 big_faulty frame at_version z of_sort none = absurd of_sort
 big_faulty frame (at_first_end v) z of_sort none = absurd of_sort

@@ -228,7 +228,7 @@ leaves_minus frame stage done rest more r of_sort digit fits =
       positive m (b ∷ bs) s q digit goes same = positive_barred b m q s bs digit goes same
 
 -- behind a 0, where a digit follows
-pub leaves_zero : (frame : Frame) (stage : Stage) (done : List ℕ) (byte : ℕ) (rest more : List ℕ) → Reached frame stage false done → IsOfSort (sort stage) (pos 0) → is_deep_stage stage ≡ false → (48 ≤ byte) × (byte ≤ 57)
+pub leaves_zero : (frame : Frame) (stage : Stage) (done : List ℕ) (byte : ℕ) (rest more : List ℕ) → Reached frame stage false done → IsOfSort (sort stage) (pos 0) → is_deep_stage frame stage ≡ false → (48 ≤ byte) × (byte ≤ 57)
     → LeavesAt frame (done ++ (48 ∷ byte ∷ rest)) (line_behind (done ++ 48 ∷ [])) (byte ∷ rest) more
 leaves_zero frame stage done byte rest more r of_sort shallow digit =
     let next = goes_on_from frame (behind_number stage (pos 0)) in

@@ -225,9 +225,9 @@ pub cuts_begun : (cuts : List Cut) (r : Lines) (k : ℕ) → cutting r.spot ≡ 
 cuts_begun cuts r k one counted is = omega (arith, one, counted, is)
 
 -- no further cut may come
-pub all_cuts : (above : List Wait) (root : Tree) (cuts : List Cut) (r : Lines) (n : ℕ) (last : Bool) → r.spot ≡ s.Divisor → HasHighs above cuts r → last ≡ nat_le most_cuts r.cuts → last ≡ is_deep_stage (stage_of above root cuts r n)
-all_cuts above root cuts r n last is highs same =
-    let P : Spot → Type 0 = λ x. last ≡ is_deep_stage (place_of above root cuts r n x) in
+pub all_cuts : (frame : texts.Frame) (above : List Wait) (root : Tree) (cuts : List Cut) (r : Lines) (n : ℕ) (last : Bool) → r.spot ≡ s.Divisor → HasHighs above cuts r → last ≡ nat_le most_cuts r.cuts → last ≡ is_deep_stage frame (stage_of above root cuts r n)
+all_cuts frame above root cuts r n last is highs same =
+    let P : Spot → Type 0 = λ x. last ≡ is_deep_stage frame (place_of above root cuts r n x) in
     subst P (sym is) (same ∙ ap (λ (k : ℕ). nat_le most_cuts k) (cuts_whole cuts r (ap cutting is) highs.cuts))
 
 -- what a number is judged by the count of cuts, it is by the cuts

@@ -133,7 +133,7 @@ of_version : (frame : Frame) (ts : List Token) → Certificates frame ts → (c 
 of_version frame ts m = (meant m.0 m.1, record { version = m.0; written = m.1; form = m.2; means = refl; tokens = m.3 })
 
 -- the number of a node that is too deep, or of a cut that is one too many, behind a text that is reached
-pub deep_there : (frame : Frame) (stage : Stage) (done rest : List ℕ) (line : ℕ) → Reached frame stage false done → is_deep_stage stage ≡ true → BeginsNumber rest → line ≡ line_behind done
+pub deep_there : (frame : Frame) (stage : Stage) (done rest : List ℕ) (line : ℕ) → Reached frame stage false done → is_deep_stage frame stage ≡ true → BeginsNumber rest → line ≡ line_behind done
     → HasDeepNumber frame (done ++ rest) line (deep_kind stage)
 deep_there frame stage done rest line r is number at_line =
     let about = deep_number frame stage is in

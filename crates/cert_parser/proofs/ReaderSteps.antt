@@ -122,7 +122,7 @@ place_part : (above : List Wait) (root : Tree) (cuts : List Cut) (r : Lines) (p 
 place_part above root cuts r p n = same_place above root cuts r p r.line n r.spot
 
 -- the first digit of a number
-pub digits_begun : (above : List Wait) (root : Tree) (cuts : List Cut) (frame : Frame) (r : Lines) (number : Bool) (text : List ℕ) (byte : ℕ) (between : Between above root cuts frame r number text) → is_digit byte ≡ true → IsOfSort (sort (stage_of above root cuts r between.count)) (pos (byte - 48)) → is_deep_stage (stage_of above root cuts r between.count) ≡ false → StandsFor above root cuts frame (record r { part = Digits false (byte - 48) }) (text ++ byte ∷ [])
+pub digits_begun : (above : List Wait) (root : Tree) (cuts : List Cut) (frame : Frame) (r : Lines) (number : Bool) (text : List ℕ) (byte : ℕ) (between : Between above root cuts frame r number text) → is_digit byte ≡ true → IsOfSort (sort (stage_of above root cuts r between.count)) (pos (byte - 48)) → is_deep_stage (frame_of frame) (stage_of above root cuts r between.count) ≡ false → StandsFor above root cuts frame (record r { part = Digits false (byte - 48) }) (text ++ byte ∷ [])
 digits_begun above root cuts frame r number text byte between digit of_sort shallow =
     let range = digit_low byte digit in
     let low : 48 ≤ byte = range.0 in
@@ -153,7 +153,7 @@ minus_line : (byte : ℕ) → byte ≡ 45 → byte ≢ 10
 minus_line byte is = λ e. omega arith
 
 -- a minus
-pub minus_begun : (above : List Wait) (root : Tree) (cuts : List Cut) (frame : Frame) (r : Lines) (number : Bool) (text : List ℕ) (between : Between above root cuts frame r number text) → sort (stage_of above root cuts r between.count) ≡ Whole → is_deep_stage (stage_of above root cuts r between.count) ≡ false → StandsFor above root cuts frame (record r { part = Minus }) (text ++ 45 ∷ [])
+pub minus_begun : (above : List Wait) (root : Tree) (cuts : List Cut) (frame : Frame) (r : Lines) (number : Bool) (text : List ℕ) (between : Between above root cuts frame r number text) → sort (stage_of above root cuts r between.count) ≡ Whole → is_deep_stage (frame_of frame) (stage_of above root cuts r between.count) ≡ false → StandsFor above root cuts frame (record r { part = Minus }) (text ++ 45 ∷ [])
 minus_begun above root cuts frame r number text between is_whole shallow =
     let other : 45 ≢ 10 = minus_line 45 refl in
     let Q : Sort → Type 0 = λ t. IsOfSort t (negsuc 0) in
@@ -192,7 +192,7 @@ number_part : (above : List Wait) (root : Tree) (cuts : List Cut) (frame : Frame
 number_part above root cuts frame r text negative value stands is = let P : Part → Type 0 = λ p. IsPart (frame_of frame) (stage_of above root cuts r stands.count) p text in subst P is stands.part
 
 -- a digit behind a 0, by the sign
-zero_by : (frame : Frame) (stage : Stage) (text done : List ℕ) (negative : Bool) (n byte line : ℕ) → n ≡ 0 → (IsTrue negative → 0 < n) → IsOfSort (sort stage) (signed negative n) → is_deep_stage stage ≡ false → text ≡ done ++ signed_numeral (signed negative n)
+zero_by : (frame : Frame) (stage : Stage) (text done : List ℕ) (negative : Bool) (n byte line : ℕ) → n ≡ 0 → (IsTrue negative → 0 < n) → IsOfSort (sort stage) (signed negative n) → is_deep_stage (frame_of frame) stage ≡ false → text ≡ done ++ signed_numeral (signed negative n)
     → Reached (frame_of frame) stage false done → (48 ≤ byte) × (byte ≤ 57) → line ≡ line_behind text → IsSeenFault (frame_of frame) (text ++ byte ∷ []) line Syntax
 zero_by frame stage text done true n byte line e positive of_sort shallow bytes reached digit at_line = let some : 0 < n = positive refl in absurd (omega arith)
 zero_by frame stage text done false n byte line e positive of_sort shallow bytes reached digit at_line =
@@ -322,29 +322,29 @@ syntax_minus above root cuts frame r text byte line stands is other at_line =
     (λ more. leaves_minus (frame_of frame) (stage_of above root cuts r stands.count) part.done (byte ∷ []) more part.reached (subst S (sym part.of_sort) tt) other (λ none. cc))))
 
 -- a place where no number comes of a node that is too deep
-pub shallow_dry : (above : List Wait) (root : Tree) (cuts : List Cut) (frame : Frame) (r : Lines) (n byte : ℕ) → is_deep_stage (stage_of above root cuts r n) ≡ false → (more : List ℕ) → IsDry (frame_of frame) (stage_of above root cuts r n) (byte ∷ more)
+pub shallow_dry : (above : List Wait) (root : Tree) (cuts : List Cut) (frame : Frame) (r : Lines) (n byte : ℕ) → is_deep_stage (frame_of frame) (stage_of above root cuts r n) ≡ false → (more : List ℕ) → IsDry (frame_of frame) (stage_of above root cuts r n) (byte ∷ more)
 shallow_dry above root cuts frame r n byte shallow more k x first begins = no_shallow_deep (frame_of frame) (stage_of above root cuts r n) k x first shallow
 
 -- ---- the number of a node that is too deep
 
 -- where it comes, no word does, and a number without a sign
-deep_words : (frame : Frame) (stage : Stage) (v : Word) → is_deep_stage stage ≡ true → Comes v (words stage) → ⊥
+deep_words : (frame : Frame) (stage : Stage) (v : Word) → is_deep_stage (frame_of frame) stage ≡ true → Comes v (words stage) → ⊥
 deep_words frame stage v is comes = let P : List (Word × Stage) → Type 0 = Comes v in subst P (deep_number (frame_of frame) stage is).1 comes
 
-deep_plain : (frame : Frame) (stage : Stage) (z : ℤ) (m : ℕ) → is_deep_stage stage ≡ true → IsOfSort (sort stage) z → z ≡ negsuc m → ⊥
+deep_plain : (frame : Frame) (stage : Stage) (z : ℤ) (m : ℕ) → is_deep_stage (frame_of frame) stage ≡ true → IsOfSort (sort stage) z → z ≡ negsuc m → ⊥
 deep_plain frame stage z m is of_sort minus =
     let P : Sort → Type 0 = λ t. IsOfSort t z in
     let plain : z ≡ pos (nat_abs z) = subst P (deep_number (frame_of frame) stage is).2 of_sort in
     let wrong : negsuc m ≡ pos (nat_abs z) = sym minus ∙ plain in cc
 
 -- where it comes, no number stands before
-deep_unnumbered : (above : List Wait) (root : Tree) (cuts : List Cut) (frame : Frame) (r : Lines) (number : Bool) (text : List ℕ) (between : Between above root cuts frame r number text) → is_deep_stage (stage_of above root cuts r between.count) ≡ true → Reached (frame_of frame) (stage_of above root cuts r between.count) false text
+deep_unnumbered : (above : List Wait) (root : Tree) (cuts : List Cut) (frame : Frame) (r : Lines) (number : Bool) (text : List ℕ) (between : Between above root cuts frame r number text) → is_deep_stage (frame_of frame) (stage_of above root cuts r between.count) ≡ true → Reached (frame_of frame) (stage_of above root cuts r between.count) false text
 deep_unnumbered above root cuts frame r number text between is =
     let P : Sort → Type 0 = λ t. IsOfSort t (pos 0) in
     unnumbered above root cuts frame r number text between (pos 0) (subst P (sym (deep_number (frame_of frame) (stage_of above root cuts r between.count) is).2) refl)
 
 -- its first digit
-pub deep_digit : (above : List Wait) (root : Tree) (cuts : List Cut) (frame : Frame) (r : Lines) (number : Bool) (text : List ℕ) (byte line : ℕ) (kind : Kind) (between : Between above root cuts frame r number text) → is_deep_stage (stage_of above root cuts r between.count) ≡ true → is_digit byte ≡ true
+pub deep_digit : (above : List Wait) (root : Tree) (cuts : List Cut) (frame : Frame) (r : Lines) (number : Bool) (text : List ℕ) (byte line : ℕ) (kind : Kind) (between : Between above root cuts frame r number text) → is_deep_stage (frame_of frame) (stage_of above root cuts r between.count) ≡ true → is_digit byte ≡ true
     → kind ≡ deep_kind (stage_of above root cuts r between.count) → line ≡ r.line → IsSeenFault (frame_of frame) (text ++ byte ∷ []) line kind
 deep_digit above root cuts frame r number text byte line kind between is digit of_kind at_line =
     let stage = stage_of above root cuts r between.count in
@@ -352,7 +352,7 @@ deep_digit above root cuts frame r number text byte line kind between is digit o
     subst P (sym of_kind) (inr (inl (deep_there (frame_of frame) stage text (byte ∷ []) line (deep_unnumbered above root cuts frame r number text between is) is (inl (digit_low byte digit)) (at_line ∙ between.counts.line))))
 
 -- a minus in front of it
-pub deep_minus_begun : (above : List Wait) (root : Tree) (cuts : List Cut) (frame : Frame) (r : Lines) (number : Bool) (text : List ℕ) (between : Between above root cuts frame r number text) → is_deep_stage (stage_of above root cuts r between.count) ≡ true → StandsFor above root cuts frame (record r { part = DeepMinus }) (text ++ 45 ∷ [])
+pub deep_minus_begun : (above : List Wait) (root : Tree) (cuts : List Cut) (frame : Frame) (r : Lines) (number : Bool) (text : List ℕ) (between : Between above root cuts frame r number text) → is_deep_stage (frame_of frame) (stage_of above root cuts r between.count) ≡ true → StandsFor above root cuts frame (record r { part = DeepMinus }) (text ++ 45 ∷ [])
 deep_minus_begun above root cuts frame r number text between is =
     let other : 45 ≢ 10 = minus_line 45 refl in
     let P : Stage → Type 0 = λ stage. IsBehindDeepMinus (frame_of frame) stage (text ++ 45 ∷ []) in
@@ -363,7 +363,7 @@ deep_minus_begun above root cuts frame r number text between is =
     }
 
 -- neither a digit nor a minus
-pub deep_other : (above : List Wait) (root : Tree) (cuts : List Cut) (frame : Frame) (r : Lines) (number : Bool) (text : List ℕ) (byte line : ℕ) (between : Between above root cuts frame r number text) → is_deep_stage (stage_of above root cuts r between.count) ≡ true → MayStand number (byte ∷ [])
+pub deep_other : (above : List Wait) (root : Tree) (cuts : List Cut) (frame : Frame) (r : Lines) (number : Bool) (text : List ℕ) (byte line : ℕ) (between : Between above root cuts frame r number text) → is_deep_stage (frame_of frame) (stage_of above root cuts r between.count) ≡ true → MayStand number (byte ∷ [])
     → (48 ≤ byte → byte ≤ 57 → ⊥) → byte ≢ 45 → line ≡ r.line → IsSeenFault (frame_of frame) (text ++ byte ∷ []) line Syntax
 deep_other above root cuts frame r number text byte line between is may no_digit no_minus at_line =
     let stage = stage_of above root cuts r between.count in

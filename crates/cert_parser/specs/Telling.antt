@@ -1,5 +1,6 @@
 -- Which lines may come where in a certificate's text, and what of it stays as it is from the tree's first line on.
 use Rattle.std.specs.Prelude.{◌≡◌, ◌⊎◌, ℕ, false, List, [], ◌∷◌, Option, Some, None}
+use Rattle.bp_theory.specs.declared.Limits.{Limits}
 use Rattle.cert_format.specs.Text.{is_deep}
 use Rattle.cert_format.specs.declared.spots.Spot.{Spot}
 use Rattle.cert_format.specs.declared.spots.Spot.TheVariants as s
@@ -66,20 +67,20 @@ StaysFrom within old new = HasSameClaim old new
 StaysFrom past old new = HasSameClaim old new
 
 -- where a split's variable has come, its node isn't too deep
-abbrev pub IsShallowAt : Spot → (depth : ℕ) → Type 0
-IsShallowAt s.VariableGap depth = is_deep depth ≡ false
-IsShallowAt s.Place depth = is_deep depth ≡ false
-IsShallowAt s.SplitEnd depth = is_deep depth ≡ false
-IsShallowAt _ depth = Unit {0}
+abbrev pub IsShallowAt : Limits → Spot → (depth : ℕ) → Type 0
+IsShallowAt limits s.VariableGap depth = is_deep limits depth ≡ false
+IsShallowAt limits s.Place depth = is_deep limits depth ≡ false
+IsShallowAt limits s.SplitEnd depth = is_deep limits depth ≡ false
+IsShallowAt limits _ depth = Unit {0}
 
-abbrev pub IsShallow : Lines → Type 0
-IsShallow r = IsShallowAt r.spot r.depth
+abbrev pub IsShallow : Limits → Lines → Type 0
+IsShallow limits r = IsShallowAt limits r.spot r.depth
 
 -- the phase and the depths are those of before, and from the cuts on the claim and the point are
-pub record Stays (old new : Lines) : Type 0 where
+pub record Stays (limits : Limits) (old new : Lines) : Type 0 where
   pub phase : phase_of new ≡ phase_of old
   pub claim : StaysFrom (phase_of old) old new
-  pub shallow : IsShallow old → IsShallow new
+  pub shallow : IsShallow limits old → IsShallow limits new
   pub depth : new.depth ≡ old.depth
   pub highs : new.highs.items ≡ old.highs.items
 
@@ -88,17 +89,17 @@ abbrev pub GoesOn : Phase → Phase → Type 0
 GoesOn phase next = (next ≡ phase) ⊎ ((phase ≡ cutting) × (next ≡ within))
 
 -- the same within a line, which may begin the tree
-pub record Passes (old new : Lines) : Type 0 where
+pub record Passes (limits : Limits) (old new : Lines) : Type 0 where
   pub phase : GoesOn (phase_of old) (phase_of new)
   pub claim : StaysFrom (phase_of old) old new
-  pub shallow : IsShallow old → IsShallow new
+  pub shallow : IsShallow limits old → IsShallow limits new
   pub depth : new.depth ≡ old.depth
   pub highs : new.highs.items ≡ old.highs.items
 
 -- a claim ends before the cuts and the tree, a cut's line before the tree, a node's line within it; a split's node isn't too deep
-abbrev pub Tells : Lines → Lines → Option Event → Type 0
-Tells old new None = Passes old new
-Tells old new (Some e.Claim) = (phase_of old ≡ ahead) × GoesOn cutting (phase_of new) × IsShallow new
-Tells old new (Some (e.Cut cut)) = (phase_of old ≡ cutting) × (phase_of new ≡ cutting) × HasSameClaim old new × IsShallow new
-Tells old new (Some (e.Split p)) = (phase_of old ≡ within) × (phase_of new ≡ within) × HasSameClaim old new × IsShallow new × (IsShallow old → is_deep old.depth ≡ false)
-Tells old new (Some (e.Leaf is_open proof)) = (phase_of old ≡ within) × (phase_of new ≡ phase_behind old.highs.items) × HasSameClaim old new × IsShallow new
+abbrev pub Tells : Limits → Lines → Lines → Option Event → Type 0
+Tells limits old new None = Passes limits old new
+Tells limits old new (Some e.Claim) = (phase_of old ≡ ahead) × GoesOn cutting (phase_of new) × IsShallow limits new
+Tells limits old new (Some (e.Cut cut)) = (phase_of old ≡ cutting) × (phase_of new ≡ cutting) × HasSameClaim old new × IsShallow limits new
+Tells limits old new (Some (e.Split p)) = (phase_of old ≡ within) × (phase_of new ≡ within) × HasSameClaim old new × IsShallow limits new × (IsShallow limits old → is_deep limits old.depth ≡ false)
+Tells limits old new (Some (e.Leaf is_open proof)) = (phase_of old ≡ within) × (phase_of new ≡ phase_behind old.highs.items) × HasSameClaim old new × IsShallow limits new

@@ -1,5 +1,6 @@
 // The lines of a certificate's text, read byte by byte: what has come of the text, and what each line says.
 ghost use Rattle.std.specs.Prelude.{◌≡◌, ℕ, [], ◌∷◌, OnOk, IfOk, MatchResult, Ok, List, Some, None, false, length, ◌++◌, ◌+◌, ◌-◌};
+ghost use Rattle.bp_theory.specs.declared.Limits.{Limits};
 ghost use Rattle.cert_format.specs.declared.frame.Frame.{Frame};
 ghost use Rattle.cert_format.specs.declared.words.Word.{Word};
 ghost use Rattle.cert_format.specs.Written.{in_text, written_claim, written_proof};
@@ -61,8 +62,8 @@ pub enum Event {
 }
 
 /// A reader of a certificate's lines. It keeps no tree and no cuts: of the nodes that were read only the depths of the
-/// high parts that are still to come, at most 8,257, and the multipliers that the next leaf changes; of the cuts that
-/// were read, how many there are.
+/// high parts that are still to come, at most one more than the limits allow splits above a node, and the multipliers
+/// that the next leaf changes; of the cuts that were read, how many there are.
 #[derive(Drop)]
 pub struct Lines {
     spot: Spot,
@@ -101,7 +102,7 @@ impl Lines {
         ensures keeps { Keeps self.old self.new }
         ensures phase { phase_of self.new ≡ phase_behind self.old.highs.items }
         ensures claim { HasSameClaim self.old self.new }
-        ensures shallow { IsShallow self.new }
+        ensures shallow { (limits : Limits) → IsShallow limits self.new }
     {
         match self.highs.pop() {
             Some(depth) => {
@@ -125,8 +126,8 @@ impl Lines {
             (record { scale = self.old.scale; mults = self.old.mults; picked = Every }))) }
         ensures highs { IfOk result (λ event. KeepsHighs self.old self.new event) }
         ensures keeps { OnOk result (Keeps self.old self.new) }
-        ensures told { IfOk result (λ event. phase_of self.old ≡ within →
-            Tells self.old self.new event) }
+        ensures told { IfOk result (λ event. (limits : Limits) → phase_of self.old ≡ within →
+            Tells limits self.old self.new event) }
     {
         let mults = self.had.next(alloc, self.version, self.mults.as_slice())?;
         let is_open = self.is_open;
@@ -154,8 +155,8 @@ impl Lines {
             }))) }
         ensures highs { IfOk result (λ event. KeepsHighs self.old self.new event) }
         ensures keeps { OnOk result (Keeps self.old self.new) }
-        ensures told { IfOk result (λ event. phase_of self.old ≡ within →
-            Tells self.old self.new event) }
+        ensures told { IfOk result (λ event. (limits : Limits) → phase_of self.old ≡ within →
+            Tells limits self.old self.new event) }
     {
         let mults = self.had.next(alloc, self.version, self.mults.as_slice())?;
         let blocks = mem::replace(&mut self.blocks, Items::new(alloc));
@@ -178,8 +179,8 @@ impl Lines {
             (low_of (in_text self.old.place.var) self.old.place.at ∷ above)) }
         ensures highs { IfOk result (λ event. KeepsHighs self.old self.new event) }
         ensures keeps { OnOk result (Keeps self.old self.new) }
-        ensures told { IfOk result (λ event. self.old.spot ≡ spots.SplitEnd →
-            Tells self.old self.new event) }
+        ensures told { IfOk result (λ event. (limits : Limits) → self.old.spot ≡ spots.SplitEnd →
+            Tells limits self.old self.new event) }
     {
         self.depth = self.depth.saturating_add(1);
         self.highs.push(self.depth)?;
@@ -195,8 +196,8 @@ impl Lines {
         ensures highs { IfOk result (λ event. (above : List Wait) (cuts : List texts.Cut) →
             HasHighs (waits_after above event) (cuts_after cuts event) self.new) }
         ensures keeps { OnOk result (Keeps self.old self.new) }
-        ensures told { IfOk result (λ event. phase_of self.old ≡ ahead →
-            Tells self.old self.new event) }
+        ensures told { IfOk result (λ event. (limits : Limits) → phase_of self.old ≡ ahead →
+            Tells limits self.old self.new event) }
     {
         self.depth = 0;
         self.highs = Vec::new(alloc);
@@ -253,7 +254,7 @@ impl Lines {
         ensures place { IfOk result (λ event. LeadsTo self.old self.new event word) }
         ensures highs { IfOk result (λ event. KeepsHighs self.old self.new event) }
         ensures keeps { OnOk result (Keeps self.old self.new) }
-        ensures told { IfOk result (λ event. Tells self.old self.new event) }
+        ensures told { IfOk result (λ event. (limits : Limits) → Tells limits self.old self.new event) }
     {
         match word {
             Word::Optimal => self.go_to(Spot::OptimalValue),
@@ -268,7 +269,7 @@ impl Lines {
         ensures place { IfOk result (λ event. LeadsTo self.old self.new event word) }
         ensures highs { IfOk result (λ event. KeepsHighs self.old self.new event) }
         ensures keeps { OnOk result (Keeps self.old self.new) }
-        ensures told { IfOk result (λ event. Tells self.old self.new event) }
+        ensures told { IfOk result (λ event. (limits : Limits) → Tells limits self.old self.new event) }
     {
         match word {
             Word::Value => self.go_to(Spot::KnownValue),
@@ -286,7 +287,7 @@ impl Lines {
             LeadsTo self.old self.new event word) }
         ensures highs { IfOk result (λ event. KeepsHighs self.old self.new event) }
         ensures keeps { OnOk result (Keeps self.old self.new) }
-        ensures told { IfOk result (λ event. Tells self.old self.new event) }
+        ensures told { IfOk result (λ event. (limits : Limits) → Tells limits self.old self.new event) }
     {
         self.claim = Claim::Infeasible;
         self.begin_tree(alloc)
@@ -298,7 +299,7 @@ impl Lines {
         ensures place { IfOk result (λ event. LeadsTo self.old self.new event word) }
         ensures highs { IfOk result (λ event. KeepsHighs self.old self.new event) }
         ensures keeps { OnOk result (Keeps self.old self.new) }
-        ensures told { IfOk result (λ event. Tells self.old self.new event) }
+        ensures told { IfOk result (λ event. (limits : Limits) → Tells limits self.old self.new event) }
     {
         match word {
             Word::Leaf => self.begin_leaf(false),
@@ -312,7 +313,7 @@ impl Lines {
         ensures place { IfOk result (λ event. LeadsTo self.old self.new event word) }
         ensures highs { IfOk result (λ event. KeepsHighs self.old self.new event) }
         ensures keeps { OnOk result (Keeps self.old self.new) }
-        ensures told { IfOk result (λ event. Tells self.old self.new event) }
+        ensures told { IfOk result (λ event. (limits : Limits) → Tells limits self.old self.new event) }
     {
         match (self.spot, word) {
             (Spot::Bpcert, _) => self.go_to(Spot::Version),
@@ -362,21 +363,21 @@ impl Lines {
     }
 
     // Whether the next node is too deep.
-    fn is_deep(&self) -> bool
+    fn is_deep(&self, frame: &Frame) -> bool
         ensures { (above : List Wait) (cuts : List texts.Cut) → HasHighs above cuts self.now →
-            result ≡ is_deep (length above) }
+            result ≡ is_deep frame.now.limits (length above) }
     {
-        is_too_deep(self.depth)
+        is_too_deep(frame, self.depth)
     }
 
     // The scale of the next node.
-    fn scale_of(&self, value: u64) -> Result<u32, CertKind>
+    fn scale_of(&self, frame: &Frame, value: u64) -> Result<u32, CertKind>
         ensures { MatchResult result (λ s. ((above : List Wait) (cuts : List texts.Cut) → HasHighs above cuts self.now →
-            scale_fault (length above) value ≡ None) × (s ≡ value))
+            scale_fault (frame_of frame.now) (length above) value ≡ None) × (s ≡ value))
             (λ kind. (above : List Wait) (cuts : List texts.Cut) → HasHighs above cuts self.now →
-            scale_fault (length above) value ≡ Some kind) }
+            scale_fault (frame_of frame.now) (length above) value ≡ Some kind) }
     {
-        judge_scale(self.depth, value)
+        judge_scale(frame, self.depth, value)
     }
 
     // The variable behind which the next node is split, as its number from 0.
@@ -385,7 +386,7 @@ impl Lines {
             variable_fault (frame_of frame.now) (length above) value ≡ None) × (v + 1 ≡ value))
             (λ kind. (above : List Wait) (cuts : List texts.Cut) → HasHighs above cuts self.now →
             variable_fault (frame_of frame.now) (length above) value ≡ Some kind) }
-        ensures shallow { OnOk result (is_deep self.now.depth ≡ false) }
+        ensures shallow { OnOk result (is_deep frame.now.limits self.now.depth ≡ false) }
     {
         judge_variable(frame, self.depth, value)
     }
@@ -453,7 +454,7 @@ impl Lines {
     fn take_block(&mut self, frame: &Frame, value: u64) -> Result<(), CertFault>
         requires { self.old.spot ≡ spots.Block }
         ensures takes { TakesNatural (frame_of frame.now) self.old self.new value result }
-        ensures stays { OnOk result (Stays self.old self.new) }
+        ensures stays { OnOk result (Stays frame.now.limits self.old self.new) }
     {
         match judge_block(frame, self.last, value) {
             Err(kind) => Err(self.fault(kind)),
@@ -473,10 +474,10 @@ impl Lines {
     fn take_natural(&mut self, alloc: Global, frame: &Frame, value: u64) -> Result<(), CertFault>
         requires { spot_sort self.old.spot ≡ Natural }
         ensures takes { TakesNatural (frame_of frame.now) self.old self.new value result }
-        ensures stays { OnOk result (Stays self.old self.new) }
+        ensures stays { OnOk result (Stays frame.now.limits self.old self.new) }
     {
         match self.spot {
-            Spot::Scale => match self.scale_of(value) {
+            Spot::Scale => match self.scale_of(frame, value) {
                 Err(kind) => Err(self.fault(kind)),
                 Ok(scale) => self.keep_scale(scale),
             },
@@ -527,7 +528,7 @@ impl Lines {
         requires { self.old.spot ≡ spots.Multiplier }
         ensures takes { (frame : Frame) →
             TakesWhole (frame_of frame) self.old self.new negative value result }
-        ensures stays { OnOk result (Stays self.old self.new) }
+        ensures stays { (limits : Limits) → OnOk result (Stays limits self.old self.new) }
     {
         match judge_multiplier(MAX_MULTIPLIER, &self.had.get(self.row), negative, value) {
             Err(kind) => Err(self.fault(kind)),
@@ -547,7 +548,7 @@ impl Lines {
     ) -> Result<(), CertFault>
         requires { self.old.spot ≡ spots.Coordinate }
         ensures takes { TakesWhole (frame_of frame.now) self.old self.new negative value result }
-        ensures stays { OnOk result (Stays self.old self.new) }
+        ensures stays { OnOk result (Stays frame.now.limits self.old self.new) }
     {
         match judge_coordinate(frame, self.point.len(), negative, value) {
             Err(kind) => Err(self.fault(kind)),
@@ -598,7 +599,7 @@ impl Lines {
     fn take_whole(&mut self, frame: &Frame, negative: bool, value: u64) -> Result<(), CertFault>
         requires { spot_sort self.old.spot ≡ Whole }
         ensures takes { TakesWhole (frame_of frame.now) self.old self.new negative value result }
-        ensures stays { OnOk result (Stays self.old self.new) }
+        ensures stays { OnOk result (Stays frame.now.limits self.old self.new) }
     {
         match self.spot {
             Spot::Coordinate => self.take_coordinate(frame, negative, value),
@@ -628,7 +629,7 @@ impl Lines {
     pub fn new(alloc: Global) -> Lines
         ensures stands { (root : Tree) (frame : Frame) → StandsFor [] root [] frame result [] }
         ensures phase { phase_of result ≡ ahead }
-        ensures shallow { IsShallow result }
+        ensures shallow { (limits : Limits) → IsShallow limits result }
     {
         Lines {
             spot: Spot::Bpcert,

@@ -9,8 +9,10 @@ use Rattle.bp_theory.specs.Blocking.{Blocking}
 use Rattle.bp_theory.specs.Trees.{Tree, shut_leaf, split}
 use Rattle.bp_theory.specs.declared.Claim.{Claim}
 use Rattle.bp_theory.specs.declared.Cut.{Cut}
+use Rattle.bp_theory.specs.declared.Limits.{Limits}
 use Rattle.bp_theory.specs.declared.Proof.{Proof}
 use Rattle.bp_theory.specs.declared.Picked.TheVariants.{Every}
+use Rattle.bp_theory.proofs.LimitLaws.{few_deep}
 use Rattle.block_program.specs.Blocked.{BlockedProgram, IsFormed}
 use Rattle.cert_format.specs.Cert as texts
 use Rattle.cert_format.specs.Fault.{IsSeenFault}
@@ -167,7 +169,7 @@ one_more text byte fed now is more = omega (arith, is, more, length-append text 
 
 pub quiet : (b : BlockedProgram) (visits : Option ℕ) (old new : Checker) (text : List ℕ) (byte : ℕ) (ts : List Turn) (root : Tree) (cuts : List Cut)
     → new.frame ≡ old.frame → new.cuts ≡ old.cuts → new.walk ≡ old.walk → new.held ≡ old.held → new.fed ≡ old.fed + 1
-    → StandsFor (map wait_of ts) (written_tree root) (map written_cut cuts) old.frame new.lines (text ++ byte ∷ []) → Passes old.lines new.lines
+    → StandsFor (map wait_of ts) (written_tree root) (map written_cut cuts) old.frame new.lines (text ++ byte ∷ []) → Passes b.named.program.limits old.lines new.lines
     → HasJudged b visits old text ts root cuts → HasJudged b visits new (text ++ byte ∷ []) ts root cuts
 quiet b visits old new text byte ts root cuts frame kept walk held fed reads stays h = record {
   reads = subst (λ (x : Frame). StandsFor (map wait_of ts) (written_tree root) (map written_cut cuts) x new.lines (text ++ byte ∷ [])) (sym frame) reads;
@@ -182,7 +184,7 @@ quiet b visits old new text byte ts root cuts frame kept walk held fed reads sta
 
 claim_came : (b : BlockedProgram) (visits : Option ℕ) (old new : Checker) (text : List ℕ) (byte : ℕ) (ts : List Turn) (root : Tree) (cuts : List Cut)
     → new.frame ≡ old.frame → new.held ≡ 0 → new.fed ≡ old.fed + 1 → StandsFor [] (written_tree root) [] old.frame new.lines (text ++ byte ∷ [])
-    → phase_of old.lines ≡ ahead → GoesOn cutting (phase_of new.lines) → IsShallow new.lines
+    → phase_of old.lines ≡ ahead → GoesOn cutting (phase_of new.lines) → IsShallow b.named.program.limits new.lines
     → TakesEvent b new.lines.claim new.lines.point old.cuts new.cuts old.walk new.walk e.Claim
     → HasJudged b visits old text ts root cuts → HasJudged b visits new (text ++ byte ∷ []) [] root []
 claim_came b visits old new text byte ts root cuts frame held fed reads before behind shallow takes h =
@@ -204,7 +206,7 @@ claim_came b visits old new text byte ts root cuts frame held fed reads before b
 cut_came : (b : BlockedProgram) (visits : Option ℕ) (old new : Checker) (text : List ℕ) (byte : ℕ) (ts : List Turn) (root : Tree) (cuts : List Cut) (cut : Cut)
     → new.frame ≡ old.frame → new.held ≡ old.held → new.fed ≡ old.fed + 1
     → StandsFor (map wait_of ts) (written_tree root) (map written_cut cuts ++ written_cut cut ∷ []) old.frame new.lines (text ++ byte ∷ [])
-    → Tells old.lines new.lines (Some (e.Cut cut)) → TakesEvent b new.lines.claim new.lines.point old.cuts new.cuts old.walk new.walk (e.Cut cut)
+    → Tells b.named.program.limits old.lines new.lines (Some (e.Cut cut)) → TakesEvent b new.lines.claim new.lines.point old.cuts new.cuts old.walk new.walk (e.Cut cut)
     → HasJudged b visits old text ts root cuts → HasJudged b visits new (text ++ byte ∷ []) ts root (cuts ++ cut ∷ [])
 cut_came b visits old new text byte ts root cuts cut frame held fed reads tells takes h =
     let walks : IsJudgedTo b visits old ts root cuts cutting = subst (IsJudgedTo b visits old ts root cuts) tells.0 h.judged in
@@ -221,24 +223,25 @@ cut_came b visits old new text byte ts root cuts cut frame held fed reads tells 
     }
 
 -- a split's node is not too deep
-not_deep : (ts : List Turn) (depth : ℕ) → depth ≡ kept_depth (length (map wait_of ts)) → is_deep depth ≡ false → length ts ≤ greatest_depth
-not_deep ts depth is shallow =
-    let low : depth ≤ greatest_depth = ltb-false greatest_depth depth shallow in
-    omega (arith, low, is, many_waits ts)
+not_deep : (limits : Limits) (ts : List Turn) (depth : ℕ) → depth ≡ kept_depth (length (map wait_of ts)) → is_deep limits depth ≡ false
+    → length ts ≤ greatest_depth limits
+not_deep limits ts depth is shallow =
+    let low : depth ≤ greatest_depth limits = ltb-false (greatest_depth limits) depth shallow in
+    omega (arith, low, is, many_waits ts, few_deep limits)
 
 split_came : (b : BlockedProgram) (visits : Option ℕ) (old new : Checker) (text : List ℕ) (byte : ℕ) (ts : List Turn) (root : Tree) (cuts : List Cut) (p : SplitPlace)
     → new.frame ≡ old.frame → new.held ≡ min (old.held + 1) (2 ^ 64 - 1) → new.fed ≡ old.fed + 1
     → StandsFor (map wait_of (to_low p.var p.at ∷ ts)) (written_tree root) (map written_cut cuts) old.frame new.lines (text ++ byte ∷ [])
-    → Tells old.lines new.lines (Some (e.Split p)) → TakesEvent b new.lines.claim new.lines.point old.cuts new.cuts old.walk new.walk (e.Split p)
+    → Tells b.named.program.limits old.lines new.lines (Some (e.Split p)) → TakesEvent b new.lines.claim new.lines.point old.cuts new.cuts old.walk new.walk (e.Split p)
     → HasJudged b visits old text ts root cuts → HasJudged b visits new (text ++ byte ∷ []) (to_low p.var p.at ∷ ts) root cuts
 split_came b visits old new text byte ts root cuts p frame held fed reads tells takes h =
-    let few : length ts ≤ greatest_depth = not_deep ts old.lines.depth h.reads.counts.highs.depth (tells.4 h.shallow) in
+    let few : length ts ≤ greatest_depth b.named.program.limits = not_deep b.named.program.limits ts old.lines.depth h.reads.counts.highs.depth (tells.4 h.shallow) in
     let walks : IsJudgedTo b visits old ts root cuts within = subst (IsJudgedTo b visits old ts root cuts) tells.0 h.judged in
     record {
       reads = subst (λ (x : Frame). StandsFor (map wait_of (to_low p.var p.at ∷ ts)) (written_tree root) (map written_cut cuts) x new.lines (text ++ byte ∷ [])) (sym frame) reads;
       shallow = tells.3;
       few = omega (arith, few);
-      held = omega (arith, held, h.held, few, highs_few ts);
+      held = omega (arith, held, h.held, few, highs_few ts, few_deep b.named.program.limits);
       fed = one_more text byte old.fed new.fed h.fed fed;
       judged = subst (IsJudgedTo b visits new (to_low p.var p.at ∷ ts) root cuts) (sym tells.1)
           (takes visits cuts ts (tree_same b visits old.lines new.lines cuts ts old.cuts old.walk tells.2 walks));
@@ -251,7 +254,7 @@ record LeafCame (b : BlockedProgram) (visits : Option ℕ) (old new : Checker) (
   fed : new.fed ≡ old.fed + 1
   reads : StandsFor (readers.waits_behind (map wait_of ts) (written_tree t)) (readers.root_behind (map wait_of ts) (written_tree root) (written_tree t)) (map written_cut cuts) old.frame new.lines (text ++ byte ∷ [])
   phase : phase_of new.lines ≡ phase_behind (highs_of (map wait_of ts))
-  shallow : IsShallow new.lines
+  shallow : IsShallow b.named.program.limits new.lines
   walks : IsBehind b new.lines.claim new.lines.point cuts visits ts t new.cuts new.walk
 
 -- a node follows
@@ -301,7 +304,7 @@ leaf_came b visits old new text byte ts root t cuts came h = by (root_behind ts 
 pub came : (b : BlockedProgram) (visits : Option ℕ) (old new : Checker) (text : List ℕ) (byte : ℕ) (ts : List Turn) (root : Tree) (cuts : List Cut) (event : Event)
     → new.frame ≡ old.frame → new.held ≡ held_after old.held event → new.fed ≡ old.fed + 1
     → StandsFor (readers.waits_after (map wait_of ts) (Some event)) (readers.root_after (map wait_of ts) (written_tree root) (Some event)) (readers.cuts_after (map written_cut cuts) (Some event)) old.frame new.lines (text ++ byte ∷ [])
-    → Tells old.lines new.lines (Some event) → TakesEvent b new.lines.claim new.lines.point old.cuts new.cuts old.walk new.walk event
+    → Tells b.named.program.limits old.lines new.lines (Some event) → TakesEvent b new.lines.claim new.lines.point old.cuts new.cuts old.walk new.walk event
     → HasJudged b visits old text ts root cuts → StandsBy b visits new (text ++ byte ∷ []) None
 came b visits old new text byte ts root cuts e.Claim frame held fed reads tells takes h =
     ([], root, [], claim_came b visits old new text byte ts root cuts frame held fed reads tells.0 tells.1 tells.2 takes h)
@@ -407,7 +410,7 @@ made_on b old new frame keeps fed few line made = record {
 }
 
 -- as many high parts are still to come as a tree's depth allows
-pub held_few : (b : BlockedProgram) (visits : Option ℕ) (checker : Checker) (text : List ℕ) → checker.fault ≡ None → ChecksFor b visits checker text → checker.held ≤ greatest_depth + 1
+pub held_few : (b : BlockedProgram) (visits : Option ℕ) (checker : Checker) (text : List ℕ) → checker.fault ≡ None → ChecksFor b visits checker text → checker.held ≤ greatest_depth b.named.program.limits + 1
 held_few b visits checker text none h =
     let so = judged_so b visits checker text none h in
     omega (arith, so.3.held, so.3.few, highs_few so.0)
@@ -419,6 +422,10 @@ abbrev pub Reads : Checker → Lines → ℕ → Result (Option Event) CertFault
 Reads old lines byte result = (above : List Wait) (root : texts.Tree) (cuts : List texts.Cut) (text : List ℕ) → length text + 1 < 2 ^ 64 → StandsFor above root cuts old.frame old.lines text
     → Steps above root cuts old.frame lines text byte result
 
+-- its frame has the program's limits
+limits_of : (b : BlockedProgram) (c : Checker) → IsMadeFor b c → c.frame.limits ≡ b.named.program.limits
+limits_of b c made = ap (λ (x : texts.Frame). x.limits) made.frame
+
 pub faults_on : (b : BlockedProgram) (visits : Option ℕ) (old new : Checker) (lines : Lines) (text : List ℕ) (byte : ℕ) (fault : CertFault) → IsMadeFor b old → old.fault ≡ None
     → Reads old lines byte (Err fault) → new.fault ≡ Some (fault_as fault) → ChecksFor b visits old text → ChecksFor b visits new (text ++ byte ∷ [])
 faults_on b visits old new lines text byte fault made none reads is h =
@@ -427,7 +434,7 @@ faults_on b visits old new lines text byte fault made none reads is h =
     (reads (map wait_of so.0) (written_tree so.1) (map written_cut so.2) text (omega (arith, made.few, so.3.fed)) so.3.reads)
 
 pub quiet_on : (b : BlockedProgram) (visits : Option ℕ) (old new : Checker) (text : List ℕ) (byte : ℕ) → IsMadeFor b old → old.fault ≡ None
-    → Reads old new.lines byte (Ok None) → Passes old.lines new.lines → new.frame ≡ old.frame → new.cuts ≡ old.cuts → new.walk ≡ old.walk → new.held ≡ old.held → new.fed ≡ old.fed + 1
+    → Reads old new.lines byte (Ok None) → Passes old.frame.limits old.lines new.lines → new.frame ≡ old.frame → new.cuts ≡ old.cuts → new.walk ≡ old.walk → new.held ≡ old.held → new.fed ≡ old.fed + 1
     → new.fault ≡ None → ChecksFor b visits old text → ChecksFor b visits new (text ++ byte ∷ [])
 quiet_on b visits old new text byte made none reads stays frame cuts walk held fed still h =
     let so = judged_so b visits old text none h in
@@ -436,11 +443,11 @@ quiet_on b visits old new text byte made none reads stays frame cuts walk held f
       so.1,
       so.2,
       quiet b visits old new text byte so.0 so.1 so.2 frame cuts walk held fed
-          (reads (map wait_of so.0) (written_tree so.1) (map written_cut so.2) text (omega (arith, made.few, so.3.fed)) so.3.reads) stays so.3,
+          (reads (map wait_of so.0) (written_tree so.1) (map written_cut so.2) text (omega (arith, made.few, so.3.fed)) so.3.reads) (subst (λ (x : Limits). Passes x old.lines new.lines) (limits_of b old made) stays) so.3,
     )
 
 pub event_on : (b : BlockedProgram) (visits : Option ℕ) (old new : Checker) (lines : Lines) (text : List ℕ) (byte : ℕ) (event : Event) → IsMadeFor b old → old.fault ≡ None → new.lines ≡ lines
-    → Reads old lines byte (Ok (Some event)) → Tells old.lines lines (Some event) → TakesEvent b lines.claim lines.point old.cuts new.cuts old.walk new.walk event
+    → Reads old lines byte (Ok (Some event)) → Tells old.frame.limits old.lines lines (Some event) → TakesEvent b lines.claim lines.point old.cuts new.cuts old.walk new.walk event
     → new.frame ≡ old.frame → new.held ≡ held_after old.held event → new.fed ≡ old.fed + 1 → new.fault ≡ None
     → ChecksFor b visits old text → ChecksFor b visits new (text ++ byte ∷ [])
 event_on b visits old new lines text byte event made none same reads tells takes frame held fed still h =
@@ -449,15 +456,15 @@ event_on b visits old new lines text byte event made none same reads tells takes
     let root = readers.root_after (map wait_of so.0) (written_tree so.1) (Some event) in
     let cuts = readers.cuts_after (map written_cut so.2) (Some event) in
     let P : Lines → Type 0 = λ r. StandsFor ws root cuts old.frame r (text ++ byte ∷ []) in
-    let Q : Lines → Type 0 = λ r. Tells old.lines r (Some event) in
+    let Q : Lines → Type 0 = λ r. Tells b.named.program.limits old.lines r (Some event) in
     let R : Lines → Type 0 = λ r. TakesEvent b r.claim r.point old.cuts new.cuts old.walk new.walk event in
     let read = reads (map wait_of so.0) (written_tree so.1) (map written_cut so.2) text (omega (arith, made.few, so.3.fed)) so.3.reads in
     stands_so b visits new (text ++ byte ∷ []) still
-    (came b visits old new text byte so.0 so.1 so.2 event frame held fed (subst P (sym same) read) (subst Q (sym same) tells) (subst R (sym same) takes) so.3)
+    (came b visits old new text byte so.0 so.1 so.2 event frame held fed (subst P (sym same) read) (subst Q (sym same) (subst (λ (x : Limits). Tells x old.lines lines (Some event)) (limits_of b old made) tells)) (subst R (sym same) takes) so.3)
 
 -- a checker that was fed nothing
 pub begins : (b : BlockedProgram) (visits : Option ℕ) (checker : Checker) → checker.fault ≡ None → checker.held ≡ 0 → checker.fed ≡ 0
-    → ((root : texts.Tree) (frame : Frame) → StandsFor [] root [] frame checker.lines []) → phase_of checker.lines ≡ ahead → IsShallow checker.lines
+    → ((root : texts.Tree) (frame : Frame) → StandsFor [] root [] frame checker.lines []) → phase_of checker.lines ≡ ahead → IsShallow b.named.program.limits checker.lines
     → IsUnbegun b visits checker.cuts checker.walk → ChecksFor b visits checker []
 begins b visits checker none held fed reads before shallow fresh =
     let root : Tree = shut_leaf (record { scale = 0; mults = []; picked = Every }) in

@@ -1,5 +1,5 @@
 -- A whole certificate of lines that are written one behind another.
-use Rattle.std.proofs.Common.{◌≡◌, ◌+◌, refl, sym, ap, subst, ◌∙◌, ℕ, List, [], ◌++◌, Some, None, Result, Ok, Err, inl, inr, append_assoc}
+use Rattle.std.proofs.Common.{◌≡◌, refl, sym, ap, subst, ◌∙◌, ℕ, List, [], ◌++◌, Some, None, Result, Ok, Err, inl, inr, append_assoc}
 use Rattle.std.specs.Prelude.{codes, unwrap_or}
 use Rattle.std.proofs.Math.IntN.{ℤ}
 use Rattle.bp_theory.specs.Trees.{Tree}
@@ -7,7 +7,6 @@ use Rattle.bp_theory.specs.declared.Claim.{Claim}
 use Rattle.bp_theory.specs.declared.Claim.TheVariants as claims
 use Rattle.bp_theory.specs.declared.Cut.{Cut}
 use Rattle.search_laws.specs.Grove.{certificate_tree}
-use Rattle.branch_tree.specs.Groves.{IsStanding}
 use Rattle.cert_text.specs.Outcomes.{grove_of, claim_of, point_of, IsWritable}
 use Rattle.cert_text.proofs.OutcomeText.{outcome_text}
 use Rattle.cert_write.proofs.ChangeText.{rewritten}
@@ -64,15 +63,15 @@ parts_of claim zs cuts t =
 
 -- its lines are those of an outcome
 pub put_whole : (b : BlockedProgram) → IsFormed b → (o : Outcome) (name : List ℕ) (k : Claim) (zs : List ℤ) (cuts : List Cut) (t : Tree) (before mid now : Files) (result : Result (Unit {0}) StreamStop)
-    → IsWritable b o → IsStanding (grove_of o) → k ≡ claim_of b.named.program.maximises o → zs ≡ unwrap_or (point_of o) [] → cuts ≡ b.cuts → t ≡ certificate_tree (grove_of o).tree
+    → IsWritable b o → k ≡ claim_of b.named.program.maximises o → zs ≡ unwrap_or (point_of o) [] → cuts ≡ b.cuts → t ≡ certificate_tree (grove_of o).tree
     → Heads name (head_text (version_with cuts) k zs cuts) before mid (Ok tt) → Appends name (tree_text Two (changing_nodes [] t) ++ codes "end\n") mid now result
     → Streams b o name before now result
-put_whole b formed o name k zs cuts t before mid now result writable standing claim point same tree h g =
+put_whole b formed o name k zs cuts t before mid now result writable claim point same tree h g =
     let text = plain_text (version_with cuts) k zs cuts (changing_nodes [] t) in
     let whole = written_text k (claim_of b.named.program.maximises o) zs (unwrap_or (point_of o) []) cuts b.cuts (changing_nodes [] t) (changing_nodes [] (certificate_tree (grove_of o).tree))
     [] text refl claim point same (ap (changing_nodes []) tree) refl in
     whole_put (IsTextOf b o) name (head_text (version_with cuts) k zs cuts) (tree_text Two (changing_nodes [] t) ++ codes "end\n") text before mid now result h g
-    (outcome_text b formed o text writable standing whole) (parts_of k zs cuts (changing_nodes [] t))
+    (outcome_text b formed o text writable whole) (parts_of k zs cuts (changing_nodes [] t))
 
 -- its lines are those of a certificate that some text was read of
 pub put_anew : (frame : Frame) (version : Version) (old : List ℕ) (cert : Cert) (name : List ℕ) (k : Claim) (zs : List ℤ) (cuts : List Cut) (t : Tree) (before mid now : Files) (result : Result (Unit {0}) StreamStop)

@@ -8,7 +8,6 @@ use Rattle.cert_format.specs.Cert.{Cert}
 use Rattle.cert_format.specs.Text.{Kind, Token, Words, Figure, LineEnd, meant, signed_numeral, token_text, text_of, tokens_of}
 use Rattle.cert_format.specs.Fault.{AreClean, Begins, EndIsSeen, HasFaultyToken, HasNoFaultyToken, HasDeepNumber, HasNoDeepNumber, Leaves, IsFollowed, IsSeenFault, line_behind}
 use Rattle.cert_format.specs.Frames.{frame_of}
-use Rattle.cert_text.specs.Programs.{frame_for}
 use Rattle.cert_format.specs.Words.{word_text}
 use Rattle.cert_format.specs.Stages.{Wait, whole_of, at_bpcert, at_version, at_first_end, at_claim, at_kind, at_optimal, infeasible_end, at_bound, after_bound, at_value, claim_end, at_point, at_values, at_coordinate, at_first_cut, at_cuts, at_node, at_scale, at_rows, at_count, at_pairs, at_row, row_gap, at_multiplier, at_priced, at_blocks, at_block, leaf_end, at_variable, variable_gap, at_place, split_end, at_end, last_end, over}
 use Rattle.cert_format.specs.Stages.{Stage, sort, IsOfSort, is_deep_stage, number_fault, deep_kind, behind_number, IsOf, Follows}
@@ -189,7 +188,7 @@ last_unseen frame text place line own kind z fault a b is none seen =
     append_cancel_left (text_of (a.before ++ a.token ∷ [])) a.rest b.rest (sym a.bytes ∙ b.bytes ∙ ap (λ (t : List ℕ). t ++ b.rest) (sym front)) in
     end_unseen b.token b.rest z fault (sym same.1 ∙ is) (sym rests ∙ none) seen
 
-number_unseen : (frame : texts.Frame) (stage : Stage) (done : List ℕ) (z : ℤ) (line : ℕ) (kind : Kind) → Reached frame stage false done → IsOfSort (sort stage) z → is_deep_stage stage ≡ false
+number_unseen : (frame : texts.Frame) (stage : Stage) (done : List ℕ) (z : ℤ) (line : ℕ) (kind : Kind) → Reached frame stage false done → IsOfSort (sort stage) z → is_deep_stage frame stage ≡ false
     → IsSeenFault frame (done ++ signed_numeral z) line kind → ⊥
 number_unseen frame stage done z line kind r of_sort shallow seen = by (number_fault frame stage z) refl where
   deep_none : (own : Kind) → number_fault frame stage z ≡ Some own → HasDeepNumber frame (done ++ signed_numeral z) line kind → ⊥

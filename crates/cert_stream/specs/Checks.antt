@@ -88,8 +88,8 @@ IsJudgedTo b visits c ts root cuts past =
 -- a checker has read and judged a text with these cuts, whose next node is below these splits, or whose tree is this root
 pub record HasJudged (b : BlockedProgram) (visits : Option ℕ) (c : Checker) (text : List ℕ) (ts : List Turn) (root : Tree) (cuts : List Cut) : Type 0 where
   pub reads : StandsFor (map wait_of ts) (written_tree root) (map written_cut cuts) c.frame c.lines text
-  pub shallow : IsShallow c.lines
-  pub few : length ts ≤ greatest_depth + 1
+  pub shallow : IsShallow b.named.program.limits c.lines
+  pub few : length ts ≤ greatest_depth b.named.program.limits + 1
   pub held : c.held ≡ highs ts
   pub fed : c.fed ≡ length text
   pub judged : IsJudgedTo b visits c ts root cuts (phase_of c.lines)

@@ -316,12 +316,13 @@ impl Checker {
         }
     }
 
-    /// How many high parts of splits are still to come, at most 8,257: no more is kept of the nodes that came than the splits
-    /// above the next one.
+    /// How many high parts of splits are still to come, at most one more than the program's limits allow in depth: no more is
+    /// kept of the nodes that came than the splits above the next one.
     pub fn held(&self) -> u64
         ensures held { result ≡ self.now.held }
         ensures few { (b : BlockedProgram) (visits : Option ℕ) (text : List ℕ) →
-            self.now.fault ≡ None → ChecksFor b visits self.now text → result ≤ greatest_depth + 1 }
+            self.now.fault ≡ None → ChecksFor b visits self.now text →
+            result ≤ greatest_depth b.named.program.limits + 1 }
     {
         self.held
     }

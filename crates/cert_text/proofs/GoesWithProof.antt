@@ -7,6 +7,7 @@ use Rattle.std.specs.Option.{option_map}
 use Rattle.std.proofs.lemmas.Bool.{ltb-false}
 use Rattle.std.proofs.lemmas.List.{length-map}
 use Rattle.std.proofs.lemmas.List.Elements.{All-from_recursion}
+use Rattle.bp_theory.specs.Limits.{greatest_depth}
 use Rattle.bp_theory.specs.Blocking.{Blocking, row_at}
 use Rattle.bp_theory.specs.Bound.{Fits, ArePicked}
 use Rattle.bp_theory.specs.Decomposition.{no_row, proof_rows}
@@ -15,6 +16,7 @@ use Rattle.bp_theory.specs.Trees as theory
 use Rattle.bp_theory.specs.Trees.{shut_leaf, open_leaf, split, Leaf, leaves, depth, low_part, high_part}
 use Rattle.bp_theory.specs.Judgement as judgement
 use Rattle.bp_theory.specs.Judgement.{Line, judged_lines, point_lines, named_value}
+use Rattle.bp_theory.specs.declared.Limits.{Limits}
 use Rattle.bp_theory.specs.declared.Span.{Span}
 use Rattle.bp_theory.specs.declared.Row.{Row}
 use Rattle.bp_theory.specs.declared.Cut.{Cut}
@@ -96,7 +98,7 @@ leaf_fits b formed cuts depth proof fine =
     let k : Blocking = blocking_over b cuts in
     let fits = pairs_fit k frame (length cuts) proof.mults (named_of_text b formed cuts) fine.pairs.each in
     record {
-      scale = (scale_small depth proof.scale fine.scale).1;
+      scale = (scale_small (frame_for b) depth proof.scale fine.scale).1;
       sizes = All-from_recursion (λ m. unsigned_abs m.1 ≤ 2 ^ 40) proof.mults (all_mapped (IsFitting k) (λ m. unsigned_abs m.1 ≤ 2 ^ 40) (λ m h. h.0) proof.mults fits);
       nonzero = All-from_recursion (λ m. m.1 ≢ pos 0) proof.mults (all_mapped (IsFitting k) (λ m. m.1 ≢ pos 0) (λ m h. h.1) proof.mults fits);
       rows = All-from_recursion (λ m. IsSome (row_at k m.0)) proof.mults (all_mapped (IsFitting k) (λ m. IsSome (row_at k m.0)) (λ m h. h.2) proof.mults fits);
@@ -115,12 +117,12 @@ tree_fits b formed cuts depth (split v at low high) zone fine =
     (tree_fits b formed cuts (depth + 1) low (low_part zone v at) fine.2)
     (tree_fits b formed cuts (depth + 1) high (high_part zone v at) fine.3)
 
-tree_shallow : (frame : texts.Frame) (cuts above : ℕ) (t : theory.Tree) → IsFine frame cuts above (written_tree t) → above + depth t ≤ 8256
-tree_shallow frame cuts above (shut_leaf p) fine = let h = (scale_small above p.scale fine.scale).0 in omega arith
-tree_shallow frame cuts above (open_leaf p) fine = let h = (scale_small above p.scale fine.scale).0 in omega arith
+tree_shallow : (frame : texts.Frame) (cuts above : ℕ) (t : theory.Tree) → IsFine frame cuts above (written_tree t) → above + depth t ≤ greatest_depth frame.limits
+tree_shallow frame cuts above (shut_leaf p) fine = let h = (scale_small frame above p.scale fine.scale).0 in omega arith
+tree_shallow frame cuts above (open_leaf p) fine = let h = (scale_small frame above p.scale fine.scale).0 in omega arith
 tree_shallow frame cuts above (split v at low high) fine =
-    let a : above + 1 + depth low ≤ 8256 = tree_shallow frame cuts (above + 1) low fine.2 in
-    let b : above + 1 + depth high ≤ 8256 = tree_shallow frame cuts (above + 1) high fine.3 in
+    let a : above + 1 + depth low ≤ greatest_depth frame.limits = tree_shallow frame cuts (above + 1) low fine.2 in
+    let b : above + 1 + depth high ≤ greatest_depth frame.limits = tree_shallow frame cuts (above + 1) high fine.3 in
     omega arith
 
 -- ---- cuts
@@ -248,10 +250,11 @@ read_by b frame text (Ok cert) same h = subst (λ (f : texts.Frame). IsCertText 
 read_by b frame text (Err NoMemory) same h = tt
 read_by b frame text (Err (At line kind)) same h = subst (λ (f : texts.Frame). IsFirstCertFault f text line kind) same h
 
-pub frame_is : (frame : Frame) (variables : ℕ) (masters : List Bool) (links blocks : ℕ) → frame.variables ≡ variables → frame.masters ≡ masters → frame.links ≡ links → frame.blocks ≡ blocks
-    → frame_of frame ≡ frame_by variables masters links blocks
-frame_is frame variables masters links blocks v m l k =
-    ap (λ n. frame_by n frame.masters frame.links frame.blocks) v
-    ∙ ap (λ (ms : List Bool). frame_by variables ms frame.links frame.blocks) m
-    ∙ ap (λ n. frame_by variables masters n frame.blocks) l
-    ∙ ap (λ n. frame_by variables masters links n) k
+pub frame_is : (frame : Frame) (variables : ℕ) (masters : List Bool) (links blocks : ℕ) (limits : Limits) → frame.variables ≡ variables → frame.masters ≡ masters → frame.links ≡ links → frame.blocks ≡ blocks → frame.limits ≡ limits
+    → frame_of frame ≡ frame_by variables masters links blocks limits
+frame_is frame variables masters links blocks limits v m l k a =
+    ap (λ n. frame_by n frame.masters frame.links frame.blocks frame.limits) v
+    ∙ ap (λ (ms : List Bool). frame_by variables ms frame.links frame.blocks frame.limits) m
+    ∙ ap (λ n. frame_by variables masters n frame.blocks frame.limits) l
+    ∙ ap (λ n. frame_by variables masters links n frame.limits) k
+    ∙ ap (λ (x : Limits). frame_by variables masters links blocks x) a

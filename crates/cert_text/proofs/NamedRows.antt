@@ -5,13 +5,16 @@ use Rattle.std.specs.List.{range_with_len, flat_map}
 use Rattle.std.proofs.lemmas.Bool.{ltb-true, leb-true, lt-ltb, le-leb, cases_lt}
 use Rattle.std.proofs.lemmas.List.{length-map, get_or_append_left}
 use Rattle.std.proofs.lemmas.List.FromFn.{length-map-range_with_len, get_or-map-range_with_len}
+use Rattle.bp_theory.specs.Limits.{most_lines}
 use Rattle.bp_theory.specs.Program.{Program}
 use Rattle.bp_theory.specs.Blocking.{Blocking, row_at, sides_of}
 use Rattle.bp_theory.specs.Decomposition.{Decomposition, ProofRow, whole_row, link_row, links_of, proof_rows, full_row, link_count, block_of, lone_block, lone_variables, blocking_of}
 use Rattle.bp_theory.specs.Cuts.{cut_row, cut_rows}
+use Rattle.bp_theory.specs.declared.Limits.TheVariants.{Large}
 use Rattle.bp_theory.specs.declared.Row.{Row}
 use Rattle.bp_theory.specs.declared.Cut.{Cut}
 use Rattle.bp_theory.specs.declared.MasterRow.{MasterRow}
+use Rattle.bp_theory.proofs.LimitLaws.{few_lines}
 use Rattle.block_program.specs.Blocked.{BlockedProgram, IsFormed}
 use Rattle.block_program.proofs.NamedRows.{own_rows, own_long}
 use Rattle.cert_format.specs.Text.{may_name}
@@ -136,11 +139,11 @@ unfolding links
 links_long b formed = sym (links_counted b formed)
 
 -- without the cuts they are few
-pub rows_few : (b : BlockedProgram) → IsFormed b → length b.named.program.rows + links_behind b ≤ 8192
+pub rows_few : (b : BlockedProgram) → IsFormed b → length b.named.program.rows + links_behind b ≤ most_lines Large
 rows_few b formed = ⊎_elim
     (λ many. absurd (formed.moderate (inl (omega (arith, many, links_counted b formed)))))
-    (λ few. few)
-    (cases_lt 8192 (length b.named.program.rows + links_behind b))
+    (λ few. omega (arith, few, few_lines b.named.program.limits))
+    (cases_lt (most_lines b.named.program.limits) (length b.named.program.rows + links_behind b))
 
 -- with these cuts there are as many
 with_counted : (b : BlockedProgram) → IsFormed b → (cuts : List Cut) → length (rows_with b cuts) ≡ length b.named.program.rows + links_behind b + length cuts

@@ -23,7 +23,6 @@ use Rattle.search_laws.specs.Grove.{GrowingTree, certificate_tree}
 use Rattle.search_laws.specs.GroveFacts.{IsGrove}
 use Rattle.search_laws.specs.Outcomes.{read_off}
 use Rattle.search_laws.proofs.OutcomeProof.{of_leaves}
-use Rattle.branch_tree.specs.Groves.{IsStanding}
 use Rattle.branch_tree.specs.declared.outcome.Outcome.{Outcome}
 use Rattle.branch_tree.specs.declared.outcome.Outcome.TheVariants.{Optimal, Infeasible, Budget}
 use Rattle.cert_format.specs.Cert as texts
@@ -78,9 +77,9 @@ kept_over p d earlier (cut ∷ cuts) small fitting =
       kept_over p d (earlier ++ cut_row p rows cut ∷ []) cuts small.1 fitting.1,
     )
 
-can_write : (b : BlockedProgram) → IsFormed b → (o : Outcome) → IsWritable b o → IsStanding (grove_of o)
+can_write : (b : BlockedProgram) → IsFormed b → (o : Outcome) → IsWritable b o
     → CanWrite b (certificate (claim_of b.named.program.maximises o) (unwrap_or (point_of o) []) b.cuts (certificate_tree (grove_of o).tree))
-can_write b formed o writable standing =
+can_write b formed o writable =
     let t : GrowingTree = (grove_of o).tree in
     let kept : IsGrove b.blocking b.named.program.spans t = subst (λ (zone : List Span). IsGrove b.blocking zone t) writable.grove.root writable.grove.kept in
     let fits = of_leaves (λ (leaf : Leaf). Fits b.blocking leaf.proof) t b.named.program.spans (λ k d l. (kept.leaves k d l).sound.fits) in
@@ -91,20 +90,20 @@ can_write b formed o writable standing =
       cuts = kept_over b.named.program b.dec [] b.cuts (recursion_from_All IsSmallCut b.cuts formed.cuts_kept.small) formed.cuts_kept.fitting;
       splits = kept.splits;
       fits = subst (λ (x : Blocking). All (λ (leaf : Leaf). Fits x leaf.proof) (leaves (certificate_tree t) b.named.program.spans)) formed.blocking fits;
-      shallow = standing.deep;
+      shallow = writable.shallow;
     }
 
 -- what is written of an outcome is the text of its certificate
-pub outcome_text : (b : BlockedProgram) → IsFormed b → (o : Outcome) (text : List ℕ) → IsWritable b o → IsStanding (grove_of o)
+pub outcome_text : (b : BlockedProgram) → IsFormed b → (o : Outcome) (text : List ℕ) → IsWritable b o
     → text ≡ plain_text (version_with b.cuts) (claim_of b.named.program.maximises o) (unwrap_or (point_of o) []) b.cuts (changing_nodes [] (certificate_tree (grove_of o).tree))
     → IsText (frame_for b) (version_with b.cuts) (cert_of (read_off (claim_of b.named.program.maximises o) (point_of o) b.cuts (grove_of o).tree)) text
-outcome_text b formed o text writable standing is =
+outcome_text b formed o text writable is =
     let k : Claim = claim_of b.named.program.maximises o in
     let zs : List ℤ = unwrap_or (point_of o) [] in
     let t : Tree = certificate_tree (grove_of o).tree in
     let v : Version = version_with b.cuts in
     let same : cert_of (certificate k zs b.cuts t) ≡ cert_of (read_off k (point_of o) b.cuts (grove_of o).tree) =
     ap (λ (c : texts.Claim). record { claim = c; cuts = map written_cut b.cuts; tree = written_tree t }) (same_claim k zs) in
-    let new = has_changed_text (frame_for b) k zs b.cuts t (has_text b formed k zs b.cuts t (can_write b formed o writable standing)) in
+    let new = has_changed_text (frame_for b) k zs b.cuts t (has_text b formed k zs b.cuts t (can_write b formed o writable)) in
     subst (λ (s : List ℕ). IsText (frame_for b) v (cert_of (read_off k (point_of o) b.cuts (grove_of o).tree)) s) (sym is)
     (subst (λ (c : texts.Cert). IsText (frame_for b) v c (plain_text v k zs b.cuts (changing_nodes [] t))) same new)

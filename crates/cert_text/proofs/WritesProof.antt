@@ -11,6 +11,7 @@ use Rattle.std.specs.Option.{option_map}
 use Rattle.std.proofs.lemmas.Bool.{le-ltb, lt-leb, ne_eqb, true≢false}
 use Rattle.std.proofs.lemmas.Int.{ints}
 use Rattle.std.proofs.lemmas.List.Elements.{recursion_from_All}
+use Rattle.bp_theory.specs.Limits.{greatest_depth}
 use Rattle.bp_theory.specs.Program.{span_at}
 use Rattle.bp_theory.specs.Blocking.{row_at}
 use Rattle.bp_theory.specs.Decomposition.{no_row, proof_rows}
@@ -93,9 +94,9 @@ leaf_kept : (b : BlockedProgram) → IsFormed b → (cuts : List Cut) (ms : List
 leaf_kept b formed cuts [] small some there = tt
 leaf_kept b formed cuts (m ∷ ms) small some there = ((small.0, some.0, text_of_named b formed cuts m.0 there.0), leaf_kept b formed cuts ms small.1 some.1 there.1)
 
-leaf_fine : (b : BlockedProgram) → IsFormed b → (cuts : List Cut) (above : ℕ) (proof : given.Proof) → above ≤ 8256 → Fits (blocking_over b cuts) proof → IsFineLeaf (frame_for b) (length cuts) above (written_proof proof)
+leaf_fine : (b : BlockedProgram) → IsFormed b → (cuts : List Cut) (above : ℕ) (proof : given.Proof) → above ≤ greatest_depth b.named.program.limits → Fits (blocking_over b cuts) proof → IsFineLeaf (frame_for b) (length cuts) above (written_proof proof)
 leaf_fine b formed cuts above proof shallow fits = record {
-  scale = small_scale above proof.scale shallow fits.scale;
+  scale = small_scale (frame_for b) above proof.scale shallow fits.scale;
   pairs = record {
     up = rises_above 0 proof.mults (rises (map (λ (m : ℕ × ℤ). m.0) proof.mults) fits.ascend);
     each = leaf_kept b formed cuts proof.mults (recursion_from_All (λ (m : ℕ × ℤ). unsigned_abs m.1 ≤ 2 ^ 40) proof.mults fits.sizes)
@@ -132,7 +133,7 @@ small_between : (lo at hi : ℤ) → unsigned_abs lo < 2 ^ 62 → unsigned_abs h
 small_between lo at hi small less above below = (grind (arith, ints), grind (arith, ints))
 
 tree_fine : (b : BlockedProgram) → IsFormed b → (cuts : List Cut) (above : ℕ) (t : theory.Tree) (zone : List Span) → length zone ≡ length b.named.program.spans → AllByRecursion HasSmallEnds zone
-    → HasSoundSplits t zone → AllByRecursion (λ (leaf : Leaf). Fits (blocking_over b cuts) leaf.proof) (leaves t zone) → above + depth t ≤ 8256 → IsFine (frame_for b) (length cuts) above (written_tree t)
+    → HasSoundSplits t zone → AllByRecursion (λ (leaf : Leaf). Fits (blocking_over b cuts) leaf.proof) (leaves t zone) → above + depth t ≤ greatest_depth b.named.program.limits → IsFine (frame_for b) (length cuts) above (written_tree t)
 tree_fine b formed cuts above (shut_leaf p) zone each small sound fits shallow = leaf_fine b formed cuts above p (omega arith) fits.0
 tree_fine b formed cuts above (open_leaf p) zone each small sound fits shallow = leaf_fine b formed cuts above p (omega arith) fits.0
 tree_fine b formed cuts above (split v at low high) zone each small sound fits shallow =

@@ -1,11 +1,13 @@
 -- The certificate of a search's outcome.
-use Rattle.std.specs.Prelude.{◌<◌, Bool, List, length, Option, Some, None, IfSome, ℤ, unsigned_abs}
-use Rattle.bp_theory.specs.Limits.{number_limit}
+use Rattle.std.specs.Prelude.{◌<◌, ◌≤◌, Bool, List, length, Option, Some, None, IfSome, ℤ, unsigned_abs}
+use Rattle.bp_theory.specs.Limits.{greatest_depth, number_limit}
 use Rattle.std.specs.Option.{option_map}
 use Rattle.bp_theory.specs.Program.{in_sense}
+use Rattle.bp_theory.specs.Trees.{depth}
 use Rattle.bp_theory.specs.declared.Claim.{Claim}
 use Rattle.bp_theory.specs.declared.Claim.TheVariants as claim
 use Rattle.block_program.specs.Blocked.{BlockedProgram}
+use Rattle.search_laws.specs.Grove.{certificate_tree}
 use Rattle.branch_tree.specs.Groves.{GroveState, IsGroveOf}
 use Rattle.branch_tree.specs.declared.outcome.Outcome.{Outcome}
 use Rattle.branch_tree.specs.declared.outcome.Outcome.TheVariants.{Optimal, Infeasible, Budget}
@@ -35,9 +37,10 @@ HasSmallNumbers (Optimal grove point cost) = unsigned_abs cost < number_limit
 HasSmallNumbers (Infeasible grove) = Unit {0}
 HasSmallNumbers (Budget grove best bound) = (unsigned_abs bound < number_limit) × IfSome best (λ e. unsigned_abs e.1 < number_limit)
 
--- an outcome of a program that may be written: its tree is one of the program, and its numbers are those of texts, one
--- for each variable in a point
+-- an outcome of a program that may be written: its tree is one of the program, no node is too deep for the program's limits, and its
+-- numbers are those of texts, one for each variable in a point
 pub record IsWritable (b : BlockedProgram) (o : Outcome) : Type 0 where
   pub grove : IsGroveOf b (grove_of o)
+  pub shallow : depth (certificate_tree (grove_of o).tree) ≤ greatest_depth b.named.program.limits
   pub numbers : HasSmallNumbers o
   pub point : IfSome (point_of o) (IsSmallPoint (length b.named.program.spans))

@@ -9,6 +9,7 @@ use Rattle.bp_theory.specs.Bound.{Fits}
 use Rattle.bp_theory.specs.Trees.{Tree, leaves, depth, HasSoundSplits}
 use Rattle.bp_theory.specs.Claims.{Certificate}
 use Rattle.bp_theory.specs.Judgement.{judged_lines, blocking_with}
+use Rattle.bp_theory.specs.declared.Limits.{Limits}
 use Rattle.bp_theory.specs.declared.Row.{Row}
 use Rattle.bp_theory.specs.declared.Cut.{Cut}
 use Rattle.bp_theory.specs.declared.Claim.{Claim}
@@ -27,14 +28,16 @@ use Rattle.cert_format.specs.declared.cert.Cert.{Cert as Kept}
 use Rattle.cert_format.specs.declared.fault.CertFault.{CertFault}
 use Rattle.cert_format.specs.declared.fault.CertFault.TheVariants.{At, NoMemory}
 
--- so many variables, link rows and blocks, and for each row of the model whether it is a master row, by the numbers in texts
-abbrev pub frame_by : ℕ → List Bool → ℕ → ℕ → texts.Frame
-frame_by variables masters links blocks = record {
+-- so many variables, link rows and blocks under these limits, and for each row of the model whether it is a master row, by the numbers in
+-- texts
+abbrev pub frame_by : ℕ → List Bool → ℕ → ℕ → Limits → texts.Frame
+frame_by variables masters links blocks limits = record {
   variables = variables;
   rows = length masters;
   is_master = λ row. nat_lt 0 row && slice_index_or masters (row - 1) false;
   links = links;
   blocks = blocks;
+  limits = limits;
 }
 
 -- for each row of the model, whether it is a master row: proofs may name it
@@ -47,7 +50,7 @@ links_behind b = length b.blocking.rows - length b.named.program.rows - length b
 
 -- what reading needs to know of a program in blocks
 abbrev pub frame_for : BlockedProgram → texts.Frame
-frame_for b = frame_by (length b.named.program.spans) (masters_of b) (links_behind b) (length b.blocking.blocks)
+frame_for b = frame_by (length b.named.program.spans) (masters_of b) (links_behind b) (length b.blocking.blocks) b.named.program.limits
 
 -- what is read of a text for a program in blocks: the certificate that the text has, or else its first fault
 abbrev pub ReadsFor : BlockedProgram → List ℕ → Result Kept CertFault → Type 0
@@ -91,7 +94,7 @@ pub record GoesWith (b : BlockedProgram) (cert : Certificate) : Type 0 where
   pub few : length cert.cuts ≤ most_cuts
   pub cuts : AreOver b.named.program b.dec [] cert.cuts
   pub fits : All (λ leaf. Fits (blocking_with b.named.program b.dec cert) leaf.proof) (leaves cert.tree b.named.program.spans)
-  pub shallow : depth cert.tree ≤ greatest_depth
+  pub shallow : depth cert.tree ≤ greatest_depth b.named.program.limits
   pub lines : 3 + length (judged_lines b.named.program b.dec cert) ≤ number_limit
 
 -- so many numbers of texts
@@ -108,7 +111,7 @@ pub record CanWrite (b : BlockedProgram) (cert : Certificate) : Type 0 where
   pub cuts : AreOver b.named.program b.dec [] cert.cuts
   pub splits : HasSoundSplits cert.tree b.named.program.spans
   pub fits : All (λ leaf. Fits (blocking_with b.named.program b.dec cert) leaf.proof) (leaves cert.tree b.named.program.spans)
-  pub shallow : depth cert.tree ≤ greatest_depth
+  pub shallow : depth cert.tree ≤ greatest_depth b.named.program.limits
 
 -- a certificate's text: with cuts that of version 3, else that of version 1
 abbrev pub HasItsText : texts.Frame → Claim → List ℤ → List Cut → Tree → Type 0

@@ -32,6 +32,7 @@ pub fn program_frame(alloc: Global, b: &Blocked) -> Result<Frame, AllocError>
 {
     let variables = b.model().vars();
     let blocks = b.blocks();
+    let limits = b.model().limits();
     let masters = master_rows(alloc, b)?;
     let links = link_rows(b);
     Ok(Frame {
@@ -39,6 +40,7 @@ pub fn program_frame(alloc: Global, b: &Blocked) -> Result<Frame, AllocError>
         masters,
         links,
         blocks,
+        limits,
     })
 }
 

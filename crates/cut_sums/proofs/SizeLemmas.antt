@@ -9,15 +9,18 @@ use Rattle.std.proofs.Math.Nat.{mul-le-mul_left}
 use Rattle.std.proofs.lemmas.List.{length-map}
 use Rattle.std.proofs.lemmas.List.Elements.{recursion_from_All}
 use Rattle.std.proofs.lemmas.List.Sums.{sum_by-cons, get_or-le-sum_by}
+use Rattle.bp_theory.specs.Limits.{most_lines}
 use Rattle.bp_theory.specs.Sums.{sum_of}
 use Rattle.bp_theory.specs.Program.{Program, coefficient, span_at, reach}
 use Rattle.bp_theory.specs.Blocking.{sides_of}
 use Rattle.bp_theory.specs.Bound.{side}
 use Rattle.bp_theory.specs.Decomposition.{Decomposition, ProofRow, whole_row, link_row, no_row}
 use Rattle.bp_theory.specs.Cuts.{row_coefficient, row_side}
+use Rattle.bp_theory.specs.declared.Limits.TheVariants.{Large}
 use Rattle.bp_theory.specs.declared.Span.{Span}
 use Rattle.bp_theory.specs.declared.Term.{Term}
 use Rattle.bp_theory.specs.declared.Row.{Row}
+use Rattle.bp_theory.proofs.LimitLaws.{few_lines}
 use Rattle.bp_theory.proofs.SumLaws.{sum_of-within, sum_of_so_far_within, sum_of_more}
 use Rattle.bp_model.specs.Tidy.{sum_limit, pair_limit}
 use Rattle.cut_sums.specs.Cutting.{IsWhole, IsCutOver}
@@ -165,7 +168,7 @@ demands_each p rows [] h = tt
 demands_each p rows (m ∷ ms) h = (demand_within p (get_or rows m.0 no_row) m.1 h.0.size h.0.row, demands_each p rows ms h.1)
 
 -- all rows together
-pub demands_within : (p : Program) (rows : List ProofRow) (ms : List (ℕ × ℤ)) → AreEntries p rows ms → unsigned_abs (sum_of (entry_demand p rows) ms) ≤ 2 ^ 100
+pub demands_within : (p : Program) (rows : List ProofRow) (ms : List (ℕ × ℤ)) → AreEntries p rows ms → unsigned_abs (sum_of (entry_demand p rows) ms) ≤ 2 ^ 104
 demands_within p rows ms h =
     omega (arith, sum_within (entry_demand p rows) ms (demands_each p rows ms (recursion_from_All (IsBoundedEntry p rows) ms h.each)), h.few)
 
@@ -212,7 +215,7 @@ few_below xs n h below = by (length xs) refl
         omega (arith, e, first, last)
 
 -- a row that a cut combines is below the rows' number
-whole_below : (s : Rows) (i : ℕ) → IsRows s → IsWhole (get_or (rows_in s) i no_row) → i < 8447
+whole_below : (s : Rows) (i : ℕ) → IsRows s → IsWhole (get_or (rows_in s) i no_row) → i < 1048831
 whole_below s i h w = ⊎_elim
     (λ own. omega (arith, own, few))
     (λ past.
@@ -226,18 +229,21 @@ whole_below s i h w = ⊎_elim
     d : Decomposition
     d = s.b.now.dec
 
-    few : length p.rows + link_count p d ≤ 8192
-    few = ⊎_elim (λ over. absurd (h.formed.moderate (inl over))) (λ l. l) (cases_lt 8192 (length p.rows + link_count p d))
+    few : length p.rows + link_count p d ≤ most_lines Large
+    few = ⊎_elim
+        (λ over. absurd (h.formed.moderate (inl over)))
+        (λ l. omega (arith, l, few_lines p.limits))
+        (cases_lt (most_lines p.limits) (length p.rows + link_count p d))
 
 -- the entries of a cut
 pub entries_are : (s : Rows) (cut : Cut) → IsRows s → IsCutOver (rows_in s) cut → AreEntries (program_of s) (rows_in s) cut.rows
 entries_are s cut h over =
     let keys : List ℕ = map (λ (m : ℕ × ℤ). m.0) cut.rows in
     let long : length keys ≡ length cut.rows = length-map cut.rows (λ (m : ℕ × ℤ). m.0) in
-    let below : (k : ℕ) → k < length keys → get_or keys k 0 < 8447 =
-    λ k l. subst (λ n. n < 8447) (sym (get_or-map_past (λ (m : ℕ × ℤ). m.0) cut.rows k (0, pos 0)))
+    let below : (k : ℕ) → k < length keys → get_or keys k 0 < 1048831 =
+    λ k l. subst (λ n. n < 1048831) (sym (get_or-map_past (λ (m : ℕ × ℤ). m.0) cut.rows k (0, pos 0)))
     (whole_below s (get_or cut.rows k (0, pos 0)).0 h (over.whole k (0, pos 0) (omega (arith, l, long)))) in record {
-      few = omega (arith, long, few_below keys 8447 over.small.ascend below);
+      few = omega (arith, long, few_below keys 1048831 over.small.ascend below);
       each = entries_bounded s cut h over;
     }
 

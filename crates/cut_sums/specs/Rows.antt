@@ -51,7 +51,7 @@ pub record IsBoundedEntry (p : Program) (rows : List ProofRow) (m : ℕ × ℤ) 
 
 -- the entries of a cut: few small multipliers of bounded rows
 pub record AreEntries (p : Program) (rows : List ProofRow) (ms : List (ℕ × ℤ)) : Type 0 where
-  pub few : length ms ≤ 8447
+  pub few : length ms ≤ 1048831
   pub each : All (IsBoundedEntry p rows) ms
 
 -- the coefficient of a variable in the sum of the rows of entries, each times its multiplier

@@ -1,34 +1,26 @@
 -- Certificates as trees from which a search goes on.
-use Rattle.std.proofs.Common.{◌≡◌, ℕ, zero, suc, ◌+◌, ◌-◌, ◌*◌, ◌<◌, ◌≤◌, ◌^◌, Bool, true, false, IsTrue, ◌↔◌, List, [], ◌∷◌, ◌++◌, length, get_or, set, Option, Some, None, ◌⊎◌, inl, inr, ⊎_elim, sym, subst, ap, ◌∙◌, refl, arith, add-zero, zero-add, add_assoc, lit<}
+use Rattle.std.proofs.Common.{◌≡◌, ℕ, zero, suc, ◌+◌, ◌-◌, ◌*◌, ◌<◌, ◌^◌, Bool, true, false, IsTrue, ◌↔◌, List, [], ◌∷◌, ◌++◌, length, set, Option, Some, None, inl, ⊎_elim, sym, subst, ap, ◌∙◌, refl, arith}
 use Rattle.std.proofs.Math.IntN.{ℤ, pos, negsuc, neg_ℤ, ◌-ℤ◌, ◌+ℤ◌, ◌*ℤ◌, zero-*ℤ, pos-*ℤ-negsuc}
-use Rattle.std.specs.Prelude.{◌≤ℤ◌, ◌<ℤ◌, IfSome, unsigned_abs, All, option_map}
-use Rattle.std.specs.List.{AllByRecursion}
-use Rattle.std.proofs.lemmas.Int.{ints, clamps, by_lt_z}
+use Rattle.std.specs.Prelude.{◌≤ℤ◌, ◌<ℤ◌, unsigned_abs}
+use Rattle.std.proofs.lemmas.Int.{ints}
 use Rattle.std.proofs.lemmas.Bool.{cases_lt}
 use Rattle.std.proofs.lemmas.List.{length-append}
 use Rattle.std.proofs.Math.ListN.{length-set}
-use Rattle.std.proofs.lemmas.List.Elements.{All-from_recursion, recursion_from_All}
-use Rattle.bp_theory.specs.Program.{Program, IsFeasible, cost, in_sense, span_at}
+use Rattle.bp_theory.specs.Program.{span_at}
 use Rattle.bp_theory.specs.Blocking.{Blocking}
-use Rattle.bp_theory.specs.Decomposition.{blocking_of}
-use Rattle.bp_theory.specs.Bound.{IsBound, IsEndless, Fits}
-use Rattle.bp_theory.specs.Trees.{Tree, shut_leaf, open_leaf, split, Leaf, leaves, low_part, high_part, depth, steps, HasSoundSplits, IsSoundSplit, IsZone}
-use Rattle.bp_theory.specs.Claims.{Holds, Empties, Certificate, Shows, PointFits, IsValid, IsCertified}
-use Rattle.bp_theory.specs.Digits.{zone_bits}
+use Rattle.bp_theory.specs.Bound.{IsBound, IsEndless}
+use Rattle.bp_theory.specs.Trees.{Tree, shut_leaf, open_leaf, split, low_part, high_part, IsSoundSplit}
+use Rattle.bp_theory.specs.declared.Limits.{Limits}
 use Rattle.bp_theory.specs.declared.Span.{Span}
 use Rattle.bp_theory.specs.declared.Proof.{Proof}
-use Rattle.bp_theory.specs.declared.Claim.{Claim}
-use Rattle.bp_theory.specs.declared.Claim.TheVariants.{Optimal, Infeasible, Bound}
 use Rattle.bp_theory.proofs.Whole.{le-mul_pos}
-use Rattle.bp_theory.proofs.ShrinkProof.{one_bound_lem}
-use Rattle.bp_theory.proofs.TruthProof.{older_lem}
-use Rattle.block_program.specs.Blocked.{BlockedProgram, IsFormed}
-use Rattle.search_laws.specs.Grove.{GrowingTree, live, shut, fork, live_count, certificate_tree}
+use Rattle.block_program.specs.Blocked.{BlockedProgram}
+use Rattle.search_laws.specs.Grove.{GrowingTree, live, shut, fork}
 use Rattle.search_laws.specs.GroveFacts.{Settles}
-use Rattle.search_laws.specs.Loading.{rounded_bound, LoadsLeaf, Loads}
+use Rattle.search_laws.specs.Loading.{LoadsLeaf, Loads}
 use Rattle.branch_tree.specs.Groves.{made}
 use Rattle.cert_line_check.proofs.Lines.{high_is, back_is, low_zone, high_zone, holds_by, empties_by}
-use Rattle.tree_load.specs.Rooms.{rooms, FindsDeep, FindsBehind, node_count, CanLoadLeaf, CanLoad, SettlesBy, IsLeaf}
+use Rattle.tree_load.specs.Rooms.{rooms, FindsBehind, node_count, CanLoadLeaf, CanLoad, SettlesBy, IsLeaf}
 use Rattle.tree_load.specs.Nodes.{MayLoad, IsLoadedNode}
 use Rattle.tree_load.specs.declared.walk.Walk.{Walk}
 use Rattle.tree_load.proofs.Finding.{finds_both, finds_none}
@@ -135,7 +127,7 @@ may_low b best at below tree v s low high is h zone deep line =
 
 pub may_high : (b : BlockedProgram) (best : Option ℤ) (at below passed above : Walk) (tree : Tree) (v : ℕ) (s : ℤ) (span : Span) (low high : Tree) (first : GrowingTree)
     → tree ≡ split v s low high → MayLoad b best at tree → span ≡ span_at at.zone v
-    → below.zone ≡ low_part at.zone v s → below.depth ≡ at.depth + 1 → below.line ≡ at.line + 1 → IsLoadedNode b.blocking best below low first passed
+    → below.zone ≡ low_part at.zone v s → below.depth ≡ at.depth + 1 → below.line ≡ at.line + 1 → IsLoadedNode b.named.program.limits b.blocking best below low first passed
     → above.zone ≡ set passed.zone v (record { lo = s +ℤ pos 1; hi = span.hi }) → above.depth ≡ passed.depth → above.line ≡ passed.line
     → MayLoad b best above high
 may_high b best at below passed above tree v s span low high first is h span_is zone deep line one above_zone above_deep above_line =
@@ -148,19 +140,19 @@ may_high b best at below passed above tree v s span low high first is h span_is 
       few = omega (arith, line, one.line, above_line, may.few);
     }
 
-pub loaded_fork : (b : Blocking) (best : Option ℤ) (at below passed above end last : Walk) (tree : Tree) (v : ℕ) (s : ℤ) (span : Span) (low high : Tree)
+pub loaded_fork : (limits : Limits) (b : Blocking) (best : Option ℤ) (at below passed above end last : Walk) (tree : Tree) (v : ℕ) (s : ℤ) (span : Span) (low high : Tree)
     (first second node : GrowingTree)
     → tree ≡ split v s low high → node ≡ fork v s first second → span ≡ span_at at.zone v
     → below.zone ≡ low_part at.zone v s → below.depth ≡ at.depth + 1 → below.line ≡ at.line + 1 → below.deep ≡ at.deep
-    → IsLoadedNode b best below low first passed
+    → IsLoadedNode limits b best below low first passed
     → above.zone ≡ set passed.zone v (record { lo = s +ℤ pos 1; hi = span.hi }) → above.depth ≡ passed.depth → above.line ≡ passed.line → above.deep ≡ passed.deep
-    → IsLoadedNode b best above high second end
+    → IsLoadedNode limits b best above high second end
     → last.zone ≡ set end.zone v span → last.depth ≡ end.depth - 1 → last.line ≡ end.line → last.deep ≡ end.deep
-    → IsLoadedNode b best at tree node last
-loaded_fork b best at below passed above end last tree v s span low high first second node is node_is span_is
+    → IsLoadedNode limits b best at tree node last
+loaded_fork limits b best at below passed above end last tree v s span low high first second node is node_is span_is
     low_zone_is low_deep low_line low_found one high_zone_is high_deep high_line high_found two last_zone last_deep last_line last_found =
-    subst (λ (u : Tree). IsLoadedNode b best at u node last) (sym is)
-    (subst (λ (t : GrowingTree). IsLoadedNode b best at (split v s low high) t last) (sym node_is)
+    subst (λ (u : Tree). IsLoadedNode limits b best at u node last) (sym is)
+    (subst (λ (t : GrowingTree). IsLoadedNode limits b best at (split v s low high) t last) (sym node_is)
     (record {
       loads = (
         refl,
@@ -183,22 +175,22 @@ loaded_fork b best at below passed above end last tree v s span low high first s
     high_rooms : List ℕ
     high_rooms = rooms second (at.depth + 1) (high_part at.zone v s)
 
-    in_low : FindsBehind at.deep low_rooms (at.line + 1) passed.deep
+    in_low : FindsBehind limits at.deep low_rooms (at.line + 1) passed.deep
     in_low =
-        subst (λ (o : Option ℕ). FindsBehind o low_rooms (at.line + 1) passed.deep) low_found
-        (subst (λ n. FindsBehind below.deep low_rooms n passed.deep) low_line
-        (subst (λ (z : List Span). FindsBehind below.deep (rooms first (at.depth + 1) z) below.line passed.deep) low_zone_is
-        (subst (λ d. FindsBehind below.deep (rooms first d below.zone) below.line passed.deep) low_deep one.deep)))
+        subst (λ (o : Option ℕ). FindsBehind limits o low_rooms (at.line + 1) passed.deep) low_found
+        (subst (λ n. FindsBehind limits below.deep low_rooms n passed.deep) low_line
+        (subst (λ (z : List Span). FindsBehind limits below.deep (rooms first (at.depth + 1) z) below.line passed.deep) low_zone_is
+        (subst (λ d. FindsBehind limits below.deep (rooms first d below.zone) below.line passed.deep) low_deep one.deep)))
 
     above_deep : above.depth ≡ at.depth + 1
     above_deep = high_deep ∙ one.depth ∙ low_deep
 
-    in_high : FindsBehind passed.deep high_rooms above.line last.deep
+    in_high : FindsBehind limits passed.deep high_rooms above.line last.deep
     in_high =
-        subst (λ (o : Option ℕ). FindsBehind passed.deep high_rooms above.line o) (sym last_found)
-        (subst (λ (o : Option ℕ). FindsBehind o high_rooms above.line end.deep) high_found
-        (subst (λ (z : List Span). FindsBehind above.deep (rooms second (at.depth + 1) z) above.line end.deep) part
-        (subst (λ d. FindsBehind above.deep (rooms second d above.zone) above.line end.deep) above_deep two.deep)))
+        subst (λ (o : Option ℕ). FindsBehind limits passed.deep high_rooms above.line o) (sym last_found)
+        (subst (λ (o : Option ℕ). FindsBehind limits o high_rooms above.line end.deep) high_found
+        (subst (λ (z : List Span). FindsBehind limits above.deep (rooms second (at.depth + 1) z) above.line end.deep) part
+        (subst (λ d. FindsBehind limits above.deep (rooms second d above.zone) above.line end.deep) above_deep two.deep)))
 
     low_length : length low_rooms ≡ node_count low
     low_length = rooms_of b best below.zone (low_part at.zone v s) (at.depth + 1) low first one.loads
@@ -206,25 +198,25 @@ loaded_fork b best at below passed above end last tree v s span low high first s
     behind_low : above.line ≡ at.line + 1 + length low_rooms
     behind_low = omega (arith, high_line, one.line, low_line, low_length)
 
-    found : FindsBehind at.deep (0 ∷ (low_rooms ++ high_rooms)) at.line last.deep
-    found = finds_both (0 ∷ []) (low_rooms ++ high_rooms) at.line (at.line + 1) at.deep at.deep last.deep (finds_none at.line at.deep) refl
-        (finds_both low_rooms high_rooms (at.line + 1) above.line at.deep passed.deep last.deep in_low behind_low in_high)
+    found : FindsBehind limits at.deep (0 ∷ (low_rooms ++ high_rooms)) at.line last.deep
+    found = finds_both limits (0 ∷ []) (low_rooms ++ high_rooms) at.line (at.line + 1) at.deep at.deep last.deep (finds_none limits at.line at.deep) refl
+        (finds_both limits low_rooms high_rooms (at.line + 1) above.line at.deep passed.deep last.deep in_low behind_low in_high)
 
 -- a leaf
-pub loaded_leaf : (b : Blocking) (best : Option ℤ) (at end : Walk) (proof : Proof) (t : GrowingTree) → LoadsLeaf b best at.zone proof t
-    → end.zone ≡ at.zone → end.depth ≡ at.depth → end.line ≡ at.line + 1 → FindsBehind at.deep (rooms t at.depth at.zone) at.line end.deep
-    → IsLoadedNode b best at (open_leaf proof) t end
-loaded_leaf b best at end proof t loads zone deep line found = record { loads = loads; zone = zone; depth = deep; line = line; deep = found }
+pub loaded_leaf : (limits : Limits) (b : Blocking) (best : Option ℤ) (at end : Walk) (proof : Proof) (t : GrowingTree) → LoadsLeaf b best at.zone proof t
+    → end.zone ≡ at.zone → end.depth ≡ at.depth → end.line ≡ at.line + 1 → FindsBehind limits at.deep (rooms t at.depth at.zone) at.line end.deep
+    → IsLoadedNode limits b best at (open_leaf proof) t end
+loaded_leaf limits b best at end proof t loads zone deep line found = record { loads = loads; zone = zone; depth = deep; line = line; deep = found }
 
 -- an open leaf and a shut one are loaded alike
-pub as_shut : (b : Blocking) (best : Option ℤ) (at end : Walk) (tree : Tree) (proof : Proof) (t : GrowingTree) → tree ≡ shut_leaf proof
-    → IsLoadedNode b best at (open_leaf proof) t end → IsLoadedNode b best at tree t end
-as_shut b best at end tree proof t is h =
-    subst (λ (u : Tree). IsLoadedNode b best at u t end) (sym is) (record { loads = h.loads; zone = h.zone; depth = h.depth; line = h.line; deep = h.deep })
+pub as_shut : (limits : Limits) (b : Blocking) (best : Option ℤ) (at end : Walk) (tree : Tree) (proof : Proof) (t : GrowingTree) → tree ≡ shut_leaf proof
+    → IsLoadedNode limits b best at (open_leaf proof) t end → IsLoadedNode limits b best at tree t end
+as_shut limits b best at end tree proof t is h =
+    subst (λ (u : Tree). IsLoadedNode limits b best at u t end) (sym is) (record { loads = h.loads; zone = h.zone; depth = h.depth; line = h.line; deep = h.deep })
 
-pub as_open : (b : Blocking) (best : Option ℤ) (at end : Walk) (tree : Tree) (proof : Proof) (t : GrowingTree) → tree ≡ open_leaf proof
-    → IsLoadedNode b best at (open_leaf proof) t end → IsLoadedNode b best at tree t end
-as_open b best at end tree proof t is h = subst (λ (u : Tree). IsLoadedNode b best at u t end) (sym is) h
+pub as_open : (limits : Limits) (b : Blocking) (best : Option ℤ) (at end : Walk) (tree : Tree) (proof : Proof) (t : GrowingTree) → tree ≡ open_leaf proof
+    → IsLoadedNode limits b best at (open_leaf proof) t end → IsLoadedNode limits b best at tree t end
+as_open limits b best at end tree proof t is h = subst (λ (u : Tree). IsLoadedNode limits b best at u t end) (sym is) h
 
 pub may_shut : (b : BlockedProgram) (best : Option ℤ) (at : Walk) (tree : Tree) (proof : Proof) → tree ≡ shut_leaf proof → MayLoad b best at tree
     → MayLoad b best at (open_leaf proof)
@@ -252,9 +244,9 @@ pub record CanGoBack (v : ℕ) (span : Span) (end : Walk) : Type 0 where
 
 pub can_go_back : (b : BlockedProgram) (best : Option ℤ) (at below passed above end : Walk) (tree : Tree) (v : ℕ) (s : ℤ) (span : Span) (low high : Tree) (first second : GrowingTree)
     → tree ≡ split v s low high → MayLoad b best at tree → span ≡ span_at at.zone v
-    → below.zone ≡ low_part at.zone v s → below.depth ≡ at.depth + 1 → IsLoadedNode b.blocking best below low first passed
+    → below.zone ≡ low_part at.zone v s → below.depth ≡ at.depth + 1 → IsLoadedNode b.named.program.limits b.blocking best below low first passed
     → above.zone ≡ set passed.zone v (record { lo = s +ℤ pos 1; hi = span.hi }) → above.depth ≡ passed.depth
-    → IsLoadedNode b.blocking best above high second end → CanGoBack v span end
+    → IsLoadedNode b.named.program.limits b.blocking best above high second end → CanGoBack v span end
 can_go_back b best at below passed above end tree v s span low high first second is h span_is zone deep one above_zone above_deep two =
     let may : MayLoad b best at (split v s low high) = subst (MayLoad b best at) is h in
     let sound : IsSoundSplit at.zone v s = may.can.0 in

@@ -3,9 +3,10 @@ use Rattle.std.specs.Prelude.{◌≡◌, ℕ, ◌+◌, ◌<◌, ◌≤◌, List,
 use Rattle.bp_theory.specs.Limits.{greatest_depth, number_limit}
 use Rattle.bp_theory.specs.Blocking.{Blocking}
 use Rattle.bp_theory.specs.Bound.{Fits}
-use Rattle.bp_theory.specs.Trees.{Tree, shut_leaf, open_leaf, split, low_part, high_part, depth, IsSoundSplit}
+use Rattle.bp_theory.specs.Trees.{Tree, shut_leaf, open_leaf, split, low_part, high_part, IsSoundSplit}
 use Rattle.bp_theory.specs.Claims.{Holds}
 use Rattle.bp_theory.specs.Digits.{zone_bits}
+use Rattle.bp_theory.specs.declared.Limits.{Limits}
 use Rattle.bp_theory.specs.declared.Span.{Span}
 use Rattle.bp_theory.specs.declared.Proof.{Proof}
 use Rattle.bp_theory.specs.declared.Cut.{Cut}
@@ -18,12 +19,12 @@ rooms (live proof bound) deep zone = (deep + zone_bits zone) ∷ []
 rooms (shut proof) deep zone = 0 ∷ []
 rooms (fork v at low high) deep zone = 0 ∷ (rooms low (deep + 1) (low_part zone v at) ++ rooms high (deep + 1) (high_part zone v at))
 
--- the line of the first of these rooms that is above the greatest depth, where the first room's line has this number
-pub record IsFirstDeep (sizes : List ℕ) (first line : ℕ) : Type 0 where
+-- the line of the first of these rooms that is above the greatest depth of the limits, where the first room's line has this number
+pub record IsFirstDeep (limits : Limits) (sizes : List ℕ) (first line : ℕ) : Type 0 where
   pub place : ℕ
   pub there : place < length sizes
-  pub deep : greatest_depth < slice_index_or sizes place 0
-  pub earlier : (k : ℕ) → k < place → slice_index_or sizes k 0 ≤ greatest_depth
+  pub deep : greatest_depth limits < slice_index_or sizes place 0
+  pub earlier : (k : ℕ) → k < place → slice_index_or sizes k 0 ≤ greatest_depth limits
   pub numbered : line ≡ first + place
 
 -- the line of a tree's root in the text of a certificate: it stands behind two lines, or three where there is a point, and behind
@@ -38,15 +39,15 @@ IsLeaf (live proof bound) = Unit {0}
 IsLeaf (shut proof) = Unit {0}
 IsLeaf (fork v at low high) = ⊥
 
--- what was found of rooms: none above the greatest depth, or the line of the first that is
-abbrev pub FindsDeep : List ℕ → (first : ℕ) → Option ℕ → Type 0
-FindsDeep sizes first None = (k : ℕ) → slice_index_or sizes k 0 ≤ greatest_depth
-FindsDeep sizes first (Some line) = IsFirstDeep sizes first line
+-- what was found of rooms: none above the greatest depth of the limits, or the line of the first that is
+abbrev pub FindsDeep : Limits → List ℕ → (first : ℕ) → Option ℕ → Type 0
+FindsDeep limits sizes first None = (k : ℕ) → slice_index_or sizes k 0 ≤ greatest_depth limits
+FindsDeep limits sizes first (Some line) = IsFirstDeep limits sizes first line
 
 -- a line that was found already, or what is found of rooms
-abbrev pub FindsBehind : Option ℕ → List ℕ → (first : ℕ) → Option ℕ → Type 0
-FindsBehind None sizes first now = FindsDeep sizes first now
-FindsBehind (Some line) sizes first now = now ≡ Some line
+abbrev pub FindsBehind : Limits → Option ℕ → List ℕ → (first : ℕ) → Option ℕ → Type 0
+FindsBehind limits None sizes first now = FindsDeep limits sizes first now
+FindsBehind limits (Some line) sizes first now = now ≡ Some line
 
 -- how many nodes a tree has
 abbrev pub node_count : Tree → ℕ

@@ -29,7 +29,7 @@ pub fn load_node(
 ) -> Result<(Box<Tree>, Walk), AllocError>
     requires made_for { IfSome work.old (λ made. forms_of made ≡ forms_in b.now) }
     requires may { MayLoad b.now best.now at (sketches.tree_of sketch.now) }
-    ensures loaded { IfOk result (λ r. IsLoadedNode b.now.blocking best.now at
+    ensures loaded { IfOk result (λ r. IsLoadedNode b.now.named.program.limits b.now.blocking best.now at
         (sketches.tree_of sketch.now) (tree_of r.0.value) r.1) }
     ensures made_for { IfSome work.new (λ made. forms_of made ≡ forms_in b.now) }
 {
@@ -64,12 +64,12 @@ fn load_end(
 ) -> Result<(Box<Tree>, Walk), AllocError>
     requires made_for { IfSome work.old (λ made. forms_of made ≡ forms_in b.now) }
     requires may { MayLoad b.now best.now at (trees.open_leaf proof.now) }
-    ensures loaded { IfOk result (λ r. IsLoadedNode b.now.blocking best.now at
+    ensures loaded { IfOk result (λ r. IsLoadedNode b.now.named.program.limits b.now.blocking best.now at
         (trees.open_leaf proof.now) (tree_of r.0.value) r.1) }
     ensures made_for { IfSome work.new (λ made. forms_of made ≡ forms_in b.now) }
 {
     let leaf = load_leaf(alloc, b, best, work, &at.zone, proof)?;
-    let end = pass(at, &leaf);
+    let end = pass(at, b.model().limits(), &leaf);
     Ok((Box::new(alloc, leaf)?, end))
 }
 

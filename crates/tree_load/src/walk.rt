@@ -1,5 +1,7 @@
 // A walk over the tree of a certificate.
 ghost use Rattle.std.specs.Prelude.{◌≡◌, ◌+◌, ◌-◌, ◌<◌, ◌≤◌, ◌^◌, ◌+ℤ◌, ◌<ℤ◌, ◌≤ℤ◌, pos, length, slice_set, [], ◌∷◌};
+ghost use Rattle.bp_theory.specs.Limits.{greatest_depth};
+ghost use Rattle.bp_theory.specs.declared.Limits.TheVariants.{Large};
 ghost use Rattle.bp_theory.specs.Digits.{binary_digits, span_bits, zone_bits};
 ghost use Rattle.bp_theory.specs.Trees.{IsSoundSplit, low_part};
 ghost use Rattle.std.specs.Int.{int_gap};
@@ -7,8 +9,8 @@ ghost use Rattle.open_nodes.specs.Trees.{tree_of};
 ghost use Rattle.tree_load.specs.Rooms.{rooms, FindsDeep, FindsBehind, IsLeaf};
 
 use block_program::Zone;
-use bp_theory::Span;
-use branch_tree::{MAX_DEPTH, Tree};
+use bp_theory::{Limits, Span};
+use branch_tree::Tree;
 
 /// Where a walk stands: the zone of a node, its depth, the number of its line, and the line of the first live leaf that
 /// was too deep, where there was one.
@@ -23,7 +25,7 @@ pub struct Walk {
 /// The walk in a split's low part, behind the split's line.
 pub fn to_low(at: Walk, var: u32, split: &i64) -> Walk
     requires sound { IsSoundSplit at.zone var split.now }
-    requires shallow { at.depth < 8256 }
+    requires shallow { at.depth < greatest_depth Large }
     requires few { at.line + 1 < 2 ^ 64 }
     ensures zone { result.zone ≡ low_part at.zone var split.now }
     ensures depth { result.depth ≡ at.depth + 1 }
@@ -75,19 +77,19 @@ pub fn back(at: Walk, var: u32, span: &Span) -> Walk
     }
 }
 
-/// The walk behind a leaf's line: it looks whether the leaf is live and too deep.
-pub fn pass(at: Walk, leaf: &Tree) -> Walk
+/// The walk behind a leaf's line: it looks whether the leaf is live and too deep for the limits.
+pub fn pass(at: Walk, limits: Limits, leaf: &Tree) -> Walk
     requires leaf { IsLeaf (tree_of leaf.now) }
     requires few { at.line + 1 < 2 ^ 64 }
     ensures zone { result.zone ≡ at.zone }
     ensures depth { result.depth ≡ at.depth }
     ensures line { result.line ≡ at.line + 1 }
-    ensures deep { FindsBehind at.deep (rooms (tree_of leaf.now) at.depth at.zone) at.line
+    ensures deep { FindsBehind limits at.deep (rooms (tree_of leaf.now) at.depth at.zone) at.line
         result.deep }
 {
     let deep = match at.deep {
         Some(line) => Some(line),
-        None => deep_line(&at, leaf),
+        None => deep_line(&at, limits, leaf),
     };
     Walk {
         zone: at.zone,
@@ -98,23 +100,23 @@ pub fn pass(at: Walk, leaf: &Tree) -> Walk
 }
 
 // The line of a leaf that is live and too deep.
-fn deep_line(at: &Walk, leaf: &Tree) -> Option<u64>
+fn deep_line(at: &Walk, limits: Limits, leaf: &Tree) -> Option<u64>
     requires { IsLeaf (tree_of leaf.now) }
-    ensures { FindsDeep (rooms (tree_of leaf.now) at.now.depth at.now.zone) at.now.line result }
+    ensures { FindsDeep limits (rooms (tree_of leaf.now) at.now.depth at.now.zone) at.now.line result }
 {
     match leaf {
-        Tree::Live(_, _) => live_line(at),
+        Tree::Live(_, _) => live_line(at, limits),
         Tree::Shut(_) => None,
         Tree::Fork { .. } => unreachable!(),
     }
 }
 
 // The line of a live leaf, where it is too deep.
-fn live_line(at: &Walk) -> Option<u64>
-    ensures { FindsDeep ((at.now.depth + zone_bits at.now.zone) ∷ []) at.now.line result }
+fn live_line(at: &Walk, limits: Limits) -> Option<u64>
+    ensures { FindsDeep limits ((at.now.depth + zone_bits at.now.zone) ∷ []) at.now.line result }
 {
     let room = u128::from(at.depth) + bits(at.zone.spans());
-    if room > u128::from(MAX_DEPTH) {
+    if room > u128::from(limits.depth()) {
         Some(at.line)
     } else {
         None

@@ -1,5 +1,6 @@
 // A reader of lines goes on by a byte, or ends.
 ghost use Rattle.std.specs.Prelude.{◌≡◌, ℕ, [], ◌∷◌, Bool, List, true, false, if◌then◌else◌, Ok, Some, None, IfOk, OnOk, IsErrOf, ℤ, pos, length, slice_index_or, ◌+◌, ◌-◌, ◌<◌, ◌^◌};
+ghost use Rattle.bp_theory.specs.declared.Limits.{Limits};
 ghost use Rattle.cert_format.specs.declared.frame.Frame.{Frame};
 ghost use Rattle.cert_format.specs.declared.words.Word.{Word};
 ghost use Rattle.cert_format.specs.Cert.{Cut, Tree};
@@ -71,7 +72,7 @@ impl Lines {
             + 1 < 2 ^ 64 →
             StandsFor above root cuts frame.now self.old text → is_digit byte ≡ false →
             EndsNumberAt above root cuts frame.now self.new text byte result }
-        ensures stays { OnOk result (Stays self.old self.new) }
+        ensures stays { OnOk result (Stays frame.now.limits self.old self.new) }
     {
         match sort_of(self.spot) {
             Sort::Natural => self.take_natural(alloc, frame, value),
@@ -93,7 +94,7 @@ impl Lines {
             count 0 ≡
             byte → count + 1 ≡ length (word_text word) → Steps above root cuts frame.now self.new text
             byte result }
-        ensures told { IfOk result (λ event. Tells self.old self.new event) }
+        ensures told { IfOk result (λ event. Tells frame.now.limits self.old self.new event) }
     {
         if self.is_faulty_end(frame, word) {
             return Err(self.fault(CertKind::Length));
@@ -124,7 +125,7 @@ impl Lines {
             (done ≡ 0 → word_begins word byte ≡ true) → InWordAt above root cuts frame.now self.old word
             done text →
             Steps above root cuts frame.now self.new text byte result }
-        ensures told { IfOk result (λ event. Tells self.old self.new event) }
+        ensures told { IfOk result (λ event. Tells frame.now.limits self.old self.new event) }
     {
         let bytes = bytes_of(word);
         if done >= bytes.len() {
@@ -144,12 +145,12 @@ impl Lines {
     }
 
     // Whether the number comes of a node that is too deep, or of a cut too many.
-    fn awaits_deep(&self) -> bool
+    fn awaits_deep(&self, frame: &Frame) -> bool
         ensures { (above : List Wait) (root : Tree) (cuts : List Cut) (n : ℕ) → HasHighs above cuts self.now → result ≡
-            is_deep_stage (stage_of above root cuts self.now n) }
+            is_deep_stage (frame_of frame.now) (stage_of above root cuts self.now n) }
     {
         match self.spot {
-            Spot::Scale | Spot::Variable => self.is_deep(),
+            Spot::Scale | Spot::Variable => self.is_deep(frame),
             Spot::Divisor => self.has_all_cuts(),
             _ => false,
         }
@@ -171,10 +172,10 @@ impl Lines {
         ensures steps { (above : List Wait) (root : Tree) (cuts : List Cut) (frame : Frame) (text : List ℕ) (number : Bool)
             → length text + 1 < 2 ^ 64 →
             (between : Between above root cuts frame self.old number text) →
-            is_deep_stage (stage_of above root cuts self.old between.count) ≡ true → MayStand number
+            is_deep_stage (frame_of frame) (stage_of above root cuts self.old between.count) ≡ true → MayStand number
             (byte ∷ []) →
             Steps above root cuts frame self.new text byte result }
-        ensures told { IfOk result (λ event. Tells self.old self.new event) }
+        ensures told { IfOk result (λ event. (limits : Limits) → Tells limits self.old self.new event) }
     {
         if digit(byte) {
             return Err(self.fault(self.deep_kind()));
@@ -193,7 +194,7 @@ impl Lines {
             1 < 2 ^ 64 →
             StandsFor above root cuts frame self.now text → Steps above root cuts frame self.now text byte
             result }
-        ensures told { IfOk result (λ event. Tells self.now self.now event) }
+        ensures told { IfOk result (λ event. (limits : Limits) → Tells limits self.now self.now event) }
     {
         if digit(byte) {
             return Err(self.fault(self.deep_kind()));
@@ -202,16 +203,16 @@ impl Lines {
     }
 
     // A number begins with a byte, or the text leaves the grammar.
-    fn begin_number(&mut self, byte: u8) -> Result<Option<Event>, CertFault>
-        ensures steps { (above : List Wait) (root : Tree) (cuts : List Cut) (frame : Frame) (text : List ℕ) (number : Bool)
+    fn begin_number(&mut self, frame: &Frame, byte: u8) -> Result<Option<Event>, CertFault>
+        ensures steps { (above : List Wait) (root : Tree) (cuts : List Cut) (text : List ℕ) (number : Bool)
             → length text + 1 < 2 ^ 64 →
-            (between : Between above root cuts frame self.old number text) → MayStand number (byte ∷ [])
+            (between : Between above root cuts frame.now self.old number text) → MayStand number (byte ∷ [])
             →
             ((v : Word) → Comes v (words (stage_of above root cuts self.old between.count)) →
-            word_begins v byte ≡ false) → Steps above root cuts frame self.new text byte result }
-        ensures told { IfOk result (λ event. Tells self.old self.new event) }
+            word_begins v byte ≡ false) → Steps above root cuts frame.now self.new text byte result }
+        ensures told { IfOk result (λ event. Tells frame.now.limits self.old self.new event) }
     {
-        if self.awaits_deep() {
+        if self.awaits_deep(frame) {
             return self.begin_deep(byte);
         }
         match sort_of(self.spot) {
@@ -262,7 +263,7 @@ impl Lines {
             1 < 2 ^ 64 →
             StandsFor above root cuts frame self.old text → Steps above root cuts frame self.new text byte
             result }
-        ensures told { IfOk result (λ event. Tells self.old self.new event) }
+        ensures told { IfOk result (λ event. (limits : Limits) → Tells limits self.old self.new event) }
     {
         if value == 0 {
             return Err(self.fault(CertKind::Syntax));
@@ -282,7 +283,7 @@ impl Lines {
             1 < 2 ^ 64 →
             StandsFor above root cuts frame self.old text → Steps above root cuts frame self.new text byte
             result }
-        ensures told { IfOk result (λ event. Tells self.old self.new event) }
+        ensures told { IfOk result (λ event. (limits : Limits) → Tells limits self.old self.new event) }
     {
         if digit(byte) {
             if byte == b'0' {
@@ -300,11 +301,11 @@ impl Lines {
             Between above root cuts frame.now self.old number text → (number ≡ true → is_digit byte ≡
             false) →
             Steps above root cuts frame.now self.new text byte result }
-        ensures told { IfOk result (λ event. Tells self.old self.new event) }
+        ensures told { IfOk result (λ event. Tells frame.now.limits self.old self.new event) }
     {
         match pick(words_at(self.version, self.spot, self.left > 0), byte) {
             Some(word) => self.go_on(alloc, frame, word, 0, byte),
-            None => self.begin_number(byte),
+            None => self.begin_number(frame, byte),
         }
     }
 
@@ -319,7 +320,7 @@ impl Lines {
         ensures steps { (above : List Wait) (root : Tree) (cuts : List Cut) (text : List ℕ) → length text + 1 < 2 ^ 64 →
             StandsFor above root cuts frame.now self.old text →
             Steps above root cuts frame.now self.new text byte result }
-        ensures told { IfOk result (λ event. Tells self.old self.new event) }
+        ensures told { IfOk result (λ event. Tells frame.now.limits self.old self.new event) }
     {
         match self.part {
             Part::Fresh => self.begin(alloc, frame, byte),
@@ -348,7 +349,7 @@ impl Lines {
         match self.spot {
             Spot::Divisor => self.divisor_of(value).err(),
             Spot::CutRow => self.combined_of(frame, value).err(),
-            Spot::Scale => self.scale_of(value).err(),
+            Spot::Scale => self.scale_of(frame, value).err(),
             Spot::Row => self.row_of(frame, value).err(),
             Spot::Block => judge_block(frame, self.last, value).err(),
             Spot::Variable => self.variable_of(frame, value).err(),

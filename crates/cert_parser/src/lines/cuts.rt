@@ -1,6 +1,7 @@
 // A reader of lines within the lines of cuts.
 ghost use Rattle.std.specs.Prelude.{◌≡◌, ℕ, ◌+◌, ◌<◌, List, length, map, OnOk, IfOk, MatchResult, Ok, Some, None};
 ghost use Rattle.bp_theory.specs.Limits.{most_cuts};
+ghost use Rattle.bp_theory.specs.declared.Limits.{Limits};
 ghost use Rattle.cert_format.specs.declared.frame.Frame.{Frame};
 ghost use Rattle.cert_format.specs.declared.words.Word.{Word};
 ghost use Rattle.cert_format.specs.declared.spots.Spot.TheVariants as spots;
@@ -29,7 +30,7 @@ impl Lines {
         ensures place { IfOk result (λ event. LeadsTo self.old self.new event word) }
         ensures highs { IfOk result (λ event. KeepsHighs self.old self.new event) }
         ensures keeps { OnOk result (Keeps self.old self.new) }
-        ensures told { IfOk result (λ event. Tells self.old self.new event) }
+        ensures told { IfOk result (λ event. (limits : Limits) → Tells limits self.old self.new event) }
     {
         match word {
             Word::Leaf => self.begin_leaf(false),
@@ -47,7 +48,7 @@ impl Lines {
             at_cuts (with_cut (told_of cuts self.old) self.old.divisor (map written_pair self.old.mults)) above) }
         ensures highs { IfOk result (λ event. KeepsHighs self.old self.new event) }
         ensures keeps { OnOk result (Keeps self.old self.new) }
-        ensures told { IfOk result (λ event. Tells self.old self.new event) }
+        ensures told { IfOk result (λ event. (limits : Limits) → Tells limits self.old self.new event) }
     {
         let rows = mem::replace(&mut self.mults, Items::new(alloc));
         self.spot = Spot::Cuts;
@@ -60,8 +61,8 @@ impl Lines {
     // Whether no further cut may come, where the next one's divisor does.
     pub fn has_all_cuts(&self) -> bool
         requires { self.now.spot ≡ spots.Divisor }
-        ensures { (above : List Wait) (root : Tree) (cuts : List texts.Cut) (n : ℕ) →
-            HasHighs above cuts self.now → result ≡ is_deep_stage (stage_of above root cuts self.now n) }
+        ensures { (frame : texts.Frame) (above : List Wait) (root : Tree) (cuts : List texts.Cut) (n : ℕ) →
+            HasHighs above cuts self.now → result ≡ is_deep_stage frame (stage_of above root cuts self.now n) }
     {
         is_last_cut(self.cuts)
     }
@@ -121,7 +122,7 @@ impl Lines {
         requires { self.old.spot ≡ spots.CutMultiplier }
         ensures takes { (frame : Frame) →
             TakesWhole (frame_of frame) self.old self.new negative value result }
-        ensures stays { OnOk result (Stays self.old self.new) }
+        ensures stays { (limits : Limits) → OnOk result (Stays limits self.old self.new) }
     {
         match judge_multiplier(u64::from(MAX_DIVISOR), &0, negative, value) {
             Err(kind) => Err(self.fault(kind)),

@@ -1,4 +1,4 @@
-use Rattle.std.proofs.Common.{◌≡◌, ◌∙◌, refl, sym, ap, subst, None, Some, Option, ℕ}
+use Rattle.std.proofs.Common.{◌∙◌, subst, None, Option, ℕ}
 use Rattle.search_laws.specs.GroveFacts.{IsSearch}
 use Rattle.cert_format.specs.Kept.{certificate_of}
 use Rattle.open_nodes.specs.Trees as growing
@@ -18,8 +18,8 @@ pub adopt-requires : goal.adopt-requires
 adopt-requires c =
     let cert = c.args.cert.now in
     let t = growing.tree_of c.in_ok-tree.tree in
-    let low : FindsDeep (rooms t 0 c.args.b.now.named.program.spans) (root_line (certificate_of cert).point (certificate_of cert).cuts) None =
-    subst (λ (o : Option ℕ). FindsDeep (rooms t 0 c.args.b.now.named.program.spans) (root_line (certificate_of cert).point (certificate_of cert).cuts) o) c.in-None.is c.in_ok-tree.ensures.deep in
+    let low : FindsDeep c.args.b.now.named.program.limits (rooms t 0 c.args.b.now.named.program.spans) (root_line (certificate_of cert).point (certificate_of cert).cuts) None =
+    subst (λ (o : Option ℕ). FindsDeep c.args.b.now.named.program.limits (rooms t 0 c.args.b.now.named.program.spans) (root_line (certificate_of cert).point (certificate_of cert).cuts) o) c.in-None.is c.in_ok-tree.ensures.deep in
     let search : IsSearch c.args.b.now.named.program c.args.b.now.blocking t (certificate_of cert).point =
     searched_of c.args.b.now (certificate_of cert) t c.blocks-2.ensures.formed c.requires.cuts c.requires.goes_with c.requires.valid c.in_ok-tree.ensures.loads low in
     record {
@@ -42,7 +42,7 @@ returns-in-Some c =
     let t = growing.tree_of c.in_ok-tree.tree in record {
       tree = t;
       loads = c.in_ok-tree.ensures.loads;
-      first = subst (λ (o : Option ℕ). FindsDeep (rooms t 0 c.args.b.now.named.program.spans) (root_line (certificate_of c.args.cert.now).point (certificate_of c.args.cert.now).cuts) o) c.in-Some.is
+      first = subst (λ (o : Option ℕ). FindsDeep c.args.b.now.named.program.limits (rooms t 0 c.args.b.now.named.program.spans) (root_line (certificate_of c.args.cert.now).point (certificate_of c.args.cert.now).cuts) o) c.in-Some.is
           c.in_ok-tree.ensures.deep;
     }
 
@@ -50,8 +50,8 @@ pub returns-in_ok-grove-in-None : goal.returns-in_ok-grove-in-None
 returns-in_ok-grove-in-None c =
     let cert = c.args.cert.now in
     let t = growing.tree_of c.in_ok-tree.tree in
-    let low : FindsDeep (rooms t 0 c.args.b.now.named.program.spans) (root_line (certificate_of cert).point (certificate_of cert).cuts) None =
-    subst (λ (o : Option ℕ). FindsDeep (rooms t 0 c.args.b.now.named.program.spans) (root_line (certificate_of cert).point (certificate_of cert).cuts) o) c.in-None.is c.in_ok-tree.ensures.deep in
+    let low : FindsDeep c.args.b.now.named.program.limits (rooms t 0 c.args.b.now.named.program.spans) (root_line (certificate_of cert).point (certificate_of cert).cuts) None =
+    subst (λ (o : Option ℕ). FindsDeep c.args.b.now.named.program.limits (rooms t 0 c.args.b.now.named.program.spans) (root_line (certificate_of cert).point (certificate_of cert).cuts) o) c.in-None.is c.in_ok-tree.ensures.deep in
     let search : IsSearch c.args.b.now.named.program c.args.b.now.blocking t (certificate_of cert).point =
     searched_of c.args.b.now (certificate_of cert) t c.blocks-2.ensures.formed c.requires.cuts c.requires.goes_with c.requires.valid c.in_ok-tree.ensures.loads low in
     loaded_of c.args.b.now (certificate_of cert) t _ c.in_ok-tree.ensures.loads search c.in_ok-grove-in-None.ensures.adopted

@@ -1,4 +1,4 @@
-use Rattle.std.proofs.Common.{◌≡◌, refl, sym, ap, subst, ◌∙◌, None, Option, ℕ}
+use Rattle.std.proofs.Common.{refl, sym, subst, None}
 use Rattle.bp_theory.specs.Trees.{Tree as theory}
 use Rattle.cert_format.specs.Kept.{certificate_of}
 use Rattle.cert_format.specs.Sketch.{tree_of}
@@ -28,7 +28,7 @@ returns-clause-loads c =
 pub returns-clause-deep : goal.returns-clause-deep
 returns-clause-deep c =
     let at : Walk = record { zone = c.in_ok-zone.zone; depth = 0; line = c.root_line-line.result; deep = None } in
-    subst (λ (t : Tree). FindsDeep (rooms (growing.tree_of t) 0 c.args.b.now.named.program.spans) (root_line (certificate_of c.args.cert.now).point (certificate_of c.args.cert.now).cuts) c.in_ok-tree.end.deep)
+    subst (λ (t : Tree). FindsDeep c.args.b.now.named.program.limits (rooms (growing.tree_of t) 0 c.args.b.now.named.program.spans) (root_line (certificate_of c.args.cert.now).point (certificate_of c.args.cert.now).cuts) c.in_ok-tree.end.deep)
     (sym c.into_inner.ensures)
     (root_loaded c.args.b.now (certificate_of c.args.cert.now) c.args.best.now at c.in_ok-tree.end (tree_of c.tree.result.now) (growing.tree_of c.in_ok-tree.tree.value)
     c.requires.best c.in_ok-zone.ensures.spans refl c.root_line-line.ensures refl c.tree.ensures c.in_ok-tree.ensures.loaded).found

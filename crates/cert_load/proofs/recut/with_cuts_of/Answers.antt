@@ -1,5 +1,4 @@
-use Rattle.std.proofs.Common.{◌≡◌, ◌∙◌, sym, subst, List}
-use Rattle.bp_theory.specs.declared.Cut.{Cut}
+use Rattle.std.proofs.Common.{◌∙◌, sym, subst}
 use Rattle.block_program.specs.Cuts.{KeepsCuts}
 use Rattle.cert_format.specs.Kept.{certificate_of}
 use Rattle.round_cut.proofs.PlainCuts.{kept_over}

@@ -2,7 +2,7 @@ use Rattle.std.proofs.Common.{◌≡◌, Bool, sym, ap, subst, ◌∙◌}
 use Rattle.std.specs.Prelude.{[], codes, IsTrue}
 use Rattle.bp_model.specs.Named.{NamedProgram}
 use Rattle.search_laws.specs.Grove.{certificate_tree}
-use Rattle.branch_tree.specs.Groves.{GroveState, IsStanding}
+use Rattle.branch_tree.specs.Groves.{GroveState}
 use Rattle.open_nodes.specs.Trees.{tree_of}
 use Rattle.cert_format.specs.Text.{Two}
 use Rattle.cert_format.specs.Plain.{tree_text}
@@ -20,7 +20,7 @@ returns-in-Err-put_nodes-clause-files g c = λ told.
     let t = certificate_tree (tree_of c.tree.result.now) in
     let first = subst (λ (x : Bool). IsTrue x) (sym c.in-Ok.ensures.told) told in
     put_whole b c.model.ensures.formed o c.args.name.now c.outcome_claim-claim.result c.outcome_point.result.now c.cuts.result.now t (g.F.Shelf.file c.args.shelf.now) (g.F.Shelf.file c.put_heads.new.shelf)
-    (g.F.Shelf.file c.put_nodes.new.shelf) _ c.requires (subst (λ (x : GroveState). IsStanding x) c.outcome_grove.ensures c.tree.ensures.standing)
+    (g.F.Shelf.file c.put_nodes.new.shelf) _ c.requires
     (c.outcome_claim-claim.ensures ∙ ap (λ (m : Bool). claim_of m o) sense) c.outcome_point.ensures c.cuts.ensures.cuts
     (ap certificate_tree (c.tree.ensures.tree ∙ ap (λ (x : GroveState). x.tree) c.outcome_grove.ensures))
     (c.in-Ok.ensures.files told)
@@ -36,7 +36,7 @@ returns-clause-files g c = λ told.
     let first = subst (λ (x : Bool). IsTrue x) (sym c.in-Ok.ensures.told) told in
     let second = subst (λ (x : Bool). IsTrue x) (sym c.in-Ok-put_nodes.ensures.told) first in
     put_whole b c.model.ensures.formed o c.args.name.now c.outcome_claim-claim.result c.outcome_point.result.now c.cuts.result.now t (g.F.Shelf.file c.args.shelf.now) (g.F.Shelf.file c.put_heads.new.shelf)
-    (g.F.Shelf.file c.put_end.new.shelf) c.put_end.result c.requires (subst (λ (x : GroveState). IsStanding x) c.outcome_grove.ensures c.tree.ensures.standing)
+    (g.F.Shelf.file c.put_end.new.shelf) c.put_end.result c.requires
     (c.outcome_claim-claim.ensures ∙ ap (λ (m : Bool). claim_of m o) sense) c.outcome_point.ensures c.cuts.ensures.cuts
     (ap certificate_tree (c.tree.ensures.tree ∙ ap (λ (x : GroveState). x.tree) c.outcome_grove.ensures))
     (c.in-Ok.ensures.files told)

@@ -1,4 +1,4 @@
-use Rattle.std.proofs.Common.{◌≡◌, ◌∙◌, ◌≤◌, ◌*◌, ◌-◌, ◌^◌, ◌↔◌, IsTrue, sym, ap, subst, arith, rules, to_z, of_z, w64, ℕ}
+use Rattle.std.proofs.Common.{◌≡◌, ◌∙◌, ◌*◌, ◌-◌, ◌^◌, ◌↔◌, IsTrue, sym, ap, subst, arith, rules, to_z, of_z, w64}
 use Rattle.std.specs.Prelude.{ℤ, pos, neg_ℤ, ◌<ℤ◌}
 use Rattle.std.specs.Int.{w128, int_min}
 use Rattle.bp_theory.specs.Sums.{round_up}

@@ -1,6 +1,5 @@
 use Rattle.std.proofs.Common.{◌≡◌, ◌<◌, sym, ap, subst, arith}
-use Rattle.bp_theory.specs.Trees.{Tree, split}
-use Rattle.search_laws.specs.Grove.{GrowingTree}
+use Rattle.bp_theory.specs.Trees.{split}
 use Rattle.cert_format.specs.Sketch.{tree_of}
 use Rattle.cert_format.specs.declared.sketch.Sketch.{Sketch}
 use Rattle.open_nodes.specs.Trees as growing
@@ -29,8 +28,8 @@ load_node-requires-in-Fork t c =
     let is : tree_of c.args.sketch.now ≡ split c.in-Fork.var c.in-Fork.split (tree_of c.in-Fork.low.value) (tree_of c.in-Fork.high.value) = ap tree_of c.in-Fork.is in
     let d : c.deref.result.now ≡ c.in-Fork.low.value = c.deref.ensures in
     let e : c.deref-in-Fork.result.now ≡ c.in-Fork.high.value = c.deref-in-Fork.ensures in
-    let one : IsLoadedNode c.args.b.now.blocking c.args.best.now c.to_low-below.result (tree_of c.in-Fork.low.value) (growing.tree_of c.in_ok-first-in-Fork.first.value) c.in_ok-first-in-Fork.passed =
-    subst (λ (s : Sketch). IsLoadedNode c.args.b.now.blocking c.args.best.now c.to_low-below.result (tree_of s) (growing.tree_of c.in_ok-first-in-Fork.first.value) c.in_ok-first-in-Fork.passed) d
+    let one : IsLoadedNode c.args.b.now.named.program.limits c.args.b.now.blocking c.args.best.now c.to_low-below.result (tree_of c.in-Fork.low.value) (growing.tree_of c.in_ok-first-in-Fork.first.value) c.in_ok-first-in-Fork.passed =
+    subst (λ (s : Sketch). IsLoadedNode c.args.b.now.named.program.limits c.args.b.now.blocking c.args.best.now c.to_low-below.result (tree_of s) (growing.tree_of c.in_ok-first-in-Fork.first.value) c.in_ok-first-in-Fork.passed) d
     c.in_ok-first-in-Fork.ensures.loaded in
     let less : nodes (tree_of c.deref-in-Fork.result.now) < nodes (tree_of c.args.sketch.now) =
     subst (λ (s : Sketch). nodes (tree_of s) < nodes (tree_of c.args.sketch.now)) (sym e) (fewer_nodes _ _ _ _ _ is).1 in (
@@ -62,11 +61,11 @@ back-requires t c =
     let is : tree_of c.args.sketch.now ≡ split c.in-Fork.var c.in-Fork.split (tree_of c.in-Fork.low.value) (tree_of c.in-Fork.high.value) = ap tree_of c.in-Fork.is in
     let d : c.deref.result.now ≡ c.in-Fork.low.value = c.deref.ensures in
     let e : c.deref-in-Fork.result.now ≡ c.in-Fork.high.value = c.deref-in-Fork.ensures in
-    let one : IsLoadedNode c.args.b.now.blocking c.args.best.now c.to_low-below.result (tree_of c.in-Fork.low.value) (growing.tree_of c.in_ok-first-in-Fork.first.value) c.in_ok-first-in-Fork.passed =
-    subst (λ (s : Sketch). IsLoadedNode c.args.b.now.blocking c.args.best.now c.to_low-below.result (tree_of s) (growing.tree_of c.in_ok-first-in-Fork.first.value) c.in_ok-first-in-Fork.passed) d
+    let one : IsLoadedNode c.args.b.now.named.program.limits c.args.b.now.blocking c.args.best.now c.to_low-below.result (tree_of c.in-Fork.low.value) (growing.tree_of c.in_ok-first-in-Fork.first.value) c.in_ok-first-in-Fork.passed =
+    subst (λ (s : Sketch). IsLoadedNode c.args.b.now.named.program.limits c.args.b.now.blocking c.args.best.now c.to_low-below.result (tree_of s) (growing.tree_of c.in_ok-first-in-Fork.first.value) c.in_ok-first-in-Fork.passed) d
     c.in_ok-first-in-Fork.ensures.loaded in
-    let two : IsLoadedNode c.args.b.now.blocking c.args.best.now c.to_high-above.result (tree_of c.in-Fork.high.value) (growing.tree_of c.in_ok-second-in-Fork.second.value) c.in_ok-second-in-Fork.end =
-    subst (λ (s : Sketch). IsLoadedNode c.args.b.now.blocking c.args.best.now c.to_high-above.result (tree_of s) (growing.tree_of c.in_ok-second-in-Fork.second.value) c.in_ok-second-in-Fork.end) e
+    let two : IsLoadedNode c.args.b.now.named.program.limits c.args.b.now.blocking c.args.best.now c.to_high-above.result (tree_of c.in-Fork.high.value) (growing.tree_of c.in_ok-second-in-Fork.second.value) c.in_ok-second-in-Fork.end =
+    subst (λ (s : Sketch). IsLoadedNode c.args.b.now.named.program.limits c.args.b.now.blocking c.args.best.now c.to_high-above.result (tree_of s) (growing.tree_of c.in_ok-second-in-Fork.second.value) c.in_ok-second-in-Fork.end) e
     c.in_ok-second-in-Fork.ensures.loaded in
     let can = can_go_back c.args.b.now c.args.best.now c.args.at c.to_low-below.result c.in_ok-first-in-Fork.passed c.to_high-above.result c.in_ok-second-in-Fork.end
     (tree_of c.args.sketch.now) c.in-Fork.var c.in-Fork.split c.span-span.result (tree_of c.in-Fork.low.value) (tree_of c.in-Fork.high.value)
@@ -79,13 +78,13 @@ returns-in_ok-node-in-Fork-clause-loaded t c =
     let is : tree_of c.args.sketch.now ≡ split c.in-Fork.var c.in-Fork.split (tree_of c.in-Fork.low.value) (tree_of c.in-Fork.high.value) = ap tree_of c.in-Fork.is in
     let d : c.deref.result.now ≡ c.in-Fork.low.value = c.deref.ensures in
     let e : c.deref-in-Fork.result.now ≡ c.in-Fork.high.value = c.deref-in-Fork.ensures in
-    let one : IsLoadedNode c.args.b.now.blocking c.args.best.now c.to_low-below.result (tree_of c.in-Fork.low.value) (growing.tree_of c.in_ok-first-in-Fork.first.value) c.in_ok-first-in-Fork.passed =
-    subst (λ (s : Sketch). IsLoadedNode c.args.b.now.blocking c.args.best.now c.to_low-below.result (tree_of s) (growing.tree_of c.in_ok-first-in-Fork.first.value) c.in_ok-first-in-Fork.passed) d
+    let one : IsLoadedNode c.args.b.now.named.program.limits c.args.b.now.blocking c.args.best.now c.to_low-below.result (tree_of c.in-Fork.low.value) (growing.tree_of c.in_ok-first-in-Fork.first.value) c.in_ok-first-in-Fork.passed =
+    subst (λ (s : Sketch). IsLoadedNode c.args.b.now.named.program.limits c.args.b.now.blocking c.args.best.now c.to_low-below.result (tree_of s) (growing.tree_of c.in_ok-first-in-Fork.first.value) c.in_ok-first-in-Fork.passed) d
     c.in_ok-first-in-Fork.ensures.loaded in
-    let two : IsLoadedNode c.args.b.now.blocking c.args.best.now c.to_high-above.result (tree_of c.in-Fork.high.value) (growing.tree_of c.in_ok-second-in-Fork.second.value) c.in_ok-second-in-Fork.end =
-    subst (λ (s : Sketch). IsLoadedNode c.args.b.now.blocking c.args.best.now c.to_high-above.result (tree_of s) (growing.tree_of c.in_ok-second-in-Fork.second.value) c.in_ok-second-in-Fork.end) e
+    let two : IsLoadedNode c.args.b.now.named.program.limits c.args.b.now.blocking c.args.best.now c.to_high-above.result (tree_of c.in-Fork.high.value) (growing.tree_of c.in_ok-second-in-Fork.second.value) c.in_ok-second-in-Fork.end =
+    subst (λ (s : Sketch). IsLoadedNode c.args.b.now.named.program.limits c.args.b.now.blocking c.args.best.now c.to_high-above.result (tree_of s) (growing.tree_of c.in_ok-second-in-Fork.second.value) c.in_ok-second-in-Fork.end) e
     c.in_ok-second-in-Fork.ensures.loaded in
-    loaded_fork c.args.b.now.blocking c.args.best.now c.args.at c.to_low-below.result c.in_ok-first-in-Fork.passed c.to_high-above.result c.in_ok-second-in-Fork.end c.back.result
+    loaded_fork c.args.b.now.named.program.limits c.args.b.now.blocking c.args.best.now c.args.at c.to_low-below.result c.in_ok-first-in-Fork.passed c.to_high-above.result c.in_ok-second-in-Fork.end c.back.result
     (tree_of c.args.sketch.now) c.in-Fork.var c.in-Fork.split c.span-span.result (tree_of c.in-Fork.low.value) (tree_of c.in-Fork.high.value)
     (growing.tree_of c.in_ok-first-in-Fork.first.value) (growing.tree_of c.in_ok-second-in-Fork.second.value) (growing.tree_of c.in_ok-node-in-Fork.node.value)
     is c.in_ok-node-in-Fork.ensures c.span-span.ensures c.to_low-below.ensures.zone c.to_low-below.ensures.depth c.to_low-below.ensures.line c.to_low-below.ensures.deep one

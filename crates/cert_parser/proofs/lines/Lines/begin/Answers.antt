@@ -12,5 +12,5 @@ returns-in-Some-clause-steps c =
 pub returns-in-None-clause-steps : goal.returns-in-None-clause-steps
 returns-in-None-clause-steps c =
     λ above root cuts text number small between apart.
-    c.begin_number.ensures.steps above root cuts c.args.frame.now text number small between (may_follow number c.args.byte apart)
+    c.begin_number.ensures.steps above root cuts text number small between (may_follow number c.args.byte apart)
     (no_word_begun above root cuts c.args.frame.now c.args.self.now number text _ c.args.byte between small refl (sym (ap (picked_word c.args.byte) c.words_at.ensures) ∙ sym c.in-None.ensures))

@@ -16,4 +16,4 @@ returns-clause-highs c =
 pub returns-clause-told : goal.returns-clause-told
 returns-clause-told c =
     let v = c.args.self.now.version in
-    λ before. (before, first_phase v c.first_spot-spot.result c.first_spot-spot.ensures, first_shallow v c.first_spot-spot.result 0 c.first_spot-spot.ensures)
+    λ limits before. (before, first_phase v c.first_spot-spot.result c.first_spot-spot.ensures, first_shallow limits v c.first_spot-spot.result 0 c.first_spot-spot.ensures)

@@ -32,4 +32,4 @@ returns-in-Ok-clause-steps c =
     λ above root cuts text small stands. c.begin-in-Ok.ensures.steps above root cuts text true small (c.in-Ok.ensures.behind above root cuts text c.args.byte small stands (sym c.if-digit.ensures)) (λ _. sym c.if-digit.ensures)
 
 pub returns-in-Ok-clause-told : goal.returns-in-Ok-clause-told
-returns-in-Ok-clause-told c = told_behind c.args.self.now c.end_number.new.self c.begin-in-Ok.new.self c.begin-in-Ok.result c.in-Ok.ensures.stays c.begin-in-Ok.ensures.told
+returns-in-Ok-clause-told c = told_behind c.args.frame.now.limits c.args.self.now c.end_number.new.self c.begin-in-Ok.new.self c.begin-in-Ok.result c.in-Ok.ensures.stays c.begin-in-Ok.ensures.told

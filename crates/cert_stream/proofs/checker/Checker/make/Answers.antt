@@ -16,5 +16,5 @@ returns-clause-stands c =
       fed = 0;
       fault = None;
     } in
-    begins c.args.b.now c.args.visits checker refl refl refl c.new.ensures.stands c.new.ensures.phase c.new.ensures.shallow
+    begins c.args.b.now c.args.visits checker refl refl refl c.new.ensures.stands c.new.ensures.phase (c.new.ensures.shallow c.args.b.now.named.program.limits)
     (record { unmade = c.new-2.ensures.program; none = c.new-2.ensures.cuts; fresh = (refl, refl, c.new-3.ensures.items, c.in_ok-zone.ensures.spans) })

@@ -15,7 +15,7 @@ returns-in-Ok-None-clause-stands c = λ visits text h.
     let old = c.args.self.now in
     let new : Checker = record old { lines = c.step.new.self; fed = old.fed + 1 } in
     let R : Option Event → Type 0 = λ o. Reads old c.step.new.self c.args.byte (Ok o) in
-    let T : Option Event → Type 0 = λ o. Tells old.lines c.step.new.self o in
+    let T : Option Event → Type 0 = λ o. Tells old.frame.limits old.lines c.step.new.self o in
     quiet_on c.args.b.now visits old new text c.args.byte c.requires.made_for c.requires.none (subst R c.in-Ok-None.field-0-is c.in-Ok-None.ensures.steps)
     (subst T c.in-Ok-None.field-0-is c.in-Ok-None.ensures.told) refl refl refl refl refl c.requires.none h
 
@@ -38,7 +38,7 @@ pub returns-in-Ok-clause-stands : goal.returns-in-Ok-clause-stands
 returns-in-Ok-clause-stands c = λ visits text h.
     let old = c.args.self.now in
     let R : Option Event → Type 0 = λ o. Reads old c.step.new.self c.args.byte (Ok o) in
-    let T : Option Event → Type 0 = λ o. Tells old.lines c.step.new.self o in
+    let T : Option Event → Type 0 = λ o. Tells old.frame.limits old.lines c.step.new.self o in
     let rest = c.take.ensures.rest in
     event_on c.args.b.now visits old c.take.new.self c.step.new.self text c.args.byte c.in-Ok-Some.event c.requires.made_for c.requires.none (ap (λ (x : Checker). x.lines) rest)
     (subst R c.in-Ok-Some.field-0-is c.in-Ok-Some.ensures.steps) (subst T c.in-Ok-Some.field-0-is c.in-Ok-Some.ensures.told) c.in-Ok.ensures.judged

@@ -1,7 +1,6 @@
 use Rattle.std.proofs.Common.{ap, sym, subst}
 use Rattle.std.specs.Prelude.{OnOk}
 use Rattle.cert_parser.specs.declared.lines.Event.{Event}
-use Rattle.cert_parser.specs.declared.lines.Event.TheVariants as e
 use Rattle.cert_stream.specs.Checks.{TakesEvent}
 use Rattle.cert_stream.specs.declared.checker.Checker.{Checker}
 use Rattle.cert_stream.proofs.Stepping.{keeps_walk}
