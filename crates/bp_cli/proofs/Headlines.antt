@@ -34,70 +34,70 @@ pub solved : (words : List (List ℕ)) (files : Files) (kept : Option Outcome) (
 solved words files kept status tells before now answers heard = λ order is. by order (of_words words order files kept status tells before now is answers)
   where
     by : (order : Order) → AnswersBy (AnswersOrder order files kept) status tells before now → SolvesTruly order files kept status before now
-    by (Solve given) right = solves_truly files given.lp given.dec given.steps given.from given.leaf given.cuts kept status tells before now right heard
+    by (Solve given) right = solves_truly given.limits files given.lp given.dec given.steps given.from given.leaf given.cuts kept status tells before now right heard
     by (Check given) right = tt
-    by (Show lp dec blocks) right = tt
+    by (Show lp dec blocks limits) right = tt
     by (Gen seed size lp dec) right = tt
     by (Demo seed size) right = tt
-    by (Detect lp list dec) right = tt
-    by (Propose lp dec) right = tt
+    by (Detect lp list dec limits) right = tt
+    by (Propose lp dec limits) right = tt
     by (Merge given) right = tt
-    by (Migrate lp cert new dec) right = tt
+    by (Migrate lp cert new dec limits) right = tt
 
 pub accepts : (words : List (List ℕ)) (files : Files) (kept : Option Outcome) (status : ℕ) (tells : Bool) (before now : List ℕ) → IsStatus status
     → AnswersBy (Answers words files kept) status tells before now → OfOrder words (λ order. SolvesAccepted order files status)
 accepts words files kept status tells before now known answers = λ order is. by order (of_words words order files kept status tells before now is answers)
   where
     by : (order : Order) → AnswersBy (AnswersOrder order files kept) status tells before now → SolvesAccepted order files status
-    by (Solve given) right = λ plain anew. solves_accepted files given.lp given.steps given.leaf given.cuts kept status tells before now known
-        (subst (λ (from : Option (List ℕ)). AnswersBy (AnswersSolve files given.lp None given.steps from given.leaf given.cuts kept) status tells before now) anew
-        (subst (λ (dec : Option (List ℕ)). AnswersBy (AnswersSolve files given.lp dec given.steps given.from given.leaf given.cuts kept) status tells before now) plain right))
+    by (Solve given) right = λ plain anew. solves_accepted given.limits files given.lp given.steps given.leaf given.cuts kept status tells before now known
+        (subst (λ (from : Option (List ℕ)). AnswersBy (AnswersSolve given.limits files given.lp None given.steps from given.leaf given.cuts kept) status tells before now) anew
+        (subst (λ (dec : Option (List ℕ)). AnswersBy (AnswersSolve given.limits files given.lp dec given.steps given.from given.leaf given.cuts kept) status tells before now) plain right))
     by (Check given) right = tt
-    by (Show lp dec blocks) right = tt
+    by (Show lp dec blocks limits) right = tt
     by (Gen seed size lp dec) right = tt
     by (Demo seed size) right = tt
-    by (Detect lp list dec) right = tt
-    by (Propose lp dec) right = tt
+    by (Detect lp list dec limits) right = tt
+    by (Propose lp dec limits) right = tt
     by (Merge given) right = tt
-    by (Migrate lp cert new dec) right = tt
+    by (Migrate lp cert new dec limits) right = tt
 
 pub decomposes : (words : List (List ℕ)) (files : Files) (kept : Option Outcome) (status : ℕ) (tells : Bool) (before now : List ℕ) → IsStatus status
     → AnswersBy (Answers words files kept) status tells before now → OfOrder words (λ order. SolvesDecomposed order files status)
 decomposes words files kept status tells before now known answers = λ order is. by order (of_words words order files kept status tells before now is answers)
   where
     by : (order : Order) → AnswersBy (AnswersOrder order files kept) status tells before now → SolvesDecomposed order files status
-    by (Solve given) right = λ anew. solves_decomposed files given.lp given.dec given.steps given.leaf given.cuts kept status tells before now known
-        (subst (λ (from : Option (List ℕ)). AnswersBy (AnswersSolve files given.lp given.dec given.steps from given.leaf given.cuts kept) status tells before now) anew right)
+    by (Solve given) right = λ anew. solves_decomposed given.limits files given.lp given.dec given.steps given.leaf given.cuts kept status tells before now known
+        (subst (λ (from : Option (List ℕ)). AnswersBy (AnswersSolve given.limits files given.lp given.dec given.steps from given.leaf given.cuts kept) status tells before now) anew right)
     by (Check given) right = tt
-    by (Show lp dec blocks) right = tt
+    by (Show lp dec blocks limits) right = tt
     by (Gen seed size lp dec) right = tt
     by (Demo seed size) right = tt
-    by (Detect lp list dec) right = tt
-    by (Propose lp dec) right = tt
+    by (Detect lp list dec limits) right = tt
+    by (Propose lp dec limits) right = tt
     by (Merge given) right = tt
-    by (Migrate lp cert new dec) right = tt
+    by (Migrate lp cert new dec limits) right = tt
 
 pub certifies : (words : List (List ℕ)) (files left : Files) (kept : Option Outcome) (status : ℕ) → OfOrder words (λ order. HasWritten order files left kept status)
     → OfOrder words (λ order. WritesCertificate order left kept)
 certifies words files left kept status written = λ order is. by order kept (written order is)
   where
-    saved : (given : SolveOrder) (cert : Option (List ℕ)) (k : Option Outcome) → HasCertificate files given.lp given.dec cert given.from given.cuts left k → FilesStand cert files left
+    saved : (given : SolveOrder) (cert : Option (List ℕ)) (k : Option Outcome) → HasCertificate given.limits files given.lp given.dec cert given.from given.cuts left k → FilesStand cert files left
         → IfSome cert (λ name. IfSome k (λ outcome.
-        name ≢ given.lp → given.dec ≢ Some name → (claim : Claim) × AnswersCheck left given.lp name given.dec None 0 (accepted_report claim)))
-    saved given (Some cert) (Some o) has stands = writes_certificate files left given.lp cert given.dec given.from given.cuts o has stands
+        name ≢ given.lp → given.dec ≢ Some name → (claim : Claim) × AnswersCheck given.limits left given.lp name given.dec None 0 (accepted_report claim)))
+    saved given (Some cert) (Some o) has stands = writes_certificate given.limits files left given.lp cert given.dec given.from given.cuts o has stands
     saved given (Some cert) None has stands = tt
     saved given None k has stands = tt
 
     by : (order : Order) (k : Option Outcome) → HasWritten order files left k status → WritesCertificate order left k
     by (Solve given) k has = saved given given.cert k has.0 has.1
     by (Check given) k has = tt
-    by (Show lp dec blocks) k has = tt
+    by (Show lp dec blocks limits) k has = tt
     by (Gen seed size lp dec) k has = tt
     by (Demo seed size) k has = tt
-    by (Detect lp list dec) k has = tt
-    by (Propose lp dec) k has = tt
+    by (Detect lp list dec limits) k has = tt
+    by (Propose lp dec limits) k has = tt
     by (Merge given) k has = tt
-    by (Migrate lp cert new dec) k has = tt
+    by (Migrate lp cert new dec limits) k has = tt
 
 pub checked : (words : List (List ℕ)) (files : Files) (kept : Option Outcome) (status : ℕ) (tells : Bool) (before now : List ℕ)
     → AnswersBy (Answers words files kept) status tells before now → IsTrue tells → OfOrder words (λ order. ChecksTruly order files status before now)
@@ -105,11 +105,11 @@ checked words files kept status tells before now answers heard = λ order is. by
   where
     by : (order : Order) → AnswersBy (AnswersOrder order files kept) status tells before now → ChecksTruly order files status before now
     by (Solve given) right = tt
-    by (Check given) right = λ zero. checks_truly files given.lp given.cert given.dec given.visits status tells before now (λ a b c. let answer = right a b c in (answer.0, answer.1.1, answer.2)) heard zero
-    by (Show lp dec blocks) right = tt
+    by (Check given) right = λ zero. checks_truly given.limits files given.lp given.cert given.dec given.visits status tells before now (λ a b c. let answer = right a b c in (answer.0, answer.1.1, answer.2)) heard zero
+    by (Show lp dec blocks limits) right = tt
     by (Gen seed size lp dec) right = tt
     by (Demo seed size) right = tt
-    by (Detect lp list dec) right = tt
-    by (Propose lp dec) right = tt
+    by (Detect lp list dec limits) right = tt
+    by (Propose lp dec limits) right = tt
     by (Merge given) right = tt
-    by (Migrate lp cert new dec) right = tt
+    by (Migrate lp cert new dec limits) right = tt

@@ -4,6 +4,7 @@ use Rattle.std.specs.Prelude.{codes}
 use Rattle.std.specs.Str.{bytes_eq}
 use Rattle.std.specs.Str.Parse.{digits_value, without_leading_plus}
 use Rattle.clap.specs.Words.{Row, Text, first_of}
+use Rattle.bp_theory.specs.declared.Limits.{Limits}
 use Rattle.cli_orders.specs.CommandLine.{most_steps, most_leaf, most_visits, most_seed, most_size, most_workers, most_cuts}
 use Rattle.cli_orders.specs.Orders.{HasNumber, MayHaveNumber, HasCount, IsLeafPlaced, HasValues, IsOrderOf, AreRefused}
 use Rattle.cli_orders.specs.declared.order.Order.{Order}
@@ -44,8 +45,8 @@ apart name s t a b same other =
     absurd (cc)
 
 -- the words of an order to solve, one by one
-abbrev solve_of : (lp : Text) (dec : Option Text) (steps : Option ℕ) (cert from : Option Text) (leaf workers order : Option ℕ) (cuts : ℕ) → Order
-solve_of lp dec steps cert from leaf workers order cuts = Solve (record {
+abbrev solve_of : (lp : Text) (dec : Option Text) (steps : Option ℕ) (cert from : Option Text) (leaf workers order : Option ℕ) (cuts : ℕ) (limits : Limits) → Order
+solve_of lp dec steps cert from leaf workers order cuts limits = Solve (record {
   lp = lp;
   dec = dec;
   steps = steps;
@@ -55,29 +56,30 @@ solve_of lp dec steps cert from leaf workers order cuts = Solve (record {
   workers = workers;
   order = order;
   cuts = cuts;
+  limits = limits;
 })
 
-solves_of : (a b : Text) (c d : Option Text) (m n : Option ℕ) (e f g h : Option Text) (i j k l x y : Option ℕ) (few many : ℕ) → a ≡ b → c ≡ d → m ≡ n → e ≡ f → g ≡ h
-    → i ≡ j → k ≡ l → x ≡ y → few ≡ many → solve_of a c m e g i k x few ≡ solve_of b d n f h j l y many
-solves_of a b c d m n e f g h i j k l x y few many p q r s t u v w z = rw (p, q, r, s, t, u, v, w, z) refl
+solves_of : (a b : Text) (c d : Option Text) (m n : Option ℕ) (e f g h : Option Text) (i j k l x y : Option ℕ) (few many : ℕ) (under over : Limits) → a ≡ b → c ≡ d → m ≡ n → e ≡ f → g ≡ h
+    → i ≡ j → k ≡ l → x ≡ y → few ≡ many → under ≡ over → solve_of a c m e g i k x few under ≡ solve_of b d n f h j l y many over
+solves_of a b c d m n e f g h i j k l x y few many under over p q r s t u v w z same = rw (p, q, r, s, t, u, v, w, z, same) refl
 
 solves : (a b : SolveOrder) → a.lp ≡ b.lp → a.dec ≡ b.dec → a.steps ≡ b.steps → a.cert ≡ b.cert → a.from ≡ b.from → a.leaf ≡ b.leaf
-    → a.workers ≡ b.workers → a.order ≡ b.order → a.cuts ≡ b.cuts → Solve a ≡ Solve b
-solves a b p q r s t u v w z =
-    solves_of a.lp b.lp a.dec b.dec a.steps b.steps a.cert b.cert a.from b.from a.leaf b.leaf a.workers b.workers a.order b.order a.cuts b.cuts p q r s t u v w z
+    → a.workers ≡ b.workers → a.order ≡ b.order → a.cuts ≡ b.cuts → a.limits ≡ b.limits → Solve a ≡ Solve b
+solves a b p q r s t u v w z same =
+    solves_of a.lp b.lp a.dec b.dec a.steps b.steps a.cert b.cert a.from b.from a.leaf b.leaf a.workers b.workers a.order b.order a.cuts b.cuts a.limits b.limits p q r s t u v w z same
 
 -- those of an order to check
-abbrev check_of : (lp cert : Text) (dec : Option Text) (visits : Option ℕ) → Order
-check_of lp cert dec visits = Check (record { lp = lp; cert = cert; dec = dec; visits = visits })
+abbrev check_of : (lp cert : Text) (dec : Option Text) (visits : Option ℕ) (limits : Limits) → Order
+check_of lp cert dec visits limits = Check (record { lp = lp; cert = cert; dec = dec; visits = visits; limits = limits })
 
-checks_of : (a b c d : Text) (e f : Option Text) (i k : Option ℕ) → a ≡ b → c ≡ d → e ≡ f → i ≡ k → check_of a c e i ≡ check_of b d f k
-checks_of a b c d e f i k p q r s = rw (p, q, r, s) refl
+checks_of : (a b c d : Text) (e f : Option Text) (i k : Option ℕ) (l m : Limits) → a ≡ b → c ≡ d → e ≡ f → i ≡ k → l ≡ m → check_of a c e i l ≡ check_of b d f k m
+checks_of a b c d e f i k l m p q r s t = rw (p, q, r, s, t) refl
 
-checks : (a b : CheckOrder) → a.lp ≡ b.lp → a.cert ≡ b.cert → a.dec ≡ b.dec → a.visits ≡ b.visits → Check a ≡ Check b
-checks a b p q r s = checks_of a.lp b.lp a.cert b.cert a.dec b.dec a.visits b.visits p q r s
+checks : (a b : CheckOrder) → a.lp ≡ b.lp → a.cert ≡ b.cert → a.dec ≡ b.dec → a.visits ≡ b.visits → a.limits ≡ b.limits → Check a ≡ Check b
+checks a b p q r s t = checks_of a.lp b.lp a.cert b.cert a.dec b.dec a.visits b.visits a.limits b.limits p q r s t
 
-shows : (a b : Text) (c d : Option Text) (i j : Bool) → a ≡ b → c ≡ d → i ≡ j → Show a c i ≡ Show b d j
-shows a b c d i j p q r = rw (p, q, r) refl
+shows : (a b : Text) (c d : Option Text) (i j : Bool) (k l : Limits) → a ≡ b → c ≡ d → i ≡ j → k ≡ l → Show a c i k ≡ Show b d j l
+shows a b c d i j k l p q r s = rw (p, q, r, s) refl
 
 makes : (i j k l : ℕ) (a b c d : Text) → i ≡ j → k ≡ l → a ≡ b → c ≡ d → Gen i k a c ≡ Gen j l b d
 makes i j k l a b c d p q r s = rw (p, q, r, s) refl
@@ -85,24 +87,24 @@ makes i j k l a b c d p q r s = rw (p, q, r, s) refl
 demonstrates : (i j k l : ℕ) → i ≡ j → k ≡ l → Demo i k ≡ Demo j l
 demonstrates i j k l p q = rw (p, q) refl
 
-detects : (a b c d e f : Text) → a ≡ b → c ≡ d → e ≡ f → Detect a c e ≡ Detect b d f
-detects a b c d e f p q r = rw (p, q, r) refl
+detects : (a b c d e f : Text) (k l : Limits) → a ≡ b → c ≡ d → e ≡ f → k ≡ l → Detect a c e k ≡ Detect b d f l
+detects a b c d e f k l p q r s = rw (p, q, r, s) refl
 
-proposes : (a b c d : Text) → a ≡ b → c ≡ d → Propose a c ≡ Propose b d
-proposes a b c d p q = rw (p, q) refl
+proposes : (a b c d : Text) (k l : Limits) → a ≡ b → c ≡ d → k ≡ l → Propose a c k ≡ Propose b d l
+proposes a b c d k l p q r = rw (p, q, r) refl
 
 -- those of an order to merge
-abbrev merge_of : (lp first second new : Text) (dec : Option Text) → Order
-merge_of lp first second new dec = Merge (record { lp = lp; first = first; second = second; new = new; dec = dec })
+abbrev merge_of : (lp first second new : Text) (dec : Option Text) (limits : Limits) → Order
+merge_of lp first second new dec limits = Merge (record { lp = lp; first = first; second = second; new = new; dec = dec; limits = limits })
 
-merges_of : (a b c d e f g h : Text) (i k : Option Text) → a ≡ b → c ≡ d → e ≡ f → g ≡ h → i ≡ k → merge_of a c e g i ≡ merge_of b d f h k
-merges_of a b c d e f g h i k p q r s t = rw (p, q, r, s, t) refl
+merges_of : (a b c d e f g h : Text) (i k : Option Text) (l m : Limits) → a ≡ b → c ≡ d → e ≡ f → g ≡ h → i ≡ k → l ≡ m → merge_of a c e g i l ≡ merge_of b d f h k m
+merges_of a b c d e f g h i k l m p q r s t u = rw (p, q, r, s, t, u) refl
 
-merges : (a b : MergeOrder) → a.lp ≡ b.lp → a.first ≡ b.first → a.second ≡ b.second → a.new ≡ b.new → a.dec ≡ b.dec → Merge a ≡ Merge b
-merges a b p q r s t = merges_of a.lp b.lp a.first b.first a.second b.second a.new b.new a.dec b.dec p q r s t
+merges : (a b : MergeOrder) → a.lp ≡ b.lp → a.first ≡ b.first → a.second ≡ b.second → a.new ≡ b.new → a.dec ≡ b.dec → a.limits ≡ b.limits → Merge a ≡ Merge b
+merges a b p q r s t u = merges_of a.lp b.lp a.first b.first a.second b.second a.new b.new a.dec b.dec a.limits b.limits p q r s t u
 
-migrates : (a b c d e f : Text) (i k : Option Text) → a ≡ b → c ≡ d → e ≡ f → i ≡ k → Migrate a c e i ≡ Migrate b d f k
-migrates a b c d e f i k p q r s = rw (p, q, r, s) refl
+migrates : (a b c d e f : Text) (i k : Option Text) (l m : Limits) → a ≡ b → c ≡ d → e ≡ f → i ≡ k → l ≡ m → Migrate a c e i l ≡ Migrate b d f k m
+migrates a b c d e f i k l m p q r s t = rw (p, q, r, s, t) refl
 
 -- a subcommand with its rows states one order
 pub one_stated : (name : Text) (rows : List Row) (o p : Order) → HasValues name rows o → HasValues name rows p → o ≡ p
@@ -112,101 +114,101 @@ one_stated name rows (Solve a) (Solve b) x y =
     (one_given (first_of (codes "from") rows) a.from b.from x.5 y.5) (may_be_one (first_of (codes "leaf") rows) 1 most_leaf a.leaf b.leaf x.6 y.6)
     (may_be_one (first_of (codes "workers") rows) 1 most_workers a.workers b.workers x.7 y.7)
     (may_be_one (first_of (codes "order") rows) 0 most_seed a.order b.order x.8 y.8)
-    (one_count (first_of (codes "cuts") rows) most_cuts a.cuts b.cuts x.10 y.10)
+    (one_count (first_of (codes "cuts") rows) most_cuts a.cuts b.cuts x.10 y.10) (sym x.11 ∙ y.11)
 one_stated name rows (Solve a) (Check e) x y = apart name (codes "solve") (codes "check") x.0 y.0 refl refl
-one_stated name rows (Solve a) (Show e f g) x y = apart name (codes "solve") (codes "show") x.0 y.0 refl refl
+one_stated name rows (Solve a) (Show e f g h) x y = apart name (codes "solve") (codes "show") x.0 y.0 refl refl
 one_stated name rows (Solve a) (Gen e f g h) x y = apart name (codes "solve") (codes "gen") x.0 y.0 refl refl
 one_stated name rows (Solve a) (Demo e f) x y = apart name (codes "solve") (codes "demo") x.0 y.0 refl refl
-one_stated name rows (Solve a) (Detect e f g) x y = apart name (codes "solve") (codes "detect") x.0 y.0 refl refl
-one_stated name rows (Solve a) (Propose e f) x y = apart name (codes "solve") (codes "propose") x.0 y.0 refl refl
+one_stated name rows (Solve a) (Detect e f g h) x y = apart name (codes "solve") (codes "detect") x.0 y.0 refl refl
+one_stated name rows (Solve a) (Propose e f g) x y = apart name (codes "solve") (codes "propose") x.0 y.0 refl refl
 one_stated name rows (Solve a) (Merge e) x y = apart name (codes "solve") (codes "merge") x.0 y.0 refl refl
-one_stated name rows (Solve a) (Migrate e f g h) x y = apart name (codes "solve") (codes "migrate") x.0 y.0 refl refl
+one_stated name rows (Solve a) (Migrate e f g h j) x y = apart name (codes "solve") (codes "migrate") x.0 y.0 refl refl
 one_stated name rows (Check a) (Solve e) x y = apart name (codes "check") (codes "solve") x.0 y.0 refl refl
 one_stated name rows (Check a) (Check b) x y =
     checks a b (one_value (first_of (codes "lp") rows) a.lp b.lp x.1 y.1) (one_value (first_of (codes "cert") rows) a.cert b.cert x.2 y.2)
-    (one_given (first_of (codes "dec") rows) a.dec b.dec x.3 y.3) (may_be_one (first_of (codes "visits") rows) 0 most_visits a.visits b.visits x.4 y.4)
-one_stated name rows (Check a) (Show e f g) x y = apart name (codes "check") (codes "show") x.0 y.0 refl refl
+    (one_given (first_of (codes "dec") rows) a.dec b.dec x.3 y.3) (may_be_one (first_of (codes "visits") rows) 0 most_visits a.visits b.visits x.4 y.4) (sym x.5 ∙ y.5)
+one_stated name rows (Check a) (Show e f g h) x y = apart name (codes "check") (codes "show") x.0 y.0 refl refl
 one_stated name rows (Check a) (Gen e f g h) x y = apart name (codes "check") (codes "gen") x.0 y.0 refl refl
 one_stated name rows (Check a) (Demo e f) x y = apart name (codes "check") (codes "demo") x.0 y.0 refl refl
-one_stated name rows (Check a) (Detect e f g) x y = apart name (codes "check") (codes "detect") x.0 y.0 refl refl
-one_stated name rows (Check a) (Propose e f) x y = apart name (codes "check") (codes "propose") x.0 y.0 refl refl
+one_stated name rows (Check a) (Detect e f g h) x y = apart name (codes "check") (codes "detect") x.0 y.0 refl refl
+one_stated name rows (Check a) (Propose e f g) x y = apart name (codes "check") (codes "propose") x.0 y.0 refl refl
 one_stated name rows (Check a) (Merge e) x y = apart name (codes "check") (codes "merge") x.0 y.0 refl refl
-one_stated name rows (Check a) (Migrate e f g h) x y = apart name (codes "check") (codes "migrate") x.0 y.0 refl refl
-one_stated name rows (Show a b c) (Solve e) x y = apart name (codes "show") (codes "solve") x.0 y.0 refl refl
-one_stated name rows (Show a b c) (Check e) x y = apart name (codes "show") (codes "check") x.0 y.0 refl refl
-one_stated name rows (Show a b c) (Show e f g) x y =
-    shows a e b f c g (one_value (first_of (codes "lp") rows) a e x.1 y.1) (one_given (first_of (codes "dec") rows) b f x.2 y.2)
-    (sym x.3 ∙ y.3)
-one_stated name rows (Show a b c) (Gen e f g h) x y = apart name (codes "show") (codes "gen") x.0 y.0 refl refl
-one_stated name rows (Show a b c) (Demo e f) x y = apart name (codes "show") (codes "demo") x.0 y.0 refl refl
-one_stated name rows (Show a b c) (Detect e f g) x y = apart name (codes "show") (codes "detect") x.0 y.0 refl refl
-one_stated name rows (Show a b c) (Propose e f) x y = apart name (codes "show") (codes "propose") x.0 y.0 refl refl
-one_stated name rows (Show a b c) (Merge e) x y = apart name (codes "show") (codes "merge") x.0 y.0 refl refl
-one_stated name rows (Show a b c) (Migrate e f g h) x y = apart name (codes "show") (codes "migrate") x.0 y.0 refl refl
+one_stated name rows (Check a) (Migrate e f g h j) x y = apart name (codes "check") (codes "migrate") x.0 y.0 refl refl
+one_stated name rows (Show a b c d) (Solve e) x y = apart name (codes "show") (codes "solve") x.0 y.0 refl refl
+one_stated name rows (Show a b c d) (Check e) x y = apart name (codes "show") (codes "check") x.0 y.0 refl refl
+one_stated name rows (Show a b c d) (Show e f g h) x y =
+    shows a e b f c g d h (one_value (first_of (codes "lp") rows) a e x.1 y.1) (one_given (first_of (codes "dec") rows) b f x.2 y.2)
+    (sym x.3 ∙ y.3) (sym x.4 ∙ y.4)
+one_stated name rows (Show a b c d) (Gen e f g h) x y = apart name (codes "show") (codes "gen") x.0 y.0 refl refl
+one_stated name rows (Show a b c d) (Demo e f) x y = apart name (codes "show") (codes "demo") x.0 y.0 refl refl
+one_stated name rows (Show a b c d) (Detect e f g h) x y = apart name (codes "show") (codes "detect") x.0 y.0 refl refl
+one_stated name rows (Show a b c d) (Propose e f g) x y = apart name (codes "show") (codes "propose") x.0 y.0 refl refl
+one_stated name rows (Show a b c d) (Merge e) x y = apart name (codes "show") (codes "merge") x.0 y.0 refl refl
+one_stated name rows (Show a b c d) (Migrate e f g h j) x y = apart name (codes "show") (codes "migrate") x.0 y.0 refl refl
 one_stated name rows (Gen a b c d) (Solve e) x y = apart name (codes "gen") (codes "solve") x.0 y.0 refl refl
 one_stated name rows (Gen a b c d) (Check e) x y = apart name (codes "gen") (codes "check") x.0 y.0 refl refl
-one_stated name rows (Gen a b c d) (Show e f g) x y = apart name (codes "gen") (codes "show") x.0 y.0 refl refl
+one_stated name rows (Gen a b c d) (Show e f g h) x y = apart name (codes "gen") (codes "show") x.0 y.0 refl refl
 one_stated name rows (Gen a b c d) (Gen e f g h) x y =
     makes a e b f c g d h (one_number (first_of (codes "seed") rows) 0 most_seed a e x.1 y.1) (one_number (first_of (codes "size") rows) 1 most_size b f x.2 y.2)
     (one_value (first_of (codes "lp") rows) c g x.3 y.3) (one_value (first_of (codes "dec") rows) d h x.4 y.4)
 one_stated name rows (Gen a b c d) (Demo e f) x y = apart name (codes "gen") (codes "demo") x.0 y.0 refl refl
-one_stated name rows (Gen a b c d) (Detect e f g) x y = apart name (codes "gen") (codes "detect") x.0 y.0 refl refl
-one_stated name rows (Gen a b c d) (Propose e f) x y = apart name (codes "gen") (codes "propose") x.0 y.0 refl refl
+one_stated name rows (Gen a b c d) (Detect e f g h) x y = apart name (codes "gen") (codes "detect") x.0 y.0 refl refl
+one_stated name rows (Gen a b c d) (Propose e f g) x y = apart name (codes "gen") (codes "propose") x.0 y.0 refl refl
 one_stated name rows (Gen a b c d) (Merge e) x y = apart name (codes "gen") (codes "merge") x.0 y.0 refl refl
-one_stated name rows (Gen a b c d) (Migrate e f g h) x y = apart name (codes "gen") (codes "migrate") x.0 y.0 refl refl
+one_stated name rows (Gen a b c d) (Migrate e f g h j) x y = apart name (codes "gen") (codes "migrate") x.0 y.0 refl refl
 one_stated name rows (Demo a b) (Solve e) x y = apart name (codes "demo") (codes "solve") x.0 y.0 refl refl
 one_stated name rows (Demo a b) (Check e) x y = apart name (codes "demo") (codes "check") x.0 y.0 refl refl
-one_stated name rows (Demo a b) (Show e f g) x y = apart name (codes "demo") (codes "show") x.0 y.0 refl refl
+one_stated name rows (Demo a b) (Show e f g h) x y = apart name (codes "demo") (codes "show") x.0 y.0 refl refl
 one_stated name rows (Demo a b) (Gen e f g h) x y = apart name (codes "demo") (codes "gen") x.0 y.0 refl refl
 one_stated name rows (Demo a b) (Demo e f) x y =
     demonstrates a e b f (one_number (first_of (codes "seed") rows) 0 most_seed a e x.1 y.1) (one_number (first_of (codes "size") rows) 1 most_size b f x.2 y.2)
-one_stated name rows (Demo a b) (Detect e f g) x y = apart name (codes "demo") (codes "detect") x.0 y.0 refl refl
-one_stated name rows (Demo a b) (Propose e f) x y = apart name (codes "demo") (codes "propose") x.0 y.0 refl refl
+one_stated name rows (Demo a b) (Detect e f g h) x y = apart name (codes "demo") (codes "detect") x.0 y.0 refl refl
+one_stated name rows (Demo a b) (Propose e f g) x y = apart name (codes "demo") (codes "propose") x.0 y.0 refl refl
 one_stated name rows (Demo a b) (Merge e) x y = apart name (codes "demo") (codes "merge") x.0 y.0 refl refl
-one_stated name rows (Demo a b) (Migrate e f g h) x y = apart name (codes "demo") (codes "migrate") x.0 y.0 refl refl
-one_stated name rows (Detect a b c) (Solve e) x y = apart name (codes "detect") (codes "solve") x.0 y.0 refl refl
-one_stated name rows (Detect a b c) (Check e) x y = apart name (codes "detect") (codes "check") x.0 y.0 refl refl
-one_stated name rows (Detect a b c) (Show e f g) x y = apart name (codes "detect") (codes "show") x.0 y.0 refl refl
-one_stated name rows (Detect a b c) (Gen e f g h) x y = apart name (codes "detect") (codes "gen") x.0 y.0 refl refl
-one_stated name rows (Detect a b c) (Demo e f) x y = apart name (codes "detect") (codes "demo") x.0 y.0 refl refl
-one_stated name rows (Detect a b c) (Detect e f g) x y =
-    detects a e b f c g (one_value (first_of (codes "lp") rows) a e x.1 y.1) (one_value (first_of (codes "rows") rows) b f x.2 y.2)
-    (one_value (first_of (codes "dec") rows) c g x.3 y.3)
-one_stated name rows (Detect a b c) (Propose e f) x y = apart name (codes "detect") (codes "propose") x.0 y.0 refl refl
-one_stated name rows (Detect a b c) (Merge e) x y = apart name (codes "detect") (codes "merge") x.0 y.0 refl refl
-one_stated name rows (Detect a b c) (Migrate e f g h) x y = apart name (codes "detect") (codes "migrate") x.0 y.0 refl refl
-one_stated name rows (Propose a b) (Solve e) x y = apart name (codes "propose") (codes "solve") x.0 y.0 refl refl
-one_stated name rows (Propose a b) (Check e) x y = apart name (codes "propose") (codes "check") x.0 y.0 refl refl
-one_stated name rows (Propose a b) (Show e f g) x y = apart name (codes "propose") (codes "show") x.0 y.0 refl refl
-one_stated name rows (Propose a b) (Gen e f g h) x y = apart name (codes "propose") (codes "gen") x.0 y.0 refl refl
-one_stated name rows (Propose a b) (Demo e f) x y = apart name (codes "propose") (codes "demo") x.0 y.0 refl refl
-one_stated name rows (Propose a b) (Detect e f g) x y = apart name (codes "propose") (codes "detect") x.0 y.0 refl refl
-one_stated name rows (Propose a b) (Propose e f) x y =
-    proposes a e b f (one_value (first_of (codes "lp") rows) a e x.1 y.1) (one_value (first_of (codes "dec") rows) b f x.2 y.2)
-one_stated name rows (Propose a b) (Merge e) x y = apart name (codes "propose") (codes "merge") x.0 y.0 refl refl
-one_stated name rows (Propose a b) (Migrate e f g h) x y = apart name (codes "propose") (codes "migrate") x.0 y.0 refl refl
+one_stated name rows (Demo a b) (Migrate e f g h j) x y = apart name (codes "demo") (codes "migrate") x.0 y.0 refl refl
+one_stated name rows (Detect a b c d) (Solve e) x y = apart name (codes "detect") (codes "solve") x.0 y.0 refl refl
+one_stated name rows (Detect a b c d) (Check e) x y = apart name (codes "detect") (codes "check") x.0 y.0 refl refl
+one_stated name rows (Detect a b c d) (Show e f g h) x y = apart name (codes "detect") (codes "show") x.0 y.0 refl refl
+one_stated name rows (Detect a b c d) (Gen e f g h) x y = apart name (codes "detect") (codes "gen") x.0 y.0 refl refl
+one_stated name rows (Detect a b c d) (Demo e f) x y = apart name (codes "detect") (codes "demo") x.0 y.0 refl refl
+one_stated name rows (Detect a b c d) (Detect e f g h) x y =
+    detects a e b f c g d h (one_value (first_of (codes "lp") rows) a e x.1 y.1) (one_value (first_of (codes "rows") rows) b f x.2 y.2)
+    (one_value (first_of (codes "dec") rows) c g x.3 y.3) (sym x.4 ∙ y.4)
+one_stated name rows (Detect a b c d) (Propose e f g) x y = apart name (codes "detect") (codes "propose") x.0 y.0 refl refl
+one_stated name rows (Detect a b c d) (Merge e) x y = apart name (codes "detect") (codes "merge") x.0 y.0 refl refl
+one_stated name rows (Detect a b c d) (Migrate e f g h j) x y = apart name (codes "detect") (codes "migrate") x.0 y.0 refl refl
+one_stated name rows (Propose a b c) (Solve e) x y = apart name (codes "propose") (codes "solve") x.0 y.0 refl refl
+one_stated name rows (Propose a b c) (Check e) x y = apart name (codes "propose") (codes "check") x.0 y.0 refl refl
+one_stated name rows (Propose a b c) (Show e f g h) x y = apart name (codes "propose") (codes "show") x.0 y.0 refl refl
+one_stated name rows (Propose a b c) (Gen e f g h) x y = apart name (codes "propose") (codes "gen") x.0 y.0 refl refl
+one_stated name rows (Propose a b c) (Demo e f) x y = apart name (codes "propose") (codes "demo") x.0 y.0 refl refl
+one_stated name rows (Propose a b c) (Detect e f g h) x y = apart name (codes "propose") (codes "detect") x.0 y.0 refl refl
+one_stated name rows (Propose a b c) (Propose e f g) x y =
+    proposes a e b f c g (one_value (first_of (codes "lp") rows) a e x.1 y.1) (one_value (first_of (codes "dec") rows) b f x.2 y.2) (sym x.3 ∙ y.3)
+one_stated name rows (Propose a b c) (Merge e) x y = apart name (codes "propose") (codes "merge") x.0 y.0 refl refl
+one_stated name rows (Propose a b c) (Migrate e f g h j) x y = apart name (codes "propose") (codes "migrate") x.0 y.0 refl refl
 one_stated name rows (Merge a) (Solve e) x y = apart name (codes "merge") (codes "solve") x.0 y.0 refl refl
 one_stated name rows (Merge a) (Check e) x y = apart name (codes "merge") (codes "check") x.0 y.0 refl refl
-one_stated name rows (Merge a) (Show e f g) x y = apart name (codes "merge") (codes "show") x.0 y.0 refl refl
+one_stated name rows (Merge a) (Show e f g h) x y = apart name (codes "merge") (codes "show") x.0 y.0 refl refl
 one_stated name rows (Merge a) (Gen e f g h) x y = apart name (codes "merge") (codes "gen") x.0 y.0 refl refl
 one_stated name rows (Merge a) (Demo e f) x y = apart name (codes "merge") (codes "demo") x.0 y.0 refl refl
-one_stated name rows (Merge a) (Detect e f g) x y = apart name (codes "merge") (codes "detect") x.0 y.0 refl refl
-one_stated name rows (Merge a) (Propose e f) x y = apart name (codes "merge") (codes "propose") x.0 y.0 refl refl
+one_stated name rows (Merge a) (Detect e f g h) x y = apart name (codes "merge") (codes "detect") x.0 y.0 refl refl
+one_stated name rows (Merge a) (Propose e f g) x y = apart name (codes "merge") (codes "propose") x.0 y.0 refl refl
 one_stated name rows (Merge a) (Merge b) x y =
     merges a b (one_value (first_of (codes "lp") rows) a.lp b.lp x.1 y.1) (one_value (first_of (codes "first") rows) a.first b.first x.2 y.2)
-    (one_value (first_of (codes "second") rows) a.second b.second x.3 y.3) (one_value (first_of (codes "new") rows) a.new b.new x.4 y.4) (sym x.5 ∙ y.5)
-one_stated name rows (Merge a) (Migrate e f g h) x y = apart name (codes "merge") (codes "migrate") x.0 y.0 refl refl
-one_stated name rows (Migrate a b c d) (Solve e) x y = apart name (codes "migrate") (codes "solve") x.0 y.0 refl refl
-one_stated name rows (Migrate a b c d) (Check e) x y = apart name (codes "migrate") (codes "check") x.0 y.0 refl refl
-one_stated name rows (Migrate a b c d) (Show e f g) x y = apart name (codes "migrate") (codes "show") x.0 y.0 refl refl
-one_stated name rows (Migrate a b c d) (Gen e f g h) x y = apart name (codes "migrate") (codes "gen") x.0 y.0 refl refl
-one_stated name rows (Migrate a b c d) (Demo e f) x y = apart name (codes "migrate") (codes "demo") x.0 y.0 refl refl
-one_stated name rows (Migrate a b c d) (Detect e f g) x y = apart name (codes "migrate") (codes "detect") x.0 y.0 refl refl
-one_stated name rows (Migrate a b c d) (Propose e f) x y = apart name (codes "migrate") (codes "propose") x.0 y.0 refl refl
-one_stated name rows (Migrate a b c d) (Merge e) x y = apart name (codes "migrate") (codes "merge") x.0 y.0 refl refl
-one_stated name rows (Migrate a b c d) (Migrate e f g h) x y =
-    migrates a e b f c g d h (one_value (first_of (codes "lp") rows) a e x.1 y.1) (one_value (first_of (codes "cert") rows) b f x.2 y.2)
-    (one_value (first_of (codes "new") rows) c g x.3 y.3) (sym x.4 ∙ y.4)
+    (one_value (first_of (codes "second") rows) a.second b.second x.3 y.3) (one_value (first_of (codes "new") rows) a.new b.new x.4 y.4) (sym x.5 ∙ y.5) (sym x.6 ∙ y.6)
+one_stated name rows (Merge a) (Migrate e f g h j) x y = apart name (codes "merge") (codes "migrate") x.0 y.0 refl refl
+one_stated name rows (Migrate a b c d i) (Solve e) x y = apart name (codes "migrate") (codes "solve") x.0 y.0 refl refl
+one_stated name rows (Migrate a b c d i) (Check e) x y = apart name (codes "migrate") (codes "check") x.0 y.0 refl refl
+one_stated name rows (Migrate a b c d i) (Show e f g h) x y = apart name (codes "migrate") (codes "show") x.0 y.0 refl refl
+one_stated name rows (Migrate a b c d i) (Gen e f g h) x y = apart name (codes "migrate") (codes "gen") x.0 y.0 refl refl
+one_stated name rows (Migrate a b c d i) (Demo e f) x y = apart name (codes "migrate") (codes "demo") x.0 y.0 refl refl
+one_stated name rows (Migrate a b c d i) (Detect e f g h) x y = apart name (codes "migrate") (codes "detect") x.0 y.0 refl refl
+one_stated name rows (Migrate a b c d i) (Propose e f g) x y = apart name (codes "migrate") (codes "propose") x.0 y.0 refl refl
+one_stated name rows (Migrate a b c d i) (Merge e) x y = apart name (codes "migrate") (codes "merge") x.0 y.0 refl refl
+one_stated name rows (Migrate a b c d i) (Migrate e f g h j) x y =
+    migrates a e b f c g d h i j (one_value (first_of (codes "lp") rows) a e x.1 y.1) (one_value (first_of (codes "cert") rows) b f x.2 y.2)
+    (one_value (first_of (codes "new") rows) c g x.3 y.3) (sym x.4 ∙ y.4) (sym x.5 ∙ y.5)
 
 -- what is met is met with one name and rows
 one_met : (met : Option (Text × List Row)) (p q : Text × List Row) → met ≡ Some p → met ≡ Some q → p ≡ q
@@ -223,13 +225,13 @@ one_order words o p x y =
 solve_is_placed : (rows : List Row) (order : Order) → HasValues (codes "solve") rows order → IsLeafPlaced rows
 solve_is_placed rows (Solve a) has = has.9
 solve_is_placed rows (Check a) has = apart (codes "solve") (codes "solve") (codes "check") refl has.0 refl refl
-solve_is_placed rows (Show a b c) has = apart (codes "solve") (codes "solve") (codes "show") refl has.0 refl refl
+solve_is_placed rows (Show a b c d) has = apart (codes "solve") (codes "solve") (codes "show") refl has.0 refl refl
 solve_is_placed rows (Gen a b c d) has = apart (codes "solve") (codes "solve") (codes "gen") refl has.0 refl refl
 solve_is_placed rows (Demo a b) has = apart (codes "solve") (codes "solve") (codes "demo") refl has.0 refl refl
-solve_is_placed rows (Detect a b c) has = apart (codes "solve") (codes "solve") (codes "detect") refl has.0 refl refl
-solve_is_placed rows (Propose a b) has = apart (codes "solve") (codes "solve") (codes "propose") refl has.0 refl refl
+solve_is_placed rows (Detect a b c d) has = apart (codes "solve") (codes "solve") (codes "detect") refl has.0 refl refl
+solve_is_placed rows (Propose a b c) has = apart (codes "solve") (codes "solve") (codes "propose") refl has.0 refl refl
 solve_is_placed rows (Merge a) has = apart (codes "solve") (codes "solve") (codes "merge") refl has.0 refl refl
-solve_is_placed rows (Migrate a b c d) has = apart (codes "solve") (codes "solve") (codes "migrate") refl has.0 refl refl
+solve_is_placed rows (Migrate a b c d i) has = apart (codes "solve") (codes "solve") (codes "migrate") refl has.0 refl refl
 
 -- words that are refused give no order
 pub not_both : (words : List Text) (order : Order) → AreRefused words → IsOrderOf words order → ⊥
@@ -242,27 +244,27 @@ not_both words order (inr astray) is =
 -- an order with its parts as other values that are the same
 pub as_solve : (order : Order) (given : SolveOrder) (a : Text) (b c d : Option Text) → order ≡ Solve given → a ≡ given.lp → b ≡ given.dec → c ≡ given.cert
     → d ≡ given.from → Solve (record given { lp = a; dec = b; cert = c; from = d }) ≡ order
-as_solve order given a b c d is p q r s = solves (record given { lp = a; dec = b; cert = c; from = d }) given p q refl r s refl refl refl refl ∙ sym is
+as_solve order given a b c d is p q r s = solves (record given { lp = a; dec = b; cert = c; from = d }) given p q refl r s refl refl refl refl refl ∙ sym is
 
 pub as_check : (order : Order) (given : CheckOrder) (a b : Text) (c : Option Text) → order ≡ Check given → a ≡ given.lp → b ≡ given.cert → c ≡ given.dec
     → Check (record given { lp = a; cert = b; dec = c }) ≡ order
-as_check order given a b c is p q r = checks (record given { lp = a; cert = b; dec = c }) given p q r refl ∙ sym is
+as_check order given a b c is p q r = checks (record given { lp = a; cert = b; dec = c }) given p q r refl refl ∙ sym is
 
-pub as_show : (order : Order) (a b : Text) (c d : Option Text) (i : Bool) → order ≡ Show b d i → a ≡ b → c ≡ d → Show a c i ≡ order
-as_show order a b c d i is p q = shows a b c d i i p q refl ∙ sym is
+pub as_show : (order : Order) (a b : Text) (c d : Option Text) (i : Bool) (limits : Limits) → order ≡ Show b d i limits → a ≡ b → c ≡ d → Show a c i limits ≡ order
+as_show order a b c d i limits is p q = shows a b c d i i limits limits p q refl refl ∙ sym is
 
 pub as_gen : (order : Order) (i k : ℕ) (a b c d : Text) → order ≡ Gen i k b d → a ≡ b → c ≡ d → Gen i k a c ≡ order
 as_gen order i k a b c d is p q = makes i i k k a b c d refl refl p q ∙ sym is
 
-pub as_detect : (order : Order) (a b c d e f : Text) → order ≡ Detect b d f → a ≡ b → c ≡ d → e ≡ f → Detect a c e ≡ order
-as_detect order a b c d e f is p q r = detects a b c d e f p q r ∙ sym is
+pub as_detect : (order : Order) (a b c d e f : Text) (limits : Limits) → order ≡ Detect b d f limits → a ≡ b → c ≡ d → e ≡ f → Detect a c e limits ≡ order
+as_detect order a b c d e f limits is p q r = detects a b c d e f limits limits p q r refl ∙ sym is
 
-pub as_propose : (order : Order) (a b c d : Text) → order ≡ Propose b d → a ≡ b → c ≡ d → Propose a c ≡ order
-as_propose order a b c d is p q = proposes a b c d p q ∙ sym is
+pub as_propose : (order : Order) (a b c d : Text) (limits : Limits) → order ≡ Propose b d limits → a ≡ b → c ≡ d → Propose a c limits ≡ order
+as_propose order a b c d limits is p q = proposes a b c d limits limits p q refl ∙ sym is
 
 pub as_merge : (order : Order) (given : MergeOrder) (a b c d : Text) (e : Option Text) → order ≡ Merge given → a ≡ given.lp → b ≡ given.first → c ≡ given.second
-    → d ≡ given.new → e ≡ given.dec → Merge (record { lp = a; first = b; second = c; new = d; dec = e }) ≡ order
-as_merge order given a b c d e is p q r s t = merges (record { lp = a; first = b; second = c; new = d; dec = e }) given p q r s t ∙ sym is
+    → d ≡ given.new → e ≡ given.dec → Merge (record { lp = a; first = b; second = c; new = d; dec = e; limits = given.limits }) ≡ order
+as_merge order given a b c d e is p q r s t = merges (record { lp = a; first = b; second = c; new = d; dec = e; limits = given.limits }) given p q r s t refl ∙ sym is
 
-pub as_migrate : (order : Order) (a b c d e f : Text) (i k : Option Text) → order ≡ Migrate b d f k → a ≡ b → c ≡ d → e ≡ f → i ≡ k → Migrate a c e i ≡ order
-as_migrate order a b c d e f i k is p q r s = migrates a b c d e f i k p q r s ∙ sym is
+pub as_migrate : (order : Order) (a b c d e f : Text) (i k : Option Text) (limits : Limits) → order ≡ Migrate b d f k limits → a ≡ b → c ≡ d → e ≡ f → i ≡ k → Migrate a c e i limits ≡ order
+as_migrate order a b c d e f i k limits is p q r s = migrates a b c d e f i k limits limits p q r s refl ∙ sym is

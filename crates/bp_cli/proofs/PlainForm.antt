@@ -2,7 +2,10 @@
 use Rattle.std.proofs.Common.{◌≡◌, ◌≢◌, refl, ap, ⊎_elim, ℕ, ◌≤◌, List, [], ◌∷◌, length, arith}
 use Rattle.std.specs.List.{range_with_len, flat_map}
 use Rattle.std.proofs.lemmas.List.{length-map}
+use Rattle.bp_theory.specs.Limits.{most_variables, most_rows, most_lines}
+use Rattle.bp_theory.specs.declared.Limits.{Limits}
 use Rattle.bp_theory.specs.Program.{Program}
+use Rattle.bp_theory.proofs.LimitLaws.{rows_are_lines}
 use Rattle.bp_theory.proofs.ZipLaws.{AllZip-length}
 use Rattle.bp_theory.specs.Decomposition.{ProofRow, links_of, link_count, HasLargeLinks}
 use Rattle.bp_model.specs.Named.{NamedProgram}
@@ -22,13 +25,13 @@ unfolding model_of
 tree_rows t = length-map t.rows (λ r. model_row (variables (tokens_of t)) (row_meaning r))
 
 -- the program that a text means has no more rows than may be
-few_rows : (text : List ℕ) (m : NamedProgram) → Means text m → length m.program.rows ≤ 8192
-few_rows text m means =
+few_rows : (limits : Limits) (text : List ℕ) (m : NamedProgram) → Means limits text m → length m.program.rows ≤ most_rows limits
+few_rows limits text m means =
     let reads = means.1 in
-    let limits : (length (variables (tokens_of reads.tree)) ≤ 4096) × (length (row_names (tokens_of reads.tree)) ≤ 8192) × _ = within_limits (tokens_of reads.tree) reads.text_of.roles in
+    let within : (length (variables (tokens_of reads.tree)) ≤ most_variables limits) × (length (row_names (tokens_of reads.tree)) ≤ most_rows limits) × _ = within_limits limits (tokens_of reads.tree) reads.text_of.roles in
     omega (
       arith,
-      limits.1,
+      within.1,
       length-row_names reads.tree,
       tree_rows reads.tree,
       ap (λ (meant : TextModel). length meant.rows) reads.means,
@@ -39,7 +42,7 @@ no_links : (p : Program) (vs : List ℕ) → flat_map (links_of p (plain_of p)) 
 no_links p [] = refl
 no_links p (v ∷ vs) = no_links p vs
 
-not_large : (p : Program) → length p.rows ≤ 8192 → HasLargeLinks p (plain_of p) → ⊥
+not_large : (p : Program) → length p.rows ≤ most_lines p.limits → HasLargeLinks p (plain_of p) → ⊥
 not_large p few large =
     ⊎_elim
     (λ many.
@@ -48,7 +51,9 @@ not_large p few large =
     (λ wide. let there = wide.2.there in let no : ⊥ = omega (arith, there) in no)
     large
 
-pub plain_fault : (text : List ℕ) (m : NamedProgram) (fault : BlockFault) → Means text m → fault ≢ NoMemory → HasBlockFault m.program (plain_of m.program) fault → ⊥
-plain_fault text m (VarPlace v) means known has = let there = has.there in omega arith
-plain_fault text m Links means known has = not_large m.program (few_rows text m means) has.1
-plain_fault text m NoMemory means known has = known refl
+pub plain_fault : (limits : Limits) (text : List ℕ) (m : NamedProgram) (fault : BlockFault) → Means limits text m → fault ≢ NoMemory → HasBlockFault m.program (plain_of m.program) fault → ⊥
+plain_fault limits text m (VarPlace v) means known has = let there = has.there in omega arith
+plain_fault limits text m Links means known has =
+    let few : length m.program.rows ≤ most_lines m.program.limits = omega (arith, few_rows limits text m means, rows_are_lines limits, ap most_lines means.3) in
+    not_large m.program few has.1
+plain_fault limits text m NoMemory means known has = known refl

@@ -4,6 +4,7 @@ use Rattle.std.proofs.Math.IntN.{ℤ}
 use Rattle.std.specs.Prelude.{IsTrue, is_none, ◌≤ℤ◌}
 use Rattle.std.specs.Option.{option_map}
 use Rattle.std.proofs.lemmas.List.{append-nil}
+use Rattle.bp_theory.specs.declared.Limits.{Limits}
 use Rattle.bp_theory.specs.Program.{IsFeasible, in_sense, cost}
 use Rattle.bp_theory.specs.Claims.{NoneBetter}
 use Rattle.bp_theory.specs.declared.Claim.{Claim}
@@ -70,21 +71,21 @@ dec_comes files m name f (faulty n text line kind there fault) = inl refl
 dec_comes files m name f (read n text d _ there reads come) = blocks_come m d f come
 
 -- files come to an end under status 3 or 11, or to a program in blocks that the LP text means
-files_come : (files : Files) (lp : List ℕ) (dec : Option (List ℕ)) (f : Front) → FilesCome files lp dec f → EndsOrHas IsRefusal (λ b. HasProgram (files lp) b.named) f
-files_come files lp dec f (missing_lp there) = inr refl
-files_come files lp dec f (faulty_lp text line kind there fault) = inl refl
-files_come files lp dec f (read_lp text m _ there means come) = by f (dec_comes files m dec f come)
+files_come : (limits : Limits) (files : Files) (lp : List ℕ) (dec : Option (List ℕ)) (f : Front) → FilesCome limits files lp dec f → EndsOrHas IsRefusal (λ b. HasProgram limits (files lp) b.named) f
+files_come limits files lp dec f (missing_lp there) = inr refl
+files_come limits files lp dec f (faulty_lp text line kind there fault) = inl refl
+files_come limits files lp dec f (read_lp text m _ there means come) = by f (dec_comes files m dec f come)
   where
-    by : (g : Front) → EndsOrHas IsRefusal (λ b. b.named ≡ m) g → EndsOrHas IsRefusal (λ b. HasProgram (files lp) b.named) g
-    by (blocked b) named = record { text = text; there = there; means = subst (λ (n : NamedProgram). Means text n) (sym named) means }
+    by : (g : Front) → EndsOrHas IsRefusal (λ b. b.named ≡ m) g → EndsOrHas IsRefusal (λ b. HasProgram limits (files lp) b.named) g
+    by (blocked b) named = record { text = text; there = there; means = subst (λ (n : NamedProgram). Means limits text n) (sym named) means }
     by (ends status report) is = is
 
 -- files that no longer hold the same come to the same where those that are read do
-files_move : (before now : Files) (lp : List ℕ) (dec : Option (List ℕ)) (f : Front) → now lp ≡ before lp → ((name : List ℕ) → dec ≡ Some name → now name ≡ before name)
-    → FilesCome before lp dec f → FilesCome now lp dec f
-files_move before now lp dec f same others (missing_lp there) = missing_lp (same ∙ there)
-files_move before now lp dec f same others (faulty_lp text line kind there fault) = faulty_lp text line kind (same ∙ there) fault
-files_move before now lp dec f same others (read_lp text m _ there means come) = read_lp text m f (same ∙ there) means (by dec f others come)
+files_move : (limits : Limits) (before now : Files) (lp : List ℕ) (dec : Option (List ℕ)) (f : Front) → now lp ≡ before lp → ((name : List ℕ) → dec ≡ Some name → now name ≡ before name)
+    → FilesCome limits before lp dec f → FilesCome limits now lp dec f
+files_move limits before now lp dec f same others (missing_lp there) = missing_lp (same ∙ there)
+files_move limits before now lp dec f same others (faulty_lp text line kind there fault) = faulty_lp text line kind (same ∙ there) fault
+files_move limits before now lp dec f same others (read_lp text m _ there means come) = read_lp text m f (same ∙ there) means (by dec f others come)
   where
     by : (d : Option (List ℕ)) (g : Front) → ((name : List ℕ) → d ≡ Some name → now name ≡ before name) → DecComes before m d g → DecComes now m d g
     by d g still (plain _ come) = plain g come
@@ -97,22 +98,22 @@ files_move before now lp dec f same others (read_lp text m _ there means come) =
 abbrev NoEnd : Front → Type 0
 NoEnd f = EndsOrHas (λ status. ⊥) (λ b. Unit {0}) f
 
-plain_blocks : (text : List ℕ) (m : NamedProgram) (f : Front) → Means text m → BlocksCome m (plain_of m.program) f → NoEnd f
-plain_blocks text m f means (formed b named decs uncut is placed) = tt
-plain_blocks text m f means (refused fault known has) = absurd (plain_fault text m fault means known has)
+plain_blocks : (limits : Limits) (text : List ℕ) (m : NamedProgram) (f : Front) → Means limits text m → BlocksCome m (plain_of m.program) f → NoEnd f
+plain_blocks limits text m f means (formed b named decs uncut is placed) = tt
+plain_blocks limits text m f means (refused fault known has) = absurd (plain_fault limits text m fault means known has)
 
-plain_dec : (files : Files) (text : List ℕ) (m : NamedProgram) (f : Front) → Means text m → DecComes files m None f → NoEnd f
-plain_dec files text m f means (plain _ come) = plain_blocks text m f means come
+plain_dec : (limits : Limits) (files : Files) (text : List ℕ) (m : NamedProgram) (f : Front) → Means limits text m → DecComes files m None f → NoEnd f
+plain_dec limits files text m f means (plain _ come) = plain_blocks limits text m f means come
 
-plain_files : (files : Files) (lp : List ℕ) (m : NamedProgram) (f : Front) → HasProgram (files lp) m → FilesCome files lp None f → NoEnd f
-plain_files files lp m f has (missing_lp there) = let text = has.there in absurd (cc)
-plain_files files lp m f has (faulty_lp text line kind there fault) =
+plain_files : (limits : Limits) (files : Files) (lp : List ℕ) (m : NamedProgram) (f : Front) → HasProgram limits (files lp) m → FilesCome limits files lp None f → NoEnd f
+plain_files limits files lp m f has (missing_lp there) = let text = has.there in absurd (cc)
+plain_files limits files lp m f has (faulty_lp text line kind there fault) =
     let same : text ≡ has.text = one_text (files lp) text has.text there has.there in
-    absurd (lp_laws.model_or_fault has.text has.means.0 line kind has.means.1 (subst (λ (t : List ℕ). lp_text.HasLpTextFault t line kind) same fault))
+    absurd (lp_laws.model_or_fault limits has.text has.means.0 line kind has.means.1 (subst (λ (t : List ℕ). lp_text.HasLpTextFault limits t line kind) same fault))
   where
     one_text : (file : Option (List ℕ)) (t u : List ℕ) → file ≡ Some t → file ≡ Some u → t ≡ u
     one_text file t u a b = cc
-plain_files files lp m f has (read_lp text n _ there means come) = plain_dec files text n f means come
+plain_files limits files lp m f has (read_lp text n _ there means come) = plain_dec limits files text n f means come
 
 -- ---- outcomes
 
@@ -152,10 +153,10 @@ count_below tree None path given told worked few = absurd (cc)
 count_below tree (Some number) path given told worked few = few
 
 -- what is told of a program in blocks
-tells_true : (files : Files) (lp : List ℕ) (leaf : Option ℕ) (b : BlockedProgram) (most : ℕ) (steps : Option ℕ) (begun : Bool) (kept : Option Outcome) (status : ℕ) (report before now : List ℕ)
-    → HasProgram (files lp) b.named → SolvesBlocked most steps kept b status report → (IsTrue begun → most ≡ given_steps steps) → now ≡ before ++ report
-    → TellsTruly (files lp) leaf (given_steps steps) begun kept status before now
-tells_true files lp leaf b most steps begun kept status report before now has right same printed = record {
+tells_true : (limits : Limits) (files : Files) (lp : List ℕ) (leaf : Option ℕ) (b : BlockedProgram) (most : ℕ) (steps : Option ℕ) (begun : Bool) (kept : Option Outcome) (status : ℕ) (report before now : List ℕ)
+    → HasProgram limits (files lp) b.named → SolvesBlocked most steps kept b status report → (IsTrue begun → most ≡ given_steps steps) → now ≡ before ++ report
+    → TellsTruly limits (files lp) leaf (given_steps steps) begun kept status before now
+tells_true limits files lp leaf b most steps begun kept status report before now has right same printed = record {
   program = b.named;
   report = report;
   told = given_steps steps;
@@ -171,11 +172,11 @@ tells_true files lp leaf b most steps begun kept status report before now has ri
 }
 
 -- what is told of a search below one leaf alone
-tells_below : (files : Files) (lp : List ℕ) (leaf : Option ℕ) (b : BlockedProgram) (start : GrowingTree) (path : List Side) (steps : Option ℕ) (kept : Option Outcome) (status : ℕ)
-    (report before now : List ℕ) → HasProgram (files lp) b.named → SolvesBelow start path steps kept b status report
+tells_below : (limits : Limits) (files : Files) (lp : List ℕ) (leaf : Option ℕ) (b : BlockedProgram) (start : GrowingTree) (path : List Side) (steps : Option ℕ) (kept : Option Outcome) (status : ℕ)
+    (report before now : List ℕ) → HasProgram limits (files lp) b.named → SolvesBelow start path steps kept b status report
     → ((told : ℕ) → told ≤ given_steps steps → IsCount leaf (given_steps steps) told) → now ≡ before ++ report
-    → TellsTruly (files lp) leaf (given_steps steps) false kept status before now
-tells_below files lp leaf b start path steps kept status report before now has right counts printed = record {
+    → TellsTruly limits (files lp) leaf (given_steps steps) false kept status before now
+tells_below limits files lp leaf b start path steps kept status report before now has right counts printed = record {
   program = b.named;
   report = report;
   told = right.is_outcome.taken;
@@ -218,59 +219,59 @@ refuses_status b leaf text status report (starts.too_deep cert line spells has v
 refuses_status b leaf text status report (starts.no_leaf from number start named none is printed) = inl is
 
 -- the program with cuts is of the same model
-same_model : (files : Files) (lp : List ℕ) (b c : BlockedProgram) (own : List Cut) (cuts : ℕ) → HasCuts b own cuts c → HasProgram (files lp) b.named → HasProgram (files lp) c.named
-same_model files lp b c own cuts over has = subst (λ (x : BlockedProgram). HasProgram (files lp) x.named) (sym over.is) has
+same_model : (limits : Limits) (files : Files) (lp : List ℕ) (b c : BlockedProgram) (own : List Cut) (cuts : ℕ) → HasCuts b own cuts c → HasProgram limits (files lp) b.named → HasProgram limits (files lp) c.named
+same_model limits files lp b c own cuts over has = subst (λ (x : BlockedProgram). HasProgram limits (files lp) x.named) (sym over.is) has
 
 -- what is answered under an outcome's status is told truly
-solves_told : (files : Files) (lp : List ℕ) (steps : Option ℕ) (from : Option (List ℕ)) (leaf : Option ℕ) (cuts : ℕ) (kept : Option Outcome) (b : BlockedProgram) (status : ℕ) (report before now : List ℕ)
-    → HasProgram (files lp) b.named → SolvesBy files from leaf steps cuts kept b status report → IsOutcomeStatus status → now ≡ before ++ report
-    → TellsTruly (files lp) leaf (given_steps steps) (is_none from) kept status before now
-solves_told files lp steps None leaf cuts kept b status report before now has right is printed =
-    tells_true files lp leaf right.over (given_steps steps) steps true kept status report before now (same_model files lp b right.over [] cuts right.has_cuts has)
+solves_told : (limits : Limits) (files : Files) (lp : List ℕ) (steps : Option ℕ) (from : Option (List ℕ)) (leaf : Option ℕ) (cuts : ℕ) (kept : Option Outcome) (b : BlockedProgram) (status : ℕ) (report before now : List ℕ)
+    → HasProgram limits (files lp) b.named → SolvesBy files from leaf steps cuts kept b status report → IsOutcomeStatus status → now ≡ before ++ report
+    → TellsTruly limits (files lp) leaf (given_steps steps) (is_none from) kept status before now
+solves_told limits files lp steps None leaf cuts kept b status report before now has right is printed =
+    tells_true limits files lp leaf right.over (given_steps steps) steps true kept status report before now (same_model limits files lp b right.over [] cuts right.has_cuts has)
     right.solves (λ begun. refl) printed
-solves_told files lp steps (Some name) leaf cuts kept b status report before now has (solves.missing gone none eleven empty) is printed =
+solves_told limits files lp steps (Some name) leaf cuts kept b status report before now has (solves.missing gone none eleven empty) is printed =
     absurd (not_outcome status is (inr (inr eleven)))
-solves_told files lp steps (Some name) leaf cuts kept b status report before now has (solves.refused text there none refuses) is printed =
+solves_told limits files lp steps (Some name) leaf cuts kept b status report before now has (solves.refused text there none refuses) is printed =
     absurd (not_outcome status is (refuses_status b leaf text status report refuses))
-solves_told files lp steps (Some name) leaf cuts kept b status report before now has (solves.went_on text from below c there start over right) is printed = on below start right
+solves_told limits files lp steps (Some name) leaf cuts kept b status report before now has (solves.went_on text from below c there start over right) is printed = on below start right
   where
-    same : HasProgram (files lp) c.named
-    same = same_model files lp b c start.start.cert.cuts cuts over has
+    same : HasProgram limits (files lp) c.named
+    same = same_model limits files lp b c start.start.cert.cuts cuts over has
 
     on : (below : Option (List Side)) → IsStartAt b leaf text from below → SolvesOn from.grove.tree below steps kept c status report
-        → TellsTruly (files lp) leaf (given_steps steps) false kept status before now
+        → TellsTruly limits (files lp) leaf (given_steps steps) false kept status before now
     on None start right =
-        tells_true files lp leaf c (last_step from.grove steps) steps false kept status report before now same right (λ begun. absurd (cc)) printed
+        tells_true limits files lp leaf c (last_step from.grove steps) steps false kept status report before now same right (λ begun. absurd (cc)) printed
     on (Some path) start right =
-        tells_below files lp leaf c from.grove.tree path steps kept status report before now same right
+        tells_below limits files lp leaf c from.grove.tree path steps kept status report before now same right
         (λ told few. count_below start.start.cert.tree leaf path (given_steps steps) told start.worked_on few) printed
 
-pub solves_truly : (files : Files) (lp : List ℕ) (dec : Option (List ℕ)) (steps : Option ℕ) (from : Option (List ℕ)) (leaf : Option ℕ) (cuts : ℕ) (kept : Option Outcome) (status : ℕ) (tells : Bool) (before now : List ℕ)
-    → AnswersBy (AnswersSolve files lp dec steps from leaf cuts kept) status tells before now → IsTrue tells → IsOutcomeStatus status
-    → TellsTruly (files lp) leaf (given_steps steps) (is_none from) kept status before now
-solves_truly files lp dec steps from leaf cuts kept status tells before now answers heard is =
+pub solves_truly : (limits : Limits) (files : Files) (lp : List ℕ) (dec : Option (List ℕ)) (steps : Option ℕ) (from : Option (List ℕ)) (leaf : Option ℕ) (cuts : ℕ) (kept : Option Outcome) (status : ℕ) (tells : Bool) (before now : List ℕ)
+    → AnswersBy (AnswersSolve limits files lp dec steps from leaf cuts kept) status tells before now → IsTrue tells → IsOutcomeStatus status
+    → TellsTruly limits (files lp) leaf (given_steps steps) (is_none from) kept status before now
+solves_truly limits files lp dec steps from leaf cuts kept status tells before now answers heard is =
     let through = went_through status is in
     let answer = answers through.0 through.1 through.2 in
     by answer.0 answer.1 (answer.2 heard)
   where
-    by : (report : List ℕ) → AnswersSolve files lp dec steps from leaf cuts kept status report → now ≡ before ++ report
-        → TellsTruly (files lp) leaf (given_steps steps) (is_none from) kept status before now
+    by : (report : List ℕ) → AnswersSolve limits files lp dec steps from leaf cuts kept status report → now ≡ before ++ report
+        → TellsTruly limits (files lp) leaf (given_steps steps) (is_none from) kept status before now
     by report (stopped come stops) printed =
-        absurd (not_outcome status is (as_refusal status (files_come files lp dec (ends status report) come)))
+        absurd (not_outcome status is (as_refusal status (files_come limits files lp dec (ends status report) come)))
     by report (went_on b come right) printed =
-        solves_told files lp steps from leaf cuts kept b status report before now (files_come files lp dec (blocked b) come) right is printed
+        solves_told limits files lp steps from leaf cuts kept b status report before now (files_come limits files lp dec (blocked b) come) right is printed
 
 -- ---- accepted files are told an outcome
 
 solved_status : (b : BlockedProgram) (most : ℕ) (steps : Option ℕ) (kept : Option Outcome) (status : ℕ) (report : List ℕ) → SolvesBlocked most steps kept b status report → IsOutcomeStatus status
 solved_status b most steps kept status report right = subst IsOutcomeStatus (sym right.has_status) (outcome_statuses right.outcome)
 
-solves_unless : (files : Files) (lp : List ℕ) (dec : Option (List ℕ)) (steps leaf : Option ℕ) (cuts : ℕ) (kept : Option Outcome) (status : ℕ) (tells : Bool) (before now : List ℕ)
-    → IsStatus status → AnswersBy (AnswersSolve files lp dec steps None leaf cuts kept) status tells before now → ((s : ℕ) (r : List ℕ) → FilesCome files lp dec (ends s r) → ⊥)
+solves_unless : (limits : Limits) (files : Files) (lp : List ℕ) (dec : Option (List ℕ)) (steps leaf : Option ℕ) (cuts : ℕ) (kept : Option Outcome) (status : ℕ) (tells : Bool) (before now : List ℕ)
+    → IsStatus status → AnswersBy (AnswersSolve limits files lp dec steps None leaf cuts kept) status tells before now → ((s : ℕ) (r : List ℕ) → FilesCome limits files lp dec (ends s r) → ⊥)
     → IsOutcomeStatus status ⊎ WasStopped status
-solves_unless files lp dec steps leaf cuts kept status tells before now known answers accepted = by known
+solves_unless limits files lp dec steps leaf cuts kept status tells before now known answers accepted = by known
   where
-    told_right : (report : List ℕ) → AnswersSolve files lp dec steps None leaf cuts kept status report → IsOutcomeStatus status
+    told_right : (report : List ℕ) → AnswersSolve limits files lp dec steps None leaf cuts kept status report → IsOutcomeStatus status
     told_right report (stopped come stops) = absurd (accepted status report come)
     told_right report (went_on b come right) = solved_status right.over (given_steps steps) steps kept status report right.solves
 
@@ -290,17 +291,17 @@ solves_unless files lp dec steps leaf cuts kept status tells before now known an
     by (inr (inr (inr (inr (inr (inr (inr (inr (inr (inl is)))))))))) = going (λ e. absurd (cc)) (λ e. absurd (cc)) (λ e. absurd (cc))
     by (inr (inr (inr (inr (inr (inr (inr (inr (inr (inr is)))))))))) = going (λ e. absurd (cc)) (λ e. absurd (cc)) (λ e. absurd (cc))
 
-pub solves_accepted : (files : Files) (lp : List ℕ) (steps leaf : Option ℕ) (cuts : ℕ) (kept : Option Outcome) (status : ℕ) (tells : Bool) (before now : List ℕ)
-    → IsStatus status → AnswersBy (AnswersSolve files lp None steps None leaf cuts kept) status tells before now → (m : NamedProgram) → HasProgram (files lp) m
+pub solves_accepted : (limits : Limits) (files : Files) (lp : List ℕ) (steps leaf : Option ℕ) (cuts : ℕ) (kept : Option Outcome) (status : ℕ) (tells : Bool) (before now : List ℕ)
+    → IsStatus status → AnswersBy (AnswersSolve limits files lp None steps None leaf cuts kept) status tells before now → (m : NamedProgram) → HasProgram limits (files lp) m
     → IsOutcomeStatus status ⊎ WasStopped status
-solves_accepted files lp steps leaf cuts kept status tells before now known answers m has =
-    solves_unless files lp None steps leaf cuts kept status tells before now known answers (λ s r come. plain_files files lp m (ends s r) has come)
+solves_accepted limits files lp steps leaf cuts kept status tells before now known answers m has =
+    solves_unless limits files lp None steps leaf cuts kept status tells before now known answers (λ s r come. plain_files limits files lp m (ends s r) has come)
 
-pub solves_decomposed : (files : Files) (lp : List ℕ) (dec : Option (List ℕ)) (steps leaf : Option ℕ) (cuts : ℕ) (kept : Option Outcome) (status : ℕ) (tells : Bool) (before now : List ℕ)
-    → IsStatus status → AnswersBy (AnswersSolve files lp dec steps None leaf cuts kept) status tells before now → (b : BlockedProgram) → FilesCome files lp dec (blocked b)
+pub solves_decomposed : (limits : Limits) (files : Files) (lp : List ℕ) (dec : Option (List ℕ)) (steps leaf : Option ℕ) (cuts : ℕ) (kept : Option Outcome) (status : ℕ) (tells : Bool) (before now : List ℕ)
+    → IsStatus status → AnswersBy (AnswersSolve limits files lp dec steps None leaf cuts kept) status tells before now → (b : BlockedProgram) → FilesCome limits files lp dec (blocked b)
     → IsOutcomeStatus status ⊎ WasStopped status
-solves_decomposed files lp dec steps leaf cuts kept status tells before now known answers b come =
-    solves_unless files lp dec steps leaf cuts kept status tells before now known answers (λ s r other. one_front files lp dec (ends s r) (blocked b) other come)
+solves_decomposed limits files lp dec steps leaf cuts kept status tells before now known answers b come =
+    solves_unless limits files lp dec steps leaf cuts kept status tells before now known answers (λ s r other. one_front limits files lp dec (ends s r) (blocked b) other come)
 
 -- ---- the certificate that is written is accepted
 
@@ -315,46 +316,46 @@ spelled_over : (b : BlockedProgram) (cuts : List Cut) (o : Outcome) (text : List
 spelled_over b cuts o text made out =
     subst (λ (frame : Frame). IsCertText frame (cert_of (outcome_certificate (with_cuts b cuts) o)) text) (same_frame b cuts made) (_, out.spelled)
 
-pub writes_certificate : (before now : Files) (lp cert : List ℕ) (dec from : Option (List ℕ)) (cuts : ℕ) (o : Outcome) → HasCertificate before lp dec (Some cert) from cuts now (Some o)
-    → OthersAsBefore cert before now → cert ≢ lp → dec ≢ Some cert → (claim : Claim) × AnswersCheck now lp cert dec None 0 (accepted_report claim)
-writes_certificate before now lp cert dec from cuts o has others apart away =
+pub writes_certificate : (limits : Limits) (before now : Files) (lp cert : List ℕ) (dec from : Option (List ℕ)) (cuts : ℕ) (o : Outcome) → HasCertificate limits before lp dec (Some cert) from cuts now (Some o)
+    → OthersAsBefore cert before now → cert ≢ lp → dec ≢ Some cert → (claim : Claim) × AnswersCheck limits now lp cert dec None 0 (accepted_report claim)
+writes_certificate limits before now lp cert dec from cuts o has others apart away =
     let b = has.0 in
-    let plain = plain_front before lp dec (blocked b) has.1 in
+    let plain = plain_front limits before lp dec (blocked b) has.1 in
     let over = over_cuts before from cuts b has.2.0 has.2.1 in
     let c : BlockedProgram = with_cuts b over.0 in
     let saved : IsSaved c o (Some cert) now = subst (λ (x : BlockedProgram). IsSaved x o (Some cert) now) over.1 has.2.2 in
     let written = outcome_certificate c o in (
       written.claim,
-      went_on b (files_move before now lp dec (blocked b) (others lp (λ e. apart (sym e))) (λ name is. others name (λ e. away (is ∙ ap (λ (t : List ℕ). Some t) e))) has.1)
+      went_on b (files_move limits before now lp dec (blocked b) (others lp (λ e. apart (sym e))) (λ name is. others name (λ e. away (is ∙ ap (λ (t : List ℕ). Some t) e))) has.1)
           (checks.accepted saved.0 written saved.1 (spelled_over b over.0 o saved.0 plain.0 saved.2) saved.2.valid
           (certified_is_true_lem b.named.program b.dec written plain.0.kept.closed saved.2.valid) refl refl),
     )
 
 -- ---- what `check` accepts
 
-pub checks_truly : (files : Files) (lp cert : List ℕ) (dec : Option (List ℕ)) (visits : Option ℕ) (status : ℕ) (tells : Bool) (before now : List ℕ)
-    → AnswersBy (AnswersCheck files lp cert dec visits) status tells before now → IsTrue tells → status ≡ 0 → AcceptsTruly (files lp) before now
-checks_truly files lp cert dec visits status tells before now answers told zero =
+pub checks_truly : (limits : Limits) (files : Files) (lp cert : List ℕ) (dec : Option (List ℕ)) (visits : Option ℕ) (status : ℕ) (tells : Bool) (before now : List ℕ)
+    → AnswersBy (AnswersCheck limits files lp cert dec visits) status tells before now → IsTrue tells → status ≡ 0 → AcceptsTruly limits (files lp) before now
+checks_truly limits files lp cert dec visits status tells before now answers told zero =
     let through = went_through status (inl zero) in
     let answer = answers through.0 through.1 through.2 in
     by answer.0 answer.1 (answer.2 told)
   where
-    by_blocks : (b : BlockedProgram) (report : List ℕ) → HasProgram (files lp) b.named → ChecksBlocked files cert b status report → now ≡ before ++ report → AcceptsTruly (files lp) before now
+    by_blocks : (b : BlockedProgram) (report : List ℕ) → HasProgram limits (files lp) b.named → ChecksBlocked files cert b status report → now ≡ before ++ report → AcceptsTruly limits (files lp) before now
     by_blocks b report has (checks.missing gone eleven empty) printed = absurd (not_outcome status (inl zero) (inr (inr eleven)))
     by_blocks b report has (checks.faulty text line kind there fault three heard) printed = absurd (not_outcome status (inl zero) (inl three))
     by_blocks b report has (checks.accepted text c there spells valid is_true is heard) printed =
         record { program = b.named; claim = c.claim; read = has; is_true = is_true; printed = printed ∙ ap (λ (r : List ℕ). before ++ r) heard }
     by_blocks b report has (checks.rejected text c line kind there spells point fault six heard) printed = absurd (not_outcome status (inl zero) (inr (inl six)))
 
-    within : (b : BlockedProgram) (most : ℕ) (report : List ℕ) → HasProgram (files lp) b.named → ChecksWithin most files cert b status report → now ≡ before ++ report → AcceptsTruly (files lp) before now
+    within : (b : BlockedProgram) (most : ℕ) (report : List ℕ) → HasProgram limits (files lp) b.named → ChecksWithin most files cert b status report → now ≡ before ++ report → AcceptsTruly limits (files lp) before now
     within b most report has (checks.unknown line at ten heard) printed = let none : 0 ≡ 10 = sym zero ∙ ten in absurd (omega (arith, none))
     within b most report has (checks.known none right) printed = by_blocks b report has right printed
 
-    visiting : (b : BlockedProgram) (given : Option ℕ) (report : List ℕ) → HasProgram (files lp) b.named → ChecksVisiting given files cert b status report → now ≡ before ++ report → AcceptsTruly (files lp) before now
+    visiting : (b : BlockedProgram) (given : Option ℕ) (report : List ℕ) → HasProgram limits (files lp) b.named → ChecksVisiting given files cert b status report → now ≡ before ++ report → AcceptsTruly limits (files lp) before now
     visiting b None report has right printed = by_blocks b report has right printed
     visiting b (Some most) report has right printed = within b most report has right printed
 
-    by : (report : List ℕ) → AnswersCheck files lp cert dec visits status report → now ≡ before ++ report → AcceptsTruly (files lp) before now
+    by : (report : List ℕ) → AnswersCheck limits files lp cert dec visits status report → now ≡ before ++ report → AcceptsTruly limits (files lp) before now
     by report (stopped come stops) printed =
-        absurd (not_outcome status (inl zero) (as_refusal status (files_come files lp dec (ends status report) come)))
-    by report (went_on b come right) printed = visiting b visits report (files_come files lp dec (blocked b) come) right printed
+        absurd (not_outcome status (inl zero) (as_refusal status (files_come limits files lp dec (ends status report) come)))
+    by report (went_on b come right) printed = visiting b visits report (files_come limits files lp dec (blocked b) come) right printed

@@ -81,30 +81,30 @@ words_cut words files status (Some report) tells before now fault gone partly = 
 -- an order that was not begun left nothing
 pub nothing_written : (files : Files) (order : Order) → HasWritten order files files None 9
 nothing_written files (Solve given) =
-    (tt, stands given.cert, (λ _. refl), λ _. untouched_part files given.lp given.dec given.steps given.cert given.from given.leaf given.cuts files refl) where
+    (tt, stands given.cert, (λ _. refl), λ _. untouched_part given.limits files given.lp given.dec given.steps given.cert given.from given.leaf given.cuts files refl) where
       stands : (cert : Option (List ℕ)) → FilesStand cert files files
       stands None = refl
       stands (Some name) = λ other apart. refl
 nothing_written files (Check given) = refl
-nothing_written files (Show lp dec blocks) = refl
+nothing_written files (Show lp dec blocks limits) = refl
 nothing_written files (Gen seed size lp dec) = untouched refl refl
 nothing_written files (Demo seed size) = refl
-nothing_written files (Detect lp list dec) = detected.untouched refl (inr refl)
-nothing_written files (Propose lp dec) = proposed.untouched refl (inr refl)
+nothing_written files (Detect lp list dec limits) = detected.untouched refl (inr refl)
+nothing_written files (Propose lp dec limits) = proposed.untouched refl (inr refl)
 nothing_written files (Merge given) = merged.untouched refl (inr refl)
-nothing_written files (Migrate lp cert new dec) = migrated.stands (migrated.untouched refl (inr refl))
+nothing_written files (Migrate lp cert new dec limits) = migrated.stands (migrated.untouched refl (inr refl))
 
 -- want of memory is right for `demo` too
 pub not_demonstrated : (order : Order) (tells : Bool) (before now : List ℕ) → Demonstrates order None 9 None tells before now
 not_demonstrated (Demo seed size) tells before now = ((λ no_read no_write no_want. absurd (no_want refl)), (λ no_read no_write no_want meant report right. absurd (no_want refl)), (λ is_fault. absurd (cc)))
 not_demonstrated (Solve given) tells before now = tt
 not_demonstrated (Check given) tells before now = tt
-not_demonstrated (Show lp dec blocks) tells before now = tt
+not_demonstrated (Show lp dec blocks limits) tells before now = tt
 not_demonstrated (Gen seed size lp dec) tells before now = tt
-not_demonstrated (Detect lp list dec) tells before now = tt
-not_demonstrated (Propose lp dec) tells before now = tt
+not_demonstrated (Detect lp list dec limits) tells before now = tt
+not_demonstrated (Propose lp dec limits) tells before now = tt
 not_demonstrated (Merge given) tells before now = tt
-not_demonstrated (Migrate lp cert new dec) tells before now = tt
+not_demonstrated (Migrate lp cert new dec limits) tells before now = tt
 
 -- answers of an order that keeps nothing
 pub kept_answers : (kept : Option Outcome) (Right : ℕ → List ℕ → Type 0) (status : ℕ) (tells : Bool) (before now : List ℕ) → kept ≡ None → AnswersBy Right status tells before now

@@ -26,15 +26,15 @@ use Rattle.cmd_certificates.specs.MigrateFiles.{MigrateLeaves, MigrateWrites}
 
 -- what an order is answered by the files, with what is kept
 abbrev pub AnswersOrder : Order → Files → Option Outcome → (status : ℕ) → (report : List ℕ) → Type 0
-AnswersOrder (Solve given) files kept status report = AnswersSolve files given.lp given.dec given.steps given.from given.leaf given.cuts kept status report
-AnswersOrder (Check given) files kept status report = (kept ≡ None) × AnswersCheck files given.lp given.cert given.dec given.visits status report
-AnswersOrder (Show lp dec blocks) files kept status report = (kept ≡ None) × AnswersShow files lp dec blocks status report
+AnswersOrder (Solve given) files kept status report = AnswersSolve given.limits files given.lp given.dec given.steps given.from given.leaf given.cuts kept status report
+AnswersOrder (Check given) files kept status report = (kept ≡ None) × AnswersCheck given.limits files given.lp given.cert given.dec given.visits status report
+AnswersOrder (Show lp dec blocks limits) files kept status report = (kept ≡ None) × AnswersShow limits files lp dec blocks status report
 AnswersOrder (Gen seed size lp dec) files kept status report = (kept ≡ None) × AnswersGen size status report
 AnswersOrder (Demo seed size) files kept status report = AnswersDemo seed size kept status report
-AnswersOrder (Detect lp list dec) files kept status report = (kept ≡ None) × AnswersDetect files lp list status report
-AnswersOrder (Propose lp dec) files kept status report = (kept ≡ None) × AnswersPropose files lp status report
-AnswersOrder (Merge given) files kept status report = (kept ≡ None) × AnswersMerge files given.lp given.first given.second given.dec status report
-AnswersOrder (Migrate lp cert new dec) files kept status report = (kept ≡ None) × AnswersMigrate files lp cert dec status report
+AnswersOrder (Detect lp list dec limits) files kept status report = (kept ≡ None) × AnswersDetect limits files lp list status report
+AnswersOrder (Propose lp dec limits) files kept status report = (kept ≡ None) × AnswersPropose limits files lp status report
+AnswersOrder (Merge given) files kept status report = (kept ≡ None) × AnswersMerge given.limits files given.lp given.first given.second given.dec status report
+AnswersOrder (Migrate lp cert new dec limits) files kept status report = (kept ≡ None) × AnswersMigrate limits files lp cert dec status report
 
 -- what words are answered by the files, with what is kept: words that are no command line are refused
 pub data Answers (words : List (List ℕ)) (files : Files) (kept : Option Outcome) (status : ℕ) (report : List ℕ) : Type 0 where
@@ -47,43 +47,43 @@ pub data Answers (words : List (List ℕ)) (files : Files) (kept : Option Outcom
 -- every other order changes no file.
 abbrev pub HasWritten : Order → (before now : Files) → Option Outcome → (status : ℕ) → Type 0
 HasWritten (Solve given) before now kept status =
-    HasCertificate before given.lp given.dec given.cert given.from given.cuts now kept × FilesStand given.cert before now × (IsUntouched status → now ≡ before)
-    × (status ≡ 9 → LeavesPart before given.lp given.dec given.steps given.cert given.from given.leaf given.cuts now)
+    HasCertificate given.limits before given.lp given.dec given.cert given.from given.cuts now kept × FilesStand given.cert before now × (IsUntouched status → now ≡ before)
+    × (status ≡ 9 → LeavesPart given.limits before given.lp given.dec given.steps given.cert given.from given.leaf given.cuts now)
 HasWritten (Check given) before now kept status = now ≡ before
-HasWritten (Show lp dec blocks) before now kept status = now ≡ before
+HasWritten (Show lp dec blocks limits) before now kept status = now ≡ before
 HasWritten (Gen seed size lp dec) before now kept status = GenLeaves seed size lp dec before now status
 HasWritten (Demo seed size) before now kept status = now ≡ before
-HasWritten (Detect lp list dec) before now kept status = DetectLeaves lp list dec before now status
-HasWritten (Propose lp dec) before now kept status = ProposeLeaves lp dec before now status
-HasWritten (Merge given) before now kept status = MergeLeaves given.lp given.first given.second given.dec given.new before now status
-HasWritten (Migrate lp cert new dec) before now kept status = MigrateLeaves lp cert dec new before now status
+HasWritten (Detect lp list dec limits) before now kept status = DetectLeaves limits lp list dec before now status
+HasWritten (Propose lp dec limits) before now kept status = ProposeLeaves limits lp dec before now status
+HasWritten (Merge given) before now kept status = MergeLeaves given.limits given.lp given.first given.second given.dec given.new before now status
+HasWritten (Migrate lp cert new dec limits) before now kept status = MigrateLeaves limits lp cert dec new before now status
 
 -- What stands where the report could not be put: it is put last, behind the certificate of an outcome of the search, both
 -- made texts, the text of the decomposition that was found or chosen or the certificate that was merged or written anew, and nothing is written where the file to go on from is no start.
 abbrev pub HasPutLast : Order → (before now : Files) → Type 0
-HasPutLast (Solve given) before now = LeavesCertificate before given.lp given.dec given.steps given.cert given.from given.leaf given.cuts now
+HasPutLast (Solve given) before now = LeavesCertificate given.limits before given.lp given.dec given.steps given.cert given.from given.leaf given.cuts now
 HasPutLast (Check given) before now = now ≡ before
-HasPutLast (Show lp dec blocks) before now = now ≡ before
+HasPutLast (Show lp dec blocks limits) before now = now ≡ before
 HasPutLast (Gen seed size lp dec) before now = GenWrites seed size lp dec before now
 HasPutLast (Demo seed size) before now = now ≡ before
-HasPutLast (Detect lp list dec) before now = DetectWrites lp list dec before now
-HasPutLast (Propose lp dec) before now = ProposeWrites lp dec before now
-HasPutLast (Merge given) before now = MergeWrites given.lp given.first given.second given.dec given.new before now
-HasPutLast (Migrate lp cert new dec) before now = MigrateWrites lp cert dec new before now
+HasPutLast (Detect lp list dec limits) before now = DetectWrites limits lp list dec before now
+HasPutLast (Propose lp dec limits) before now = ProposeWrites limits lp dec before now
+HasPutLast (Merge given) before now = MergeWrites given.limits given.lp given.first given.second given.dec given.new before now
+HasPutLast (Migrate lp cert new dec limits) before now = MigrateWrites limits lp cert dec new before now
 
 -- How an order's search went, beside what is kept: an outcome that is kept goes on from the certificate of the file that is named for
 -- it, where one is named (its tree extends that tree, its point is no dearer, its dual bound no less), and the events are those of the
 -- crew that solved, where one was ordered, and else none.
 abbrev pub ListsEvents : Order → (before : Files) → Option Outcome → List Event → Type 0
-ListsEvents (Solve given) before kept events = HasEvents before given.lp given.dec given.steps given.from given.workers given.order given.cuts kept events
+ListsEvents (Solve given) before kept events = HasEvents given.limits before given.lp given.dec given.steps given.from given.workers given.order given.cuts kept events
 ListsEvents (Check given) before kept events = events ≡ []
-ListsEvents (Show lp dec blocks) before kept events = events ≡ []
+ListsEvents (Show lp dec blocks limits) before kept events = events ≡ []
 ListsEvents (Gen seed size lp dec) before kept events = events ≡ []
 ListsEvents (Demo seed size) before kept events = events ≡ []
-ListsEvents (Detect lp list dec) before kept events = events ≡ []
-ListsEvents (Propose lp dec) before kept events = events ≡ []
+ListsEvents (Detect lp list dec limits) before kept events = events ≡ []
+ListsEvents (Propose lp dec limits) before kept events = events ≡ []
 ListsEvents (Merge given) before kept events = events ≡ []
-ListsEvents (Migrate lp cert new dec) before kept events = events ≡ []
+ListsEvents (Migrate lp cert new dec limits) before kept events = events ≡ []
 
 -- what is true of the order that the words give, if they give one
 abbrev pub OfOrder : List (List ℕ) → (Order → Type 0) → Type 0

@@ -18,7 +18,7 @@ use cmd_decompose::{detect, propose, show};
 use cmd_demo::demonstrate;
 use cmd_gen::generate;
 use cmd_solve::solve;
-use frontend::{Ended, Reply, print, stopped};
+use frontend::{Ended, Reply, Sources, print, stopped};
 use std::alloc::Global;
 
 /// Does all that the program does. The words begin with the program's name and a command.
@@ -29,7 +29,8 @@ use std::alloc::Global;
 /// whoever wrote it. From a valid certificate it goes on, whoever wrote that, with the given steps beside those of its tree,
 /// or below one of its open leaves alone with no more than the given steps.
 /// All this holds for a crew of any number of workers in any order too, whose events are listed, and with any number of cuts
-/// that are added, which the certificate has.
+/// that are added, which the certificate has. Each text is read under the limits of the order: the usual ones, or with `--large`
+/// the large ones.
 pub fn run<F: Shelf, O: Sink>(alloc: Global, words: &[String], shelf: &mut F, out: &mut O) -> Ended
     // The headline, for told files and a sink that tells. What `solve` prints is true of the program that the LP text
     // means: `optimal` with a best point, `infeasible`, or `budget` after exactly the given steps with a bound that no
@@ -203,8 +204,11 @@ fn obey<F: Shelf, O: Sink>(alloc: Global, order: &Order, shelf: &mut F, out: &mu
             alloc,
             shelf,
             out,
-            given.lp.as_str(),
-            named(&given.dec),
+            Sources {
+                lp: given.lp.as_str(),
+                dec: named(&given.dec),
+                limits: given.limits,
+            },
             given.steps,
             named(&given.cert),
             named(&given.from),
@@ -217,14 +221,30 @@ fn obey<F: Shelf, O: Sink>(alloc: Global, order: &Order, shelf: &mut F, out: &mu
             alloc,
             shelf,
             out,
-            given.lp.as_str(),
+            Sources {
+                lp: given.lp.as_str(),
+                dec: named(&given.dec),
+                limits: given.limits,
+            },
             given.cert.as_str(),
-            named(&given.dec),
             given.visits,
         ),
-        Order::Show { lp, dec, blocks } => {
-            show(alloc, shelf, out, lp.as_str(), named(dec), *blocks)
-        }
+        Order::Show {
+            lp,
+            dec,
+            blocks,
+            limits,
+        } => show(
+            alloc,
+            shelf,
+            out,
+            Sources {
+                lp: lp.as_str(),
+                dec: named(dec),
+                limits: *limits,
+            },
+            *blocks,
+        ),
         Order::Gen {
             seed,
             size,
@@ -232,28 +252,53 @@ fn obey<F: Shelf, O: Sink>(alloc: Global, order: &Order, shelf: &mut F, out: &mu
             dec,
         } => generate(alloc, shelf, out, *seed, *size, lp.as_str(), dec.as_str()),
         Order::Demo { seed, size } => demonstrate(alloc, out, *seed, *size),
-        Order::Detect { lp, rows, dec } => {
-            detect(alloc, shelf, out, lp.as_str(), rows.as_str(), dec.as_str())
+        Order::Detect {
+            lp,
+            rows,
+            dec,
+            limits,
+        } => detect(
+            alloc,
+            shelf,
+            out,
+            *limits,
+            lp.as_str(),
+            rows.as_str(),
+            dec.as_str(),
+        ),
+        Order::Propose { lp, dec, limits } => {
+            propose(alloc, shelf, out, *limits, lp.as_str(), dec.as_str())
         }
-        Order::Propose { lp, dec } => propose(alloc, shelf, out, lp.as_str(), dec.as_str()),
         Order::Merge(given) => merge(
             alloc,
             shelf,
             out,
-            given.lp.as_str(),
+            Sources {
+                lp: given.lp.as_str(),
+                dec: named(&given.dec),
+                limits: given.limits,
+            },
             given.first.as_str(),
             given.second.as_str(),
             given.new.as_str(),
-            named(&given.dec),
         ),
-        Order::Migrate { lp, cert, new, dec } => migrate(
+        Order::Migrate {
+            lp,
+            cert,
+            new,
+            dec,
+            limits,
+        } => migrate(
             alloc,
             shelf,
             out,
-            lp.as_str(),
+            Sources {
+                lp: lp.as_str(),
+                dec: named(dec),
+                limits: *limits,
+            },
             cert.as_str(),
             new.as_str(),
-            named(dec),
         ),
     }
 }

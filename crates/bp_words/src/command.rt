@@ -24,6 +24,7 @@ static SUBCOMMANDS: [Subcommand; 9] = [
             Argument::NumberOption("workers", 1, MOST_WORKERS),
             Argument::NumberOption("order", 0, u64::MAX),
             Argument::NumberOption("cuts", 0, MOST_CUTS),
+            Argument::Flag("large"),
         ],
     },
     Subcommand {
@@ -33,6 +34,7 @@ static SUBCOMMANDS: [Subcommand; 9] = [
             Argument::FileWord("cert"),
             Argument::FileOption("dec"),
             Argument::NumberOption("visits", 0, MOST_VISITS),
+            Argument::Flag("large"),
         ],
     },
     Subcommand {
@@ -41,6 +43,7 @@ static SUBCOMMANDS: [Subcommand; 9] = [
             Argument::FileWord("lp"),
             Argument::FileOption("dec"),
             Argument::Flag("blocks"),
+            Argument::Flag("large"),
         ],
     },
     Subcommand {
@@ -65,11 +68,16 @@ static SUBCOMMANDS: [Subcommand; 9] = [
             Argument::FileWord("lp"),
             Argument::FileWord("rows"),
             Argument::FileWord("dec"),
+            Argument::Flag("large"),
         ],
     },
     Subcommand {
         name: "propose",
-        arguments: &[Argument::FileWord("lp"), Argument::FileWord("dec")],
+        arguments: &[
+            Argument::FileWord("lp"),
+            Argument::FileWord("dec"),
+            Argument::Flag("large"),
+        ],
     },
     Subcommand {
         name: "merge",
@@ -79,6 +87,7 @@ static SUBCOMMANDS: [Subcommand; 9] = [
             Argument::FileWord("second"),
             Argument::FileWord("new"),
             Argument::FileOption("dec"),
+            Argument::Flag("large"),
         ],
     },
     Subcommand {
@@ -88,6 +97,7 @@ static SUBCOMMANDS: [Subcommand; 9] = [
             Argument::FileWord("cert"),
             Argument::FileWord("new"),
             Argument::FileOption("dec"),
+            Argument::Flag("large"),
         ],
     },
 ];

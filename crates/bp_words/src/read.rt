@@ -9,8 +9,8 @@ use clap::ArgMatches;
 use clap::error::ErrorKind;
 use cli_orders::{
     Order, Problem, SolveOrder, WordFault, check_order, demo_order, detect_order, ends_of,
-    gen_order, is_leaf_placed, merge_order, migrate_order, problem_of, propose_order, show_order,
-    solve_numbers,
+    gen_order, is_leaf_placed, limits_of, merge_order, migrate_order, problem_of, propose_order,
+    show_order, solve_numbers,
 };
 use std::alloc::Global;
 
@@ -95,5 +95,6 @@ fn solve_order(alloc: Global, solve: &ArgMatches) -> Result<Order, WordFault>
         workers: numbers.workers,
         order: numbers.order,
         cuts: numbers.cuts,
+        limits: limits_of(solve),
     }))
 }

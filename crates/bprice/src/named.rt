@@ -9,8 +9,8 @@ pub fn files_of(order: &Order) -> NamedFiles<'_> {
         Order::Solve(given) => certificate(&given.lp, &given.dec, name_in(&given.cert)),
         Order::Merge(given) => certificate(&given.lp, &given.dec, Some(given.new.as_str())),
         Order::Migrate { lp, new, dec, .. } => certificate(lp, dec, Some(new.as_str())),
-        Order::Detect { lp, rows, dec } => texts(Some(lp), Some(rows), Some(dec), None),
-        Order::Propose { lp, dec } => texts(Some(lp), None, Some(dec), None),
+        Order::Detect { lp, rows, dec, .. } => texts(Some(lp), Some(rows), Some(dec), None),
+        Order::Propose { lp, dec, .. } => texts(Some(lp), None, Some(dec), None),
         Order::Gen { lp, dec, .. } => texts(None, None, Some(lp), Some(dec)),
         Order::Check(_) | Order::Show { .. } | Order::Demo { .. } => texts(None, None, None, None),
     }

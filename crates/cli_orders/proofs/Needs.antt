@@ -98,7 +98,7 @@ needs name rows (Check given) has = by_name name rows (codes "check") has.0 (rec
   cert = record { text = given.cert; is = has.2 };
   lp = record { text = given.lp; is = has.1 };
 })
-needs name rows (Show lp dec blocks) has = by_name name rows (codes "show") has.0 (record { lp = record { text = lp; is = has.1 } })
+needs name rows (Show lp dec blocks limits) has = by_name name rows (codes "show") has.0 (record { lp = record { text = lp; is = has.1 } })
 needs name rows (Gen seed size lp dec) has = by_name name rows (codes "gen") has.0 (record {
   scale = record { seed = seed; size = size };
   is = record { seed = has.1; size = has.2 };
@@ -109,12 +109,12 @@ needs name rows (Demo seed size) has = by_name name rows (codes "demo") has.0 (r
   scale = record { seed = seed; size = size };
   is = record { seed = has.1; size = has.2 };
 })
-needs name rows (Detect lp list dec) has = by_name name rows (codes "detect") has.0 (record {
+needs name rows (Detect lp list dec limits) has = by_name name rows (codes "detect") has.0 (record {
   list = record { text = list; is = has.2 };
   pair = record { lp = lp; dec = dec };
   files = record { lp = has.1; dec = has.3 };
 })
-needs name rows (Propose lp dec) has = by_name name rows (codes "propose") has.0 (record {
+needs name rows (Propose lp dec limits) has = by_name name rows (codes "propose") has.0 (record {
   pair = record { lp = lp; dec = dec };
   files = record { lp = has.1; dec = has.2 };
 })
@@ -124,7 +124,7 @@ needs name rows (Merge given) has = by_name name rows (codes "merge") has.0 (rec
   new = record { text = given.new; is = has.4 };
   lp = record { text = given.lp; is = has.1 };
 })
-needs name rows (Migrate lp cert new dec) has = by_name name rows (codes "migrate") has.0 (record {
+needs name rows (Migrate lp cert new dec limits) has = by_name name rows (codes "migrate") has.0 (record {
   cert = record { text = cert; is = has.2 };
   new = record { text = new; is = has.3 };
   lp = record { text = lp; is = has.1 };

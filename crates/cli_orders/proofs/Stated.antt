@@ -50,13 +50,13 @@ in_range met (Solve given) stated = (
   at_most None is = tt
   at_most (Some n) is = is.1
 in_range met (Check given) stated = tt
-in_range met (Show lp dec blocks) stated = tt
+in_range met (Show lp dec blocks limits) stated = tt
 in_range met (Gen seed size lp dec) stated = (stated.values.2.2.least, stated.values.2.2.most)
 in_range met (Demo seed size) stated = (stated.values.2.2.least, stated.values.2.2.most)
-in_range met (Detect lp list dec) stated = tt
-in_range met (Propose lp dec) stated = tt
+in_range met (Detect lp list dec limits) stated = tt
+in_range met (Propose lp dec limits) stated = tt
 in_range met (Merge given) stated = tt
-in_range met (Migrate lp cert new dec) stated = tt
+in_range met (Migrate lp cert new dec limits) stated = tt
 
 pub in_range_if_ok : (met : Option (Text × List Row)) (r : Result Order WordFault) → IfOk r (IsStated met) → IfOk r IsInRange
 in_range_if_ok met (Ok order) stated = in_range met order stated

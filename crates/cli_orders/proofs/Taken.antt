@@ -16,7 +16,7 @@ use Rattle.clap.proofs.ValueTestLemmas.{accepts-Accepts}
 use Rattle.cli_orders.specs.declared.order.Order.{Order}
 use Rattle.cli_orders.specs.declared.order.Order.TheVariants.{Solve, Check, Show, Gen, Demo, Detect, Propose, Merge, Migrate}
 use Rattle.cli_orders.specs.CommandLine.{command_line, solve_words, check_words, show_words, gen_words, demo_words, detect_words, propose_words, merge_words, migrate_words, most_steps, most_leaf, most_visits, most_seed, most_size, most_workers, most_cuts}
-use Rattle.cli_orders.specs.Orders.{IsNumber, MayHaveNumber, HasCount, is_set, GoTogether, IsLeafPlaced, IsStated, MisplacesLeaf, AreRefused}
+use Rattle.cli_orders.specs.Orders.{IsNumber, MayHaveNumber, HasCount, is_set, limits_of, GoTogether, IsLeafPlaced, IsStated, MisplacesLeaf, AreRefused}
 use Rattle.cli_orders.proofs.Presence.{Checks, both_parts, full_level, given_has, first_good}
 
 -- the command and its subcommands as they are built
@@ -81,7 +81,10 @@ solve_checks = (
               record { wants = inl refl; plain = tt; passes = λ v e. e },
               (
                 record { wants = inl refl; plain = tt; passes = λ v e. e },
-                (record { wants = inl refl; plain = tt; passes = λ v e. e }, tt),
+                (
+                  record { wants = inl refl; plain = tt; passes = λ v e. e },
+                  (record { wants = inr tt; plain = (refl, tt); passes = λ v e. refl }, tt),
+                ),
               ),
             ),
           ),
@@ -98,7 +101,10 @@ check_checks = (
     record { wants = inl refl; plain = tt; passes = λ v e. refl },
     (
       record { wants = inl refl; plain = tt; passes = λ v e. refl },
-      (record { wants = inl refl; plain = tt; passes = λ v e. e }, tt),
+      (
+        record { wants = inl refl; plain = tt; passes = λ v e. e },
+        (record { wants = inr tt; plain = (refl, tt); passes = λ v e. refl }, tt),
+      ),
     ),
   ),
 )
@@ -108,7 +114,10 @@ show_checks = (
   record { wants = inl refl; plain = tt; passes = λ v e. refl },
   (
     record { wants = inl refl; plain = tt; passes = λ v e. refl },
-    (record { wants = inr tt; plain = (refl, tt); passes = λ v e. refl }, tt),
+    (
+      record { wants = inr tt; plain = (refl, tt); passes = λ v e. refl },
+      (record { wants = inr tt; plain = (refl, tt); passes = λ v e. refl }, tt),
+    ),
   ),
 )
 
@@ -135,14 +144,20 @@ detect_checks = (
   record { wants = inl refl; plain = tt; passes = λ v e. refl },
   (
     record { wants = inl refl; plain = tt; passes = λ v e. refl },
-    (record { wants = inl refl; plain = tt; passes = λ v e. refl }, tt),
+    (
+      record { wants = inl refl; plain = tt; passes = λ v e. refl },
+      (record { wants = inr tt; plain = (refl, tt); passes = λ v e. refl }, tt),
+    ),
   ),
 )
 
 propose_checks : AllByRecursion (Checks good) propose_level.rules
 propose_checks = (
   record { wants = inl refl; plain = tt; passes = λ v e. refl },
-  (record { wants = inl refl; plain = tt; passes = λ v e. refl }, tt),
+  (
+    record { wants = inl refl; plain = tt; passes = λ v e. refl },
+    (record { wants = inr tt; plain = (refl, tt); passes = λ v e. refl }, tt),
+  ),
 )
 
 merge_checks : AllByRecursion (Checks good) merge_level.rules
@@ -154,7 +169,10 @@ merge_checks = (
       record { wants = inl refl; plain = tt; passes = λ v e. refl },
       (
         record { wants = inl refl; plain = tt; passes = λ v e. refl },
-        (record { wants = inl refl; plain = tt; passes = λ v e. refl }, tt),
+        (
+          record { wants = inl refl; plain = tt; passes = λ v e. refl },
+          (record { wants = inr tt; plain = (refl, tt); passes = λ v e. refl }, tt),
+        ),
       ),
     ),
   ),
@@ -167,7 +185,10 @@ migrate_checks = (
     record { wants = inl refl; plain = tt; passes = λ v e. refl },
     (
       record { wants = inl refl; plain = tt; passes = λ v e. refl },
-      (record { wants = inl refl; plain = tt; passes = λ v e. refl }, tt),
+      (
+        record { wants = inl refl; plain = tt; passes = λ v e. refl },
+        (record { wants = inr tt; plain = (refl, tt); passes = λ v e. refl }, tt),
+      ),
     ),
   ),
 )
@@ -256,12 +277,13 @@ solve_states words e =
         workers = workers.0;
         order = order.0;
         cuts = cuts.0;
+        limits = limits_of (first_of (codes "large") rows);
       }),
       record {
         name = codes "solve";
         rows = rows;
         subcommand = refl;
-        values = (refl, lp.1, refl, steps.1, refl, refl, leaf.1, workers.1, order.1, well, cuts.1);
+        values = (refl, lp.1, refl, steps.1, refl, refl, leaf.1, workers.1, order.1, well, cuts.1, refl);
       },
     ))
     (λ astray. inr (rows, refl, astray))
@@ -281,12 +303,13 @@ check_states words e =
         cert = cert.0;
         dec = first_of (codes "dec") rows;
         visits = visits.0;
+        limits = limits_of (first_of (codes "large") rows);
       }),
       record {
         name = codes "check";
         rows = rows;
         subcommand = refl;
-        values = (refl, lp.1, cert.1, refl, visits.1);
+        values = (refl, lp.1, cert.1, refl, visits.1, refl);
       },
     )
 
@@ -296,12 +319,12 @@ show_states words e =
     let rows : List Row = rows_after show_level.rules [] words in
     let level = full_level good show_level words show_checks e in
     let lp = given_has good (codes "lp") rows (one_there (is_given (codes "lp") rows) level.1) level.0 in (
-      Show lp.0 (first_of (codes "dec") rows) (is_set (first_of (codes "blocks") rows)),
+      Show lp.0 (first_of (codes "dec") rows) (is_set (first_of (codes "blocks") rows)) (limits_of (first_of (codes "large") rows)),
       record {
         name = codes "show";
         rows = rows;
         subcommand = refl;
-        values = (refl, lp.1, refl, refl);
+        values = (refl, lp.1, refl, refl, refl);
       },
     )
 
@@ -360,12 +383,12 @@ detect_states words e =
     let lp = given_has good (codes "lp") rows all.0 level.0 in
     let list = given_has good (codes "rows") rows all.1 level.0 in
     let dec = given_has good (codes "dec") rows all.2 level.0 in (
-      Detect lp.0 list.0 dec.0,
+      Detect lp.0 list.0 dec.0 (limits_of (first_of (codes "large") rows)),
       record {
         name = codes "detect";
         rows = rows;
         subcommand = refl;
-        values = (refl, lp.1, list.1, dec.1);
+        values = (refl, lp.1, list.1, dec.1, refl);
       },
     )
 
@@ -377,12 +400,12 @@ propose_states words e =
     let both = two_there (is_given (codes "lp") rows) (is_given (codes "dec") rows) level.1 in
     let lp = given_has good (codes "lp") rows both.0 level.0 in
     let dec = given_has good (codes "dec") rows both.1 level.0 in (
-      Propose lp.0 dec.0,
+      Propose lp.0 dec.0 (limits_of (first_of (codes "large") rows)),
       record {
         name = codes "propose";
         rows = rows;
         subcommand = refl;
-        values = (refl, lp.1, dec.1);
+        values = (refl, lp.1, dec.1, refl);
       },
     )
 
@@ -402,12 +425,13 @@ merge_states words e =
         second = other.0;
         new = new.0;
         dec = first_of (codes "dec") rows;
+        limits = limits_of (first_of (codes "large") rows);
       }),
       record {
         name = codes "merge";
         rows = rows;
         subcommand = refl;
-        values = (refl, lp.1, one.1, other.1, new.1, refl);
+        values = (refl, lp.1, one.1, other.1, new.1, refl, refl);
       },
     )
 
@@ -420,12 +444,12 @@ migrate_states words e =
     let lp = given_has good (codes "lp") rows all.0 level.0 in
     let cert = given_has good (codes "cert") rows all.1 level.0 in
     let new = given_has good (codes "new") rows all.2 level.0 in (
-      Migrate lp.0 cert.0 new.0 (first_of (codes "dec") rows),
+      Migrate lp.0 cert.0 new.0 (first_of (codes "dec") rows) (limits_of (first_of (codes "large") rows)),
       record {
         name = codes "migrate";
         rows = rows;
         subcommand = refl;
-        values = (refl, lp.1, cert.1, new.1, refl);
+        values = (refl, lp.1, cert.1, new.1, refl, refl);
       },
     )
 

@@ -27,6 +27,10 @@ from_option = record (new_rule (codes "from")) { long = Some (codes "from") }
 abbrev pub blocks_flag : Rule
 blocks_flag = record (new_rule (codes "blocks")) { long = Some (codes "blocks"); action = Some SetTrue }
 
+-- whether the large limits are asked for, by `--large`
+abbrev pub large_flag : Rule
+large_flag = record (new_rule (codes "large")) { long = Some (codes "large"); action = Some SetTrue }
+
 -- the greatest number of steps, of a leaf, of visits, of a seed, of a size, of workers and of cuts
 abbrev pub most_steps : ℕ
 most_steps = 2 ^ 60
@@ -101,19 +105,19 @@ second_word = record (new_rule (codes "second")) { required = true }
 abbrev pub new_word : Rule
 new_word = record (new_rule (codes "new")) { required = true }
 
--- `solve LP [--dec FILE] [--steps N] [--cert FILE] [--from CERT] [--leaf K] [--workers W] [--order SEED] [--cuts C]`
+-- `solve LP [--dec FILE] [--steps N] [--cert FILE] [--from CERT] [--leaf K] [--workers W] [--order SEED] [--cuts C] [--large]`
 abbrev pub solve_words : Shape
 solve_words = record (new_shape (codes "solve")) {
-  rules = lp_word ∷ dec_option ∷ steps_option ∷ cert_option ∷ from_option ∷ leaf_option ∷ workers_option ∷ order_option ∷ cuts_option ∷ [];
+  rules = lp_word ∷ dec_option ∷ steps_option ∷ cert_option ∷ from_option ∷ leaf_option ∷ workers_option ∷ order_option ∷ cuts_option ∷ large_flag ∷ [];
 }
 
--- `check LP CERT [--dec FILE] [--visits M]`
+-- `check LP CERT [--dec FILE] [--visits M] [--large]`
 abbrev pub check_words : Shape
-check_words = record (new_shape (codes "check")) { rules = lp_word ∷ cert_word ∷ dec_option ∷ visits_option ∷ [] }
+check_words = record (new_shape (codes "check")) { rules = lp_word ∷ cert_word ∷ dec_option ∷ visits_option ∷ large_flag ∷ [] }
 
--- `show LP [--dec FILE] [--blocks]`
+-- `show LP [--dec FILE] [--blocks] [--large]`
 abbrev pub show_words : Shape
-show_words = record (new_shape (codes "show")) { rules = lp_word ∷ dec_option ∷ blocks_flag ∷ [] }
+show_words = record (new_shape (codes "show")) { rules = lp_word ∷ dec_option ∷ blocks_flag ∷ large_flag ∷ [] }
 
 -- `gen SEED SIZE LP DEC`
 abbrev pub gen_words : Shape
@@ -123,21 +127,21 @@ gen_words = record (new_shape (codes "gen")) { rules = seed_word ∷ size_word �
 abbrev pub demo_words : Shape
 demo_words = record (new_shape (codes "demo")) { rules = seed_word ∷ size_word ∷ [] }
 
--- `detect LP ROWS DEC`
+-- `detect LP ROWS DEC [--large]`
 abbrev pub detect_words : Shape
-detect_words = record (new_shape (codes "detect")) { rules = lp_word ∷ rows_word ∷ dec_word ∷ [] }
+detect_words = record (new_shape (codes "detect")) { rules = lp_word ∷ rows_word ∷ dec_word ∷ large_flag ∷ [] }
 
--- `propose LP DEC`
+-- `propose LP DEC [--large]`
 abbrev pub propose_words : Shape
-propose_words = record (new_shape (codes "propose")) { rules = lp_word ∷ dec_word ∷ [] }
+propose_words = record (new_shape (codes "propose")) { rules = lp_word ∷ dec_word ∷ large_flag ∷ [] }
 
--- `merge LP FIRST SECOND NEW [--dec FILE]`
+-- `merge LP FIRST SECOND NEW [--dec FILE] [--large]`
 abbrev pub merge_words : Shape
-merge_words = record (new_shape (codes "merge")) { rules = lp_word ∷ first_word ∷ second_word ∷ new_word ∷ dec_option ∷ [] }
+merge_words = record (new_shape (codes "merge")) { rules = lp_word ∷ first_word ∷ second_word ∷ new_word ∷ dec_option ∷ large_flag ∷ [] }
 
--- `migrate LP CERT NEW [--dec FILE]`
+-- `migrate LP CERT NEW [--dec FILE] [--large]`
 abbrev pub migrate_words : Shape
-migrate_words = record (new_shape (codes "migrate")) { rules = lp_word ∷ cert_word ∷ new_word ∷ dec_option ∷ [] }
+migrate_words = record (new_shape (codes "migrate")) { rules = lp_word ∷ cert_word ∷ new_word ∷ dec_option ∷ large_flag ∷ [] }
 
 -- the program itself
 abbrev pub program_words : Shape

@@ -1,9 +1,11 @@
 -- What a command line orders.
-use Rattle.std.specs.Prelude.{◌≡◌, ◌≢◌, ◌⊎◌, ℕ, ◌≤◌, Bool, false, List, [], Option, Some, None, IfSome, IsSome, codes}
+use Rattle.std.specs.Prelude.{◌≡◌, ◌≢◌, ◌⊎◌, ℕ, ◌≤◌, Bool, true, false, List, [], Option, Some, None, IfSome, IsSome, codes}
 use Rattle.std.specs.Option.{option_map_or}
 use Rattle.std.specs.Str.{bytes_eq}
 use Rattle.std.specs.Str.Parse.{IsNumeral, digits_value, without_leading_plus}
 use Rattle.clap.specs.Words.{Row, Text, first_of, subcommand_of, fault_of}
+use Rattle.bp_theory.specs.declared.Limits.{Limits}
+use Rattle.bp_theory.specs.declared.Limits.TheVariants.{Usual, Large}
 use Rattle.cli_orders.specs.CommandLine.{command_line, most_steps, most_leaf, most_visits, most_seed, most_size, most_workers, most_cuts}
 use Rattle.cli_orders.specs.declared.order.Order.{Order}
 use Rattle.cli_orders.specs.declared.order.Order.TheVariants.{Solve, Check, Show, Gen, Demo, Detect, Propose, Merge, Migrate}
@@ -33,6 +35,15 @@ HasCount (Some text) high n = IsNumber text 0 high n
 abbrev pub is_set : Option Text → Bool
 is_set given = option_map_or (λ text. bytes_eq text (codes "true")) given false
 
+-- the large limits where they are asked for, and else the usual ones
+abbrev pub limits_by : Bool → Limits
+limits_by true = Large
+limits_by false = Usual
+
+-- the limits by the value of the flag `--large`
+abbrev pub limits_of : Option Text → Limits
+limits_of given = limits_by (is_set given)
+
 -- a leaf is named only beside a certificate to go on from, and not beside workers or their order
 abbrev pub GoTogether : (leaf from workers order : Option Text) → Type 0
 GoTogether None from workers order = Unit {0}
@@ -51,13 +62,14 @@ HasValues name rows (Solve given) =
     × (first_of (codes "from") rows ≡ given.from) × MayHaveNumber (first_of (codes "leaf") rows) 1 most_leaf given.leaf
     × MayHaveNumber (first_of (codes "workers") rows) 1 most_workers given.workers
     × MayHaveNumber (first_of (codes "order") rows) 0 most_seed given.order × IsLeafPlaced rows
-    × HasCount (first_of (codes "cuts") rows) most_cuts given.cuts
+    × HasCount (first_of (codes "cuts") rows) most_cuts given.cuts × (limits_of (first_of (codes "large") rows) ≡ given.limits)
 HasValues name rows (Check given) =
     (name ≡ codes "check") × (first_of (codes "lp") rows ≡ Some given.lp) × (first_of (codes "cert") rows ≡ Some given.cert)
     × (first_of (codes "dec") rows ≡ given.dec) × MayHaveNumber (first_of (codes "visits") rows) 0 most_visits given.visits
-HasValues name rows (Show lp dec blocks) =
+    × (limits_of (first_of (codes "large") rows) ≡ given.limits)
+HasValues name rows (Show lp dec blocks limits) =
     (name ≡ codes "show") × (first_of (codes "lp") rows ≡ Some lp) × (first_of (codes "dec") rows ≡ dec)
-    × (is_set (first_of (codes "blocks") rows) ≡ blocks)
+    × (is_set (first_of (codes "blocks") rows) ≡ blocks) × (limits_of (first_of (codes "large") rows) ≡ limits)
 HasValues name rows (Gen seed size lp dec) =
     (name ≡ codes "gen") × HasNumber (first_of (codes "seed") rows) 0 most_seed seed
     × HasNumber (first_of (codes "size") rows) 1 most_size size × (first_of (codes "lp") rows ≡ Some lp)
@@ -65,18 +77,20 @@ HasValues name rows (Gen seed size lp dec) =
 HasValues name rows (Demo seed size) =
     (name ≡ codes "demo") × HasNumber (first_of (codes "seed") rows) 0 most_seed seed
     × HasNumber (first_of (codes "size") rows) 1 most_size size
-HasValues name rows (Detect lp list dec) =
+HasValues name rows (Detect lp list dec limits) =
     (name ≡ codes "detect") × (first_of (codes "lp") rows ≡ Some lp) × (first_of (codes "rows") rows ≡ Some list)
-    × (first_of (codes "dec") rows ≡ Some dec)
-HasValues name rows (Propose lp dec) =
+    × (first_of (codes "dec") rows ≡ Some dec) × (limits_of (first_of (codes "large") rows) ≡ limits)
+HasValues name rows (Propose lp dec limits) =
     (name ≡ codes "propose") × (first_of (codes "lp") rows ≡ Some lp) × (first_of (codes "dec") rows ≡ Some dec)
+    × (limits_of (first_of (codes "large") rows) ≡ limits)
 HasValues name rows (Merge given) =
     (name ≡ codes "merge") × (first_of (codes "lp") rows ≡ Some given.lp) × (first_of (codes "first") rows ≡ Some given.first)
     × (first_of (codes "second") rows ≡ Some given.second) × (first_of (codes "new") rows ≡ Some given.new)
-    × (first_of (codes "dec") rows ≡ given.dec)
-HasValues name rows (Migrate lp cert new dec) =
+    × (first_of (codes "dec") rows ≡ given.dec) × (limits_of (first_of (codes "large") rows) ≡ given.limits)
+HasValues name rows (Migrate lp cert new dec limits) =
     (name ≡ codes "migrate") × (first_of (codes "lp") rows ≡ Some lp) × (first_of (codes "cert") rows ≡ Some cert)
     × (first_of (codes "new") rows ≡ Some new) × (first_of (codes "dec") rows ≡ dec)
+    × (limits_of (first_of (codes "large") rows) ≡ limits)
 
 -- the numbers of an order are in their ranges, and a leaf goes with a certificate to go on from and without a crew
 abbrev pub IsInRange : Order → Type 0
@@ -85,13 +99,13 @@ IsInRange (Solve given) =
     × IfSome given.leaf (λ n. (1 ≤ n) × IsSome given.from × (given.workers ≡ None) × (given.order ≡ None))
     × (given.cuts ≤ most_cuts)
 IsInRange (Check given) = Unit {0}
-IsInRange (Show lp dec blocks) = Unit {0}
+IsInRange (Show lp dec blocks limits) = Unit {0}
 IsInRange (Gen seed size lp dec) = (1 ≤ size) × (size ≤ most_size)
 IsInRange (Demo seed size) = (1 ≤ size) × (size ≤ most_size)
-IsInRange (Detect lp list dec) = Unit {0}
-IsInRange (Propose lp dec) = Unit {0}
+IsInRange (Detect lp list dec limits) = Unit {0}
+IsInRange (Propose lp dec limits) = Unit {0}
 IsInRange (Merge given) = Unit {0}
-IsInRange (Migrate lp cert new dec) = Unit {0}
+IsInRange (Migrate lp cert new dec limits) = Unit {0}
 
 -- the subcommand that was met, with its rows, states an order
 pub record IsStated (met : Option (Text × List Row)) (order : Order) : Type 0 where

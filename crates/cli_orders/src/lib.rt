@@ -20,4 +20,4 @@ pub use orders::{
 };
 pub use parts::{Ends, Pair, Problem, Scale, Sides, SolveNumbers};
 pub use text::Text;
-pub use values::{ends_of, is_leaf_placed, problem_of, solve_numbers};
+pub use values::{ends_of, is_leaf_placed, limits_of, problem_of, solve_numbers};

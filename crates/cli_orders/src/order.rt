@@ -3,6 +3,7 @@ ghost use Rattle.std.specs.Prelude.{◌≡◌};
 ghost use Rattle.cli_orders.specs.declared.order.WordFault.TheVariants.{NoMemory};
 
 use crate::text::Text;
+use bp_theory::Limits;
 use std::alloc::AllocError;
 use thiserror::Error;
 
@@ -27,6 +28,8 @@ pub struct SolveOrder {
     pub order: Option<u64>,
     /// How many rounding cuts may be added at most, 0 to 256: none where no number is given.
     pub cuts: u32,
+    /// The limits that the model keeps.
+    pub limits: Limits,
 }
 
 /// The files and the number of an order to check.
@@ -40,6 +43,8 @@ pub struct CheckOrder {
     pub dec: Option<Text>,
     /// How many visits pricing may take in all, where a number is given.
     pub visits: Option<u64>,
+    /// The limits that the model keeps.
+    pub limits: Limits,
 }
 
 /// The files of an order to merge.
@@ -55,6 +60,8 @@ pub struct MergeOrder {
     pub new: Text,
     /// The decomposition's file, where there is one.
     pub dec: Option<Text>,
+    /// The limits that the model keeps.
+    pub limits: Limits,
 }
 
 /// What a command line orders.
@@ -74,6 +81,8 @@ pub enum Order {
         dec: Option<Text>,
         /// Whether each block is listed.
         blocks: bool,
+        /// The limits that the model keeps.
+        limits: Limits,
     },
     /// Write the texts that the generator makes.
     Gen {
@@ -101,6 +110,8 @@ pub enum Order {
         rows: Text,
         /// The decomposition's file.
         dec: Text,
+        /// The limits that the model keeps.
+        limits: Limits,
     },
     /// Write a decomposition of the LP file that the program chooses.
     Propose {
@@ -108,6 +119,8 @@ pub enum Order {
         lp: Text,
         /// The decomposition's file.
         dec: Text,
+        /// The limits that the model keeps.
+        limits: Limits,
     },
     /// Merge two certificates of the LP file.
     Merge(MergeOrder),
@@ -121,6 +134,8 @@ pub enum Order {
         new: Text,
         /// The decomposition's file, where there is one.
         dec: Option<Text>,
+        /// The limits that the model keeps.
+        limits: Limits,
     },
 }
 

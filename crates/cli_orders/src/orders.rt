@@ -7,7 +7,9 @@ ghost use Rattle.cli_orders.specs.declared.order.Order.{Order};
 use crate::command::MOST_VISITS;
 use crate::order::{CheckOrder, MergeOrder, Order, WordFault};
 use crate::parts::{Pair, Problem};
-use crate::values::{flag, given, optional_number, pair_of, problem_of, scale_of, sides_of};
+use crate::values::{
+    flag, given, limits_of, optional_number, pair_of, problem_of, scale_of, sides_of,
+};
 use clap::ArgMatches;
 use std::alloc::Global;
 
@@ -25,6 +27,7 @@ pub fn check_order(alloc: Global, check: &ArgMatches) -> Result<Order, WordFault
         cert,
         dec,
         visits,
+        limits: limits_of(check),
     }))
 }
 
@@ -36,7 +39,12 @@ pub fn show_order(alloc: Global, show: &ArgMatches) -> Result<Order, WordFault>
 {
     let blocks = flag(show, "blocks");
     let Problem { lp, dec } = problem_of(alloc, show)?;
-    Ok(Order::Show { lp, dec, blocks })
+    Ok(Order::Show {
+        lp,
+        dec,
+        blocks,
+        limits: limits_of(show),
+    })
 }
 
 /// The order to make texts.
@@ -76,7 +84,12 @@ pub fn detect_order(alloc: Global, detect: &ArgMatches) -> Result<Order, WordFau
 {
     let rows = given(alloc, detect, "rows")?;
     let Pair { lp, dec } = pair_of(alloc, detect)?;
-    Ok(Order::Detect { lp, rows, dec })
+    Ok(Order::Detect {
+        lp,
+        rows,
+        dec,
+        limits: limits_of(detect),
+    })
 }
 
 /// The order to choose a decomposition.
@@ -86,7 +99,11 @@ pub fn propose_order(alloc: Global, propose: &ArgMatches) -> Result<Order, WordF
         (order : Order) → HasValues (codes "propose") (rows_of (found_of propose.now)) order → ⊥ }
 {
     let Pair { lp, dec } = pair_of(alloc, propose)?;
-    Ok(Order::Propose { lp, dec })
+    Ok(Order::Propose {
+        lp,
+        dec,
+        limits: limits_of(propose),
+    })
 }
 
 /// The order to merge certificates.
@@ -104,6 +121,7 @@ pub fn merge_order(alloc: Global, merge: &ArgMatches) -> Result<Order, WordFault
         second: sides.second,
         new,
         dec,
+        limits: limits_of(merge),
     }))
 }
 
@@ -116,5 +134,11 @@ pub fn migrate_order(alloc: Global, migrate: &ArgMatches) -> Result<Order, WordF
     let cert = given(alloc, migrate, "cert")?;
     let new = given(alloc, migrate, "new")?;
     let Problem { lp, dec } = problem_of(alloc, migrate)?;
-    Ok(Order::Migrate { lp, cert, new, dec })
+    Ok(Order::Migrate {
+        lp,
+        cert,
+        new,
+        dec,
+        limits: limits_of(migrate),
+    })
 }

@@ -1,7 +1,7 @@
 // What the arguments of a subcommand say: files, numbers and flags.
 ghost use Rattle.std.specs.Prelude.{◌≡◌, ◌↔◌, ◌<◌, ◌^◌, ℕ, Err, None, Some, Option, option_map, codes, IfOk, IfSome, IfNone, IsTrue};
 ghost use Rattle.clap.specs.Words.{found_of, rows_of, first_of};
-ghost use Rattle.cli_orders.specs.Orders.{IsNumber, HasNumber, MayHaveNumber, HasCount, is_set, IsLeafPlaced};
+ghost use Rattle.cli_orders.specs.Orders.{IsNumber, HasNumber, MayHaveNumber, HasCount, is_set, limits_of, IsLeafPlaced};
 ghost use Rattle.cli_orders.specs.Parts.{IsProblem, IsPair, AreSides, AreEnds, IsScale, AreSolveNumbers};
 ghost use Rattle.cli_orders.specs.declared.parts.Pair.{Pair};
 ghost use Rattle.cli_orders.specs.declared.parts.Sides.{Sides};
@@ -12,6 +12,7 @@ use crate::command::{MOST_CUTS, MOST_LEAF, MOST_SIZE, MOST_STEPS, MOST_WORKERS};
 use crate::order::WordFault;
 use crate::parts::{Ends, Pair, Problem, Scale, Sides, SolveNumbers};
 use crate::text::Text;
+use bp_theory::Limits;
 use clap::ArgMatches;
 use std::alloc::{AllocError, Global};
 
@@ -189,6 +190,17 @@ pub fn flag(matches: &ArgMatches, id: &str) -> bool
     match value_of(matches, id) {
         Some(text) => text == "true",
         None => false,
+    }
+}
+
+/// The limits that a model keeps: the large ones where the flag `--large` is given.
+pub fn limits_of(matches: &ArgMatches) -> Limits
+    ensures { result ≡ limits_of (first_of (codes "large") (rows_of (found_of matches.now))) }
+{
+    if flag(matches, "large") {
+        Limits::Large
+    } else {
+        Limits::Usual
     }
 }
 

@@ -1,6 +1,7 @@
 -- What a text is answered is answered for its file, and for the files of a run.
 use Rattle.std.proofs.Common.{◌≡◌, ◌∙◌, refl, sym, ap, subst, ℕ, ◌+◌, ◌*◌, ◌-◌, ◌<◌, ◌≤◌, ◌^◌, List, [], length, Option, Some, None, Result, Ok, Err, IfOk, IfErr, IsErrAnd, arith}
 use Rattle.std.specs.Prelude.{min}
+use Rattle.bp_theory.specs.declared.Limits.{Limits}
 use Rattle.bp_shelf.specs.Shelf.{Files}
 use Rattle.bp_shelf.specs.declared.shelf.ShelfFault.{ShelfFault}
 use Rattle.bp_shelf.specs.declared.shelf.ShelfFault.TheVariants.{Missing, Failed, NoMemory}
@@ -44,30 +45,30 @@ text_read b text cert m short spells beside same told done =
 
 -- ---- a file
 
-pub file_read : (files : Files) (lp cert : List ℕ) (dec : Option (List ℕ)) (b : BlockedProgram) (front : List ℕ) (r : Result Migrated Halt) → FilesCome files lp dec (blocked b)
-    → Some front ≡ files cert → IfOk r (λ m. ReadsCert b (Some front) m) → IfOk r (λ m. ReadsFiles files lp cert dec m)
-file_read files lp cert dec b front (Ok m) come is h = (b, come, subst (λ (file : Option (List ℕ)). ReadsCert b file m) is h)
-file_read files lp cert dec b front (Err e) come is h = tt
+pub file_read : (limits : Limits) (files : Files) (lp cert : List ℕ) (dec : Option (List ℕ)) (b : BlockedProgram) (front : List ℕ) (r : Result Migrated Halt) → FilesCome limits files lp dec (blocked b)
+    → Some front ≡ files cert → IfOk r (λ m. ReadsCert b (Some front) m) → IfOk r (λ m. ReadsFiles limits files lp cert dec m)
+file_read limits files lp cert dec b front (Ok m) come is h = (b, come, subst (λ (file : Option (List ℕ)). ReadsCert b file m) is h)
+file_read limits files lp cert dec b front (Err e) come is h = tt
 
-pub file_halted : (files : Files) (lp cert : List ℕ) (dec : Option (List ℕ)) (b : BlockedProgram) (front : List ℕ) (r : Result Migrated Halt) → FilesCome files lp dec (blocked b)
-    → Some front ≡ files cert → IfErr r (IsTextHalt (TextMigrates b (Some front))) → IfErr r (IsHalt (Migrates files lp cert dec))
-file_halted files lp cert dec b front (Ok m) come is halts = tt
-file_halted files lp cert dec b front (Err (Refused report)) come is halts =
+pub file_halted : (limits : Limits) (files : Files) (lp cert : List ℕ) (dec : Option (List ℕ)) (b : BlockedProgram) (front : List ℕ) (r : Result Migrated Halt) → FilesCome limits files lp dec (blocked b)
+    → Some front ≡ files cert → IfErr r (IsTextHalt (TextMigrates b (Some front))) → IfErr r (IsHalt (Migrates limits files lp cert dec))
+file_halted limits files lp cert dec b front (Ok m) come is halts = tt
+file_halted limits files lp cert dec b front (Err (Refused report)) come is halts =
     went_on b (stops 3 report.items) come (subst (λ (file : Option (List ℕ)). TextMigrates b file (stops 3 report.items)) is halts)
-file_halted files lp cert dec b front (Err (Stopped Missing)) come is halts = absurd (cc)
-file_halted files lp cert dec b front (Err (Stopped Failed)) come is halts = tt
-file_halted files lp cert dec b front (Err (Stopped NoMemory)) come is halts = tt
+file_halted limits files lp cert dec b front (Err (Stopped Missing)) come is halts = absurd (cc)
+file_halted limits files lp cert dec b front (Err (Stopped Failed)) come is halts = tt
+file_halted limits files lp cert dec b front (Err (Stopped NoMemory)) come is halts = tt
 
-fault_halted : (files : Files) (lp cert : List ℕ) (dec : Option (List ℕ)) (b : BlockedProgram) (fault : ShelfFault) → FilesCome files lp dec (blocked b) → (fault ≡ Missing → files cert ≡ None)
-    → IsHalt (Migrates files lp cert dec) (Stopped fault)
-fault_halted files lp cert dec b Missing come gone = went_on b (stops 11 []) come (missing (gone refl))
-fault_halted files lp cert dec b Failed come gone = tt
-fault_halted files lp cert dec b NoMemory come gone = tt
+fault_halted : (limits : Limits) (files : Files) (lp cert : List ℕ) (dec : Option (List ℕ)) (b : BlockedProgram) (fault : ShelfFault) → FilesCome limits files lp dec (blocked b) → (fault ≡ Missing → files cert ≡ None)
+    → IsHalt (Migrates limits files lp cert dec) (Stopped fault)
+fault_halted limits files lp cert dec b Missing come gone = went_on b (stops 11 []) come (missing (gone refl))
+fault_halted limits files lp cert dec b Failed come gone = tt
+fault_halted limits files lp cert dec b NoMemory come gone = tt
 
-pub fault_halts : {T : Type 0} (files : Files) (lp cert : List ℕ) (dec : Option (List ℕ)) (b : BlockedProgram) (fault : ShelfFault) (r : Result T Halt) → IsErrAnd r (λ e. e ≡ Stopped fault)
-    → FilesCome files lp dec (blocked b) → (fault ≡ Missing → files cert ≡ None) → IfErr r (IsHalt (Migrates files lp cert dec))
-fault_halts files lp cert dec b fault (Ok x) is come gone = tt
-fault_halts files lp cert dec b fault (Err e) is come gone = subst (λ (s : Halt). IsHalt (Migrates files lp cert dec) s) (sym is) (fault_halted files lp cert dec b fault come gone)
+pub fault_halts : {T : Type 0} (limits : Limits) (files : Files) (lp cert : List ℕ) (dec : Option (List ℕ)) (b : BlockedProgram) (fault : ShelfFault) (r : Result T Halt) → IsErrAnd r (λ e. e ≡ Stopped fault)
+    → FilesCome limits files lp dec (blocked b) → (fault ≡ Missing → files cert ≡ None) → IfErr r (IsHalt (Migrates limits files lp cert dec))
+fault_halts limits files lp cert dec b fault (Ok x) is come gone = tt
+fault_halts limits files lp cert dec b fault (Err e) is come gone = subst (λ (s : Halt). IsHalt (Migrates limits files lp cert dec) s) (sym is) (fault_halted limits files lp cert dec b fault come gone)
 
 pub still_missing : {T : Type 0} (fault : ShelfFault) → fault ≡ Missing → ◌≡◌ {A = Result T ShelfFault} (Err fault) (Err Missing)
 still_missing {T} fault is = subst (λ (f : ShelfFault). ◌≡◌ {A = Result T ShelfFault} (Err fault) (Err f)) is refl
@@ -82,13 +83,13 @@ text_counts Right (Err (Stopped NoMemory)) before now halts same = same
 
 -- ---- the front
 
-front_halted : (files : Files) (lp cert : List ℕ) (dec : Option (List ℕ)) (halt : Halt) → ComesToHalt files lp dec halt → IsHalt (Migrates files lp cert dec) halt
-front_halted files lp cert dec (Refused report) h = stopped 3 report.items h
-front_halted files lp cert dec (Stopped Missing) h = stopped 11 [] h
-front_halted files lp cert dec (Stopped Failed) h = tt
-front_halted files lp cert dec (Stopped NoMemory) h = tt
+front_halted : (limits : Limits) (files : Files) (lp cert : List ℕ) (dec : Option (List ℕ)) (halt : Halt) → ComesToHalt limits files lp dec halt → IsHalt (Migrates limits files lp cert dec) halt
+front_halted limits files lp cert dec (Refused report) h = stopped 3 report.items h
+front_halted limits files lp cert dec (Stopped Missing) h = stopped 11 [] h
+front_halted limits files lp cert dec (Stopped Failed) h = tt
+front_halted limits files lp cert dec (Stopped NoMemory) h = tt
 
-pub front_halts : {T : Type 0} (files : Files) (lp cert : List ℕ) (dec : Option (List ℕ)) (halt : Halt) (r : Result T Halt) → IsErrAnd r (λ e. e ≡ halt) → ComesToHalt files lp dec halt
-    → IfErr r (IsHalt (Migrates files lp cert dec))
-front_halts files lp cert dec halt (Ok x) is h = tt
-front_halts files lp cert dec halt (Err e) is h = subst (λ (s : Halt). IsHalt (Migrates files lp cert dec) s) (sym is) (front_halted files lp cert dec halt h)
+pub front_halts : {T : Type 0} (limits : Limits) (files : Files) (lp cert : List ℕ) (dec : Option (List ℕ)) (halt : Halt) (r : Result T Halt) → IsErrAnd r (λ e. e ≡ halt) → ComesToHalt limits files lp dec halt
+    → IfErr r (IsHalt (Migrates limits files lp cert dec))
+front_halts limits files lp cert dec halt (Ok x) is h = tt
+front_halts limits files lp cert dec halt (Err e) is h = subst (λ (s : Halt). IsHalt (Migrates limits files lp cert dec) s) (sym is) (front_halted limits files lp cert dec halt h)

@@ -1,6 +1,7 @@
 -- The files are answered by one status.
 use Rattle.std.proofs.Common.{◌≡◌, refl, sym, ap, subst, ◌∙◌, ℕ, List, [], get_or, Option, Some}
 use Rattle.std.proofs.lemmas.List.{get_or_append_left}
+use Rattle.bp_theory.specs.declared.Limits.{Limits}
 use Rattle.bp_theory.specs.Claims.{Certificate}
 use Rattle.bp_theory.specs.declared.Cut.{Cut}
 use Rattle.cert_format.specs.Fault.{IsCertText}
@@ -107,10 +108,10 @@ one_merge files b one other a c formed h g = by (answers_one files b one other a
         absurd (no_refused files b other more further c formed near beside y)
     by (opened_both text more from further there near start beside x) (opened_both text' more' from' further' there' near' start' beside' y) = one_pair files b one other a c x y
 
-pub one_answer : (files : Files) (lp one other : List ℕ) (dec : Option (List ℕ)) → HasOneStatus (Merges files lp one other dec)
-one_answer files lp one other dec a c (stopped s r x) (stopped s' r' y) = one_front files lp dec (ends s r) (ends s' r') x y
-one_answer files lp one other dec a c (stopped s r x) (went_on b _ y h) = absurd (one_front files lp dec (ends s r) (blocked b) x y)
-one_answer files lp one other dec a c (went_on b _ x h) (stopped s r y) = absurd (one_front files lp dec (blocked b) (ends s r) x y)
-one_answer files lp one other dec a c (went_on b _ x h) (went_on b' _ y h') =
-    let same : b' ≡ b = one_front files lp dec (blocked b') (blocked b) y x in
-    one_merge files b one other a c (plain_front files lp dec (blocked b) x).0 h (subst (λ (d : BlockedProgram). MergesBlocked files d one other c) same h')
+pub one_answer : (limits : Limits) (files : Files) (lp one other : List ℕ) (dec : Option (List ℕ)) → HasOneStatus (Merges limits files lp one other dec)
+one_answer limits files lp one other dec a c (stopped s r x) (stopped s' r' y) = one_front limits files lp dec (ends s r) (ends s' r') x y
+one_answer limits files lp one other dec a c (stopped s r x) (went_on b _ y h) = absurd (one_front limits files lp dec (ends s r) (blocked b) x y)
+one_answer limits files lp one other dec a c (went_on b _ x h) (stopped s r y) = absurd (one_front limits files lp dec (blocked b) (ends s r) x y)
+one_answer limits files lp one other dec a c (went_on b _ x h) (went_on b' _ y h') =
+    let same : b' ≡ b = one_front limits files lp dec (blocked b') (blocked b) y x in
+    one_merge files b one other a c (plain_front limits files lp dec (blocked b) x).0 h (subst (λ (d : BlockedProgram). MergesBlocked files d one other c) same h')

@@ -1,5 +1,6 @@
 -- The files are answered by one status.
 use Rattle.std.proofs.Common.{◌≡◌, refl, sym, subst, ℕ, List, Option, Some, None}
+use Rattle.bp_theory.specs.declared.Limits.{Limits}
 use Rattle.bp_shelf.specs.Shelf.{Files}
 use Rattle.block_program.specs.Blocked.{BlockedProgram}
 use Rattle.cert_format.specs.Cert.{Cert}
@@ -32,10 +33,10 @@ one_file b file a c (migrated text new d x spells anew) (faulty text' line kind 
     absurd (read_or_faulty b text text' d line kind (one_text file text text' x y) spells fault)
 one_file b file a c (migrated text new d x spells anew) (migrated text' new' d' y spells' anew') = refl
 
-pub one_answer : (files : Files) (lp cert : List ℕ) (dec : Option (List ℕ)) → HasOneStatus (Migrates files lp cert dec)
-one_answer files lp cert dec a c (stopped s r x) (stopped s' r' y) = one_front files lp dec (ends s r) (ends s' r') x y
-one_answer files lp cert dec a c (stopped s r x) (went_on b _ y h) = absurd (one_front files lp dec (ends s r) (blocked b) x y)
-one_answer files lp cert dec a c (went_on b _ x h) (stopped s r y) = absurd (one_front files lp dec (blocked b) (ends s r) x y)
-one_answer files lp cert dec a c (went_on b _ x h) (went_on b' _ y h') =
-    let same : b' ≡ b = one_front files lp dec (blocked b') (blocked b) y x in
+pub one_answer : (limits : Limits) (files : Files) (lp cert : List ℕ) (dec : Option (List ℕ)) → HasOneStatus (Migrates limits files lp cert dec)
+one_answer limits files lp cert dec a c (stopped s r x) (stopped s' r' y) = one_front limits files lp dec (ends s r) (ends s' r') x y
+one_answer limits files lp cert dec a c (stopped s r x) (went_on b _ y h) = absurd (one_front limits files lp dec (ends s r) (blocked b) x y)
+one_answer limits files lp cert dec a c (went_on b _ x h) (stopped s r y) = absurd (one_front limits files lp dec (blocked b) (ends s r) x y)
+one_answer limits files lp cert dec a c (went_on b _ x h) (went_on b' _ y h') =
+    let same : b' ≡ b = one_front limits files lp dec (blocked b') (blocked b) y x in
     one_file b (files cert) a c h (subst (λ (d : BlockedProgram). TextMigrates d (files cert) c) same h')

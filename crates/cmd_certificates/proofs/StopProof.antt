@@ -1,5 +1,6 @@
 -- How a run ends before anything is merged.
 use Rattle.std.proofs.Common.{◌≡◌, ◌≢◌, ◌⊎◌, ◌∙◌, inl, inr, refl, sym, subst, ℕ, Bool, IsTrue, List, [], Option, None, Result, Ok, Err, IfOk, IfErr, IsErrAnd, arith}
+use Rattle.bp_theory.specs.declared.Limits.{Limits}
 use Rattle.bp_shelf.specs.Shelf.{Files, Rose}
 use Rattle.bp_shelf.specs.declared.shelf.ShelfFault.{ShelfFault}
 use Rattle.bp_shelf.specs.declared.shelf.ShelfFault.TheVariants.{Missing, Failed, NoMemory}
@@ -60,17 +61,17 @@ both_apart files b one other first second (Err (Stopped Failed)) x y ends = tt
 both_apart files b one other first second (Err (Stopped NoMemory)) x y ends = tt
 
 -- a program in blocks
-pub blocks_merged : (files : Files) (lp one other : List ℕ) (dec : Option (List ℕ)) (b : BlockedProgram) (r : Result Draft Stop) → FilesCome files lp dec (blocked b)
-    → IfOk r (λ m. MergesBlocked files b one other (draft_answer m)) → IfOk r (λ m. Merges files lp one other dec (draft_answer m))
-blocks_merged files lp one other dec b (Ok m) come h = went_on b (draft_answer m) come h
-blocks_merged files lp one other dec b (Err stop) come h = tt
+pub blocks_merged : (limits : Limits) (files : Files) (lp one other : List ℕ) (dec : Option (List ℕ)) (b : BlockedProgram) (r : Result Draft Stop) → FilesCome limits files lp dec (blocked b)
+    → IfOk r (λ m. MergesBlocked files b one other (draft_answer m)) → IfOk r (λ m. Merges limits files lp one other dec (draft_answer m))
+blocks_merged limits files lp one other dec b (Ok m) come h = went_on b (draft_answer m) come h
+blocks_merged limits files lp one other dec b (Err stop) come h = tt
 
 -- a front that comes to no program in blocks
-pub front_stops : (files : Files) (lp one other : List ℕ) (dec : Option (List ℕ)) (fault : ShelfFault) → ComesToHalt files lp dec (halts.Stopped fault)
-    → IsStop (Merges files lp one other dec) (Stopped fault)
-front_stops files lp one other dec Missing h = stopped 11 [] h
-front_stops files lp one other dec Failed h = tt
-front_stops files lp one other dec NoMemory h = tt
+pub front_stops : (limits : Limits) (files : Files) (lp one other : List ℕ) (dec : Option (List ℕ)) (fault : ShelfFault) → ComesToHalt limits files lp dec (halts.Stopped fault)
+    → IsStop (Merges limits files lp one other dec) (Stopped fault)
+front_stops limits files lp one other dec Missing h = stopped 11 [] h
+front_stops limits files lp one other dec Failed h = tt
+front_stops limits files lp one other dec NoMemory h = tt
 
 -- a refusal's status
 refusal_unfailed : (s : ℕ) → (s ≡ 3) ⊎ (s ≡ 6) → s ≢ 8

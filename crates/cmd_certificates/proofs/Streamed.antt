@@ -2,6 +2,7 @@
 use Rattle.std.proofs.Common.{◌≡◌, ◌≢◌, ◌⊎◌, ◌∙◌, inl, inr, refl, sym, ap, subst, ℕ, Bool, IsTrue, List, [], ◌∷◌, ◌++◌, map, Option, Some, Result, Ok, Err, IfOk, IfErr}
 use Rattle.bp_shelf.specs.Shelf.{Files, OthersAsBefore}
 use Rattle.block_program.specs.Blocked.{BlockedProgram}
+use Rattle.bp_theory.specs.declared.Limits.{Limits}
 use Rattle.bp_theory.specs.declared.Cut.{Cut}
 use Rattle.cert_format.specs.Text.{Version}
 use Rattle.cert_format.specs.Written.{written_cut}
@@ -46,10 +47,10 @@ same_version [] = refl
 same_version (cut ∷ cuts) = refl
 
 -- each text in it is right
-pub with_right : (files : Files) (lp cert : List ℕ) (dec : Option (List ℕ)) (m : Migrated) (new : List ℕ) (h : ReadsFiles files lp cert dec m)
+pub with_right : (limits : Limits) (files : Files) (lp cert : List ℕ) (dec : Option (List ℕ)) (m : Migrated) (new : List ℕ) (h : ReadsFiles limits files lp cert dec m)
     → IsText (frame_for h.0) (version_with m.cert.cuts) (kept_cert m.cert) new
-    → Migrates files lp cert dec (answer_with m new)
-with_right files lp cert dec m new h anew =
+    → Migrates limits files lp cert dec (answer_with m new)
+with_right limits files lp cert dec m new h anew =
     let r = h.2 in
     went_on h.0 (answer_with m new) h.1
     (migrates_as h.0 (files cert) 0 m.reply.status (migrated_report (nodes (kept_cert m.cert).tree)) m.reply.report.items new r.done r.told
@@ -63,36 +64,36 @@ text_anew m = plain_text (version_with m.cert.cuts) m.cert.claim m.cert.point m.
 abbrev pub answer_of : Migrated → Answer
 answer_of m = answer_with m (text_anew m)
 
-pub is_right : (files : Files) (lp cert : List ℕ) (dec : Option (List ℕ)) (m : Migrated) → ReadsFiles files lp cert dec m → Migrates files lp cert dec (answer_of m)
-is_right files lp cert dec m h =
+pub is_right : (limits : Limits) (files : Files) (lp cert : List ℕ) (dec : Option (List ℕ)) (m : Migrated) → ReadsFiles limits files lp cert dec m → Migrates limits files lp cert dec (answer_of m)
+is_right limits files lp cert dec m h =
     let r = h.2 in
-    with_right files lp cert dec m (text_anew m) h (rewritten (frame_for h.0) r.spells.0 m.cert.claim m.cert.point m.cert.cuts (tree_of m.cert.tree) r.text r.spells.1)
+    with_right limits files lp cert dec m (text_anew m) h (rewritten (frame_for h.0) r.spells.0 m.cert.claim m.cert.point m.cert.cuts (tree_of m.cert.tree) r.text r.spells.1)
 
 -- what a writer did for the program that the certificate was read for
-written_so : (files : Files) (lp cert : List ℕ) (dec : Option (List ℕ)) (name : List ℕ) (m : Migrated) (before now : Files) (result : Result (Unit {0}) StreamStop)
-    → (h : ReadsFiles files lp cert dec m) → IsAnew m.b m.cert name before now result → Rewrites (frame_for h.0) m.cert name before now result
-written_so files lp cert dec name m before now result h writes = subst (λ (b : BlockedProgram). IsAnew b m.cert name before now result) h.2.same writes h.2.text h.2.spells
+written_so : (limits : Limits) (files : Files) (lp cert : List ℕ) (dec : Option (List ℕ)) (name : List ℕ) (m : Migrated) (before now : Files) (result : Result (Unit {0}) StreamStop)
+    → (h : ReadsFiles limits files lp cert dec m) → IsAnew m.b m.cert name before now result → Rewrites (frame_for h.0) m.cert name before now result
+written_so limits files lp cert dec name m before now result h writes = subst (λ (b : BlockedProgram). IsAnew b m.cert name before now result) h.2.same writes h.2.text h.2.spells
 
 -- it is written whole
-whole_text : (files : Files) (lp cert : List ℕ) (dec : Option (List ℕ)) (name : List ℕ) (m : Migrated) (now : Files) (done : Unit {0}) → ReadsFiles files lp cert dec m
-    → IsAnew m.b m.cert name files now (Ok done) → HasText (Migrates files lp cert dec) name files now m.reply
-whole_text files lp cert dec name m now done h writes =
-    let so = written_so files lp cert dec name m files now (Ok done) h writes in
+whole_text : (limits : Limits) (files : Files) (lp cert : List ℕ) (dec : Option (List ℕ)) (name : List ℕ) (m : Migrated) (now : Files) (done : Unit {0}) → ReadsFiles limits files lp cert dec m
+    → IsAnew m.b m.cert name files now (Ok done) → HasText (Migrates limits files lp cert dec) name files now m.reply
+whole_text limits files lp cert dec name m now done h writes =
+    let so = written_so limits files lp cert dec name m files now (Ok done) h writes in
     let new = so.holds.0 in
-    record { text = Some new; right = with_right files lp cert dec m new h so.holds.1; stands = (so.holds.2, so.others) }
+    record { text = Some new; right = with_right limits files lp cert dec m new h so.holds.1; stands = (so.holds.2, so.others) }
 
 -- memory was wanting
-part_text : (files : Files) (lp cert : List ℕ) (dec : Option (List ℕ)) (name : List ℕ) (m : Migrated) (now : Files) → ReadsFiles files lp cert dec m
-    → IsAnew m.b m.cert name files now (Err NoMemory) → LeavesPart (Migrates files lp cert dec) name files now
-part_text files lp cert dec name m now h writes =
-    let so = written_so files lp cert dec name m files now (Err NoMemory) h writes in
+part_text : (limits : Limits) (files : Files) (lp cert : List ℕ) (dec : Option (List ℕ)) (name : List ℕ) (m : Migrated) (now : Files) → ReadsFiles limits files lp cert dec m
+    → IsAnew m.b m.cert name files now (Err NoMemory) → LeavesPart (Migrates limits files lp cert dec) name files now
+part_text limits files lp cert dec name m now h writes =
+    let so = written_so limits files lp cert dec name m files now (Err NoMemory) h writes in
     record { holds = by so.holds; others = so.others }
   where
     by : (now name ≡ files name) ⊎ ((xs : List ℕ) × (rest : List ℕ) × IsText (frame_for h.0) (version_with m.cert.cuts) (kept_cert m.cert) (xs ++ rest) × (now name ≡ Some xs))
-        → (now name ≡ files name) ⊎ HoldsPart (Migrates files lp cert dec) (now name)
+        → (now name ≡ files name) ⊎ HoldsPart (Migrates limits files lp cert dec) (now name)
     by (inl stays) = inl stays
     by (inr begins) =
-        inr (answer_with m (begins.0 ++ begins.1), with_right files lp cert dec m (begins.0 ++ begins.1) h begins.2, (begins.0, begins.1, refl, begins.3))
+        inr (answer_with m (begins.0 ++ begins.1), with_right limits files lp cert dec m (begins.0 ++ begins.1) h begins.2, (begins.0, begins.1, refl, begins.3))
 
 -- a writer that stopped
 pub anew_stopped : (b : BlockedProgram) (cert : Kept) (told : Bool) (name : List ℕ) (before now : Files) (writes writes_now : ℕ) (reply : Reply) (stop : StreamStop)
@@ -107,33 +108,33 @@ unchanged Right name before now same = record { holds = inl (ap (λ (files : Fil
 
 -- ---- the run
 
-comes_by : (told : Bool) (before : Files) (lp cert : List ℕ) (dec : Option (List ℕ)) (name : List ℕ) (now : Files) (reads between reads_now writes writes_now : ℕ)
-    (r : Result Migrated Halt) (come : Result Reply Unprinted) → (IsTrue told → IfOk r (λ m. ReadsFiles before lp cert dec m)) → IfOk r (λ m. m.reply.status ≡ 0)
-    → (IsTrue told → IfErr r (IsHalt (Migrates before lp cert dec))) → CountsHalted reads between r → reads_now ≡ between
+comes_by : (limits : Limits) (told : Bool) (before : Files) (lp cert : List ℕ) (dec : Option (List ℕ)) (name : List ℕ) (now : Files) (reads between reads_now writes writes_now : ℕ)
+    (r : Result Migrated Halt) (come : Result Reply Unprinted) → (IsTrue told → IfOk r (λ m. ReadsFiles limits before lp cert dec m)) → IfOk r (λ m. m.reply.status ≡ 0)
+    → (IsTrue told → IfErr r (IsHalt (Migrates limits before lp cert dec))) → CountsHalted reads between r → reads_now ≡ between
     → WritesMigrated told name before now writes writes_now r come
-    → WriterComes (Migrates before lp cert dec) (LeavesPart (Migrates before lp cert dec) name before now) told name before now reads reads_now writes writes_now come
-comes_by told before lp cert dec name now reads between reads_now writes writes_now (Ok m) come read done halts counted same (whole x anew w) =
-    replied m.reply (inl done) (λ is_told. whole_text before lp cert dec name m now x (read is_told) (anew is_told)) (same ∙ counted) w
-comes_by told before lp cert dec name now reads between reads_now writes writes_now (Ok m) come read done halts counted same (failed anew rose) =
-    unwritten (loses 8 m.reply) refl (λ is_told. (answer_of m, m.reply.report, refl, refl, is_right before lp cert dec m (read is_told)))
-    (λ is_told. (written_so before lp cert dec name m before now (Err Failed) (read is_told) (anew is_told)).others) (same ∙ counted) rose
-comes_by told before lp cert dec name now reads between reads_now writes writes_now (Ok m) come read done halts counted same (writing.wanting anew w) =
-    wanting (loses 9 m.reply) refl (λ is_told. part_text before lp cert dec name m now (read is_told) (anew is_told)) (same ∙ counted) w
-comes_by told before lp cert dec name now reads between reads_now writes writes_now (Err halt) come read done halts counted same ends =
-    let Right : Answer → Type 0 = Migrates before lp cert dec in
+    → WriterComes (Migrates limits before lp cert dec) (LeavesPart (Migrates limits before lp cert dec) name before now) told name before now reads reads_now writes writes_now come
+comes_by limits told before lp cert dec name now reads between reads_now writes writes_now (Ok m) come read done halts counted same (whole x anew w) =
+    replied m.reply (inl done) (λ is_told. whole_text limits before lp cert dec name m now x (read is_told) (anew is_told)) (same ∙ counted) w
+comes_by limits told before lp cert dec name now reads between reads_now writes writes_now (Ok m) come read done halts counted same (failed anew rose) =
+    unwritten (loses 8 m.reply) refl (λ is_told. (answer_of m, m.reply.report, refl, refl, is_right limits before lp cert dec m (read is_told)))
+    (λ is_told. (written_so limits before lp cert dec name m before now (Err Failed) (read is_told) (anew is_told)).others) (same ∙ counted) rose
+comes_by limits told before lp cert dec name now reads between reads_now writes writes_now (Ok m) come read done halts counted same (writing.wanting anew w) =
+    wanting (loses 9 m.reply) refl (λ is_told. part_text limits before lp cert dec name m now (read is_told) (anew is_told)) (same ∙ counted) w
+comes_by limits told before lp cert dec name now reads between reads_now writes writes_now (Err halt) come read done halts counted same ends =
+    let Right : Answer → Type 0 = Migrates limits before lp cert dec in
     subst (λ (c : Result Reply Unprinted). WriterComes Right (LeavesPart Right name before now) told name before now reads reads_now writes writes_now c) (sym ends.0)
     (halt_comes Migrated Right (LeavesPart Right name before now) told name before now reads between reads_now writes writes_now halt (unchanged Right name before now) halts counted same ends.1 ends.2)
 
 -- what a run came to that wrote a certificate anew, or was halted before it had one: reading the files left all as before
-pub migrated_comes : (told told_then : Bool) (before files : Files) (lp cert : List ℕ) (dec : Option (List ℕ)) (name : List ℕ) (now : Files)
-    (reads between reads_now writes writes_then writes_now : ℕ) (r : Result Migrated Halt) (come : Result Reply Unprinted) → (IsTrue told → IfOk r (λ m. ReadsFiles before lp cert dec m))
-    → IfOk r (λ m. m.reply.status ≡ 0) → (IsTrue told → IfErr r (IsHalt (Migrates before lp cert dec))) → CountsHalted reads between r → told_then ≡ told → files ≡ before
+pub migrated_comes : (limits : Limits) (told told_then : Bool) (before files : Files) (lp cert : List ℕ) (dec : Option (List ℕ)) (name : List ℕ) (now : Files)
+    (reads between reads_now writes writes_then writes_now : ℕ) (r : Result Migrated Halt) (come : Result Reply Unprinted) → (IsTrue told → IfOk r (λ m. ReadsFiles limits before lp cert dec m))
+    → IfOk r (λ m. m.reply.status ≡ 0) → (IsTrue told → IfErr r (IsHalt (Migrates limits before lp cert dec))) → CountsHalted reads between r → told_then ≡ told → files ≡ before
     → writes_then ≡ writes → reads_now ≡ between → WritesMigrated told_then name files now writes_then writes_now r come
-    → WriterComes (Migrates before lp cert dec) (LeavesPart (Migrates before lp cert dec) name before now) told name before now reads reads_now writes writes_now come
-migrated_comes told told_then before files lp cert dec name now reads between reads_now writes writes_then writes_now r come read done halts counted same_told same_files same_writes same_reads ends =
+    → WriterComes (Migrates limits before lp cert dec) (LeavesPart (Migrates limits before lp cert dec) name before now) told name before now reads reads_now writes writes_now come
+migrated_comes limits told told_then before files lp cert dec name now reads between reads_now writes writes_then writes_now r come read done halts counted same_told same_files same_writes same_reads ends =
     let a : WritesMigrated told name files now writes_then writes_now r come = subst (λ (t : Bool). WritesMigrated t name files now writes_then writes_now r come) same_told ends in
     let b : WritesMigrated told name before now writes_then writes_now r come = subst (λ (fs : Files). WritesMigrated told name fs now writes_then writes_now r come) same_files a in
-    comes_by told before lp cert dec name now reads between reads_now writes writes_now r come read done halts counted same_reads
+    comes_by limits told before lp cert dec name now reads between reads_now writes writes_now r come read done halts counted same_reads
     (subst (λ (n : ℕ). WritesMigrated told name before now n writes_now r come) same_writes b)
 
 -- the reply to it is none of a failed write
@@ -149,11 +150,11 @@ migrated_unfailed told name before now writes writes_now (Ok m) come done ends =
 migrated_unfailed told name before now writes writes_now (Err halt) come done ends = subst (λ (c : Result Reply Unprinted). IfOk c (λ reply. reply.status ≢ 8)) (sym ends.0) (halt_unfailed halt)
 
 -- the files after such a run
-pub migrated_leaves : (lp cert : List ℕ) (dec : Option (List ℕ)) (name : List ℕ) (before now : Files) (status : ℕ)
-    → LeavesText (Migrates before lp cert dec) name before now status ⊎ (LeavesPart (Migrates before lp cert dec) name before now × (status ≡ 9))
-    → MigrateLeaves lp cert dec name before now status
-migrated_leaves lp cert dec name before now status (inl leaves) = stands leaves
-migrated_leaves lp cert dec name before now status (inr begins) = part begins.0 begins.1
+pub migrated_leaves : (limits : Limits) (lp cert : List ℕ) (dec : Option (List ℕ)) (name : List ℕ) (before now : Files) (status : ℕ)
+    → LeavesText (Migrates limits before lp cert dec) name before now status ⊎ (LeavesPart (Migrates limits before lp cert dec) name before now × (status ≡ 9))
+    → MigrateLeaves limits lp cert dec name before now status
+migrated_leaves limits lp cert dec name before now status (inl leaves) = stands leaves
+migrated_leaves limits lp cert dec name before now status (inr begins) = part begins.0 begins.1
 
 pub part_others : (Right : Answer → Type 0) (name : List ℕ) (before now : Files) → LeavesPart Right name before now → OthersAsBefore name before now
 part_others Right name before now begins = begins.others

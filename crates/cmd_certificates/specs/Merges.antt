@@ -1,5 +1,6 @@
 -- What `merge` answers by the files.
 use Rattle.std.specs.Prelude.{◌≡◌, ◌⊎◌, ℕ, ◌+◌, ◌<◌, List, ◌++◌, length, take, slice_index_or, Option, Some, None, ℤ}
+use Rattle.bp_theory.specs.declared.Limits.{Limits}
 use Rattle.bp_theory.specs.Claims.{Certificate}
 use Rattle.bp_theory.specs.Trees.{steps}
 use Rattle.bp_shelf.specs.Shelf.{Files}
@@ -85,10 +86,10 @@ pub data MergesBlocked (files : Files) (b : BlockedProgram) (one other : List �
       → AnswersBoth c opened.cert beside.cert from further a → MergesBlocked files b one other a
 
 -- what `merge` answers: what the model's and the decomposition's files come to where they come to no program in blocks, and else what that is answered
-pub data Merges (files : Files) (lp one other : List ℕ) (dec : Option (List ℕ)) : Answer → Type 0 where
-  stopped : (status : ℕ) (report : List ℕ) → FilesCome files lp dec (ends status report) → Merges files lp one other dec (stops status report)
-  went_on : (b : BlockedProgram) (a : Answer) → FilesCome files lp dec (blocked b) → MergesBlocked files b one other a → Merges files lp one other dec a
+pub data Merges (limits : Limits) (files : Files) (lp one other : List ℕ) (dec : Option (List ℕ)) : Answer → Type 0 where
+  stopped : (status : ℕ) (report : List ℕ) → FilesCome limits files lp dec (ends status report) → Merges limits files lp one other dec (stops status report)
+  went_on : (b : BlockedProgram) (a : Answer) → FilesCome limits files lp dec (blocked b) → MergesBlocked files b one other a → Merges limits files lp one other dec a
 
 -- the same by its status and report
-abbrev pub AnswersMerge : Files → (lp one other : List ℕ) → (dec : Option (List ℕ)) → (status : ℕ) → (report : List ℕ) → Type 0
-AnswersMerge files lp one other dec status report = Answered (Merges files lp one other dec) status report
+abbrev pub AnswersMerge : Limits → Files → (lp one other : List ℕ) → (dec : Option (List ℕ)) → (status : ℕ) → (report : List ℕ) → Type 0
+AnswersMerge limits files lp one other dec status report = Answered (Merges limits files lp one other dec) status report

@@ -1,5 +1,6 @@
 -- The files after a run of `migrate`.
 use Rattle.std.specs.Prelude.{◌≡◌, ◌⊎◌, ℕ, List, ◌++◌, Option, Some, None}
+use Rattle.bp_theory.specs.declared.Limits.{Limits}
 use Rattle.bp_shelf.specs.Shelf.{Files, OthersAsBefore}
 use Rattle.frontend.specs.Written.{Answer, LeavesText, StandsUnput}
 use Rattle.cmd_certificates.specs.Migrates.{Migrates}
@@ -20,10 +21,10 @@ pub record LeavesPart (Right : Answer → Type 0) (name : List ℕ) (before now 
   pub others : OthersAsBefore name before now
 
 -- the files after a run, by its status: those after any command that writes one text; or, for want of memory, a part of the text
-pub data MigrateLeaves (lp cert : List ℕ) (dec : Option (List ℕ)) (new : List ℕ) (before now : Files) (status : ℕ) : Type 0 where
-  stands : LeavesText (Migrates before lp cert dec) new before now status → MigrateLeaves lp cert dec new before now status
-  part : LeavesPart (Migrates before lp cert dec) new before now → status ≡ 9 → MigrateLeaves lp cert dec new before now status
+pub data MigrateLeaves (limits : Limits) (lp cert : List ℕ) (dec : Option (List ℕ)) (new : List ℕ) (before now : Files) (status : ℕ) : Type 0 where
+  stands : LeavesText (Migrates limits before lp cert dec) new before now status → MigrateLeaves limits lp cert dec new before now status
+  part : LeavesPart (Migrates limits before lp cert dec) new before now → status ≡ 9 → MigrateLeaves limits lp cert dec new before now status
 
 -- what stands where the report could not be put, which is put last
-abbrev pub MigrateWrites : (lp cert : List ℕ) → (dec : Option (List ℕ)) → (new : List ℕ) → (before now : Files) → Type 0
-MigrateWrites lp cert dec new before now = StandsUnput (Migrates before lp cert dec) new before now
+abbrev pub MigrateWrites : Limits → (lp cert : List ℕ) → (dec : Option (List ℕ)) → (new : List ℕ) → (before now : Files) → Type 0
+MigrateWrites limits lp cert dec new before now = StandsUnput (Migrates limits before lp cert dec) new before now

@@ -1,5 +1,6 @@
 -- What `migrate` answers by the files.
 use Rattle.std.specs.Prelude.{◌≡◌, ℕ, List, [], ◌∷◌, Option, Some, None}
+use Rattle.bp_theory.specs.declared.Limits.{Limits}
 use Rattle.bp_shelf.specs.Shelf.{Files}
 use Rattle.block_program.specs.Blocked.{BlockedProgram}
 use Rattle.cert_format.specs.Cert.{Cut, Cert}
@@ -31,13 +32,13 @@ pub data TextMigrates (b : BlockedProgram) (file : Option (List ℕ)) : Answer �
 
 -- what `migrate` answers: what the model's and the decomposition's files come to where they come to no program in blocks, and else what the
 -- certificate's file is answered
-pub data Migrates (files : Files) (lp cert : List ℕ) (dec : Option (List ℕ)) : Answer → Type 0 where
-  stopped : (status : ℕ) (report : List ℕ) → FilesCome files lp dec (ends status report) → Migrates files lp cert dec (stops status report)
-  went_on : (b : BlockedProgram) (a : Answer) → FilesCome files lp dec (blocked b) → TextMigrates b (files cert) a → Migrates files lp cert dec a
+pub data Migrates (limits : Limits) (files : Files) (lp cert : List ℕ) (dec : Option (List ℕ)) : Answer → Type 0 where
+  stopped : (status : ℕ) (report : List ℕ) → FilesCome limits files lp dec (ends status report) → Migrates limits files lp cert dec (stops status report)
+  went_on : (b : BlockedProgram) (a : Answer) → FilesCome limits files lp dec (blocked b) → TextMigrates b (files cert) a → Migrates limits files lp cert dec a
 
 -- the same by its status and report
-abbrev pub AnswersMigrate : Files → (lp cert : List ℕ) → (dec : Option (List ℕ)) → (status : ℕ) → (report : List ℕ) → Type 0
-AnswersMigrate files lp cert dec status report = Answered (Migrates files lp cert dec) status report
+abbrev pub AnswersMigrate : Limits → Files → (lp cert : List ℕ) → (dec : Option (List ℕ)) → (status : ℕ) → (report : List ℕ) → Type 0
+AnswersMigrate limits files lp cert dec status report = Answered (Migrates limits files lp cert dec) status report
 
 -- a certificate that a file spells, beside a program in blocks, with the report on it
 pub record ReadsCert (b : BlockedProgram) (file : Option (List ℕ)) (m : Migrated) : Type 0 where
@@ -49,5 +50,5 @@ pub record ReadsCert (b : BlockedProgram) (file : Option (List ℕ)) (m : Migrat
   pub done : m.reply.status ≡ 0
 
 -- the same by the files
-abbrev pub ReadsFiles : Files → (lp cert : List ℕ) → (dec : Option (List ℕ)) → Migrated → Type 0
-ReadsFiles files lp cert dec m = (b : BlockedProgram) × FilesCome files lp dec (blocked b) × ReadsCert b (files cert) m
+abbrev pub ReadsFiles : Limits → Files → (lp cert : List ℕ) → (dec : Option (List ℕ)) → Migrated → Type 0
+ReadsFiles limits files lp cert dec m = (b : BlockedProgram) × FilesCome limits files lp dec (blocked b) × ReadsCert b (files cert) m

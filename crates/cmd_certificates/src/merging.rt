@@ -13,7 +13,9 @@ use crate::joined::join;
 use crate::opening::{Stop, open_cert};
 use block_program::Blocked;
 use bp_shelf::{Shelf, Sink};
-use frontend::{Draft, Ended, Halt, Reply, Unprinted, fault_status, finish, load, put_draft};
+use frontend::{
+    Draft, Ended, Halt, Reply, Sources, Unprinted, fault_status, finish, load, put_draft,
+};
 use std::alloc::Global;
 
 /// Merges the certificates of two files, writes the merged one to a named file, and prints how many of its leaves are
@@ -24,19 +26,18 @@ pub fn merge<F: Shelf, O: Sink>(
     alloc: Global,
     shelf: &mut F,
     out: &mut O,
-    lp: &str,
+    sources: Sources<'_>,
     first: &str,
     second: &str,
     new: &str,
-    dec: Option<&str>,
 ) -> Ended
     ensures answered { IsTrue (F.tells shelf.old) →
-        AnswersBy (AnswersMerge (F.file shelf.old) lp.now first.now second.now (option_map
-        (λ name. name.now) dec.entry)) result.status (O.tells out.old) (O.taken out.old)
-        (O.taken out.new) }
+        AnswersBy (AnswersMerge sources.entry.limits (F.file shelf.old) sources.entry.lp.now
+        first.now second.now (option_map (λ name. name.now) sources.entry.dec)) result.status
+        (O.tells out.old) (O.taken out.old) (O.taken out.new) }
     ensures exact { IsTrue (F.tells shelf.old) →
-        IsOnly (AnswersMerge (F.file shelf.old) lp.now first.now second.now (option_map
-        (λ name. name.now) dec.entry)) result.status }
+        IsOnly (AnswersMerge sources.entry.limits (F.file shelf.old) sources.entry.lp.now first.now
+        second.now (option_map (λ name. name.now) sources.entry.dec)) result.status }
     ensures causes { HasCauses result.status (F.read_faults shelf.old) (F.read_faults shelf.new)
         (F.write_faults shelf.old) (F.write_faults shelf.new) (O.faults out.old)
         (O.faults out.new) }
@@ -44,24 +45,26 @@ pub fn merge<F: Shelf, O: Sink>(
     ensures events { result.events.items ≡ [] }
     ensures words { result.status ≢ 2 }
     ensures leaves { IsTrue (F.tells shelf.old) →
-        MergeLeaves lp.now first.now second.now (option_map (λ name. name.now) dec.entry) new.now
-        (F.file shelf.old) (F.file shelf.new) result.status }
+        MergeLeaves sources.entry.limits sources.entry.lp.now first.now second.now (option_map (λ
+        name. name.now) sources.entry.dec) new.now (F.file shelf.old) (F.file shelf.new)
+        result.status }
     ensures others { IsTrue (F.tells shelf.old) →
         OthersAsBefore new.now (F.file shelf.old) (F.file shelf.new) }
     ensures puts { PutsReport result.status (O.puts out.old) (O.puts out.new) }
     ensures failed { result.status ≡ 8 →
-        FailsToWrite (IsTrue (F.tells shelf.old) →
-        MergeWrites lp.now first.now second.now (option_map (λ name. name.now) dec.entry) new.now
-        (F.file shelf.old) (F.file shelf.new)) (F.write_faults shelf.old) (F.write_faults shelf.new)
-        (O.faults out.old) (O.faults out.new) (O.puts out.old) (O.puts out.new) (O.taken out.old)
-        (O.taken out.new) }
+        FailsToWrite (IsTrue (F.tells shelf.old) → MergeWrites sources.entry.limits
+        sources.entry.lp.now first.now second.now (option_map (λ name. name.now) sources.entry.dec)
+        new.now (F.file shelf.old) (F.file shelf.new)) (F.write_faults shelf.old) (F.write_faults
+        shelf.new) (O.faults out.old) (O.faults out.new) (O.puts out.old) (O.puts out.new) (O.taken
+        out.old) (O.taken out.new) }
     ensures silent { (result.status ≡ 7) ⊎ (result.status ≡ 9) ⊎ (result.status ≡ 11) →
         O.taken out.new ≡ O.taken out.old }
     ensures cut_off { IsTrue (F.tells shelf.old) →
-        CutsOff (λ kept. AnswersMerge (F.file shelf.old) lp.now first.now second.now (option_map
-        (λ name. name.now) dec.entry)) result.status result.lost (O.tells out.old) (O.taken out.old) (O.taken out.new) }
+        CutsOff (λ kept. AnswersMerge sources.entry.limits (F.file shelf.old) sources.entry.lp.now
+        first.now second.now (option_map (λ name. name.now) sources.entry.dec)) result.status
+        result.lost (O.tells out.old) (O.taken out.old) (O.taken out.new) }
 {
-    let merged = load_merged(alloc, shelf, lp, first, second, dec);
+    let merged = load_merged(alloc, shelf, sources, first, second);
     let come = write_merged(shelf, new, merged);
     finish(alloc, out, come)
 }
@@ -100,25 +103,24 @@ fn come_by(stop: Stop) -> Result<Reply, Unprinted>
 fn load_merged<F: Shelf>(
     alloc: Global,
     shelf: &mut F,
-    lp: &str,
+    sources: Sources<'_>,
     first: &str,
     second: &str,
-    dec: Option<&str>,
 ) -> Result<Draft, Stop>
     ensures merged { IsTrue (F.tells shelf.old) →
-        IfOk result (λ m. Merges (F.file shelf.old) lp.now first.now second.now (option_map
-        (λ name. name.now) dec.entry) (draft_answer m)) }
+        IfOk result (λ m. Merges sources.entry.limits (F.file shelf.old) sources.entry.lp.now
+        first.now second.now (option_map (λ name. name.now) sources.entry.dec) (draft_answer m)) }
     ensures done { IfOk result (λ m. m.reply.status ≡ 0) }
     ensures stopped { IsTrue (F.tells shelf.old) →
-        IfErr result (IsStop (Merges (F.file shelf.old) lp.now first.now second.now (option_map
-        (λ name. name.now) dec.entry))) }
+        IfErr result (IsStop (Merges sources.entry.limits (F.file shelf.old) sources.entry.lp.now
+        first.now second.now (option_map (λ name. name.now) sources.entry.dec))) }
     ensures refusals { IfErr result IsRefusal }
     ensures told { F.tells shelf.new ≡ F.tells shelf.old }
     ensures files { F.file shelf.new ≡ F.file shelf.old }
     ensures cause { CountsStopped (F.read_faults shelf.old) (F.read_faults shelf.new) result }
     ensures writes { F.write_faults shelf.new ≡ F.write_faults shelf.old }
 {
-    match load(alloc, shelf, lp, dec) {
+    match load(alloc, shelf, sources) {
         Ok(b) => merge_files(alloc, shelf, &b, first, second),
         Err(Halt::Refused(report)) => Err(Stop::Refused(Reply { status: 3, report })),
         Err(Halt::Stopped(fault)) => Err(Stop::Stopped(fault)),

@@ -22,7 +22,7 @@ use bp_shelf::{Shelf, ShelfFault, Sink};
 use cert_input::read_file;
 use cert_stream::{StreamStop, rewrite_stream};
 use cert_text::{Cert, CertFault};
-use frontend::{Ended, Halt, Reply, Unprinted, finish, halted, load};
+use frontend::{Ended, Halt, Reply, Sources, Unprinted, finish, halted, load};
 use std::alloc::{AllocError, Global};
 
 // A certificate that was read for a program in blocks, and the report on it.
@@ -41,40 +41,42 @@ pub fn migrate<F: Shelf, O: Sink>(
     alloc: Global,
     shelf: &mut F,
     out: &mut O,
-    lp: &str,
+    sources: Sources<'_>,
     cert: &str,
     new: &str,
-    dec: Option<&str>,
 ) -> Ended
     ensures answered { IsTrue (F.tells shelf.old) →
-        AnswersBy (AnswersMigrate (F.file shelf.old) lp.now cert.now (option_map (λ name. name.now)
-        dec.entry)) result.status (O.tells out.old) (O.taken out.old) (O.taken out.new) }
+        AnswersBy (AnswersMigrate sources.entry.limits (F.file shelf.old) sources.entry.lp.now
+        cert.now (option_map (λ name. name.now) sources.entry.dec)) result.status (O.tells out.old)
+        (O.taken out.old) (O.taken out.new) }
     ensures exact { IsTrue (F.tells shelf.old) →
-        IsOnly (AnswersMigrate (F.file shelf.old) lp.now cert.now (option_map (λ name. name.now)
-        dec.entry)) result.status }
+        IsOnly (AnswersMigrate sources.entry.limits (F.file shelf.old) sources.entry.lp.now cert.now
+        (option_map (λ name. name.now) sources.entry.dec)) result.status }
     ensures causes { HasCauses result.status (F.read_faults shelf.old) (F.read_faults shelf.new)
         (F.write_faults shelf.old) (F.write_faults shelf.new) (O.faults out.old) (O.faults out.new) }
     ensures kept { result.kept ≡ None }
     ensures events { result.events.items ≡ [] }
     ensures words { result.status ≢ 2 }
     ensures leaves { IsTrue (F.tells shelf.old) →
-        MigrateLeaves lp.now cert.now (option_map (λ name. name.now) dec.entry) new.now (F.file
-        shelf.old) (F.file shelf.new) result.status }
+        MigrateLeaves sources.entry.limits sources.entry.lp.now cert.now (option_map (λ name.
+        name.now) sources.entry.dec) new.now (F.file shelf.old) (F.file shelf.new) result.status }
     ensures others { IsTrue (F.tells shelf.old) → OthersAsBefore new.now (F.file shelf.old) (F.file
         shelf.new) }
     ensures puts { PutsReport result.status (O.puts out.old) (O.puts out.new) }
-    ensures failed { result.status ≡ 8 → FailsToWrite
-        (IsTrue (F.tells shelf.old) → MigrateWrites lp.now cert.now (option_map (λ name. name.now)
-        dec.entry) new.now (F.file shelf.old) (F.file shelf.new))
-        (F.write_faults shelf.old) (F.write_faults shelf.new) (O.faults out.old) (O.faults out.new)
-        (O.puts out.old) (O.puts out.new) (O.taken out.old) (O.taken out.new) }
+    ensures failed { result.status ≡ 8 →
+        FailsToWrite (IsTrue (F.tells shelf.old) → MigrateWrites sources.entry.limits
+        sources.entry.lp.now cert.now (option_map (λ name. name.now) sources.entry.dec) new.now
+        (F.file shelf.old) (F.file shelf.new)) (F.write_faults shelf.old) (F.write_faults shelf.new)
+        (O.faults out.old) (O.faults out.new) (O.puts out.old) (O.puts out.new) (O.taken out.old)
+        (O.taken out.new) }
     ensures silent { (result.status ≡ 7) ⊎ (result.status ≡ 9) ⊎ (result.status ≡ 11) → O.taken
         out.new ≡ O.taken out.old }
     ensures cut_off { IsTrue (F.tells shelf.old) →
-        CutsOff (λ kept. AnswersMigrate (F.file shelf.old) lp.now cert.now (option_map (λ name.
-        name.now) dec.entry)) result.status result.lost (O.tells out.old) (O.taken out.old) (O.taken out.new) }
+        CutsOff (λ kept. AnswersMigrate sources.entry.limits (F.file shelf.old) sources.entry.lp.now
+        cert.now (option_map (λ name. name.now) sources.entry.dec)) result.status result.lost
+        (O.tells out.old) (O.taken out.old) (O.taken out.new) }
 {
-    let migrated = load_migrated(alloc, shelf, lp, cert, dec);
+    let migrated = load_migrated(alloc, shelf, sources, cert);
     let come = write_migrated(alloc, shelf, new, migrated);
     finish(alloc, out, come)
 }
@@ -149,23 +151,22 @@ fn stop_status(stop: StreamStop) -> u8
 fn load_migrated<F: Shelf>(
     alloc: Global,
     shelf: &mut F,
-    lp: &str,
+    sources: Sources<'_>,
     cert: &str,
-    dec: Option<&str>,
 ) -> Result<Migrated, Halt>
     ensures read { IsTrue (F.tells shelf.old) →
-        IfOk result (λ m. ReadsFiles (F.file shelf.old) lp.now cert.now (option_map (λ name.
-        name.now) dec.entry) m) }
+        IfOk result (λ m. ReadsFiles sources.entry.limits (F.file shelf.old) sources.entry.lp.now
+        cert.now (option_map (λ name. name.now) sources.entry.dec) m) }
     ensures done { IfOk result (λ m. m.reply.status ≡ 0) }
     ensures halted { IsTrue (F.tells shelf.old) →
-        IfErr result (IsHalt (Migrates (F.file shelf.old) lp.now cert.now (option_map (λ name.
-        name.now) dec.entry))) }
+        IfErr result (IsHalt (Migrates sources.entry.limits (F.file shelf.old) sources.entry.lp.now
+        cert.now (option_map (λ name. name.now) sources.entry.dec))) }
     ensures told { F.tells shelf.new ≡ F.tells shelf.old }
     ensures files { F.file shelf.new ≡ F.file shelf.old }
     ensures cause { CountsHalted (F.read_faults shelf.old) (F.read_faults shelf.new) result }
     ensures writes { F.write_faults shelf.new ≡ F.write_faults shelf.old }
 {
-    let b = load(alloc, shelf, lp, dec)?;
+    let b = load(alloc, shelf, sources)?;
     let read = read_file(alloc, shelf, cert, &b)?;
     migrated_of(alloc, b, read)
 }

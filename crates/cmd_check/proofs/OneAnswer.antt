@@ -1,5 +1,6 @@
 -- A program in blocks is answered by one status.
-use Rattle.std.proofs.Common.{◌≡◌, refl, ◌∙◌, sym, subst, ℕ, Bool, List, [], Option, Some, None, Result, Err}
+use Rattle.std.proofs.Common.{◌≡◌, refl, ◌∙◌, sym, subst, ℕ, List, [], Option, Some, None, Result, Err}
+use Rattle.bp_theory.specs.declared.Limits.{Limits}
 use Rattle.bp_theory.specs.Claims.{Certificate, IsCertified}
 use Rattle.bp_theory.specs.Judgement.{IsFirstFault, HasItsPoint, named_value}
 use Rattle.bp_theory.specs.declared.CheckKind.{CheckKind}
@@ -97,5 +98,5 @@ fault_right visits files cert b Failed gone = tt
 fault_right visits files cert b NoMemory gone = tt
 
 -- the files are answered by one status
-pub one_answer : (files : Files) (lp cert : List ℕ) (dec : Option (List ℕ)) (visits : Option ℕ) → HasOneReply (AnswersCheck files lp cert dec visits)
-one_answer files lp cert dec visits = one_reply files lp dec (Unit {0}) (ChecksVisiting visits files cert) (λ b s t r q right right'. one_visiting visits files cert b s t r q right right')
+pub one_answer : (limits : Limits) (files : Files) (lp cert : List ℕ) (dec : Option (List ℕ)) (visits : Option ℕ) → HasOneReply (AnswersCheck limits files lp cert dec visits)
+one_answer limits files lp cert dec visits = one_reply limits files lp dec (Unit {0}) (ChecksVisiting visits files cert) (λ b s t r q right right'. one_visiting visits files cert b s t r q right right')

@@ -1,5 +1,6 @@
 -- What `check` answers.
 use Rattle.std.specs.Prelude.{◌≡◌, ℕ, List, [], Option, Some, None}
+use Rattle.bp_theory.specs.declared.Limits.{Limits}
 use Rattle.bp_theory.specs.Claims.{Certificate, IsCertified, IsTrueClaim}
 use Rattle.bp_theory.specs.Judgement.{IsFirstFault, HasItsPoint, named_value}
 use Rattle.bp_theory.specs.declared.CheckKind.{CheckKind}
@@ -50,5 +51,5 @@ ChecksVisiting None files cert b status report = ChecksBlocked files cert b stat
 ChecksVisiting (Some most) files cert b status report = ChecksWithin most files cert b status report
 
 -- what `check` answers
-abbrev pub AnswersCheck : Files → (lp cert : List ℕ) → (dec : Option (List ℕ)) → (visits : Option ℕ) → (status : ℕ) → (report : List ℕ) → Type 0
-AnswersCheck files lp cert dec visits status report = AnswersFront files lp dec (Unit {0}) (ChecksVisiting visits files cert) status report
+abbrev pub AnswersCheck : Limits → Files → (lp cert : List ℕ) → (dec : Option (List ℕ)) → (visits : Option ℕ) → (status : ℕ) → (report : List ℕ) → Type 0
+AnswersCheck limits files lp cert dec visits status report = AnswersFront limits files lp dec (Unit {0}) (ChecksVisiting visits files cert) status report

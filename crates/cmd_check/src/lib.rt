@@ -20,7 +20,7 @@ use bp_shelf::{Shelf, ShelfFault, Sink};
 use cert_check::Judged;
 use cert_report::check_text;
 use cert_stream::{Checker, FeedFault};
-use frontend::{Ended, Halt, Reply, finish, load, reply_or_status};
+use frontend::{Ended, Halt, Reply, Sources, finish, load, reply_or_status};
 use std::alloc::{AllocError, Global};
 
 // How many bytes a read asks for.
@@ -36,18 +36,17 @@ pub fn check<F: Shelf, O: Sink>(
     alloc: Global,
     shelf: &mut F,
     out: &mut O,
-    lp: &str,
+    sources: Sources<'_>,
     cert: &str,
-    dec: Option<&str>,
     visits: Option<u64>,
 ) -> Ended
     ensures answered { IsTrue (F.tells shelf.old) →
-        AnswersBy (AnswersCheck (F.file shelf.old) lp.now cert.now (option_map
-        (λ name. name.now) dec.entry) visits) result.status (O.tells out.old) (O.taken out.old)
-        (O.taken out.new) }
+        AnswersBy (AnswersCheck sources.entry.limits (F.file shelf.old) sources.entry.lp.now
+        cert.now (option_map (λ name. name.now) sources.entry.dec) visits) result.status (O.tells
+        out.old) (O.taken out.old) (O.taken out.new) }
     ensures exact { IsTrue (F.tells shelf.old) →
-        IsOnly (AnswersCheck (F.file shelf.old) lp.now cert.now (option_map
-        (λ name. name.now) dec.entry) visits) result.status }
+        IsOnly (AnswersCheck sources.entry.limits (F.file shelf.old) sources.entry.lp.now cert.now
+        (option_map (λ name. name.now) sources.entry.dec) visits) result.status }
     ensures causes { HasCauses result.status (F.read_faults shelf.old) (F.read_faults shelf.new)
         (F.write_faults shelf.old) (F.write_faults shelf.new) (O.faults out.old)
         (O.faults out.new) }
@@ -64,10 +63,11 @@ pub fn check<F: Shelf, O: Sink>(
         (F.write_faults shelf.new) (O.faults out.old) (O.faults out.new) (O.puts out.old)
         (O.puts out.new) }
     ensures cut_off { IsTrue (F.tells shelf.old) →
-        CutsOff (λ kept. AnswersCheck (F.file shelf.old) lp.now cert.now (option_map
-        (λ name. name.now) dec.entry) visits) result.status result.lost (O.tells out.old) (O.taken out.old) (O.taken out.new) }
+        CutsOff (λ kept. AnswersCheck sources.entry.limits (F.file shelf.old) sources.entry.lp.now
+        cert.now (option_map (λ name. name.now) sources.entry.dec) visits) result.status result.lost
+        (O.tells out.old) (O.taken out.old) (O.taken out.new) }
 {
-    let answer = checked(alloc, shelf, lp, cert, dec, visits);
+    let answer = checked(alloc, shelf, sources, cert, visits);
     finish(alloc, out, reply_or_status(answer))
 }
 
@@ -75,20 +75,19 @@ pub fn check<F: Shelf, O: Sink>(
 fn checked<F: Shelf>(
     alloc: Global,
     shelf: &mut F,
-    lp: &str,
+    sources: Sources<'_>,
     cert: &str,
-    dec: Option<&str>,
     visits: Option<u64>,
 ) -> Result<Reply, Halt>
     ensures right { IsTrue (F.tells shelf.old) →
-        IsRightReply (AnswersCheck (F.file shelf.old) lp.now cert.now (option_map
-        (λ name. name.now) dec.entry) visits) result }
+        IsRightReply (AnswersCheck sources.entry.limits (F.file shelf.old) sources.entry.lp.now
+        cert.now (option_map (λ name. name.now) sources.entry.dec) visits) result }
     ensures statuses { IfOk result (λ reply. IsReplyStatus reply.status) }
     ensures files { F.file shelf.new ≡ F.file shelf.old }
     ensures cause { CountsHalted (F.read_faults shelf.old) (F.read_faults shelf.new) result }
     ensures writes { F.write_faults shelf.new ≡ F.write_faults shelf.old }
 {
-    match load(alloc, shelf, lp, dec) {
+    match load(alloc, shelf, sources) {
         Ok(b) => judged_file(alloc, shelf, &b, cert, visits),
         Err(halt) => Err(halt),
     }

@@ -1,6 +1,7 @@
 -- The files are answered in one way.
-use Rattle.std.proofs.Common.{◌≡◌, ◌∙◌, refl, sym, ap, subst, ℕ, ◌<◌, ◌≤◌, List, [], Option, Some, None, arith, inl, inr}
-use Rattle.std.proofs.lemmas.Bool.{cases_order}
+use Rattle.std.proofs.Common.{◌≡◌, ◌∙◌, refl, sym, ap, subst, ℕ, ◌<◌, ◌≤◌, List, Option, arith}
+use Rattle.bp_theory.specs.Limits.{most_blocks}
+use Rattle.bp_theory.specs.declared.Limits.{Limits}
 use Rattle.bp_theory.specs.Decomposition.{Decomposition}
 use Rattle.bp_model.specs.Named.{NamedProgram}
 use Rattle.bp_shelf.specs.Shelf.{Files}
@@ -13,7 +14,7 @@ use Rattle.frontend.proofs.Written.{one_text, no_text, one_model, model_or_fault
 use Rattle.cmd_decompose.specs.Detects.{DetectsBeside, many, found, RowsCome, missing, faulty, read, Detects, missing_lp, faulty_lp, with_model}
 
 -- blocks beside master rows are too many or not
-too_many : (m : NamedProgram) (master : List ℕ) (d e : Decomposition) → IsFound m.program master d → IsFound m.program master e → 4096 < d.blocks → e.blocks ≤ 4096 → ⊥
+too_many : (m : NamedProgram) (master : List ℕ) (d e : Decomposition) → IsFound m.program master d → IsFound m.program master e → most_blocks m.program.limits < d.blocks → e.blocks ≤ most_blocks m.program.limits → ⊥
 too_many m master d e hd he more few =
     let same : d.blocks ≡ e.blocks = ap (λ (x : Decomposition). x.blocks) (found_once m.program master d e hd he) in
     omega (arith, same, more, few)
@@ -46,14 +47,14 @@ one_rows m file a b (read list master a' x h come) (read list' master' b' y g co
     one_blocks m master a' b' come (subst (λ (rows : List ℕ). DetectsBeside m rows b') same come')
 
 -- the files are answered by one status
-pub one_answer : (files : Files) (lp rows : List ℕ) → HasOneStatus (Detects files lp rows)
-one_answer files lp rows a b (missing_lp x) (missing_lp y) = refl
-one_answer files lp rows a b (missing_lp x) (faulty_lp report h) = absurd (no_text (files lp) h.text x h.there)
-one_answer files lp rows a b (missing_lp x) (with_model m b' h come) = absurd (no_text (files lp) h.text x h.there)
-one_answer files lp rows a b (faulty_lp report h) (missing_lp y) = absurd (no_text (files lp) h.text y h.there)
-one_answer files lp rows a b (faulty_lp report h) (faulty_lp report' g) = refl
-one_answer files lp rows a b (faulty_lp report h) (with_model m b' g come) = absurd (model_or_fault (files lp) m report g h)
-one_answer files lp rows a b (with_model m a' h come) (missing_lp y) = absurd (no_text (files lp) h.text y h.there)
-one_answer files lp rows a b (with_model m a' h come) (faulty_lp report g) = absurd (model_or_fault (files lp) m report h g)
-one_answer files lp rows a b (with_model m a' h come) (with_model n b' g come') =
-    one_rows m (files rows) a' b' come (subst (λ (p : NamedProgram). RowsCome p (files rows) b') (one_model (files lp) n m g h) come')
+pub one_answer : (limits : Limits) (files : Files) (lp rows : List ℕ) → HasOneStatus (Detects limits files lp rows)
+one_answer limits files lp rows a b (missing_lp x) (missing_lp y) = refl
+one_answer limits files lp rows a b (missing_lp x) (faulty_lp report h) = absurd (no_text (files lp) h.text x h.there)
+one_answer limits files lp rows a b (missing_lp x) (with_model m b' h come) = absurd (no_text (files lp) h.text x h.there)
+one_answer limits files lp rows a b (faulty_lp report h) (missing_lp y) = absurd (no_text (files lp) h.text y h.there)
+one_answer limits files lp rows a b (faulty_lp report h) (faulty_lp report' g) = refl
+one_answer limits files lp rows a b (faulty_lp report h) (with_model m b' g come) = absurd (model_or_fault limits (files lp) m report g h)
+one_answer limits files lp rows a b (with_model m a' h come) (missing_lp y) = absurd (no_text (files lp) h.text y h.there)
+one_answer limits files lp rows a b (with_model m a' h come) (faulty_lp report g) = absurd (model_or_fault limits (files lp) m report h g)
+one_answer limits files lp rows a b (with_model m a' h come) (with_model n b' g come') =
+    one_rows m (files rows) a' b' come (subst (λ (p : NamedProgram). RowsCome p (files rows) b') (one_model limits (files lp) n m g h) come')

@@ -1,5 +1,6 @@
 -- What is proposed is an answer, and files have answers of one status.
 use Rattle.std.proofs.Common.{◌≡◌, ◌∙◌, ◌⊎◌, inl, inr, ℕ, List, Some, refl, sym, ap, subst, arith, length}
+use Rattle.bp_theory.specs.declared.Limits.{Limits}
 use Rattle.bp_theory.specs.Decomposition.{Decomposition}
 use Rattle.bp_theory.specs.Program.{Program}
 use Rattle.bp_model.specs.Named.{NamedProgram, IsKept}
@@ -59,13 +60,13 @@ all_done : (m : NamedProgram) (a : Answer) → ModelProposes m a → a.status �
 all_done m a (proposed d b g is) = refl
 
 -- the files are answered by one status
-pub one_answer : (files : Files) (lp : List ℕ) → HasOneStatus (Proposes files lp)
-one_answer files lp a b (missing_lp x) (missing_lp y) = refl
-one_answer files lp a b (missing_lp x) (faulty_lp report h) = absurd (no_text (files lp) h.text x h.there)
-one_answer files lp a b (missing_lp x) (with_model m b' h come) = absurd (no_text (files lp) h.text x h.there)
-one_answer files lp a b (faulty_lp report h) (missing_lp y) = absurd (no_text (files lp) h.text y h.there)
-one_answer files lp a b (faulty_lp report h) (faulty_lp report' g) = refl
-one_answer files lp a b (faulty_lp report h) (with_model m b' g come) = absurd (model_or_fault (files lp) m report g h)
-one_answer files lp a b (with_model m a' h come) (missing_lp y) = absurd (no_text (files lp) h.text y h.there)
-one_answer files lp a b (with_model m a' h come) (faulty_lp report g) = absurd (model_or_fault (files lp) m report h g)
-one_answer files lp a b (with_model m a' h come) (with_model n b' g come') = all_done m a' come ∙ sym (all_done n b' come')
+pub one_answer : (limits : Limits) (files : Files) (lp : List ℕ) → HasOneStatus (Proposes limits files lp)
+one_answer limits files lp a b (missing_lp x) (missing_lp y) = refl
+one_answer limits files lp a b (missing_lp x) (faulty_lp report h) = absurd (no_text (files lp) h.text x h.there)
+one_answer limits files lp a b (missing_lp x) (with_model m b' h come) = absurd (no_text (files lp) h.text x h.there)
+one_answer limits files lp a b (faulty_lp report h) (missing_lp y) = absurd (no_text (files lp) h.text y h.there)
+one_answer limits files lp a b (faulty_lp report h) (faulty_lp report' g) = refl
+one_answer limits files lp a b (faulty_lp report h) (with_model m b' g come) = absurd (model_or_fault limits (files lp) m report g h)
+one_answer limits files lp a b (with_model m a' h come) (missing_lp y) = absurd (no_text (files lp) h.text y h.there)
+one_answer limits files lp a b (with_model m a' h come) (faulty_lp report g) = absurd (model_or_fault limits (files lp) m report h g)
+one_answer limits files lp a b (with_model m a' h come) (with_model n b' g come') = all_done m a' come ∙ sym (all_done n b' come')

@@ -1,5 +1,6 @@
 -- The files are answered by one status.
 use Rattle.std.proofs.Common.{◌∙◌, sym, inl, ℕ, Bool, List, Option}
+use Rattle.bp_theory.specs.declared.Limits.{Limits}
 use Rattle.bp_shelf.specs.Shelf.{Files}
 use Rattle.block_program.specs.Blocked.{BlockedProgram}
 use Rattle.frontend.specs.Endings.{IsReplyStatus}
@@ -11,8 +12,8 @@ use Rattle.cmd_decompose.specs.Shows.{ShowsBlocked, AnswersShow, RepliesShow}
 one_shown : (blocks : Bool) (b : BlockedProgram) → HasOneReply (ShowsBlocked blocks b)
 one_shown blocks b s t r q shows shows' = shows.done ∙ sym shows'.done
 
-pub one_answer : (files : Files) (lp : List ℕ) (dec : Option (List ℕ)) (blocks : Bool) → HasOneReply (AnswersShow files lp dec blocks)
-one_answer files lp dec blocks = one_reply files lp dec (Unit {0}) (ShowsBlocked blocks) (one_shown blocks)
+pub one_answer : (limits : Limits) (files : Files) (lp : List ℕ) (dec : Option (List ℕ)) (blocks : Bool) → HasOneReply (AnswersShow limits files lp dec blocks)
+one_answer limits files lp dec blocks = one_reply limits files lp dec (Unit {0}) (ShowsBlocked blocks) (one_shown blocks)
 
 -- the status of a reply
 pub shown_status : (blocks : Bool) (b : BlockedProgram) (reply : Reply) → RepliesShow blocks b reply → IsReplyStatus reply.status

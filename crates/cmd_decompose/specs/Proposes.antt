@@ -1,6 +1,7 @@
 -- What `propose` answers by the files.
 use Rattle.std.specs.Prelude.{◌≡◌, ℕ, List, [], Some, None}
 use Rattle.bp_shelf.specs.Shelf.{Files}
+use Rattle.bp_theory.specs.declared.Limits.{Limits}
 use Rattle.bp_theory.specs.Decomposition.{Decomposition}
 use Rattle.bp_model.specs.Named.{NamedProgram}
 use Rattle.dec_read.specs.Reading.{ReadsDecomposition}
@@ -38,11 +39,11 @@ pub data ModelProposes (m : NamedProgram) : Answer → Type 0 where
       → ModelProposes m (record { status = 0; report = proposed_report b g; text = Some (text_of m d) })
 
 -- what `propose` answers: that the file isn't there, what its text is refused for, or a decomposition of its model
-pub data Proposes (files : Files) (lp : List ℕ) : Answer → Type 0 where
-  missing_lp : files lp ≡ None → Proposes files lp (stops 11 [])
-  faulty_lp : (report : List ℕ) → HasLpFault (files lp) report → Proposes files lp (stops 3 report)
-  with_model : (m : NamedProgram) (a : Answer) → HasModel (files lp) m → ModelProposes m a → Proposes files lp a
+pub data Proposes (limits : Limits) (files : Files) (lp : List ℕ) : Answer → Type 0 where
+  missing_lp : files lp ≡ None → Proposes limits files lp (stops 11 [])
+  faulty_lp : (report : List ℕ) → HasLpFault limits (files lp) report → Proposes limits files lp (stops 3 report)
+  with_model : (m : NamedProgram) (a : Answer) → HasModel limits (files lp) m → ModelProposes m a → Proposes limits files lp a
 
 -- the same by its status and report
-abbrev pub AnswersPropose : Files → (lp : List ℕ) → (status : ℕ) → (report : List ℕ) → Type 0
-AnswersPropose files lp status report = Answered (Proposes files lp) status report
+abbrev pub AnswersPropose : Limits → Files → (lp : List ℕ) → (status : ℕ) → (report : List ℕ) → Type 0
+AnswersPropose limits files lp status report = Answered (Proposes limits files lp) status report

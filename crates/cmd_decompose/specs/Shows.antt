@@ -1,5 +1,6 @@
 -- What `show` answers.
 use Rattle.std.specs.Prelude.{◌≡◌, ℕ, Bool, List, Option}
+use Rattle.bp_theory.specs.declared.Limits.{Limits}
 use Rattle.bp_shelf.specs.Shelf.{Files}
 use Rattle.block_program.specs.Blocked.{BlockedProgram}
 use Rattle.block_class.specs.Classes.{Grouping, AreSameClasses}
@@ -15,8 +16,8 @@ pub record ShowsBlocked (blocks : Bool) (b : BlockedProgram) (status : ℕ) (rep
   pub printed : report ≡ show_report_with b classes blocks
 
 -- what `show` answers
-abbrev pub AnswersShow : Files → (lp : List ℕ) → (dec : Option (List ℕ)) → (blocks : Bool) → (status : ℕ) → (report : List ℕ) → Type 0
-AnswersShow files lp dec blocks status report = AnswersFront files lp dec (Unit {0}) (ShowsBlocked blocks) status report
+abbrev pub AnswersShow : Limits → Files → (lp : List ℕ) → (dec : Option (List ℕ)) → (blocks : Bool) → (status : ℕ) → (report : List ℕ) → Type 0
+AnswersShow limits files lp dec blocks status report = AnswersFront limits files lp dec (Unit {0}) (ShowsBlocked blocks) status report
 
 -- the reply to `show`
 abbrev pub RepliesShow : (blocks : Bool) → BlockedProgram → Reply → Type 0

@@ -1,8 +1,9 @@
 // The command `detect`: the decomposition of a model beside master rows that a file lists.
 
-ghost use Rattle.std.specs.Prelude.{◌≡◌, ◌≢◌, ◌⊎◌, ◌<◌, [], All, IfOk, IfErr, IsTrue, None, Some, length};
+ghost use Rattle.std.specs.Prelude.{◌≡◌, ◌≢◌, ◌⊎◌, ◌<◌, ◌≤◌, [], All, IfOk, IfErr, IsTrue, None, Some, length};
 ghost use Rattle.bp_shelf.specs.Shelf.{OthersAsBefore};
 ghost use Rattle.bp_theory.specs.Decomposition.{HasPlaces};
+ghost use Rattle.bp_theory.specs.Limits.{most_blocks};
 ghost use Rattle.bp_model.specs.Named.{IsKept};
 ghost use Rattle.dec_write.specs.Rows.{ListsRows};
 ghost use Rattle.dec_write.specs.Text.{IsRowName, text_of};
@@ -16,9 +17,9 @@ ghost use Rattle.cmd_decompose.specs.DetectFiles.{DetectLeaves, DetectWrites};
 use bp_model::{Dec, Model};
 use bp_report::{detected_text, rows_text};
 use bp_shelf::{Shelf, ShelfFault, Sink};
+use bp_theory::Limits;
 use dec_find::{FindFault, RowsFault, RowsKind, dec_text, find, read_rows};
-use frontend::{Draft, Ended, Halt, Reply, finish, load_model, read_front, write_draft};
-use lp_read::MAX_TEXT;
+use frontend::{Draft, Ended, Halt, Reply, finish, load_model, read_text, write_draft};
 use std::alloc::{AllocError, Global};
 
 /// Writes the decomposition of a model beside the master rows that a file lists, and prints how many blocks it has. No
@@ -27,15 +28,16 @@ pub fn detect<F: Shelf, O: Sink>(
     alloc: Global,
     shelf: &mut F,
     out: &mut O,
+    limits: Limits,
     lp: &str,
     rows: &str,
     dec: &str,
 ) -> Ended
     ensures answered { IsTrue (F.tells shelf.old) →
-        AnswersBy (AnswersDetect (F.file shelf.old) lp.now rows.now) result.status (O.tells out.old)
+        AnswersBy (AnswersDetect limits (F.file shelf.old) lp.now rows.now) result.status (O.tells out.old)
         (O.taken out.old) (O.taken out.new) }
     ensures exact { IsTrue (F.tells shelf.old) →
-        IsOnly (AnswersDetect (F.file shelf.old) lp.now rows.now) result.status }
+        IsOnly (AnswersDetect limits (F.file shelf.old) lp.now rows.now) result.status }
     ensures causes { HasCauses result.status (F.read_faults shelf.old) (F.read_faults shelf.new)
         (F.write_faults shelf.old) (F.write_faults shelf.new) (O.faults out.old)
         (O.faults out.new) }
@@ -43,40 +45,46 @@ pub fn detect<F: Shelf, O: Sink>(
     ensures events { result.events.items ≡ [] }
     ensures words { result.status ≢ 2 }
     ensures leaves { IsTrue (F.tells shelf.old) →
-        DetectLeaves lp.now rows.now dec.now (F.file shelf.old) (F.file shelf.new) result.status }
+        DetectLeaves limits lp.now rows.now dec.now (F.file shelf.old) (F.file shelf.new) result.status }
     ensures others { IsTrue (F.tells shelf.old) →
         OthersAsBefore dec.now (F.file shelf.old) (F.file shelf.new) }
     ensures puts { PutsReport result.status (O.puts out.old) (O.puts out.new) }
     ensures failed { result.status ≡ 8 →
         FailsToWrite (IsTrue (F.tells shelf.old) →
-        DetectWrites lp.now rows.now dec.now (F.file shelf.old) (F.file shelf.new))
+        DetectWrites limits lp.now rows.now dec.now (F.file shelf.old) (F.file shelf.new))
         (F.write_faults shelf.old) (F.write_faults shelf.new) (O.faults out.old) (O.faults out.new)
         (O.puts out.old) (O.puts out.new) (O.taken out.old) (O.taken out.new) }
     ensures silent { (result.status ≡ 7) ⊎ (result.status ≡ 9) ⊎ (result.status ≡ 11) →
         O.taken out.new ≡ O.taken out.old }
     ensures cut_off { IsTrue (F.tells shelf.old) →
-        CutsOff (λ kept. AnswersDetect (F.file shelf.old) lp.now rows.now) result.status result.lost (O.tells out.old)
+        CutsOff (λ kept. AnswersDetect limits (F.file shelf.old) lp.now rows.now) result.status result.lost (O.tells out.old)
         (O.taken out.old) (O.taken out.new) }
 {
-    let draft = load_found(alloc, shelf, lp, rows);
+    let draft = load_found(alloc, shelf, limits, lp, rows);
     let come = write_draft(shelf, dec, draft);
     finish(alloc, out, come)
 }
 
 // The decomposition beside the master rows of a file, or what a run ends with.
-fn load_found<F: Shelf>(alloc: Global, shelf: &mut F, lp: &str, rows: &str) -> Result<Draft, Halt>
+fn load_found<F: Shelf>(
+    alloc: Global,
+    shelf: &mut F,
+    limits: Limits,
+    lp: &str,
+    rows: &str,
+) -> Result<Draft, Halt>
     ensures found { IsTrue (F.tells shelf.old) →
-        IfOk result (λ f. Detects (F.file shelf.old) lp.now rows.now (draft_answer f)) }
+        IfOk result (λ f. Detects limits (F.file shelf.old) lp.now rows.now (draft_answer f)) }
     ensures done { IfOk result (λ f. f.reply.status ≡ 0) }
     ensures halted { IsTrue (F.tells shelf.old) →
-        IfErr result (IsHalt (Detects (F.file shelf.old) lp.now rows.now)) }
+        IfErr result (IsHalt (Detects limits (F.file shelf.old) lp.now rows.now)) }
     ensures told { F.tells shelf.new ≡ F.tells shelf.old }
     ensures files { F.file shelf.new ≡ F.file shelf.old }
     ensures cause { CountsHalted (F.read_faults shelf.old) (F.read_faults shelf.new) result }
     ensures writes { F.write_faults shelf.new ≡ F.write_faults shelf.old }
 {
-    let model = load_model(alloc, shelf, lp)?;
-    let list = read_front(alloc, shelf, rows, MAX_TEXT + 1)?;
+    let model = load_model(alloc, shelf, limits, lp)?;
+    let list = read_text(alloc, shelf, model.limits(), rows)?;
     found_in(alloc, &model, &list)
 }
 
@@ -124,6 +132,7 @@ fn blocks_of(alloc: Global, model: &Model, master: &[u32]) -> Result<Draft, Halt
 // The text of a decomposition and the report on it.
 fn written(alloc: Global, model: &Model, dec: &Dec) -> Result<Draft, AllocError>
     requires places { HasPlaces model.now.program dec.now }
+    requires few { dec.now.blocks ≤ most_blocks model.now.program.limits }
     requires unlisted { dec.now.listed ≡ [] }
     requires names { All IsRowName model.now.row_names }
     ensures text { IfOk result (λ f. f.text.items ≡ text_of model.now dec.now) }

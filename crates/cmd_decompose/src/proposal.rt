@@ -1,7 +1,8 @@
 // The command `propose`: a decomposition of a model whose master rows nobody told.
 
-ghost use Rattle.std.specs.Prelude.{◌≡◌, ◌≢◌, ◌⊎◌, ◌<◌, [], All, IfOk, IfErr, IsTrue, None};
+ghost use Rattle.std.specs.Prelude.{◌≡◌, ◌≢◌, ◌⊎◌, ◌<◌, ◌≤◌, [], All, IfOk, IfErr, IsTrue, None};
 ghost use Rattle.bp_shelf.specs.Shelf.{OthersAsBefore};
+ghost use Rattle.bp_theory.specs.Limits.{most_blocks};
 ghost use Rattle.bp_model.specs.Named.{IsKept};
 ghost use Rattle.dec_write.specs.Text.{IsRowName};
 ghost use Rattle.dec_find.specs.Guess.{IsGuess};
@@ -19,6 +20,7 @@ use block_program::{Blocked, Zone};
 use bp_model::{Dec, Model};
 use bp_report::proposed_text;
 use bp_shelf::{Shelf, Sink};
+use bp_theory::Limits;
 use dec_find::dec_text;
 use dec_propose::guess;
 use frontend::{Draft, Ended, Halt, Reply, finish, load_model, write_draft};
@@ -31,14 +33,15 @@ pub fn propose<F: Shelf, O: Sink>(
     alloc: Global,
     shelf: &mut F,
     out: &mut O,
+    limits: Limits,
     lp: &str,
     dec: &str,
 ) -> Ended
     ensures answered { IsTrue (F.tells shelf.old) →
-        AnswersBy (AnswersPropose (F.file shelf.old) lp.now) result.status (O.tells out.old)
+        AnswersBy (AnswersPropose limits (F.file shelf.old) lp.now) result.status (O.tells out.old)
         (O.taken out.old) (O.taken out.new) }
     ensures exact { IsTrue (F.tells shelf.old) →
-        IsOnly (AnswersPropose (F.file shelf.old) lp.now) result.status }
+        IsOnly (AnswersPropose limits (F.file shelf.old) lp.now) result.status }
     ensures causes { HasCauses result.status (F.read_faults shelf.old) (F.read_faults shelf.new)
         (F.write_faults shelf.old) (F.write_faults shelf.new) (O.faults out.old)
         (O.faults out.new) }
@@ -46,39 +49,44 @@ pub fn propose<F: Shelf, O: Sink>(
     ensures events { result.events.items ≡ [] }
     ensures words { result.status ≢ 2 }
     ensures leaves { IsTrue (F.tells shelf.old) →
-        ProposeLeaves lp.now dec.now (F.file shelf.old) (F.file shelf.new) result.status }
+        ProposeLeaves limits lp.now dec.now (F.file shelf.old) (F.file shelf.new) result.status }
     ensures others { IsTrue (F.tells shelf.old) →
         OthersAsBefore dec.now (F.file shelf.old) (F.file shelf.new) }
     ensures puts { PutsReport result.status (O.puts out.old) (O.puts out.new) }
     ensures failed { result.status ≡ 8 →
         FailsToWrite (IsTrue (F.tells shelf.old) →
-        ProposeWrites lp.now dec.now (F.file shelf.old) (F.file shelf.new))
+        ProposeWrites limits lp.now dec.now (F.file shelf.old) (F.file shelf.new))
         (F.write_faults shelf.old) (F.write_faults shelf.new) (O.faults out.old) (O.faults out.new)
         (O.puts out.old) (O.puts out.new) (O.taken out.old) (O.taken out.new) }
     ensures silent { (result.status ≡ 7) ⊎ (result.status ≡ 9) ⊎ (result.status ≡ 11) →
         O.taken out.new ≡ O.taken out.old }
     ensures cut_off { IsTrue (F.tells shelf.old) →
-        CutsOff (λ kept. AnswersPropose (F.file shelf.old) lp.now) result.status result.lost (O.tells out.old) (O.taken out.old)
+        CutsOff (λ kept. AnswersPropose limits (F.file shelf.old) lp.now) result.status result.lost (O.tells out.old) (O.taken out.old)
         (O.taken out.new) }
 {
-    let draft = load_proposal(alloc, shelf, lp);
+    let draft = load_proposal(alloc, shelf, limits, lp);
     let come = write_draft(shelf, dec, draft);
     finish(alloc, out, come)
 }
 
 // A decomposition of a file's model, or what a run ends with.
-fn load_proposal<F: Shelf>(alloc: Global, shelf: &mut F, lp: &str) -> Result<Draft, Halt>
+fn load_proposal<F: Shelf>(
+    alloc: Global,
+    shelf: &mut F,
+    limits: Limits,
+    lp: &str,
+) -> Result<Draft, Halt>
     ensures proposed { IsTrue (F.tells shelf.old) →
-        IfOk result (λ p. Proposes (F.file shelf.old) lp.now (draft_answer p)) }
+        IfOk result (λ p. Proposes limits (F.file shelf.old) lp.now (draft_answer p)) }
     ensures done { IfOk result (λ p. p.reply.status ≡ 0) }
     ensures halted { IsTrue (F.tells shelf.old) →
-        IfErr result (IsHalt (Proposes (F.file shelf.old) lp.now)) }
+        IfErr result (IsHalt (Proposes limits (F.file shelf.old) lp.now)) }
     ensures told { F.tells shelf.new ≡ F.tells shelf.old }
     ensures files { F.file shelf.new ≡ F.file shelf.old }
     ensures cause { CountsHalted (F.read_faults shelf.old) (F.read_faults shelf.new) result }
     ensures writes { F.write_faults shelf.new ≡ F.write_faults shelf.old }
 {
-    let model = load_model(alloc, shelf, lp)?;
+    let model = load_model(alloc, shelf, limits, lp)?;
     Ok(proposal_of(alloc, model)?)
 }
 
@@ -98,6 +106,7 @@ fn written(alloc: Global, model: Model, dec: Dec) -> Result<Draft, AllocError>
     requires kept { IsKept model }
     requires names { All IsRowName model.row_names }
     requires guess { IsGuess model.program dec }
+    requires few { dec.blocks ≤ most_blocks model.program.limits }
     ensures proposed { IfOk result (λ p. ModelProposes model (draft_answer p)) }
     ensures done { IfOk result (λ p. p.reply.status ≡ 0) }
 {

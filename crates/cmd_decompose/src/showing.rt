@@ -11,7 +11,7 @@ use block_class::Classes;
 use block_program::{Blocked, Zone};
 use bp_report::show_blocks_text;
 use bp_shelf::{Shelf, ShelfFault, Sink};
-use frontend::{Ended, Halt, Reply, finish, load, reply_or_status};
+use frontend::{Ended, Halt, Reply, Sources, finish, load, reply_or_status};
 use std::alloc::{AllocError, Global};
 
 /// Prints the sizes of the program in blocks that the files come to, its classes at the root and, where they are wanted, the
@@ -20,16 +20,16 @@ pub fn show<F: Shelf, O: Sink>(
     alloc: Global,
     shelf: &mut F,
     out: &mut O,
-    lp: &str,
-    dec: Option<&str>,
+    sources: Sources<'_>,
     blocks: bool,
 ) -> Ended
     ensures answered { IsTrue (F.tells shelf.old) →
-        AnswersBy (AnswersShow (F.file shelf.old) lp.now (option_map (λ name. name.now) dec.entry)
-        blocks) result.status (O.tells out.old) (O.taken out.old) (O.taken out.new) }
+        AnswersBy (AnswersShow sources.entry.limits (F.file shelf.old) sources.entry.lp.now
+        (option_map (λ name. name.now) sources.entry.dec) blocks) result.status (O.tells out.old)
+        (O.taken out.old) (O.taken out.new) }
     ensures exact { IsTrue (F.tells shelf.old) →
-        IsOnly (AnswersShow (F.file shelf.old) lp.now (option_map (λ name. name.now) dec.entry)
-        blocks) result.status }
+        IsOnly (AnswersShow sources.entry.limits (F.file shelf.old) sources.entry.lp.now (option_map
+        (λ name. name.now) sources.entry.dec) blocks) result.status }
     ensures causes { HasCauses result.status (F.read_faults shelf.old) (F.read_faults shelf.new)
         (F.write_faults shelf.old) (F.write_faults shelf.new) (O.faults out.old)
         (O.faults out.new) }
@@ -46,10 +46,11 @@ pub fn show<F: Shelf, O: Sink>(
         (F.write_faults shelf.new) (O.faults out.old) (O.faults out.new) (O.puts out.old)
         (O.puts out.new) }
     ensures cut_off { IsTrue (F.tells shelf.old) →
-        CutsOff (λ kept. AnswersShow (F.file shelf.old) lp.now (option_map
-        (λ name. name.now) dec.entry) blocks) result.status result.lost (O.tells out.old) (O.taken out.old) (O.taken out.new) }
+        CutsOff (λ kept. AnswersShow sources.entry.limits (F.file shelf.old) sources.entry.lp.now
+        (option_map (λ name. name.now) sources.entry.dec) blocks) result.status result.lost (O.tells
+        out.old) (O.taken out.old) (O.taken out.new) }
 {
-    let answer = shown(alloc, shelf, lp, dec, blocks);
+    let answer = shown(alloc, shelf, sources, blocks);
     finish(alloc, out, reply_or_status(answer))
 }
 
@@ -57,19 +58,18 @@ pub fn show<F: Shelf, O: Sink>(
 fn shown<F: Shelf>(
     alloc: Global,
     shelf: &mut F,
-    lp: &str,
-    dec: Option<&str>,
+    sources: Sources<'_>,
     blocks: bool,
 ) -> Result<Reply, Halt>
     ensures right { IsTrue (F.tells shelf.old) →
-        IsRightReply (AnswersShow (F.file shelf.old) lp.now (option_map
-        (λ name. name.now) dec.entry) blocks) result }
+        IsRightReply (AnswersShow sources.entry.limits (F.file shelf.old) sources.entry.lp.now
+        (option_map (λ name. name.now) sources.entry.dec) blocks) result }
     ensures statuses { IfOk result (λ reply. IsReplyStatus reply.status) }
     ensures files { F.file shelf.new ≡ F.file shelf.old }
     ensures cause { CountsHalted (F.read_faults shelf.old) (F.read_faults shelf.new) result }
     ensures writes { F.write_faults shelf.new ≡ F.write_faults shelf.old }
 {
-    match load(alloc, shelf, lp, dec) {
+    match load(alloc, shelf, sources) {
         Ok(b) => match reply_to(alloc, &b, blocks) {
             Ok(reply) => Ok(reply),
             Err(_) => Err(Halt::Stopped(ShelfFault::NoMemory)),

@@ -1,6 +1,7 @@
 -- Which replies are right.
 use Rattle.std.proofs.Common.{◌≡◌, ◌≢◌, ◌⊎◌, ◌∙◌, ◌++◌, refl, sym, ap, subst, ℕ, Bool, IsTrue, List, [], ◌∷◌, Option, Some, None, Result, Ok, Err, IfErr, IsErrAnd, Vec, Global, take}
 use Rattle.bp_theory.specs.Claims.{IsCertified}
+use Rattle.bp_theory.specs.declared.Limits.TheVariants.{Usual}
 use Rattle.bp_shelf.specs.declared.shelf.ShelfFault.TheVariants.{NoMemory}
 use Rattle.block_program.specs.Blocked.{BlockedProgram}
 use Rattle.branch_tree.specs.declared.outcome.Outcome.{Outcome}
@@ -70,7 +71,7 @@ refused_answers seed size report kept status tells before now come is is_kept wh
 pub refused_only : (seed size : ℕ) (report : List ℕ) (kept : Option Outcome) (status : ℕ) → MadeCome seed size (ends 3 report)
     → (status ≡ 3) ⊎ (status ≡ 8) → IsOnly (AnswersDemo seed size kept) status
 refused_only seed size report kept status come is =
-    stop_only (made_files seed size) [] (Some (0 ∷ [])) (kept ≡ None) (DemosBlocked seed size kept) status 3 report come (printed_status status 3 is)
+    stop_only Usual (made_files seed size) [] (Some (0 ∷ [])) (kept ≡ None) (DemosBlocked seed size kept) status 3 report come (printed_status status 3 is)
 
 pub refused_cut : (seed size : ℕ) (report : Vec ℕ Global) (status : ℕ) (lost : Option (Vec ℕ Global)) (tells : Bool) (before now : List ℕ) → MadeCome seed size (ends 3 report.items)
     → (status ≡ 8 → lost ≡ Some report) → (IsTrue tells → status ≡ 8 → (count : ℕ) × (now ≡ before ++ take count report.items))

@@ -2,6 +2,7 @@
 use Rattle.std.specs.Prelude.{◌≡◌, ℕ, List, [], ◌∷◌, Option, Some, None}
 use Rattle.bp_theory.specs.Limits.{demo_steps}
 use Rattle.bp_theory.specs.Claims.{IsCertified}
+use Rattle.bp_theory.specs.declared.Limits.TheVariants.{Usual}
 use Rattle.bp_shelf.specs.Shelf.{Files}
 use Rattle.bp_shelf.specs.declared.shelf.ShelfFault.TheVariants.{NoMemory}
 use Rattle.block_program.specs.Blocked.{BlockedProgram}
@@ -22,9 +23,9 @@ abbrev pub made_files : (seed size : ℕ) → Files
 made_files seed size [] = Some (lp_text seed size)
 made_files seed size (byte ∷ name) = Some (dec_text size)
 
--- what these files come to
+-- what these files come to under the usual limits
 abbrev pub MadeCome : (seed size : ℕ) → Front → Type 0
-MadeCome seed size front = FilesCome (made_files seed size) [] (Some (0 ∷ [])) front
+MadeCome seed size front = FilesCome Usual (made_files seed size) [] (Some (0 ∷ [])) front
 
 -- what a program in blocks is answered by `demo`: the outcome of a search of the demonstration's steps, which is kept, and that its certificate is accepted
 pub record DemosBlocked (seed size : ℕ) (kept : Option Outcome) (b : BlockedProgram) (status : ℕ) (report : List ℕ) : Type 0 where
@@ -38,7 +39,7 @@ pub record DemosBlocked (seed size : ℕ) (kept : Option Outcome) (b : BlockedPr
 -- what `demo` answers; nothing is kept where it is stopped
 abbrev pub AnswersDemo : (seed size : ℕ) → Option Outcome → (status : ℕ) → (report : List ℕ) → Type 0
 AnswersDemo seed size kept status report =
-    AnswersFront (made_files seed size) [] (Some (0 ∷ [])) (kept ≡ None) (DemosBlocked seed size kept) status report
+    AnswersFront Usual (made_files seed size) [] (Some (0 ∷ [])) (kept ≡ None) (DemosBlocked seed size kept) status report
 
 -- the summary of an outcome
 abbrev pub IsSummary : (seed size : ℕ) → BlockedProgram → Outcome → Reply → Type 0

@@ -14,6 +14,7 @@ use block_program::Blocked;
 use bp_gen::{make_dec, make_lp};
 use bp_search::search;
 use bp_shelf::Sink;
+use bp_theory::Limits;
 use branch_tree::Outcome;
 use cert_check::Judged;
 use cert_report::{DEMO_STEPS, demo_text};
@@ -66,7 +67,7 @@ fn demonstrated(alloc: Global, seed: u64, size: u32) -> Result<(Reply, Outcome),
 {
     let lp = make_lp(alloc, seed, size)?;
     let dec = make_dec(alloc, size)?;
-    let b = blocks_of(alloc, &lp, &dec)?;
+    let b = blocks_of(alloc, Limits::Usual, &lp, &dec)?;
     let outcome = search(alloc, &b, Some(DEMO_STEPS))?;
     let reply = summary(alloc, seed, size, &b, &outcome)?;
     Ok((reply, outcome))

@@ -1,5 +1,6 @@
 -- The events that are handed out beside what is kept.
 use Rattle.std.proofs.Common.{◌≡◌, ◌≢◌, ◌⊎◌, inl, inr, refl, sym, subst, ℕ, List, [], Option, Some, None}
+use Rattle.bp_theory.specs.declared.Limits.{Limits}
 use Rattle.bp_shelf.specs.Shelf.{Files}
 use Rattle.block_program.specs.Blocked.{BlockedProgram}
 use Rattle.search_laws.specs.declared.Event.{Event}
@@ -44,13 +45,13 @@ pub none_by : (files : Files) (from : Option (List ℕ)) (steps : Option ℕ) (c
 none_by files from steps crew cuts b None events none is = is
 none_by files from steps crew cuts b (Some outcome) events none is = absurd (cc)
 
-pub none_of : (files : Files) (lp : List ℕ) (dec : Option (List ℕ)) (steps : Option ℕ) (from : Option (List ℕ)) (workers order : Option ℕ) (cuts : ℕ) (kept : Option Outcome) (events : List Event)
-    → kept ≡ None → events ≡ [] → HasEvents files lp dec steps from workers order cuts kept events
-none_of files lp dec steps from workers order cuts None events none is = is
-none_of files lp dec steps from workers order cuts (Some outcome) events none is = absurd (cc)
+pub none_of : (limits : Limits) (files : Files) (lp : List ℕ) (dec : Option (List ℕ)) (steps : Option ℕ) (from : Option (List ℕ)) (workers order : Option ℕ) (cuts : ℕ) (kept : Option Outcome) (events : List Event)
+    → kept ≡ None → events ≡ [] → HasEvents limits files lp dec steps from workers order cuts kept events
+none_of limits files lp dec steps from workers order cuts None events none is = is
+none_of limits files lp dec steps from workers order cuts (Some outcome) events none is = absurd (cc)
 
 -- the events of the program in blocks that files come to
-pub lift_events : (files : Files) (lp : List ℕ) (dec : Option (List ℕ)) (steps : Option ℕ) (from : Option (List ℕ)) (workers order : Option ℕ) (cuts : ℕ) (b : BlockedProgram) (kept : Option Outcome) (events : List Event)
-    → FilesCome files lp dec (blocked b) → EventsBy files from steps (ordered_crew workers order) cuts b kept events → HasEvents files lp dec steps from workers order cuts kept events
-lift_events files lp dec steps from workers order cuts b None events come has = has
-lift_events files lp dec steps from workers order cuts b (Some outcome) events come has = (b, come, has)
+pub lift_events : (limits : Limits) (files : Files) (lp : List ℕ) (dec : Option (List ℕ)) (steps : Option ℕ) (from : Option (List ℕ)) (workers order : Option ℕ) (cuts : ℕ) (b : BlockedProgram) (kept : Option Outcome) (events : List Event)
+    → FilesCome limits files lp dec (blocked b) → EventsBy files from steps (ordered_crew workers order) cuts b kept events → HasEvents limits files lp dec steps from workers order cuts kept events
+lift_events limits files lp dec steps from workers order cuts b None events come has = has
+lift_events limits files lp dec steps from workers order cuts b (Some outcome) events come has = (b, come, has)

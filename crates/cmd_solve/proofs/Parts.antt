@@ -1,5 +1,6 @@
 -- What stands of a certificate where memory was wanting.
 use Rattle.std.proofs.Common.{◌≡◌, ℕ, List, Option, Some}
+use Rattle.bp_theory.specs.declared.Limits.{Limits}
 use Rattle.bp_shelf.specs.Shelf.{Files}
 use Rattle.block_program.specs.Blocked.{BlockedProgram}
 use Rattle.search_laws.specs.declared.Side.{Side}
@@ -43,15 +44,15 @@ started_part files from leaf given cuts b c start below cert before now come lef
     )
 
 -- of one of the program in blocks that the files come to
-pub lift_part : (before : Files) (lp : List ℕ) (dec : Option (List ℕ)) (given : Option ℕ) (cert from : Option (List ℕ)) (leaf : Option ℕ) (cuts : ℕ) (now : Files) (b : BlockedProgram)
-    → FilesCome before lp dec (blocked b) → AsBeforeOr (HoldsPartBy before from leaf given cuts b) cert before now → LeavesPart before lp dec given cert from leaf cuts now
-lift_part before lp dec given cert from leaf cuts now b come left =
+pub lift_part : (limits : Limits) (before : Files) (lp : List ℕ) (dec : Option (List ℕ)) (given : Option ℕ) (cert from : Option (List ℕ)) (leaf : Option ℕ) (cuts : ℕ) (now : Files) (b : BlockedProgram)
+    → FilesCome limits before lp dec (blocked b) → AsBeforeOr (HoldsPartBy before from leaf given cuts b) cert before now → LeavesPart limits before lp dec given cert from leaf cuts now
+lift_part limits before lp dec given cert from leaf cuts now b come left =
     left_as (HoldsPartBy before from leaf given cuts b)
-    (λ file. (d : BlockedProgram) × FilesCome before lp dec (blocked d) × HoldsPartBy before from leaf given cuts d file) cert before now
+    (λ file. (d : BlockedProgram) × FilesCome limits before lp dec (blocked d) × HoldsPartBy before from leaf given cuts d file) cert before now
     (λ file part. (b, come, part)) left
 
 -- where the files come to none, or nothing was searched
-pub untouched_part : (before : Files) (lp : List ℕ) (dec : Option (List ℕ)) (given : Option ℕ) (cert from : Option (List ℕ)) (leaf : Option ℕ) (cuts : ℕ) (now : Files) → now ≡ before
-    → LeavesPart before lp dec given cert from leaf cuts now
-untouched_part before lp dec given cert from leaf cuts now same =
-    nothing_left (λ file. (d : BlockedProgram) × FilesCome before lp dec (blocked d) × HoldsPartBy before from leaf given cuts d file) cert before now same
+pub untouched_part : (limits : Limits) (before : Files) (lp : List ℕ) (dec : Option (List ℕ)) (given : Option ℕ) (cert from : Option (List ℕ)) (leaf : Option ℕ) (cuts : ℕ) (now : Files) → now ≡ before
+    → LeavesPart limits before lp dec given cert from leaf cuts now
+untouched_part limits before lp dec given cert from leaf cuts now same =
+    nothing_left (λ file. (d : BlockedProgram) × FilesCome limits before lp dec (blocked d) × HoldsPartBy before from leaf given cuts d file) cert before now same

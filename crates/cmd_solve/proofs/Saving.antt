@@ -1,5 +1,6 @@
 -- What is saved of the outcome of a search.
 use Rattle.std.proofs.Common.{◌≡◌, ℕ, List, Option, Some, None}
+use Rattle.bp_theory.specs.declared.Limits.{Limits}
 use Rattle.block_program.specs.Blocked.{BlockedProgram}
 use Rattle.branch_tree.specs.declared.outcome.Outcome.{Outcome}
 use Rattle.bp_shelf.specs.Shelf.{Files}
@@ -22,7 +23,7 @@ none_saved files from cuts b cert now None none = tt
 none_saved files from cuts b cert now (Some outcome) none = absurd (cc)
 
 -- what is saved of a program in blocks is so of the files that come to it
-pub lift_saved : (before : Files) (lp : List ℕ) (dec cert from : Option (List ℕ)) (cuts : ℕ) (now : Files) (b : BlockedProgram) (kept : Option Outcome)
-    → FilesCome before lp dec (blocked b) → SavesBy before from cuts b cert now kept → HasCertificate before lp dec cert from cuts now kept
-lift_saved before lp dec cert from cuts now b None come saved = tt
-lift_saved before lp dec cert from cuts now b (Some outcome) come saved = (b, come, saved)
+pub lift_saved : (limits : Limits) (before : Files) (lp : List ℕ) (dec cert from : Option (List ℕ)) (cuts : ℕ) (now : Files) (b : BlockedProgram) (kept : Option Outcome)
+    → FilesCome limits before lp dec (blocked b) → SavesBy before from cuts b cert now kept → HasCertificate limits before lp dec cert from cuts now kept
+lift_saved limits before lp dec cert from cuts now b None come saved = tt
+lift_saved limits before lp dec cert from cuts now b (Some outcome) come saved = (b, come, saved)

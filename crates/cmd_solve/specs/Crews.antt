@@ -1,5 +1,6 @@
 -- How a search went: from where it went on, and the events of a crew.
 use Rattle.std.specs.Prelude.{◌≡◌, ℕ, List, [], Option, Some, None}
+use Rattle.bp_theory.specs.declared.Limits.{Limits}
 use Rattle.bp_shelf.specs.Shelf.{Files}
 use Rattle.block_program.specs.Blocked.{BlockedProgram}
 use Rattle.search_laws.specs.declared.Event.{Event}
@@ -59,7 +60,7 @@ EventsBy files from steps crew cuts b (Some outcome) events =
 
 -- how the search of `solve` went: no events where nothing is kept, and else that of the program in blocks that the files come to, which
 -- goes on from the certificate of the named file where one is named
-abbrev pub HasEvents : Files → (lp : List ℕ) → (dec : Option (List ℕ)) → (steps : Option ℕ) → (from : Option (List ℕ)) → (workers order : Option ℕ) → (cuts : ℕ) → Option Outcome → List Event → Type 0
-HasEvents files lp dec steps from workers order cuts None events = events ≡ []
-HasEvents files lp dec steps from workers order cuts (Some outcome) events =
-    (b : BlockedProgram) × FilesCome files lp dec (blocked b) × EventsBy files from steps (ordered_crew workers order) cuts b (Some outcome) events
+abbrev pub HasEvents : Limits → Files → (lp : List ℕ) → (dec : Option (List ℕ)) → (steps : Option ℕ) → (from : Option (List ℕ)) → (workers order : Option ℕ) → (cuts : ℕ) → Option Outcome → List Event → Type 0
+HasEvents limits files lp dec steps from workers order cuts None events = events ≡ []
+HasEvents limits files lp dec steps from workers order cuts (Some outcome) events =
+    (b : BlockedProgram) × FilesCome limits files lp dec (blocked b) × EventsBy files from steps (ordered_crew workers order) cuts b (Some outcome) events

@@ -4,6 +4,7 @@ use Rattle.bp_shelf.specs.Shelf.{Files}
 use Rattle.block_program.specs.Blocked.{BlockedProgram}
 use Rattle.branch_tree.specs.declared.outcome.Outcome.{Outcome}
 use Rattle.branch_tree.specs.declared.loaded.Loaded.{Loaded}
+use Rattle.bp_theory.specs.declared.Limits.{Limits}
 use Rattle.bp_theory.specs.Trees.{steps}
 use Rattle.search_laws.specs.declared.Side.{Side}
 use Rattle.search_laws.specs.Grove.{GrowingTree, certificate_tree}
@@ -21,10 +22,10 @@ SavesBy before from cuts b cert now None = Unit {0}
 SavesBy before from cuts b cert now (Some outcome) = (c : BlockedProgram) × SearchesOver before from cuts b c × IsSaved c outcome cert now
 
 -- the same of the program in blocks that the files come to
-abbrev pub HasCertificate : Files → List ℕ → Option (List ℕ) → (cert from : Option (List ℕ)) → (cuts : ℕ) → Files → Option Outcome → Type 0
-HasCertificate before lp dec cert from cuts now None = Unit {0}
-HasCertificate before lp dec cert from cuts now (Some outcome) =
-    (b : BlockedProgram) × FilesCome before lp dec (blocked b) × SavesBy before from cuts b cert now (Some outcome)
+abbrev pub HasCertificate : Limits → Files → List ℕ → Option (List ℕ) → (cert from : Option (List ℕ)) → (cuts : ℕ) → Files → Option Outcome → Type 0
+HasCertificate limits before lp dec cert from cuts now None = Unit {0}
+HasCertificate limits before lp dec cert from cuts now (Some outcome) =
+    (b : BlockedProgram) × FilesCome limits before lp dec (blocked b) × SavesBy before from cuts b cert now (Some outcome)
 
 -- an outcome of a search whose tree has at most so many steps has its certificate in the file that is named for it
 abbrev pub LeavesBlocked : (most : ℕ) → Option (List ℕ) → Files → BlockedProgram → Type 0
@@ -66,9 +67,9 @@ LeavesBy before (Some name) leaf given cuts cert now b = LeavesFrom before name 
 
 -- What stands where the report on the files could not be put: where they are refused, every file is as before, and where they come
 -- to a program in blocks, what its search left.
-pub data LeavesCertificate (before : Files) (lp : List ℕ) (dec : Option (List ℕ)) (given : Option ℕ) (cert from : Option (List ℕ)) (leaf : Option ℕ) (cuts : ℕ) (now : Files) : Type 0 where
-  stopped : (status : ℕ) (report : List ℕ) → FilesCome before lp dec (ends status report) → now ≡ before → LeavesCertificate before lp dec given cert from leaf cuts now
-  searched : (b : BlockedProgram) → FilesCome before lp dec (blocked b) → LeavesBy before from leaf given cuts cert now b → LeavesCertificate before lp dec given cert from leaf cuts now
+pub data LeavesCertificate (limits : Limits) (before : Files) (lp : List ℕ) (dec : Option (List ℕ)) (given : Option ℕ) (cert from : Option (List ℕ)) (leaf : Option ℕ) (cuts : ℕ) (now : Files) : Type 0 where
+  stopped : (status : ℕ) (report : List ℕ) → FilesCome limits before lp dec (ends status report) → now ≡ before → LeavesCertificate limits before lp dec given cert from leaf cuts now
+  searched : (b : BlockedProgram) → FilesCome limits before lp dec (blocked b) → LeavesBy before from leaf given cuts cert now b → LeavesCertificate limits before lp dec given cert from leaf cuts now
 
 -- statuses after which no file is changed
 abbrev pub IsUntouched : ℕ → Type 0
@@ -81,6 +82,6 @@ HoldsPartBy before from leaf given cuts b file =
 
 -- What stands where memory was wanting: the file for a certificate, where one is named, is as before, or holds a beginning of the
 -- certificate of an outcome of the program in blocks that the files come to.
-abbrev pub LeavesPart : (before : Files) → (lp : List ℕ) → (dec : Option (List ℕ)) → (given : Option ℕ) → (cert from : Option (List ℕ)) → (leaf : Option ℕ) → (cuts : ℕ) → (now : Files) → Type 0
-LeavesPart before lp dec given cert from leaf cuts now =
-    AsBeforeOr (λ file. (b : BlockedProgram) × FilesCome before lp dec (blocked b) × HoldsPartBy before from leaf given cuts b file) cert before now
+abbrev pub LeavesPart : Limits → (before : Files) → (lp : List ℕ) → (dec : Option (List ℕ)) → (given : Option ℕ) → (cert from : Option (List ℕ)) → (leaf : Option ℕ) → (cuts : ℕ) → (now : Files) → Type 0
+LeavesPart limits before lp dec given cert from leaf cuts now =
+    AsBeforeOr (λ file. (b : BlockedProgram) × FilesCome limits before lp dec (blocked b) × HoldsPartBy before from leaf given cuts b file) cert before now

@@ -1,5 +1,6 @@
 -- What `solve` answers.
 use Rattle.std.specs.Prelude.{◌≡◌, ℕ, ◌+◌, List, [], Option, Some, None}
+use Rattle.bp_theory.specs.declared.Limits.{Limits}
 use Rattle.bp_theory.specs.Trees.{steps}
 use Rattle.bp_shelf.specs.Shelf.{Files}
 use Rattle.block_program.specs.Blocked.{BlockedProgram}
@@ -67,5 +68,5 @@ SolvesAt None below given kept b status report = SolvesBlocked (given_steps give
 SolvesAt (Some from) below given kept b status report = SolvesOn from.grove.tree below given kept b status report
 
 -- what `solve` answers; nothing is kept where it is stopped
-abbrev pub AnswersSolve : Files → (lp : List ℕ) → (dec : Option (List ℕ)) → (steps : Option ℕ) → (from : Option (List ℕ)) → (leaf : Option ℕ) → (cuts : ℕ) → Option Outcome → (status : ℕ) → (report : List ℕ) → Type 0
-AnswersSolve files lp dec steps from leaf cuts kept status report = AnswersFront files lp dec (kept ≡ None) (SolvesBy files from leaf steps cuts kept) status report
+abbrev pub AnswersSolve : Limits → Files → (lp : List ℕ) → (dec : Option (List ℕ)) → (steps : Option ℕ) → (from : Option (List ℕ)) → (leaf : Option ℕ) → (cuts : ℕ) → Option Outcome → (status : ℕ) → (report : List ℕ) → Type 0
+AnswersSolve limits files lp dec steps from leaf cuts kept status report = AnswersFront limits files lp dec (kept ≡ None) (SolvesBy files from leaf steps cuts kept) status report

@@ -18,7 +18,7 @@ use block_program::Blocked;
 use bp_shelf::{Shelf, Sink};
 use bp_theory::Items;
 use branch_tree::Loaded;
-use frontend::{Ended, Halt, Reply, load, print, stopped, stopped_by};
+use frontend::{Ended, Halt, Reply, Sources, load, print, stopped, stopped_by};
 use search_laws::Side;
 use search_outcome::tell;
 use search_start::{Start, begin};
@@ -39,8 +39,7 @@ pub fn solve<F: Shelf, O: Sink>(
     alloc: Global,
     shelf: &mut F,
     out: &mut O,
-    lp: &str,
-    dec: Option<&str>,
+    sources: Sources<'_>,
     steps: Option<u64>,
     cert: Option<&str>,
     from: Option<&str>,
@@ -53,33 +52,35 @@ pub fn solve<F: Shelf, O: Sink>(
     requires some { IfSome workers (λ w. 1 ≤ w) }
     requires alone { IfSome leaf (λ _. (workers ≡ None) × (order ≡ None)) }
     ensures answered { IsTrue (F.tells shelf.old) →
-        AnswersBy (AnswersSolve (F.file shelf.old) lp.now (option_map (λ name. name.now) dec.entry)
-        steps (option_map (λ name. name.now) from.entry) leaf cuts result.kept) result.status
-        (O.tells out.old) (O.taken out.old) (O.taken out.new) }
+        AnswersBy (AnswersSolve sources.entry.limits (F.file shelf.old) sources.entry.lp.now
+        (option_map (λ name. name.now) sources.entry.dec) steps (option_map (λ name. name.now)
+        from.entry) leaf cuts result.kept) result.status (O.tells out.old) (O.taken out.old)
+        (O.taken out.new) }
     ensures exact { IsTrue (F.tells shelf.old) →
-        IsOnly (AnswersSolve (F.file shelf.old) lp.now (option_map (λ name. name.now) dec.entry)
-        steps (option_map (λ name. name.now) from.entry) leaf cuts result.kept) result.status }
+        IsOnly (AnswersSolve sources.entry.limits (F.file shelf.old) sources.entry.lp.now
+        (option_map (λ name. name.now) sources.entry.dec) steps (option_map (λ name. name.now)
+        from.entry) leaf cuts result.kept) result.status }
     ensures saved { IsTrue (F.tells shelf.old) →
-        HasCertificate (F.file shelf.old) lp.now (option_map (λ name. name.now) dec.entry)
-        (option_map (λ name. name.now) cert.entry) (option_map (λ name. name.now) from.entry) cuts
-        (F.file shelf.new) result.kept }
+        HasCertificate sources.entry.limits (F.file shelf.old) sources.entry.lp.now (option_map (λ
+        name. name.now) sources.entry.dec) (option_map (λ name. name.now) cert.entry) (option_map (λ
+        name. name.now) from.entry) cuts (F.file shelf.new) result.kept }
     ensures puts { PutsReport result.status (O.puts out.old) (O.puts out.new) }
     ensures failed { result.status ≡ 8 →
-        FailsToWrite (IsTrue (F.tells shelf.old) →
-        LeavesCertificate (F.file shelf.old) lp.now (option_map (λ name. name.now) dec.entry) steps
+        FailsToWrite (IsTrue (F.tells shelf.old) → LeavesCertificate sources.entry.limits (F.file
+        shelf.old) sources.entry.lp.now (option_map (λ name. name.now) sources.entry.dec) steps
         (option_map (λ name. name.now) cert.entry) (option_map (λ name. name.now) from.entry) leaf
-        cuts (F.file shelf.new)) (F.write_faults shelf.old) (F.write_faults shelf.new)
-        (O.faults out.old) (O.faults out.new) (O.puts out.old) (O.puts out.new) (O.taken out.old)
-        (O.taken out.new) }
+        cuts (F.file shelf.new)) (F.write_faults shelf.old) (F.write_faults shelf.new) (O.faults
+        out.old) (O.faults out.new) (O.puts out.old) (O.puts out.new) (O.taken out.old) (O.taken
+        out.new) }
     ensures causes { HasCauses result.status (F.read_faults shelf.old) (F.read_faults shelf.new)
         (F.write_faults shelf.old) (F.write_faults shelf.new) (O.faults out.old)
         (O.faults out.new) }
     ensures kept { (result.kept ≡ None) ⊎
         ((result.status ≡ 0) ⊎ (result.status ≡ 4) ⊎ (result.status ≡ 5)) }
     ensures events { IsTrue (F.tells shelf.old) →
-        HasEvents (F.file shelf.old) lp.now (option_map (λ name. name.now) dec.entry) steps
-        (option_map (λ name. name.now) from.entry) workers order cuts result.kept
-        result.events.items }
+        HasEvents sources.entry.limits (F.file shelf.old) sources.entry.lp.now (option_map (λ name.
+        name.now) sources.entry.dec) steps (option_map (λ name. name.now) from.entry) workers order
+        cuts result.kept result.events.items }
     ensures no_events { result.kept ≡ None → result.events.items ≡ [] }
     ensures words { result.status ≢ 2 }
     ensures files { IsTrue (F.tells shelf.old) →
@@ -87,18 +88,19 @@ pub fn solve<F: Shelf, O: Sink>(
         (F.file shelf.new) }
     ensures untouched { IsTrue (F.tells shelf.old) → IsUntouched result.status →
         F.file shelf.new ≡ F.file shelf.old }
-    ensures part { IsTrue (F.tells shelf.old) → result.status ≡ 9 →
-        LeavesPart (F.file shelf.old) lp.now (option_map (λ name. name.now) dec.entry) steps
-        (option_map (λ name. name.now) cert.entry) (option_map (λ name. name.now) from.entry) leaf
-        cuts (F.file shelf.new) }
+    ensures part { IsTrue (F.tells shelf.old) →
+        result.status ≡ 9 → LeavesPart sources.entry.limits (F.file shelf.old) sources.entry.lp.now
+        (option_map (λ name. name.now) sources.entry.dec) steps (option_map (λ name. name.now)
+        cert.entry) (option_map (λ name. name.now) from.entry) leaf cuts (F.file shelf.new) }
     ensures silent { (result.status ≡ 7) ⊎ (result.status ≡ 9) ⊎ (result.status ≡ 11) →
         O.taken out.new ≡ O.taken out.old }
     ensures cut_off { IsTrue (F.tells shelf.old) →
-        CutsOff (AnswersSolve (F.file shelf.old) lp.now (option_map (λ name. name.now) dec.entry)
-        steps (option_map (λ name. name.now) from.entry) leaf cuts) result.status result.lost (O.tells out.old) (O.taken out.old)
+        CutsOff (AnswersSolve sources.entry.limits (F.file shelf.old) sources.entry.lp.now
+        (option_map (λ name. name.now) sources.entry.dec) steps (option_map (λ name. name.now)
+        from.entry) leaf cuts) result.status result.lost (O.tells out.old) (O.taken out.old)
         (O.taken out.new) }
 {
-    match load(alloc, shelf, lp, dec) {
+    match load(alloc, shelf, sources) {
         Ok(b) => {
             let crew = crew_ordered(workers, order);
             solve_blocks(alloc, shelf, out, b, steps, cert, from, leaf, crew, cuts)

@@ -1,5 +1,5 @@
 -- What stands where a write failed, by what else is said to stand.
-use Rattle.std.proofs.Common.{◌≡◌, ◌⊎◌, inl, inr, subst, ℕ, List}
+use Rattle.std.proofs.Common.{◌≡◌, inl, inr, subst, ℕ, List}
 use Rattle.frontend.specs.Answers.{IsUnput, FailsToWrite}
 
 -- more stands

@@ -1,6 +1,7 @@
 -- Files come to one program in blocks, or to ends of one status.
 use Rattle.std.proofs.Common.{◌≡◌, ◌≢◌, ◌∙◌, refl, sym, ap, subst, ℕ, List, [], Option, Some, None, All, arith}
 use Rattle.std.proofs.lemmas.List.Elements.{All-get_or}
+use Rattle.bp_theory.specs.declared.Limits.{Limits}
 use Rattle.bp_theory.specs.Program.{Program}
 use Rattle.bp_theory.specs.Blocking.{Blocking}
 use Rattle.bp_theory.specs.Decomposition.{Decomposition, IsMisplaced, HasLargeLinks, blocking_of}
@@ -89,20 +90,20 @@ one_dec files m name f g (read n text d _ a reads come) (read _ text' d' _ b rea
     one_in_blocks m d f g come (subst (λ (e : Decomposition). BlocksCome m e g) decs come')
 
 -- files come to one front
-pub one_front : (files : Files) (name : List ℕ) (d : Option (List ℕ)) (f g : Front) → FilesCome files name d f → FilesCome files name d g → SameFront f g
-one_front files name d f g (missing_lp a) (missing_lp b) = refl
-one_front files name d f g (missing_lp a) (faulty_lp text line kind b fault) = absurd (no_text (files name) text a b)
-one_front files name d f g (missing_lp a) (read_lp text m _ b means come) = absurd (no_text (files name) text a b)
-one_front files name d f g (faulty_lp text line kind a fault) (missing_lp b) = absurd (no_text (files name) text b a)
-one_front files name d f g (faulty_lp text line kind a fault) (faulty_lp text' line' kind' b fault') = refl
-one_front files name d f g (faulty_lp text line kind a fault) (read_lp text' m _ b means come) =
-    absurd (lp_laws.model_or_fault text' means.0 line kind means.1 (subst (λ (t : List ℕ). lp_text.HasLpTextFault t line kind) (one_text (files name) text text' a b) fault))
-one_front files name d f g (read_lp text m _ a means come) (missing_lp b) = absurd (no_text (files name) text b a)
-one_front files name d f g (read_lp text m _ a means come) (faulty_lp text' line kind b fault) =
-    absurd (lp_laws.model_or_fault text means.0 line kind means.1 (subst (λ (t : List ℕ). lp_text.HasLpTextFault t line kind) (one_text (files name) text' text b a) fault))
-one_front files name d f g (read_lp text m _ a means come) (read_lp text' n _ b means' come') =
+pub one_front : (limits : Limits) (files : Files) (name : List ℕ) (d : Option (List ℕ)) (f g : Front) → FilesCome limits files name d f → FilesCome limits files name d g → SameFront f g
+one_front limits files name d f g (missing_lp a) (missing_lp b) = refl
+one_front limits files name d f g (missing_lp a) (faulty_lp text line kind b fault) = absurd (no_text (files name) text a b)
+one_front limits files name d f g (missing_lp a) (read_lp text m _ b means come) = absurd (no_text (files name) text a b)
+one_front limits files name d f g (faulty_lp text line kind a fault) (missing_lp b) = absurd (no_text (files name) text b a)
+one_front limits files name d f g (faulty_lp text line kind a fault) (faulty_lp text' line' kind' b fault') = refl
+one_front limits files name d f g (faulty_lp text line kind a fault) (read_lp text' m _ b means come) =
+    absurd (lp_laws.model_or_fault limits text' means.0 line kind means.1 (subst (λ (t : List ℕ). lp_text.HasLpTextFault limits t line kind) (one_text (files name) text text' a b) fault))
+one_front limits files name d f g (read_lp text m _ a means come) (missing_lp b) = absurd (no_text (files name) text b a)
+one_front limits files name d f g (read_lp text m _ a means come) (faulty_lp text' line kind b fault) =
+    absurd (lp_laws.model_or_fault limits text means.0 line kind means.1 (subst (λ (t : List ℕ). lp_text.HasLpTextFault limits t line kind) (one_text (files name) text' text b a) fault))
+one_front limits files name d f g (read_lp text m _ a means come) (read_lp text' n _ b means' come') =
     let same : text' ≡ text = one_text (files name) text' text b a in
-    let programs : n ≡ m = one_program text n m (subst (λ (t : List ℕ). Means t n) same means') means in
+    let programs : n ≡ m = one_program limits text n m (subst (λ (t : List ℕ). Means limits t n) same means') means in
     one_dec files m d f g come (subst (λ (p : NamedProgram). DecComes files p d g) programs come')
 
 -- a program in blocks that files come to is formed and has no cuts
@@ -120,7 +121,7 @@ dec_plain files m name f (missing n x) = tt
 dec_plain files m name f (faulty n text line kind x fault) = tt
 dec_plain files m name f (read n text d _ x reads come) = blocks_plain m d f come
 
-pub plain_front : (files : Files) (lp : List ℕ) (dec : Option (List ℕ)) (f : Front) → FilesCome files lp dec f → IsPlainFront f
-plain_front files lp dec f (missing_lp x) = tt
-plain_front files lp dec f (faulty_lp text line kind x fault) = tt
-plain_front files lp dec f (read_lp text m _ x means come) = dec_plain files m dec f come
+pub plain_front : (limits : Limits) (files : Files) (lp : List ℕ) (dec : Option (List ℕ)) (f : Front) → FilesCome limits files lp dec f → IsPlainFront f
+plain_front limits files lp dec f (missing_lp x) = tt
+plain_front limits files lp dec f (faulty_lp text line kind x fault) = tt
+plain_front limits files lp dec f (read_lp text m _ x means come) = dec_plain files m dec f come

@@ -1,12 +1,13 @@
 -- The rows of a program that a text means have names of LP texts.
-use Rattle.std.proofs.Common.{◌≡◌, ◌⊎◌, ℕ, zero, suc, ◌+◌, ◌-◌, ◌<◌, ◌≤◌, ◌^◌, Bool, true, false, not, ◌||◌, ◌&&◌, if◌then◌else◌, List, [], ◌∷◌, length, get_or, take, drop, Option, Some, None, refl, sym, ap, subst, ◌∙◌, ⊎_elim, inl, inr, arith}
-use Rattle.std.specs.Prelude.{nat_lt, nat_le, IsFalse, IsTrue, MatchBool, codes, decimal, slice_range, filter_map, unwrap_or, All}
+use Rattle.std.proofs.Common.{◌≡◌, ℕ, zero, suc, ◌+◌, ◌-◌, ◌<◌, ◌≤◌, ◌^◌, Bool, true, false, ◌||◌, ◌&&◌, if◌then◌else◌, List, [], ◌∷◌, length, take, drop, Option, Some, None, refl, sym, ap, subst, ◌∙◌, ⊎_elim, arith}
+use Rattle.std.specs.Prelude.{nat_lt, nat_le, IsFalse, MatchBool, codes, decimal, slice_range, filter_map, unwrap_or, All}
 use Rattle.std.specs.List.{AllByRecursion, list_all}
 use Rattle.std.specs.Str.{bytes_eq, str_to_ascii_lowercase}
 use Rattle.std.specs.Char.{is_ascii_digit, is_ascii_alphanumeric}
 use Rattle.std.proofs.lemmas.Bool.{both_ways, and_parts, lt-ltb, or_left, cases_lt}
 use Rattle.std.proofs.lemmas.Fmt.{length-decimal-le}
 use Rattle.std.proofs.lemmas.List.Elements.{All-from_recursion}
+use Rattle.bp_theory.specs.declared.Limits.{Limits}
 use Rattle.lp_token.specs.declared.Tok.{Tok}
 use Rattle.lp_token.specs.declared.TokKind.{TokKind}
 use Rattle.lp_token.specs.declared.TokKind.TheVariants as kinds
@@ -14,7 +15,7 @@ use Rattle.lp_token.specs.declared.Section.{Section}
 use Rattle.lp_token.specs.declared.Section.TheVariants as sections
 use Rattle.lp_token.specs.declared.LpKind.TheVariants.{NotWhole, TooLarge, Feature}
 use Rattle.lp_token.specs.Cut.{in_comment, is_word_at, kind_at, IsToken, is_long, is_end, CutFrom, Cut}
-use Rattle.lp_token.specs.Lexeme.{is_number, is_name, is_mark, is_name_byte, is_point}
+use Rattle.lp_token.specs.Lexeme.{is_number, is_name, is_mark, is_name_byte}
 use Rattle.lp_token.specs.Word.{entry_of, section_of}
 use Rattle.lp_syntax.specs.Number.{is_whole, whole_value}
 use Rattle.lp_syntax.specs.Tree.{Name, Symbol, word, name, number, infinity, sign, comparison, colon, unfit, SyntaxTree, sites as sites_of, spelling}
@@ -23,7 +24,7 @@ use Rattle.lp_syntax.specs.declared.tree.Site.TheVariants as sites
 use Rattle.lp_syntax.specs.Symbols.{greatest, infinite_from, number_symbol, name_symbol, mark_symbol, mark_symbols, word_symbol, symbol_of, symbols_from, symbols, stays_in_bounds}
 use Rattle.lp_syntax.specs.Roles.{Seen, seen, first_of_symbols, is_colon, label_of, row_of, names_from, row_names}
 use Rattle.lp_semantics.specs.Meaning.{tokens_of, model_of}
-use Rattle.lp_semantics.specs.Reading.{ReadsModel, IsTextOf}
+use Rattle.lp_semantics.specs.Reading.{IsTextOf}
 use Rattle.lp_semantics.specs.Model.{Means}
 use Rattle.bp_model.specs.Named.{NamedProgram, IsKept}
 use Rattle.dec_write.specs.Text.{IsRowName}
@@ -211,19 +212,19 @@ names_count k [] = refl
 names_count k (None ∷ labels) = ap suc (names_count (k + 1) labels)
 names_count k (Some n ∷ labels) = ap suc (names_count (k + 1) labels)
 
-rows_good : (tokens : List Seen) → length (row_names tokens) ≤ 8192 → AllByRecursion IsGoodLabel (labels_of tokens) → AllByRecursion IsRowName (row_names tokens)
+rows_good : (tokens : List Seen) → length (row_names tokens) ≤ 524288 → AllByRecursion IsGoodLabel (labels_of tokens) → AllByRecursion IsRowName (row_names tokens)
 unfolding row_names
 rows_good tokens few h = let count = names_count 1 (labels_of tokens) in names_good 1 (labels_of tokens) (omega (arith, few, count)) h
 
-tree_rows : (text : List ℕ) (tokens : List Tok) (tree : SyntaxTree) → Cut text tokens → IsTextOf text tokens tree → AllByRecursion IsGoodLabel (labels_of (tokens_of tree))
+tree_rows : (limits : Limits) (text : List ℕ) (tokens : List Tok) (tree : SyntaxTree) → Cut text tokens → IsTextOf limits text tokens tree → AllByRecursion IsGoodLabel (labels_of (tokens_of tree))
 unfolding Cut tokens_of symbols
-tree_rows text tokens tree cut is =
+tree_rows limits text tokens tree cut is =
     good_labels (sites_of tree) (spelling tree) (subst (AllByRecursion IsGood) (sym is.spelled) (good_symbols false text tokens (good_tokens text 0 tokens cut)))
 
-pub rows_named : (text : List ℕ) (m : NamedProgram) → IsKept m → Means text m → All IsRowName m.row_names
+pub rows_named : (limits : Limits) (text : List ℕ) (m : NamedProgram) → IsKept m → Means limits text m → All IsRowName m.row_names
 unfolding model_of
-rows_named text m kept means =
+rows_named limits text m kept means =
     let reads = means.1 in
     let same : m.row_names ≡ row_names (tokens_of reads.tree) = means.2.row_names ∙ ap (λ meant. meant.row_names) reads.means in
-    let few : length (row_names (tokens_of reads.tree)) ≤ 8192 = omega (arith, kept.row_named, kept.rows, ap length same) in
-    All-from_recursion IsRowName m.row_names (subst (AllByRecursion IsRowName) (sym same) (rows_good (tokens_of reads.tree) few (tree_rows text reads.tokens reads.tree reads.cut reads.text_of)))
+    let few : length (row_names (tokens_of reads.tree)) ≤ 524288 = omega (arith, kept.row_named, kept.rows, ap length same) in
+    All-from_recursion IsRowName m.row_names (subst (AllByRecursion IsRowName) (sym same) (rows_good (tokens_of reads.tree) few (tree_rows limits text reads.tokens reads.tree reads.cut reads.text_of)))

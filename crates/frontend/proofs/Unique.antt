@@ -5,6 +5,7 @@ use Rattle.std.specs.Prelude.{◌==◌, if◌then◌else◌}
 use Rattle.std.specs.List.{AllZip}
 use Rattle.std.proofs.lemmas.Bool.{cases_order}
 use Rattle.std.proofs.lemmas.Int.{ints}
+use Rattle.bp_theory.specs.declared.Limits.{Limits}
 use Rattle.bp_theory.specs.Program.{coefficient}
 use Rattle.bp_theory.specs.Decomposition.{IsTidyFrom}
 use Rattle.bp_theory.specs.declared.Term.{Term}
@@ -85,23 +86,24 @@ same_rows (m ∷ ms) [] ss a b = absurd a
 same_rows (m ∷ ms) (r ∷ rs) [] a b = absurd b
 same_rows (m ∷ ms) (r ∷ rs) (s ∷ ss) a b = same_list r s rs ss (same_row m r s a.0 b.0) (same_rows ms rs ss a.1 b.1)
 
--- a meaning has one program
-same_program : (meant : TextModel) (m n : NamedProgram) → IsProgramOf meant m → IsProgramOf meant n → m ≡ n
-same_program meant m n a b = program_parts
+-- a meaning has one program under limits
+same_program : (meant : TextModel) (m n : NamedProgram) → IsProgramOf meant m → IsProgramOf meant n → m.program.limits ≡ n.program.limits → m ≡ n
+same_program meant m n a b under = program_parts
     m.program.spans n.program.spans m.program.rows n.program.rows m.program.costs n.program.costs
     m.program.constant n.program.constant m.program.maximises n.program.maximises m.names n.names m.row_names n.row_names
+    m.program.limits n.program.limits
     (a.spans ∙ sym b.spans)
     (same_rows meant.rows m.program.rows n.program.rows a.rows b.rows)
     (one_terms meant.costs m.program.costs n.program.costs a.costs b.costs)
-    (a.constant ∙ sym b.constant) (a.maximises ∙ sym b.maximises) (a.names ∙ sym b.names) (a.row_names ∙ sym b.row_names)
+    (a.constant ∙ sym b.constant) (a.maximises ∙ sym b.maximises) (a.names ∙ sym b.names) (a.row_names ∙ sym b.row_names) under
   where
-    program_parts : (a b : List Span) (c d : List Row) (e f : List Term) (g h : ℤ) (i j : Bool) (k l o p : List (List ℕ))
-        → a ≡ b → c ≡ d → e ≡ f → g ≡ h → i ≡ j → k ≡ l → o ≡ p
-        → (let x : NamedProgram = record { program = record { spans = a; rows = c; costs = e; constant = g; maximises = i }; names = k; row_names = o } in x)
-        ≡ (let x : NamedProgram = record { program = record { spans = b; rows = d; costs = f; constant = h; maximises = j }; names = l; row_names = p } in x)
-    program_parts a b c d e f g h i j k l o p q r s t u v w = rw (q, r, s, t, u, v, w) refl
+    program_parts : (a b : List Span) (c d : List Row) (e f : List Term) (g h : ℤ) (i j : Bool) (k l o p : List (List ℕ)) (x y : Limits)
+        → a ≡ b → c ≡ d → e ≡ f → g ≡ h → i ≡ j → k ≡ l → o ≡ p → x ≡ y
+        → (let m : NamedProgram = record { program = record { spans = a; rows = c; costs = e; constant = g; maximises = i; limits = x }; names = k; row_names = o } in m)
+        ≡ (let m : NamedProgram = record { program = record { spans = b; rows = d; costs = f; constant = h; maximises = j; limits = y }; names = l; row_names = p } in m)
+    program_parts a b c d e f g h i j k l o p x y q r s t u v w z = rw (q, r, s, t, u, v, w, z) refl
 
 -- a text means one program
-pub one_program : (text : List ℕ) (m n : NamedProgram) → Means text m → Means text n → m ≡ n
-one_program text m n a b =
-    same_program a.0 m n a.2 (subst (λ (meant : TextModel). IsProgramOf meant n) (one_model text b.0 a.0 b.1 a.1) b.2)
+pub one_program : (limits : Limits) (text : List ℕ) (m n : NamedProgram) → Means limits text m → Means limits text n → m ≡ n
+one_program limits text m n a b =
+    same_program a.0 m n a.2 (subst (λ (meant : TextModel). IsProgramOf meant n) (one_model limits text b.0 a.0 b.1 a.1) b.2) (a.3 ∙ sym b.3)

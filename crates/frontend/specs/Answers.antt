@@ -1,16 +1,17 @@
 -- What a run answers from the told files, whatever its command: the forms of the commands' theorems.
 use Rattle.std.specs.Prelude.{◌≡◌, ◌≢◌, ℕ, ◌<◌, ◌⊎◌, Bool, IsTrue, List, ◌++◌, take, Option, Some, None, Vec}
 use Rattle.std.specs.Global.{Global}
+use Rattle.bp_theory.specs.declared.Limits.{Limits}
 use Rattle.bp_shelf.specs.Shelf.{Files, Rose, OthersAsBefore, next_count}
 use Rattle.block_program.specs.Blocked.{BlockedProgram}
 use Rattle.branch_tree.specs.declared.outcome.Outcome.{Outcome}
 use Rattle.frontend.specs.Front.{FilesCome, blocked, ends}
 
--- What a command answers that works on the program in blocks that the files come to: where they come to an end of the run,
+-- What a command answers that works on the program in blocks that the files come to under limits: where they come to an end of the run,
 -- that end, and else an answer that is right for the program in blocks.
-pub data AnswersFront (files : Files) (lp : List ℕ) (dec : Option (List ℕ)) (Stops : Type 0) (Right : BlockedProgram → ℕ → List ℕ → Type 0) (status : ℕ) (report : List ℕ) : Type 0 where
-  stopped : FilesCome files lp dec (ends status report) → Stops → AnswersFront files lp dec Stops Right status report
-  went_on : (b : BlockedProgram) → FilesCome files lp dec (blocked b) → Right b status report → AnswersFront files lp dec Stops Right status report
+pub data AnswersFront (limits : Limits) (files : Files) (lp : List ℕ) (dec : Option (List ℕ)) (Stops : Type 0) (Right : BlockedProgram → ℕ → List ℕ → Type 0) (status : ℕ) (report : List ℕ) : Type 0 where
+  stopped : FilesCome limits files lp dec (ends status report) → Stops → AnswersFront limits files lp dec Stops Right status report
+  went_on : (b : BlockedProgram) → FilesCome limits files lp dec (blocked b) → Right b status report → AnswersFront limits files lp dec Stops Right status report
 
 -- A run that met no fault and had its memory gave one of these answers, whatever its sink tells; to a sink that tells its bytes
 -- the report was added whole.

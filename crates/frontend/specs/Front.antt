@@ -1,5 +1,6 @@
 -- What the files of a model and of its decomposition come to.
 use Rattle.std.specs.Prelude.{◌≡◌, ◌≢◌, ℕ, List, [], Option, Some, None, All}
+use Rattle.bp_theory.specs.declared.Limits.{Limits}
 use Rattle.bp_theory.specs.Decomposition.{Decomposition, IsMisplaced}
 use Rattle.bp_model.specs.Named.{NamedProgram}
 use Rattle.bp_model.specs.Dec.{plain_of}
@@ -36,27 +37,27 @@ pub data DecComes (files : Files) (m : NamedProgram) : Option (List ℕ) → Fro
   read : (name text : List ℕ) (d : Decomposition) (f : Front) → files name ≡ Some text → dec_text.ReadsDecomposition text m d → BlocksCome m d f
       → DecComes files m (Some name) f
 
--- what the files of a model and of its decomposition come to
-pub data FilesCome (files : Files) (lp : List ℕ) (dec_file : Option (List ℕ)) : Front → Type 0 where
-  missing_lp : files lp ≡ None → FilesCome files lp dec_file (ends 11 [])
-  faulty_lp : (text : List ℕ) (line : ℕ) (kind : LpKind) → files lp ≡ Some text → lp_text.HasLpTextFault text line kind
-      → FilesCome files lp dec_file (ends 3 (lp_refusal line kind))
-  read_lp : (text : List ℕ) (m : NamedProgram) (f : Front) → files lp ≡ Some text → Means text m → DecComes files m dec_file f
-      → FilesCome files lp dec_file f
+-- what the files of a model and of its decomposition come to, where the model is read under limits
+pub data FilesCome (limits : Limits) (files : Files) (lp : List ℕ) (dec_file : Option (List ℕ)) : Front → Type 0 where
+  missing_lp : files lp ≡ None → FilesCome limits files lp dec_file (ends 11 [])
+  faulty_lp : (text : List ℕ) (line : ℕ) (kind : LpKind) → files lp ≡ Some text → lp_text.HasLpTextFault limits text line kind
+      → FilesCome limits files lp dec_file (ends 3 (lp_refusal line kind))
+  read_lp : (text : List ℕ) (m : NamedProgram) (f : Front) → files lp ≡ Some text → Means limits text m → DecComes files m dec_file f
+      → FilesCome limits files lp dec_file f
 
--- what a model's file comes to: the program that its text means
-pub record HasModel (file : Option (List ℕ)) (m : NamedProgram) : Type 0 where
+-- what a model's file comes to: the program that its text means under limits
+pub record HasModel (limits : Limits) (file : Option (List ℕ)) (m : NamedProgram) : Type 0 where
   pub text : List ℕ
   pub there : file ≡ Some text
-  pub means : Means text m
+  pub means : Means limits text m
 
--- a model's text has this first fault
-pub record HasLpFault (file : Option (List ℕ)) (report : List ℕ) : Type 0 where
+-- a model's text has this first fault under limits
+pub record HasLpFault (limits : Limits) (file : Option (List ℕ)) (report : List ℕ) : Type 0 where
   pub text : List ℕ
   pub line : ℕ
   pub kind : LpKind
   pub there : file ≡ Some text
-  pub fault : lp_text.HasLpTextFault text line kind
+  pub fault : lp_text.HasLpTextFault limits text line kind
   pub printed : report ≡ lp_refusal line kind
 
 -- the decomposition of a named file or, where none is named, the plain one
@@ -75,7 +76,7 @@ abbrev pub LacksDec : Files → Option (List ℕ) → Type 0
 LacksDec files None = ⊥
 LacksDec files (Some name) = files name ≡ None
 
--- what the texts of a model and of its decomposition come to, in whatever files they stand
-abbrev pub TextsCome : (lp dec : List ℕ) → Front → Type 0
-TextsCome lp dec front = (files : Files) (lp_file dec_file : List ℕ) → files lp_file ≡ Some lp → files dec_file ≡ Some dec
-    → FilesCome files lp_file (Some dec_file) front
+-- what the texts of a model and of its decomposition come to under limits, in whatever files they stand
+abbrev pub TextsCome : Limits → (lp dec : List ℕ) → Front → Type 0
+TextsCome limits lp dec front = (files : Files) (lp_file dec_file : List ℕ) → files lp_file ≡ Some lp → files dec_file ≡ Some dec
+    → FilesCome limits files lp_file (Some dec_file) front

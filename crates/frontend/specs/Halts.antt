@@ -3,6 +3,7 @@ use Rattle.std.specs.Prelude.{◌≡◌, ℕ, ◌≤◌, List, [], Option, None,
 use Rattle.bp_model.specs.Named.{NamedProgram}
 use Rattle.bp_shelf.specs.Shelf.{Files, Rose}
 use Rattle.bp_shelf.specs.declared.shelf.ShelfFault.TheVariants.{Missing, Failed, NoMemory}
+use Rattle.bp_theory.specs.declared.Limits.{Limits}
 use Rattle.bp_theory.specs.Decomposition.{Decomposition}
 use Rattle.lp_token.specs.declared.LpKind.{LpKind}
 use Rattle.lp_semantics.specs.Reading as lp_text
@@ -14,18 +15,18 @@ use Rattle.frontend.specs.declared.front.Halt.{Halt}
 use Rattle.frontend.specs.declared.front.Halt.TheVariants.{Refused, Stopped}
 
 -- the files come to this end of a run
-abbrev pub ComesToHalt : Files → (lp : List ℕ) → (dec : Option (List ℕ)) → Halt → Type 0
-ComesToHalt files lp dec (Refused report) = FilesCome files lp dec (ends 3 report.items)
-ComesToHalt files lp dec (Stopped Missing) = FilesCome files lp dec (ends 11 [])
-ComesToHalt files lp dec (Stopped Failed) = Unit {0}
-ComesToHalt files lp dec (Stopped NoMemory) = Unit {0}
+abbrev pub ComesToHalt : Limits → Files → (lp : List ℕ) → (dec : Option (List ℕ)) → Halt → Type 0
+ComesToHalt limits files lp dec (Refused report) = FilesCome limits files lp dec (ends 3 report.items)
+ComesToHalt limits files lp dec (Stopped Missing) = FilesCome limits files lp dec (ends 11 [])
+ComesToHalt limits files lp dec (Stopped Failed) = Unit {0}
+ComesToHalt limits files lp dec (Stopped NoMemory) = Unit {0}
 
 -- a model's file comes to this end of a run
-abbrev pub LpHalts : Option (List ℕ) → Halt → Type 0
-LpHalts file (Refused report) = HasLpFault file report.items
-LpHalts file (Stopped Missing) = file ≡ None
-LpHalts file (Stopped Failed) = Unit {0}
-LpHalts file (Stopped NoMemory) = Unit {0}
+abbrev pub LpHalts : Limits → Option (List ℕ) → Halt → Type 0
+LpHalts limits file (Refused report) = HasLpFault limits file report.items
+LpHalts limits file (Stopped Missing) = file ≡ None
+LpHalts limits file (Stopped Failed) = Unit {0}
+LpHalts limits file (Stopped NoMemory) = Unit {0}
 
 -- the file of a decomposition comes to this end of a run
 abbrev pub DecHalts : Files → NamedProgram → Option (List ℕ) → Halt → Type 0
@@ -43,9 +44,9 @@ CountsHalted before now (Err (Refused report)) = now ≡ before
 CountsHalted before now (Ok _) = now ≡ before
 
 -- a refusal for the first fault of an LP text, or want of memory
-abbrev pub IsLpHalt : List ℕ → Halt → Type 0
-IsLpHalt text (Refused report) = (line : ℕ) × (kind : LpKind) × lp_text.HasLpTextFault text line kind × (report.items ≡ lp_refusal line kind)
-IsLpHalt text (Stopped fault) = fault ≡ NoMemory
+abbrev pub IsLpHalt : Limits → List ℕ → Halt → Type 0
+IsLpHalt limits text (Refused report) = (line : ℕ) × (kind : LpKind) × lp_text.HasLpTextFault limits text line kind × (report.items ≡ lp_refusal line kind)
+IsLpHalt limits text (Stopped fault) = fault ≡ NoMemory
 
 -- a refusal for the first fault of a decomposition's text, or want of memory
 abbrev pub IsDecHalt : List ℕ → NamedProgram → Halt → Type 0
@@ -58,6 +59,6 @@ IsBlocksHalt m d (Refused report) = BlocksCome m d (ends 3 report.items)
 IsBlocksHalt m d (Stopped fault) = fault ≡ NoMemory
 
 -- the texts of a model and of its decomposition come to this end of a run: a refusal, or want of memory
-abbrev pub TextsHalt : (lp dec : List ℕ) → Halt → Type 0
-TextsHalt lp dec (Refused report) = TextsCome lp dec (ends 3 report.items)
-TextsHalt lp dec (Stopped fault) = fault ≡ NoMemory
+abbrev pub TextsHalt : Limits → (lp dec : List ℕ) → Halt → Type 0
+TextsHalt limits lp dec (Refused report) = TextsCome limits lp dec (ends 3 report.items)
+TextsHalt limits lp dec (Stopped fault) = fault ≡ NoMemory

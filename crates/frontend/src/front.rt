@@ -12,14 +12,15 @@ ghost use Rattle.frontend.specs.Halts.{ComesToHalt, TextsHalt, LpHalts, DecHalts
 ghost use Rattle.frontend.specs.declared.front.Halt.TheVariants.{Refused, Stopped};
 ghost use Rattle.bp_shelf.specs.declared.shelf.ShelfFault.TheVariants.{NoMemory};
 
-use crate::read::read_front;
+use crate::read::read_text;
 use block_form::{BlockFault, check_blocks};
 use block_program::Blocked;
 use bp_model::{Dec, Model};
 use bp_report::{blocks_text, dec_text, lp_text};
 use bp_shelf::{Shelf, ShelfFault};
+use bp_theory::Limits;
 use dec_read::{DecFault, read_dec};
-use lp_read::{LpFault, MAX_TEXT, read_lp};
+use lp_read::{LpFault, read_lp};
 use std::alloc::{AllocError, Global};
 
 /// Why a run ends before it has a program in blocks.
@@ -47,57 +48,68 @@ impl From<ShelfFault> for Halt {
     }
 }
 
+/// The names of the files of a model and of its decomposition, where one is named, and the limits that the model keeps.
+#[derive(Clone, Copy)]
+pub struct Sources<'a> {
+    /// The model's file.
+    pub lp: &'a str,
+    /// The decomposition's file.
+    pub dec: Option<&'a str>,
+    /// The limits.
+    pub limits: Limits,
+}
+
 /// The program in blocks that a model's file and the file of its decomposition come to, or what a run ends with: the
 /// first file that isn't there or can't be read, the first fault of the first text that is refused, or what the
 /// decomposition is refused for. Without a decomposition every row is a master row. The program has no cuts.
-pub fn load<F: Shelf>(
-    alloc: Global,
-    shelf: &mut F,
-    lp: &str,
-    dec: Option<&str>,
-) -> Result<Blocked, Halt>
+pub fn load<F: Shelf>(alloc: Global, shelf: &mut F, sources: Sources<'_>) -> Result<Blocked, Halt>
     ensures blocked { IsTrue (F.tells shelf.old) →
-        IfOk result (λ b. FilesCome (F.file shelf.old) lp.now (option_map
-        (λ name. name.now) dec.entry) (blocked b)) }
+        IfOk result (λ b. FilesCome sources.entry.limits (F.file shelf.old) sources.entry.lp.now
+        (option_map (λ name. name.now) sources.entry.dec) (blocked b)) }
     ensures halted { IsTrue (F.tells shelf.old) →
-        IfErr result (ComesToHalt (F.file shelf.old) lp.now (option_map
-        (λ name. name.now) dec.entry)) }
+        IfErr result (ComesToHalt sources.entry.limits (F.file shelf.old) sources.entry.lp.now
+        (option_map (λ name. name.now) sources.entry.dec)) }
     ensures uncut { IfOk result (λ b. b.cuts ≡ []) }
     ensures told { F.tells shelf.new ≡ F.tells shelf.old }
     ensures files { F.file shelf.new ≡ F.file shelf.old }
     ensures cause { CountsHalted (F.read_faults shelf.old) (F.read_faults shelf.new) result }
     ensures writes { F.write_faults shelf.new ≡ F.write_faults shelf.old }
 {
-    let model = load_model(alloc, shelf, lp)?;
-    let parts = load_dec(alloc, shelf, &model, dec)?;
+    let model = load_model(alloc, shelf, sources.limits, sources.lp)?;
+    let parts = load_dec(alloc, shelf, &model, sources.dec)?;
     in_blocks(alloc, model, parts)
 }
 
-/// The program in blocks that an LP text and the text of a decomposition come to, or what they are refused for: what files
-/// with these texts come to, whatever their names. The program has no cuts.
-pub fn blocks_of(alloc: Global, lp: &[u8], dec: &[u8]) -> Result<Blocked, Halt>
-    ensures blocked { IfOk result (λ b. TextsCome lp.now dec.now (blocked b)) }
-    ensures halted { IfErr result (TextsHalt lp.now dec.now) }
+/// The program in blocks that an LP text and the text of a decomposition come to under limits, or what they are refused for:
+/// what files with these texts come to, whatever their names. The program has no cuts.
+pub fn blocks_of(alloc: Global, limits: Limits, lp: &[u8], dec: &[u8]) -> Result<Blocked, Halt>
+    ensures blocked { IfOk result (λ b. TextsCome limits lp.now dec.now (blocked b)) }
+    ensures halted { IfErr result (TextsHalt limits lp.now dec.now) }
     ensures uncut { IfOk result (λ b. b.cuts ≡ []) }
 {
-    let model = model_of(alloc, lp)?;
+    let model = model_of(alloc, limits, lp)?;
     let parts = dec_of(alloc, dec, &model)?;
     in_blocks(alloc, model, parts)
 }
 
-/// The program that a model's file means, or what a run ends with.
-pub fn load_model<F: Shelf>(alloc: Global, shelf: &mut F, lp: &str) -> Result<Model, Halt>
-    ensures model { IsTrue (F.tells shelf.old) → IfOk result (HasModel (F.file shelf.old lp.now)) }
+/// The program that a model's file means under limits, or what a run ends with.
+pub fn load_model<F: Shelf>(
+    alloc: Global,
+    shelf: &mut F,
+    limits: Limits,
+    lp: &str,
+) -> Result<Model, Halt>
+    ensures model { IsTrue (F.tells shelf.old) → IfOk result (HasModel limits (F.file shelf.old lp.now)) }
     ensures kept { IfOk result IsKept }
     ensures names { IfOk result (λ m. All IsRowName m.row_names) }
-    ensures halted { IsTrue (F.tells shelf.old) → IfErr result (LpHalts (F.file shelf.old lp.now)) }
+    ensures halted { IsTrue (F.tells shelf.old) → IfErr result (LpHalts limits (F.file shelf.old lp.now)) }
     ensures told { F.tells shelf.new ≡ F.tells shelf.old }
     ensures files { F.file shelf.new ≡ F.file shelf.old }
     ensures cause { CountsHalted (F.read_faults shelf.old) (F.read_faults shelf.new) result }
     ensures writes { F.write_faults shelf.new ≡ F.write_faults shelf.old }
 {
-    let text = read_front(alloc, shelf, lp, MAX_TEXT + 1)?;
-    model_of(alloc, &text)
+    let text = read_text(alloc, shelf, limits, lp)?;
+    model_of(alloc, limits, &text)
 }
 
 // The decomposition that a named file means, or the plain one.
@@ -123,20 +135,20 @@ fn load_dec<F: Shelf>(
     match dec {
         None => Ok(Dec::plain(alloc, model)?),
         Some(name) => {
-            let text = read_front(alloc, shelf, name, MAX_TEXT + 1)?;
+            let text = read_text(alloc, shelf, model.limits(), name)?;
             dec_of(alloc, &text, model)
         }
     }
 }
 
-// The program that a text means, or its refusal.
-fn model_of(alloc: Global, text: &[u8]) -> Result<Model, Halt>
-    ensures model { IfOk result (Means text.now) }
+// The program that a text means under limits, or its refusal.
+fn model_of(alloc: Global, limits: Limits, text: &[u8]) -> Result<Model, Halt>
+    ensures model { IfOk result (Means limits text.now) }
     ensures kept { IfOk result IsKept }
     ensures names { IfOk result (λ m. All IsRowName m.row_names) }
-    ensures halted { IfErr result (IsLpHalt text.now) }
+    ensures halted { IfErr result (IsLpHalt limits text.now) }
 {
-    match read_lp(alloc, text) {
+    match read_lp(alloc, limits, text) {
         Ok(model) => {
             // For the proof alone: what a model keeps.
             let _rows = model.rows();

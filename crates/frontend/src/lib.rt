@@ -11,5 +11,5 @@ mod read;
 pub use closing::{finish, halted, reply_or_status};
 pub use draft::{Draft, put_draft, write_draft};
 pub use ending::{Ended, Reply, Unprinted, fault_status, print, stopped, stopped_by, unwritten};
-pub use front::{Halt, blocks_of, load, load_model};
-pub use read::read_front;
+pub use front::{Halt, Sources, blocks_of, load, load_model};
+pub use read::{read_front, read_text};

@@ -4,17 +4,15 @@ ghost use Rattle.std.specs.Prelude.{◌≡◌, ◌<◌, ◌≤◌, length, vec_l
 use bp_shelf::Shelf;
 use std::alloc::{AllocError, Global};
 
-// The longest text that is read again whole.
-const MOST_BYTES: usize = 1 << 24;
-
 // How many bytes a read asks for.
 const BUFFER: usize = 65536;
 
-/// The text of a file, where it can be read and has at most 16,777,216 bytes.
+/// The text of a file, where it can be read and has at most so many bytes.
 pub fn text_of<F: Shelf>(
     alloc: Global,
     shelf: &mut F,
     name: &str,
+    most: usize,
 ) -> Result<Option<Vec<u8>>, AllocError>
     ensures files { F.file shelf.new ≡ F.file shelf.old }
     ensures told { F.tells shelf.new ≡ F.tells shelf.old }
@@ -22,14 +20,15 @@ pub fn text_of<F: Shelf>(
 {
     let mut buffer = zeros(alloc, BUFFER)?;
     let mut text = Vec::new(alloc);
-    let is_whole = read_whole(shelf, name, &mut buffer, &mut text)?;
+    let is_whole = read_whole(shelf, name, most, &mut buffer, &mut text)?;
     Ok(is_whole.then_some(text))
 }
 
-// Reads a file to its end: whether it could be read and is not too long.
+// Reads a file to its end: whether it could be read and has at most so many bytes.
 fn read_whole<F: Shelf>(
     shelf: &mut F,
     name: &str,
+    most: usize,
     buffer: &mut [u8],
     text: &mut Vec<u8>,
 ) -> Result<bool, AllocError>
@@ -45,7 +44,7 @@ fn read_whole<F: Shelf>(
         if count == 0 {
             return Ok(true);
         }
-        if count > MOST_BYTES.saturating_sub(text.len()) {
+        if count > most.saturating_sub(text.len()) {
             return Ok(false);
         }
         text.extend_from_slice(&buffer[..count])?;

@@ -4,9 +4,6 @@ use crate::reading::{BLANKS, NO_MEMORY, Reading};
 use std::alloc::{AllocError, Global};
 use std::collections::BTreeSet;
 
-// The greatest number of blocks.
-const MOST_BLOCKS: u64 = 4096;
-
 // The bytes that end a comment, and a word.
 const LINE_ENDS: &[u8] = b"\n";
 
@@ -62,19 +59,13 @@ pub struct Wrong {
     pub expected: &'static str,
 }
 
-/// A model's names: its text, and what was read of that.
-#[derive(Clone, Copy)]
-pub struct Names<'a> {
-    pub text: &'a [u8],
-    pub reading: &'a Reading,
-}
-
-// What is kept of the words before a place: whether the text is a list of rows, whether the next word is the first of its
-// line and may be a keyword, how many bytes are passed over, and what was said before.
+// What is kept of the words before a place: whether the text is a list of rows, the greatest number of blocks, whether the
+// next word is the first of its line and may be a keyword, how many bytes are passed over, and what was said before.
 #[derive(Drop)]
 struct Reader {
     alloc: Global,
     list: bool,
+    most_blocks: u64,
     fresh: bool,
     skip: usize,
     part: Part,
@@ -89,12 +80,13 @@ struct Reader {
 pub fn first_wrong(
     alloc: Global,
     text: &[u8],
-    names: &Names,
+    model: &Reading,
     list: bool,
 ) -> Result<Option<Wrong>, AllocError> {
     let mut reader = Reader {
         alloc,
         list,
+        most_blocks: u64::from(model.limits().blocks()),
         fresh: !list,
         skip: 0,
         part: if list { Part::Rows } else { Part::Outside },
@@ -104,7 +96,7 @@ pub fn first_wrong(
         blocks: 0,
         listed: BTreeSet::new(alloc),
     };
-    match reader.read_all(text, names) {
+    match reader.read_all(text, model) {
         Some(wrong) if wrong.key == NO_MEMORY => Err(AllocError),
         wrong => Ok(wrong),
     }
@@ -153,11 +145,11 @@ fn expected(part: Part) -> &'static str {
 
 impl Reader {
     // Reads all words, up to the first fault.
-    fn read_all(&mut self, text: &[u8], names: &Names) -> Option<Wrong> {
+    fn read_all(&mut self, text: &[u8], model: &Reading) -> Option<Wrong> {
         for at in 0..text.len() {
             if self.skip > 0 {
                 self.skip -= 1;
-            } else if let Some(wrong) = self.pass(text, names, at) {
+            } else if let Some(wrong) = self.pass(text, model, at) {
                 return Some(wrong);
             }
         }
@@ -165,7 +157,7 @@ impl Reader {
     }
 
     // Passes what begins at a place: the end of a line, a comment, white space, or a word; what is wrong with that.
-    fn pass(&mut self, text: &[u8], names: &Names, at: usize) -> Option<Wrong> {
+    fn pass(&mut self, text: &[u8], model: &Reading, at: usize) -> Option<Wrong> {
         let rest = text.get(at..)?;
         let first = rest.first()?;
         if *first == b'\n' {
@@ -179,14 +171,14 @@ impl Reader {
         if BLANKS.contains(first) {
             return None;
         }
-        self.take_at(rest, names, at)
+        self.take_at(rest, model, at)
     }
 
     // Takes the word that bytes begin with, which stand at a place of the text; what is wrong with it.
-    fn take_at(&mut self, bytes: &[u8], names: &Names, from: usize) -> Option<Wrong> {
+    fn take_at(&mut self, bytes: &[u8], model: &Reading, from: usize) -> Option<Wrong> {
         let count = len_before(bytes, WORD_ENDS);
         self.skip = count.saturating_sub(1);
-        match self.take(bytes.get(..count)?, names) {
+        match self.take(bytes.get(..count)?, model) {
             Some(key) => Some(Wrong {
                 key,
                 word: Word {
@@ -200,7 +192,7 @@ impl Reader {
     }
 
     // Takes a word; the key of its fault, where it is at fault.
-    fn take(&mut self, word: &[u8], names: &Names) -> Option<&'static str> {
+    fn take(&mut self, word: &[u8], model: &Reading) -> Option<&'static str> {
         if !is_printable(word) {
             return Some("bad-byte");
         }
@@ -208,17 +200,17 @@ impl Reader {
         self.fresh = false;
         match keyword {
             Some(keyword) => self.keyword(keyword),
-            None => self.take_plain(word, names),
+            None => self.take_plain(word, model),
         }
     }
 
     // Takes a word that is no keyword.
-    fn take_plain(&mut self, word: &[u8], names: &Names) -> Option<&'static str> {
+    fn take_plain(&mut self, word: &[u8], model: &Reading) -> Option<&'static str> {
         match self.part {
             Part::Outside | Part::Closed => Some("syntax"),
             Part::Awaits(keyword) => self.number(keyword, number_in(word)),
-            Part::Rows => self.row(word, names),
-            Part::Variables => (!names.reading.has_variable(word)).then_some("unknown-var"),
+            Part::Rows => self.row(word, model),
+            Part::Variables => (!model.has_variable(word)).then_some("unknown-var"),
         }
     }
 
@@ -277,15 +269,15 @@ impl Reader {
         let (least, most, key): (u64, u64, &'static str) = match keyword {
             Keyword::Presolved => (0, 0, if number == 1 { "presolved" } else { "syntax" }),
             Keyword::Default => (0, 1, "syntax"),
-            Keyword::Nblocks => (0, MOST_BLOCKS, "limit"),
+            Keyword::Nblocks => (0, self.most_blocks, "limit"),
             _ => (1, self.blocks, "block-number"),
         };
         (number < least || most < number).then_some(key)
     }
 
     // Takes the name of a row.
-    fn row(&mut self, name: &[u8], names: &Names) -> Option<&'static str> {
-        if !names.reading.has_row(names.text, name) {
+    fn row(&mut self, name: &[u8], model: &Reading) -> Option<&'static str> {
+        if !model.has_row(name) {
             return Some("unknown-row");
         }
         if self.listed.contains(name) {

@@ -4,19 +4,21 @@ ghost use Rattle.std.specs.Prelude.{◌≡◌};
 use crate::again::{line_of, text_of};
 use crate::kinds::{AFTER_REJECTED, CERT, DEC, FROM, LP, REJECTED, ROWS};
 use crate::place::{Spot, lp_spot, names_spot};
-use crate::text::{MOST_QUOTED, Note, sentence_of, word_at};
-use crate::usage::put_words_note;
+use crate::text::{MOST_QUOTED, Note, Sentences, sentence_of, word_at};
+use crate::usage::{limits_of, put_words_note};
 use bp_real::Files;
 use bp_shelf::Shelf;
+use bp_theory::Limits;
 use std::alloc::{AllocError, Global};
 use std::str;
 
-// A refusal: the name of the file that was read last, and the line and the kind of the report.
+// A refusal: the name of the file that was read last, the line and the kind of the report, and the limits of the run.
 #[derive(Clone, Copy)]
 struct Refusal<'a> {
     name: &'a str,
     line: &'a str,
     kind: &'a str,
+    limits: Limits,
 }
 
 /// The note on a run that ended with this status: why it was refused or stopped, in words, and what to do. It is empty for
@@ -38,7 +40,7 @@ pub fn explain<F: Shelf>(
     let mut note = Note::new(alloc);
     match status {
         2 => put_words_note(&mut note, words),
-        3 | 6 | 10 => put_refusal(alloc, &mut note, report, files, shelf),
+        3 | 6 | 10 => put_refusal(alloc, &mut note, report, files, shelf, limits_of(words)),
         7 | 11 => put_file_note(&mut note, status, files),
         8 if files.is_written() => {
             put_file_note(&mut note, status, files);
@@ -113,6 +115,7 @@ fn put_refusal<F: Shelf>(
     report: &[u8],
     files: &Files,
     shelf: &mut F,
+    limits: Limits,
 )
     ensures files { F.file shelf.new ≡ F.file shelf.old }
     ensures told { F.tells shelf.new ≡ F.tells shelf.old }
@@ -123,19 +126,29 @@ fn put_refusal<F: Shelf>(
         return;
     };
     match word_at(line, 0) {
-        "rejected" => put_rejected(note, &refusal_of(name, line, 1)),
-        "unknown" => put_unpriced(note, name, line),
-        "refused" => put_refused(alloc, note, files, shelf, name, line),
+        "rejected" => put_rejected(note, &refusal_of(name, line, 1, limits)),
+        "unknown" => put_unpriced(note, name, line, limits),
+        "refused" => {
+            put_refused(
+                alloc,
+                note,
+                files,
+                shelf,
+                line,
+                &refusal_of(name, line, 2, limits),
+            )
+        }
         _ => {}
     }
 }
 
 // The refusal of a line of a report whose word of that number is the line at fault, and the one behind it the kind.
-fn refusal_of<'a>(name: &'a str, line: &'a str, number: usize) -> Refusal<'a> {
+fn refusal_of<'a>(name: &'a str, line: &'a str, number: usize, limits: Limits) -> Refusal<'a> {
     Refusal {
         name,
         line: word_at(line, number),
         kind: word_at(line, number.saturating_add(1)),
+        limits,
     }
 }
 
@@ -148,11 +161,12 @@ fn put_rejected(note: &mut Note, refusal: &Refusal) {
 }
 
 // The note on a certificate of which a leaf asks for more visits than are left.
-fn put_unpriced(note: &mut Note, name: &str, line: &str) {
+fn put_unpriced(note: &mut Note, name: &str, line: &str, limits: Limits) {
     let refusal = Refusal {
         name,
         line: word_at(line, 1),
         kind: word_at(line, 0),
+        limits,
     };
     put_head(note, &refusal, None);
     note.put(
@@ -166,22 +180,21 @@ fn put_refused<F: Shelf>(
     note: &mut Note,
     files: &Files,
     shelf: &mut F,
-    name: &str,
     line: &str,
+    refusal: &Refusal,
 )
     ensures files { F.file shelf.new ≡ F.file shelf.old }
     ensures told { F.tells shelf.new ≡ F.tells shelf.old }
     ensures writes { F.write_faults shelf.new ≡ F.write_faults shelf.old }
 {
-    let refusal = refusal_of(name, line, 2);
     match word_at(line, 1) {
-        "lp" => put_model(alloc, note, shelf, &refusal),
-        "dec" => put_names(alloc, note, files, shelf, &refusal, false),
-        "rows" => put_names(alloc, note, files, shelf, &refusal, true),
-        "cert" => put_cert(alloc, note, shelf, &refusal),
-        "from" | "merge" => put_from(note, &refusal),
-        "leaf" => put_leaf(note, &refusal),
-        "blocks" => put_blocks(note, name, line),
+        "lp" => put_model(alloc, note, shelf, refusal),
+        "dec" => put_names(alloc, note, files, shelf, refusal, false),
+        "rows" => put_names(alloc, note, files, shelf, refusal, true),
+        "cert" => put_cert(alloc, note, shelf, refusal),
+        "from" | "merge" => put_from(note, refusal),
+        "leaf" => put_leaf(note, refusal),
+        "blocks" => put_blocks(note, line, refusal),
         _ => {}
     }
 }
@@ -192,10 +205,10 @@ fn put_model<F: Shelf>(alloc: Global, note: &mut Note, shelf: &mut F, refusal: &
     ensures told { F.tells shelf.new ≡ F.tells shelf.old }
     ensures writes { F.write_faults shelf.new ≡ F.write_faults shelf.old }
 {
-    let text = note.known(text_of(alloc, shelf, refusal.name));
+    let text = note.known(text_of(alloc, shelf, refusal.name, refusal.limits.bytes()));
     let text = bytes_of(&text);
-    let spot = note.known(lp_spot(alloc, text, refusal.line, refusal.kind));
-    put_spot(note, refusal, LP, text, spot);
+    let spot = note.known(lp_spot(alloc, text, refusal.limits, refusal.line, refusal.kind));
+    put_spot(note, refusal, &LP, text, spot);
 }
 
 // The bytes of a text; none of one that isn't known.
@@ -220,22 +233,30 @@ fn put_names<F: Shelf>(
     ensures writes { F.write_faults shelf.new ≡ F.write_faults shelf.old }
 {
     let model = match files.first() {
-        Some(name) => note.known(text_of(alloc, shelf, name)),
+        Some(name) => note.known(text_of(alloc, shelf, name, refusal.limits.bytes())),
         None => None,
     };
-    let text = note.known(text_of(alloc, shelf, refusal.name));
+    let text = note.known(text_of(alloc, shelf, refusal.name, refusal.limits.bytes()));
     let text = bytes_of(&text);
     let spot = match &model {
-        Some(model) => note.known(names_spot(alloc, text, model, refusal.line, refusal.kind, list)),
+        Some(model) => note.known(names_spot(
+            alloc,
+            text,
+            model,
+            refusal.limits,
+            refusal.line,
+            refusal.kind,
+            list,
+        )),
         None => None,
     };
-    put_spot(note, refusal, if list { ROWS } else { DEC }, text, spot);
+    put_spot(note, refusal, if list { &ROWS } else { &DEC }, text, spot);
 }
 
 // The note on a certificate to go on from, or to merge.
 fn put_from(note: &mut Note, refusal: &Refusal) {
     put_head(note, refusal, None);
-    note.put(sentence_of(FROM, refusal.kind).unwrap_or(""));
+    note.put(FROM.of(refusal.kind, refusal.limits).unwrap_or(""));
     note.put("\n");
 }
 
@@ -267,7 +288,7 @@ fn put_head(note: &mut Note, refusal: &Refusal, column: Option<u64>) {
 fn put_spot(
     note: &mut Note,
     refusal: &Refusal,
-    table: &'static str,
+    table: &Sentences,
     text: &[u8],
     spot: Option<Spot>,
 ) {
@@ -275,16 +296,16 @@ fn put_spot(
         Some(spot) => put_place(note, refusal, table, text, &spot),
         None => {
             put_head(note, refusal, None);
-            put_kind(note, table, key_of(table, refusal.line, refusal.kind), None);
+            put_kind(note, table, refusal.limits, key_of(table, refusal), None);
         }
     }
     note.put("\n");
 }
 
 // A kind with the place and the token of a text, and what is expected there.
-fn put_place(note: &mut Note, refusal: &Refusal, table: &'static str, text: &[u8], spot: &Spot) {
+fn put_place(note: &mut Note, refusal: &Refusal, table: &Sentences, text: &[u8], spot: &Spot) {
     put_head(note, refusal, Some(spot.column));
-    put_kind(note, table, spot.key, token_of(text, spot));
+    put_kind(note, table, refusal.limits, spot.key, token_of(text, spot));
     if spot.expected != "" {
         note.put(": ");
         note.put(spot.expected);
@@ -292,16 +313,17 @@ fn put_place(note: &mut Note, refusal: &Refusal, table: &'static str, text: &[u8
 }
 
 // The key of a kind's sentence where no token is known.
-fn key_of<'a>(table: &'static str, line: &str, kind: &'a str) -> &'a str {
-    if line == "0" && kind == "limit" && sentence_of(table, "limit-size").is_some() {
+fn key_of<'a>(table: &Sentences, refusal: &Refusal<'a>) -> &'a str {
+    let is_size = refusal.line == "0" && refusal.kind == "limit";
+    if is_size && sentence_of(table.usual, "limit-size").is_some() {
         return "limit-size";
     }
-    kind
+    refusal.kind
 }
 
 // A kind's sentence.
-fn put_kind(note: &mut Note, table: &'static str, key: &str, token: Option<&[u8]>) {
-    match sentence_of(table, key) {
+fn put_kind(note: &mut Note, table: &Sentences, limits: Limits, key: &str, token: Option<&[u8]>) {
+    match table.of(key, limits) {
         Some(sentence) => note.put_sentence(sentence, token),
         None => note.put("docs/FORMATS.md says what this kind means"),
     }
@@ -328,7 +350,7 @@ fn put_cert<F: Shelf>(alloc: Global, note: &mut Note, shelf: &mut F, refusal: &R
         Err(_) => None,
     };
     let key = cert_key(refusal.kind, line.is_some());
-    put_kind(note, CERT, key, line.as_deref());
+    put_kind(note, &CERT, refusal.limits, key, line.as_deref());
     note.put("\n");
 }
 
@@ -341,22 +363,32 @@ fn cert_key(kind: &str, known: bool) -> &str {
 }
 
 // The note on a decomposition that does not go with the model.
-fn put_blocks(note: &mut Note, name: &str, line: &str) {
-    let refusal = Refusal {
-        name,
+fn put_blocks(note: &mut Note, line: &str, refusal: &Refusal) {
+    let place = Refusal {
+        name: refusal.name,
         line: "",
         kind: word_at(line, 2),
+        limits: refusal.limits,
     };
-    put_head(note, &refusal, None);
-    if refusal.kind == "links" {
-        note.put(
-            "a variable in rows of several blocks is linked by a row for each block but the first; these and the model's rows are more than 8192, or such a variable has a bound past 2305843009213693951; put rows of such variables under MASTERCONSS\n",
-        );
+    put_head(note, &place, None);
+    if place.kind == "links" {
+        put_links(note, u64::from(place.limits.lines()));
         return;
     }
     note.put("the variable ");
     note.put_quoted(word_at(line, 3).as_bytes());
     note.put(
         " stands in a row of a block, and is listed with another block or with the master; list it with the block in whose rows it stands, or in no list\n",
+    );
+}
+
+// The sentence on a decomposition whose links are too many, or too large; rows and links together may be so many.
+fn put_links(note: &mut Note, most: u64) {
+    note.put(
+        "a variable in rows of several blocks is linked by a row for each block but the first; these and the model's rows are more than ",
+    );
+    note.put_number(most);
+    note.put(
+        ", or such a variable has a bound past 2305843009213693951; put rows of such variables under MASTERCONSS\n",
     );
 }

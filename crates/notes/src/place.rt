@@ -1,7 +1,8 @@
 // Where in a text the fault of a refusal stands.
-use crate::blocks::{Names, Wrong, first_wrong};
+use crate::blocks::{Wrong, first_wrong};
 use crate::grammar::expected;
 use crate::reading::{Reading, read, uncut};
+use bp_theory::Limits;
 use std::alloc::{AllocError, Global};
 
 /// The place of a fault: its column, from 1, in bytes; the slice of its token; the key of its sentence; and what is
@@ -69,10 +70,11 @@ fn spot_at(
     })
 }
 
-/// The spot of an LP text's fault, where it can be told.
+/// The spot of the fault of an LP text that these limits are for, where it can be told.
 pub fn lp_spot(
     alloc: Global,
     text: &[u8],
+    limits: Limits,
     line: &str,
     kind: &str,
 ) -> Result<Option<Spot>, AllocError> {
@@ -83,7 +85,7 @@ pub fn lp_spot(
         "bad-byte" => Ok(uncut_spot(text, number, "bad-byte")),
         "long-name" => Ok(uncut_spot(text, number, "long-name")),
         "no-end" => Ok(None),
-        _ => read_spot(alloc, text, number, kind),
+        _ => read_spot(alloc, text, limits, number, kind),
     }
 }
 
@@ -98,10 +100,11 @@ fn uncut_spot(text: &[u8], number: u64, key: &'static str) -> Option<Spot> {
 fn read_spot(
     alloc: Global,
     text: &[u8],
+    limits: Limits,
     number: u64,
     kind: &str,
 ) -> Result<Option<Spot>, AllocError> {
-    match read(alloc, text) {
+    match read(alloc, text, limits) {
         Ok(Some(reading)) => Ok(found_spot(text, number, kind, &reading)),
         Ok(None) => Ok(None),
         Err(fault) => Err(fault),
@@ -154,11 +157,13 @@ fn sums_spot(text: &[u8], number: u64, kind: &str, reading: &Reading) -> Option<
     spot_at(text, number, (token.from, token.to), "activity", "")
 }
 
-/// The spot of the fault of a decomposition, or of a list of rows, beside a model's text, where it can be told.
+/// The spot of the fault of a decomposition, or of a list of rows, beside the text of a model that these limits are for, where
+/// it can be told.
 pub fn names_spot(
     alloc: Global,
     text: &[u8],
     model: &[u8],
+    limits: Limits,
     line: &str,
     kind: &str,
     list: bool,
@@ -166,17 +171,11 @@ pub fn names_spot(
     let Ok(number) = line.parse::<u64>() else {
         return Ok(None);
     };
-    match read(alloc, model) {
-        Ok(Some(reading)) => {
-            let names = Names {
-                text: model,
-                reading: &reading,
-            };
-            match first_wrong(alloc, text, &names, list) {
-                Ok(wrong) => Ok(wrong_spot(text, number, kind, wrong)),
-                Err(fault) => Err(fault),
-            }
-        }
+    match read(alloc, model, limits) {
+        Ok(Some(reading)) => match first_wrong(alloc, text, &reading, list) {
+            Ok(wrong) => Ok(wrong_spot(text, number, kind, wrong)),
+            Err(fault) => Err(fault),
+        },
         Ok(None) => Ok(None),
         Err(fault) => Err(fault),
     }

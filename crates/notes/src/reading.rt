@@ -3,18 +3,10 @@ use crate::grammar::{
     Sense, State, Symbol, begins_row, is_bound, is_list, is_second, is_term, next,
 };
 use crate::number::{Number, number_in, number_of};
+use bp_theory::Limits;
 use lp_token::{LpFault, Section, Tok, TokKind, section_of, tokens};
 use std::alloc::{AllocError, Global};
-use std::collections::BTreeMap;
-
-// The limits of a model.
-const MOST_VARIABLES: usize = 4096;
-
-const MOST_ROWS: usize = 8192;
-
-const MOST_TERMS: usize = 65_536;
-
-const MOST_DIGITS: u64 = 8192;
+use std::collections::{BTreeMap, BTreeSet};
 
 // The most bytes of a name.
 const LONGEST_NAME: usize = 255;
@@ -82,28 +74,33 @@ struct Open {
     variable: usize,
 }
 
-/// What was read of a text, up to its first fault but those of sums, and that fault.
+/// What was read of a text, up to its first fault but those of sums, and that fault: the limits that it is read with, its
+/// tokens, its rows, the names of those that have one, the numbers of the rows that such names are given for, its variables,
+/// and where the grammar stands.
 #[derive(Drop)]
 pub struct Reading {
     alloc: Global,
+    limits: Limits,
     tokens: Vec<Tok>,
     rows: Vec<Row>,
+    labels: BTreeSet<Vec<u8>>,
+    numbers: BTreeSet<u64>,
     variables: Vec<Variable>,
     places: BTreeMap<Vec<u8>, usize>,
-    terms: usize,
+    terms: u32,
     state: State,
     sense: Sense,
     open: Open,
     found: Option<Found>,
 }
 
-/// What was read of a text; none where it can't be cut, or is too long.
-pub fn read(alloc: Global, text: &[u8]) -> Result<Option<Reading>, AllocError> {
-    if text.len() > 1 << 24 {
+/// What was read of a text with these limits; none where it can't be cut, or is too long.
+pub fn read(alloc: Global, text: &[u8], limits: Limits) -> Result<Option<Reading>, AllocError> {
+    if text.len() > limits.bytes() {
         return Ok(None);
     }
     match tokens(alloc, text) {
-        Ok(all) => read_tokens(alloc, text, all),
+        Ok(all) => read_tokens(alloc, text, limits, all),
         Err(LpFault::NoMemory) => Err(AllocError),
         Err(LpFault::At { .. }) => Ok(None),
     }
@@ -113,9 +110,10 @@ pub fn read(alloc: Global, text: &[u8]) -> Result<Option<Reading>, AllocError> {
 fn read_tokens(
     alloc: Global,
     text: &[u8],
+    limits: Limits,
     tokens: Vec<Tok>,
 ) -> Result<Option<Reading>, AllocError> {
-    let mut reading = Reading::new(alloc, tokens);
+    let mut reading = Reading::new(alloc, limits, tokens);
     reading.found = reading.read_all(text);
     match reading.found {
         Some(found) if found.key == NO_MEMORY => Err(AllocError),
@@ -125,11 +123,14 @@ fn read_tokens(
 
 impl Reading {
     // Nothing of these tokens.
-    fn new(alloc: Global, tokens: Vec<Tok>) -> Reading {
+    fn new(alloc: Global, limits: Limits, tokens: Vec<Tok>) -> Reading {
         Reading {
             alloc,
+            limits,
             tokens,
             rows: Vec::new(alloc),
+            labels: BTreeSet::new(alloc),
+            numbers: BTreeSet::new(alloc),
             variables: Vec::new(alloc),
             places: BTreeMap::new(alloc),
             terms: 0,
@@ -207,6 +208,11 @@ impl Reading {
         None
     }
 
+    /// The limits that the text is read with.
+    pub fn limits(&self) -> Limits {
+        self.limits
+    }
+
     /// The first fault.
     pub fn found(&self) -> Option<Found> {
         self.found
@@ -279,35 +285,40 @@ impl Reading {
     // Begins a row.
     fn begin_row(&mut self, text: &[u8], at: usize) -> Option<&'static str> {
         let labelled = matches!(self.state, State::RowLabel);
+        let name = if labelled { self.bytes(text, at) } else { &[] };
         let is_twice = if labelled {
-            self.has_row(text, self.bytes(text, at))
+            self.has_row(name)
         } else {
-            self.has_label(text, self.rows.len())
+            self.numbers
+                .contains(&(self.rows.len() as u64).saturating_add(1))
         };
         if is_twice {
             return Some("row-twice");
         }
-        if self.rows.len() >= MOST_ROWS {
+        if self.rows.len() >= self.limits.rows() as usize {
             return Some("limit-rows");
         }
-        match self.rows.push(Row {
+        let row = Row {
             token: at,
             labelled,
-        }) {
+        };
+        match self.add_row(row, name) {
             Ok(()) => None,
-            Err(_) => Some(NO_MEMORY),
+            Err(AllocError) => Some(NO_MEMORY),
         }
     }
 
-    // Whether the name of an earlier row is the one that is given for a row without, of this number from 0.
-    fn has_label(&self, text: &[u8], number: usize) -> bool {
-        let wanted = Some((number as u64).saturating_add(1));
-        for row in &self.rows {
-            if row.labelled && given_number(self.bytes(text, row.token)) == wanted {
-                return true;
+    // Adds a row, with its name where it has one.
+    fn add_row(&mut self, row: Row, name: &[u8]) -> Result<(), AllocError> {
+        self.rows.push(row)?;
+        if row.labelled {
+            if let Some(number) = given_number(name) {
+                self.numbers.insert(number)?;
             }
+            let label = name.to_vec(self.alloc)?;
+            self.labels.insert(label)?;
         }
-        false
+        Ok(())
     }
 
     /// The bytes of a token; none of them where there is none.
@@ -321,7 +332,7 @@ impl Reading {
     // Counts a term.
     fn add_term(&mut self, text: &[u8], at: usize) -> Option<&'static str> {
         self.terms = self.terms.saturating_add(1);
-        if self.terms > MOST_TERMS {
+        if self.terms > self.limits.terms() {
             return Some("limit-terms");
         }
         self.occur(text, at)
@@ -338,7 +349,7 @@ impl Reading {
         if place < self.variables.len() {
             return None;
         }
-        if place >= MOST_VARIABLES {
+        if place >= self.limits.variables() as usize {
             return Some("limit-variables");
         }
         match self.add_variable(name, at) {
@@ -469,7 +480,7 @@ impl Reading {
         let mut digits = 0u64;
         for variable in &self.variables {
             digits = digits.saturating_add(digits_of(variable));
-            if digits > MOST_DIGITS {
+            if digits > u64::from(self.limits.digits()) {
                 return Some(Found {
                     key: "limit-digits",
                     token: Some(variable.token),
@@ -480,19 +491,19 @@ impl Reading {
     }
 
     /// Whether a row has the name.
-    pub fn has_row(&self, text: &[u8], name: &[u8]) -> bool {
-        let given = given_number(name);
-        for (at, row) in self.rows.iter().enumerate() {
-            let is_named = if row.labelled {
-                self.bytes(text, row.token) == name
-            } else {
-                given == Some((at as u64).saturating_add(1))
-            };
-            if is_named {
-                return true;
+    pub fn has_row(&self, name: &[u8]) -> bool {
+        self.labels.contains(name) || self.is_given(given_number(name))
+    }
+
+    // Whether there is a row without a name that has this number, from 1.
+    fn is_given(&self, number: Option<u64>) -> bool {
+        match number {
+            Some(number) if 0 < number && number <= self.rows.len() as u64 => {
+                let at = (number - 1) as usize;
+                !self.rows[at].labelled
             }
+            _ => false,
         }
-        false
     }
 
     /// Whether a variable has the name.

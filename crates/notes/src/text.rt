@@ -1,4 +1,5 @@
 // Notes and pieces of them.
+use bp_theory::Limits;
 use itoa::Buffer;
 use std::alloc::{AllocError, Global};
 
@@ -111,6 +112,25 @@ impl Note {
                 self.put(behind);
             }
             None => self.put(sentence),
+        }
+    }
+}
+
+/// Sentences, each of a kind: lines of a kind, ` @ ` and its sentence; and those that are others under the large limits.
+#[derive(Clone, Copy)]
+pub struct Sentences {
+    pub usual: &'static str,
+    pub large: &'static str,
+}
+
+impl Sentences {
+    /// The sentence of a kind under these limits.
+    pub fn of(&self, kind: &str, limits: Limits) -> Option<&'static str> {
+        match limits {
+            Limits::Usual => sentence_of(self.usual, kind),
+            Limits::Large => sentence_of(self.large, kind).or_else(|| sentence_of(
+                self.usual, kind,
+            )),
         }
     }
 }

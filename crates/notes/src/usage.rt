@@ -1,5 +1,6 @@
 // The words of the command line: what they may be, and what is wrong with others.
 use crate::text::{Note, word_at};
+use bp_theory::Limits;
 
 // The kit that the program is proved with.
 const KIT: &str = "rattle-kit-13f, logic dac8208d650f15bf";
@@ -26,43 +27,44 @@ const COMMANDS: [Command; 9] = [
             "--workers",
             "--order",
             "--cuts",
+            "--large",
         ],
         does: "a best point, and a certificate of it",
     },
     Command {
         name: "check",
         places: "LP CERT",
-        options: &["--dec", "--visits"],
+        options: &["--dec", "--visits", "--large"],
         does: "whether a certificate is valid",
     },
     Command {
         name: "show",
         places: "LP",
-        options: &["--dec", "--blocks"],
+        options: &["--dec", "--blocks", "--large"],
         does: "the blocks, and which are identical",
     },
     Command {
         name: "propose",
         places: "LP DEC",
-        options: &[],
+        options: &["--large"],
         does: "writes a decomposition that it finds",
     },
     Command {
         name: "detect",
         places: "LP ROWS DEC",
-        options: &[],
+        options: &["--large"],
         does: "writes the blocks beside the rows of a list",
     },
     Command {
         name: "merge",
         places: "LP A B NEW",
-        options: &["--dec"],
+        options: &["--dec", "--large"],
         does: "writes one certificate for two",
     },
     Command {
         name: "migrate",
         places: "LP CERT NEW",
-        options: &["--dec"],
+        options: &["--dec", "--large"],
         does: "writes a certificate anew, in version 2, with cuts 3",
     },
     Command {
@@ -87,7 +89,7 @@ struct Choice {
     means: &'static str,
 }
 
-const OPTIONS: [Choice; 10] = [
+const OPTIONS: [Choice; 11] = [
     Choice {
         name: "--dec",
         value: "DEC",
@@ -138,6 +140,11 @@ const OPTIONS: [Choice; 10] = [
         value: "",
         means: "      tell the rows and variables of each block",
     },
+    Choice {
+        name: "--large",
+        value: "",
+        means: "       read models of up to 524288 variables, not 4096",
+    },
 ];
 
 // The words that stand for numbers, with the least and the greatest number that each may be.
@@ -153,9 +160,8 @@ const NUMBERS: [(&str, u64, u64); 7] = [
 
 const STATUSES: &str = "\
 LP is a model as CPLEX LP text; `--` ends the options; `help COMMAND` tells of one.
-status: 0 done, 2 no command line, 3 a text is refused, 4 infeasible, 5 out of steps,
-  6 certificate rejected, 7 unreadable file, 8 unwritable file or output,
-  9 want of memory, 10 a leaf asks for more visits, 11 no such file
+status: 0 done, 2 no command line, 3 text refused, 4 infeasible, 5 out of steps,
+  6 rejected, 7 unreadable, 8 unwritable, 9 no memory, 10 out of visits, 11 no such file
 ";
 
 // How far the commands' words reach in the list of them.
@@ -359,6 +365,15 @@ fn misplaced_leaf(words: &[String]) -> Option<&'static str> {
         Some("--leaf goes without --workers and --order: a crew works on the whole tree")
     } else {
         None
+    }
+}
+
+/// The limits that the words of a command line ask for, the program's name first.
+pub fn limits_of(words: &[String]) -> Limits {
+    if has_option(words.get(1..).unwrap_or(&[]), "--large") {
+        Limits::Large
+    } else {
+        Limits::Usual
     }
 }
 

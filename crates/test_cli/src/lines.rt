@@ -1,5 +1,6 @@
 // Command lines, and the order that each gives.
 use crate::tables::{Table, check, told};
+use bp_theory::Limits;
 use bp_words::{Order, SolveOrder, Text, WordFault, read_words};
 use std::alloc::{AllocError, Global};
 use std::fmt;
@@ -7,7 +8,7 @@ use std::fmt::Write;
 use std::test::Fail;
 
 /// Lines of an order and of the words that give it, with ` @ ` between them. A dash stands for what isn't given, and
-/// `''` for a word without letters. Other lines are headings.
+/// `''` for a word without letters; behind an order whose model keeps the large limits there is a plus. Other lines are headings.
 const LINES: &str = "\
 # Files, joined to their options and apart.
 solve a.lp - - - - - - - 0 @ solve a.lp
@@ -30,6 +31,27 @@ merge a.lp c d n - @ merge a.lp c d n
 merge a.lp c c c e @ merge a.lp c --dec e c c
 migrate a.lp c n - @ migrate a.lp c n
 migrate a.lp c c e @ migrate a.lp c --dec=e c
+# The large limits.
+solve a.lp - - - - - - - 0+ @ solve a.lp --large
+solve a.lp d 5 c - - - - 2+ @ solve --large a.lp --dec d --steps 5 --cert c --cuts 2
+solve --large - - - - - - - 0 @ solve -- --large
+check a.lp c - -+ @ check --large a.lp c
+check a.lp c d 9+ @ check a.lp c --dec=d --large --visits 9
+show a.lp - -+ @ show a.lp --large
+show a.lp d blocks+ @ show --large a.lp --blocks --dec d
+detect a.lp r d+ @ detect --large a.lp r d
+propose a.lp d+ @ propose a.lp d --large
+propose a.lp --large+ @ propose a.lp --large -- --large
+merge a.lp c d n e+ @ merge a.lp c d n --dec e --large
+migrate a.lp c n -+ @ migrate a.lp --large c n
+refused @ solve a.lp --large --large
+refused @ solve a.lp --large=1
+refused @ solve a.lp --large 1
+refused @ solve a.lp --larger
+refused @ solve --large
+refused @ propose a.lp --large
+refused @ gen 1 1 a.lp a.dec --large
+refused @ demo 1 1 --large
 # Numbers.
 solve a.lp - 7 - - - - - 0 @ solve a.lp --steps 007
 solve a.lp - 1152921504606846976 - - - - - 0 @ solve --steps=1152921504606846976 a.lp
@@ -199,7 +221,18 @@ fn solve(alloc: Global, given: &SolveOrder) -> Result<String, AllocError> {
     let workers = number(given.workers.map(u64::from));
     let order = number(given.order);
     let cuts = given.cuts;
-    format!(in alloc; "solve {lp} {dec} {steps} {cert} {from} {leaf} {workers} {order} {cuts}")
+    let plus = sign(&given.limits);
+    format!(in alloc;
+        "solve {lp} {dec} {steps} {cert} {from} {leaf} {workers} {order} {cuts}{plus}"
+    )
+}
+
+// A plus for the large limits.
+fn sign(limits: &Limits) -> &'static str {
+    match limits {
+        Limits::Usual => "",
+        Limits::Large => "+",
+    }
 }
 
 // An order in short.
@@ -209,20 +242,37 @@ fn short(alloc: Global, order: &Order) -> Result<String, AllocError> {
         Order::Check(given) => {
             let (lp, cert) = (given.lp.as_str(), given.cert.as_str());
             let (dec, visits) = (name(&given.dec), number(given.visits));
-            format!(in alloc; "check {lp} {cert} {dec} {visits}")
+            format!(in alloc; "check {lp} {cert} {dec} {visits}{}", sign(&given.limits))
         }
-        Order::Show { lp, dec, blocks } => {
+        Order::Show {
+            lp,
+            dec,
+            blocks,
+            limits,
+        } => {
             let blocks = if *blocks { "blocks" } else { "-" };
-            format!(in alloc; "show {} {} {blocks}", lp.as_str(), name(dec))
+            format!(in alloc;
+                "show {} {} {blocks}{}",
+                lp.as_str(),
+                name(dec),
+                sign(limits)
+            )
         }
         Order::Merge(given) => {
             let (lp, dec) = (given.lp.as_str(), name(&given.dec));
             let (first, second) = (given.first.as_str(), given.second.as_str());
-            format!(in alloc; "merge {lp} {first} {second} {} {dec}", given.new.as_str())
+            let (new, plus) = (given.new.as_str(), sign(&given.limits));
+            format!(in alloc; "merge {lp} {first} {second} {new} {dec}{plus}")
         }
-        Order::Migrate { lp, cert, new, dec } => {
-            let (cert, new) = (cert.as_str(), new.as_str());
-            format!(in alloc; "migrate {} {cert} {new} {}", lp.as_str(), name(dec))
+        Order::Migrate {
+            lp,
+            cert,
+            new,
+            dec,
+            limits,
+        } => {
+            let (lp, cert, new) = (lp.as_str(), cert.as_str(), new.as_str());
+            format!(in alloc; "migrate {lp} {cert} {new} {}{}", name(dec), sign(limits))
         }
         others => made(alloc, others),
     }
@@ -238,11 +288,17 @@ fn made(alloc: Global, order: &Order) -> Result<String, AllocError> {
             dec,
         } => format!(in alloc; "gen {seed} {size} {} {}", lp.as_str(), dec.as_str()),
         Order::Demo { seed, size } => format!(in alloc; "demo {seed} {size}"),
-        Order::Detect { lp, rows, dec } => {
-            format!(in alloc; "detect {} {} {}", lp.as_str(), rows.as_str(), dec.as_str())
+        Order::Detect {
+            lp,
+            rows,
+            dec,
+            limits,
+        } => {
+            let (lp, rows, dec) = (lp.as_str(), rows.as_str(), dec.as_str());
+            format!(in alloc; "detect {lp} {rows} {dec}{}", sign(limits))
         }
-        Order::Propose { lp, dec } => {
-            format!(in alloc; "propose {} {}", lp.as_str(), dec.as_str())
+        Order::Propose { lp, dec, limits } => {
+            format!(in alloc; "propose {} {}{}", lp.as_str(), dec.as_str(), sign(limits))
         }
         _ => String::from_str(alloc, "-"),
     }
@@ -277,7 +333,7 @@ pub fn add_wrong(alloc: Global, all: &mut String, line: &str) -> Result<bool, Al
 
 #[test]
 fn each_line_gives_its_order_or_is_refused(rt: HostRuntime) -> Result<(), Fail> {
-    check(&rt, told(rt.alloc(), Table::Lines, LINES), "121 lines")
+    check(&rt, told(rt.alloc(), Table::Lines, LINES), "141 lines")
 }
 
 #[test]

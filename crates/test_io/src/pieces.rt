@@ -8,7 +8,7 @@ ghost use Rattle.cert_stream.specs.Checks.{IsMadeFor, ChecksFor};
 use block_form::check_blocks;
 use block_program::Blocked;
 use bp_model::{Dec, Model};
-use bp_theory::CheckKind;
+use bp_theory::{CheckKind, Limits};
 use cert_check::{Judged, check};
 use cert_stream::{Checker, FeedFault};
 use cert_text::{CertFault, CertKind, read_cert};
@@ -138,7 +138,7 @@ fn by_bytes(alloc: Global, b: &Blocked, text: &[u8], visits: Option<u64>) -> Ans
 fn program(alloc: Global, model: &str, dec: Option<&str>) -> Option<Blocked>
     ensures { IfSome result (λ b. b.cuts ≡ []) }
 {
-    let Ok(model) = read_lp(alloc, model.as_bytes()) else {
+    let Ok(model) = read_lp(alloc, Limits::Usual, model.as_bytes()) else {
         return None;
     };
     let Some(dec) = dec_of(alloc, &model, dec) else {

@@ -15,12 +15,12 @@ finish-requires g c = record {
 pub returns : goal.returns
 returns g c =
     let files = g.F.Shelf.file c.args.shelf.now in
-    let dec = option_map (λ name. name.now) c.args.dec in
-    let end = readers_end (AnswersCheck files c.args.lp.now c.args.cert.now dec c.args.visits) (g.F.Shelf.file c.checked-answer.new.shelf ≡ files) c.checked-answer.result c.reply_or_status.result
+    let dec = option_map (λ name. name.now) c.args.sources.dec in
+    let end = readers_end (AnswersCheck c.args.sources.limits files c.args.sources.lp.now c.args.cert.now dec c.args.visits) (g.F.Shelf.file c.checked-answer.new.shelf ≡ files) c.checked-answer.result c.reply_or_status.result
     (g.F.Shelf.tells c.args.shelf.now) (g.F.Shelf.read_faults c.args.shelf.now) (g.F.Shelf.read_faults c.checked-answer.new.shelf) (g.F.Shelf.write_faults c.args.shelf.now)
     (g.F.Shelf.write_faults c.checked-answer.new.shelf) c.finish.result.status c.finish.result.lost (g.O.Sink.tells c.args.out.now) (g.O.Sink.taken c.args.out.now) (g.O.Sink.taken c.finish.new.out)
     (g.O.Sink.faults c.args.out.now) (g.O.Sink.faults c.finish.new.out) (g.O.Sink.puts c.args.out.now) (g.O.Sink.puts c.finish.new.out) c.reply_or_status.ensures
-    (one_answer files c.args.lp.now c.args.cert.now dec c.args.visits) c.checked-answer.ensures.right c.checked-answer.ensures.statuses c.checked-answer.ensures.cause c.checked-answer.ensures.writes
+    (one_answer c.args.sources.limits files c.args.sources.lp.now c.args.cert.now dec c.args.visits) c.checked-answer.ensures.right c.checked-answer.ensures.statuses c.checked-answer.ensures.cause c.checked-answer.ensures.writes
     c.checked-answer.ensures.files c.finish.ensures.ends in
     record {
       answered = end.ends.answered;

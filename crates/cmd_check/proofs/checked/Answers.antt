@@ -11,7 +11,7 @@ pub returns-in-Ok-clause-right : goal.returns-in-Ok-clause-right
 returns-in-Ok-clause-right g c = λ told.
     let files = g.F.Shelf.file c.args.shelf.now in
     let still : IsTrue (g.F.Shelf.tells c.load.new.shelf) = subst (λ (t : Bool). IsTrue t) (sym c.in-Ok.ensures.told) told in
-    reply_right files c.args.lp.now (option_map (λ name. name.now) c.args.dec) (Unit {0}) (ChecksVisiting c.args.visits files c.args.cert.now) c.in-Ok.b c.judged_file.result
+    reply_right c.args.sources.limits files c.args.sources.lp.now (option_map (λ name. name.now) c.args.sources.dec) (Unit {0}) (ChecksVisiting c.args.visits files c.args.cert.now) c.in-Ok.b c.judged_file.result
     (c.in-Ok.ensures.blocked told)
     (subst (λ (fs : Files). IsRightReply (ChecksVisiting c.args.visits fs c.args.cert.now c.in-Ok.b) c.judged_file.result) c.in-Ok.ensures.files (c.judged_file.ensures.right still))
 
@@ -21,5 +21,5 @@ returns-in-Ok-clause-cause g c =
 
 pub returns-in-Err-clause-right : goal.returns-in-Err-clause-right
 returns-in-Err-clause-right g c = λ told.
-    halt_right (g.F.Shelf.file c.args.shelf.now) c.args.lp.now (option_map (λ name. name.now) c.args.dec) (Unit {0}) (ChecksVisiting c.args.visits (g.F.Shelf.file c.args.shelf.now) c.args.cert.now)
+    halt_right c.args.sources.limits (g.F.Shelf.file c.args.shelf.now) c.args.sources.lp.now (option_map (λ name. name.now) c.args.sources.dec) (Unit {0}) (ChecksVisiting c.args.visits (g.F.Shelf.file c.args.shelf.now) c.args.cert.now)
     c.in-Err.halt tt (c.in-Err.ensures.halted told)

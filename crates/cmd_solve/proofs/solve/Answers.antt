@@ -21,7 +21,7 @@ returns-in-Ok-clause-answered g c = λ told.
     let files = g.F.Shelf.file c.args.shelf.now in
     let from : Option (List ℕ) = option_map (λ name. name.now) c.args.from in
     let still : IsTrue (g.F.Shelf.tells c.load.new.shelf) = subst (λ (t : Bool). IsTrue t) (sym c.in-Ok.ensures.told) told in
-    lift_answers files c.args.lp.now (option_map (λ name. name.now) c.args.dec) (c.solve_blocks.result.kept ≡ None)
+    lift_answers c.args.sources.limits files c.args.sources.lp.now (option_map (λ name. name.now) c.args.sources.dec) (c.solve_blocks.result.kept ≡ None)
     (SolvesBy files from c.args.leaf c.args.steps c.args.cuts c.solve_blocks.result.kept) c.in-Ok.b c.solve_blocks.result.status (g.O.Sink.tells c.args.out.now) (g.O.Sink.taken c.args.out.now) (g.O.Sink.taken c.solve_blocks.new.out)
     (c.in-Ok.ensures.blocked told)
     (subst (λ (fs : Files). AnswersBy (SolvesBy fs from c.args.leaf c.args.steps c.args.cuts c.solve_blocks.result.kept c.in-Ok.b) c.solve_blocks.result.status (g.O.Sink.tells c.args.out.now) (g.O.Sink.taken c.args.out.now) (g.O.Sink.taken c.solve_blocks.new.out))
@@ -32,7 +32,7 @@ returns-in-Ok-clause-exact g c = λ told.
     let files = g.F.Shelf.file c.args.shelf.now in
     let from : Option (List ℕ) = option_map (λ name. name.now) c.args.from in
     let still : IsTrue (g.F.Shelf.tells c.load.new.shelf) = subst (λ (t : Bool). IsTrue t) (sym c.in-Ok.ensures.told) told in
-    lift_only files c.args.lp.now (option_map (λ name. name.now) c.args.dec) (c.solve_blocks.result.kept ≡ None)
+    lift_only c.args.sources.limits files c.args.sources.lp.now (option_map (λ name. name.now) c.args.sources.dec) (c.solve_blocks.result.kept ≡ None)
     (SolvesBy files from c.args.leaf c.args.steps c.args.cuts c.solve_blocks.result.kept) c.in-Ok.b c.solve_blocks.result.status (c.in-Ok.ensures.blocked told)
     (subst (λ (fs : Files). IsOnly (SolvesBy fs from c.args.leaf c.args.steps c.args.cuts c.solve_blocks.result.kept c.in-Ok.b) c.solve_blocks.result.status) c.in-Ok.ensures.files (c.solve_blocks.ensures.exact still))
 
@@ -41,7 +41,7 @@ returns-in-Ok-clause-cut_off g c = λ told.
     let files = g.F.Shelf.file c.args.shelf.now in
     let from : Option (List ℕ) = option_map (λ name. name.now) c.args.from in
     let still : IsTrue (g.F.Shelf.tells c.load.new.shelf) = subst (λ (t : Bool). IsTrue t) (sym c.in-Ok.ensures.told) told in
-    lift_cut files c.args.lp.now (option_map (λ name. name.now) c.args.dec) (λ kept. kept ≡ None)
+    lift_cut c.args.sources.limits files c.args.sources.lp.now (option_map (λ name. name.now) c.args.sources.dec) (λ kept. kept ≡ None)
     (λ kept. SolvesBy files from c.args.leaf c.args.steps c.args.cuts kept) c.in-Ok.b c.solve_blocks.result.status c.solve_blocks.result.lost (g.O.Sink.tells c.args.out.now) (g.O.Sink.taken c.args.out.now)
     (g.O.Sink.taken c.solve_blocks.new.out) (c.in-Ok.ensures.blocked told)
     (subst (λ (fs : Files). CutsOff (λ (kept : Option Outcome). SolvesBy fs from c.args.leaf c.args.steps c.args.cuts kept c.in-Ok.b) c.solve_blocks.result.status c.solve_blocks.result.lost
@@ -52,7 +52,7 @@ pub returns-in-Err-Refused-clause-exact : goal.returns-in-Err-Refused-clause-exa
 returns-in-Err-Refused-clause-exact g c = λ told.
     let files = g.F.Shelf.file c.args.shelf.now in
     let halts = c.in-Err-Refused.ensures.halted told in
-    stop_only files c.args.lp.now (option_map (λ name. name.now) c.args.dec) (c.print.result.kept ≡ None)
+    stop_only c.args.sources.limits files c.args.sources.lp.now (option_map (λ name. name.now) c.args.sources.dec) (c.print.result.kept ≡ None)
     (SolvesBy files (option_map (λ name. name.now) c.args.from) c.args.leaf c.args.steps c.args.cuts c.print.result.kept) c.print.result.status 3 c.in-Err-Refused.report.items
     (rw c.in-Err-Refused.field-0-is at halts) (printed_status c.print.result.status 3 c.print.ensures.status)
 
@@ -74,7 +74,7 @@ pub returns-in-Err-Stopped-clause-exact : goal.returns-in-Err-Stopped-clause-exa
 returns-in-Err-Stopped-clause-exact g c = λ told.
     let files = g.F.Shelf.file c.args.shelf.now in
     let halts = c.in-Err-Stopped.ensures.halted told in
-    fault_only files c.args.lp.now (option_map (λ name. name.now) c.args.dec) (c.stopped_by.result.kept ≡ None)
+    fault_only c.args.sources.limits files c.args.sources.lp.now (option_map (λ name. name.now) c.args.sources.dec) (c.stopped_by.result.kept ≡ None)
     (SolvesBy files (option_map (λ name. name.now) c.args.from) c.args.leaf c.args.steps c.args.cuts c.stopped_by.result.kept) c.stopped_by.result.status c.in-Err-Stopped.fault
     (rw c.in-Err-Stopped.field-0-is at halts) (rw c.in-Err-Stopped.field-0-is at c.stopped_by.ensures.status)
 
@@ -105,7 +105,7 @@ returns-in-Ok-clause-events g c = λ told.
     let files = g.F.Shelf.file c.args.shelf.now in
     let from : Option (List ℕ) = option_map (λ name. name.now) c.args.from in
     let still : IsTrue (g.F.Shelf.tells c.load.new.shelf) = subst (λ (t : Bool). IsTrue t) (sym c.in-Ok.ensures.told) told in
-    lift_events files c.args.lp.now (option_map (λ name. name.now) c.args.dec) c.args.steps from c.args.workers c.args.order c.args.cuts c.in-Ok.b c.solve_blocks.result.kept
+    lift_events c.args.sources.limits files c.args.sources.lp.now (option_map (λ name. name.now) c.args.sources.dec) c.args.steps from c.args.workers c.args.order c.args.cuts c.in-Ok.b c.solve_blocks.result.kept
     c.solve_blocks.result.events.items (c.in-Ok.ensures.blocked told)
     (subst (λ (fs : Files). EventsBy fs from c.args.steps (ordered_crew c.args.workers c.args.order) c.args.cuts c.in-Ok.b c.solve_blocks.result.kept c.solve_blocks.result.events.items)
     c.in-Ok.ensures.files
@@ -114,7 +114,7 @@ returns-in-Ok-clause-events g c = λ told.
 
 pub returns-in-Err-Refused-clause-events : goal.returns-in-Err-Refused-clause-events
 returns-in-Err-Refused-clause-events g c = λ told.
-    none_of (g.F.Shelf.file c.args.shelf.now) c.args.lp.now (option_map (λ name. name.now) c.args.dec) c.args.steps (option_map (λ name. name.now) c.args.from) c.args.workers c.args.order c.args.cuts
+    none_of c.args.sources.limits (g.F.Shelf.file c.args.shelf.now) c.args.sources.lp.now (option_map (λ name. name.now) c.args.sources.dec) c.args.steps (option_map (λ name. name.now) c.args.from) c.args.workers c.args.order c.args.cuts
     c.print.result.kept c.print.result.events.items
     (printed_none c.print.result.status 3 c.print.result.kept c.print.ensures.status c.print.ensures.kept c.print.ensures.none_kept (λ e. absurd (cc)))
     c.print.ensures.events
@@ -128,7 +128,7 @@ returns-in-Ok-clause-saved g c = λ told.
     let files = g.F.Shelf.file c.args.shelf.now in
     let from : Option (List ℕ) = option_map (λ name. name.now) c.args.from in
     let cert : Option (List ℕ) = option_map (λ name. name.now) c.args.cert in
-    lift_saved files c.args.lp.now (option_map (λ name. name.now) c.args.dec) cert from c.args.cuts (g.F.Shelf.file c.solve_blocks.new.shelf) c.in-Ok.b c.solve_blocks.result.kept
+    lift_saved c.args.sources.limits files c.args.sources.lp.now (option_map (λ name. name.now) c.args.sources.dec) cert from c.args.cuts (g.F.Shelf.file c.solve_blocks.new.shelf) c.in-Ok.b c.solve_blocks.result.kept
     (c.in-Ok.ensures.blocked told)
     (subst (λ (fs : Files). SavesBy fs from c.args.cuts c.in-Ok.b cert (g.F.Shelf.file c.solve_blocks.new.shelf) c.solve_blocks.result.kept) c.in-Ok.ensures.files (c.solve_blocks.ensures.saved still))
 
@@ -138,17 +138,17 @@ returns-in-Ok-clause-part g c = λ told want.
     let from : Option (List ℕ) = option_map (λ name. name.now) c.args.from in
     let cert : Option (List ℕ) = option_map (λ name. name.now) c.args.cert in
     let still : IsTrue (g.F.Shelf.tells c.load.new.shelf) = subst (λ (t : Bool). IsTrue t) (sym c.in-Ok.ensures.told) told in
-    lift_part files c.args.lp.now (option_map (λ name. name.now) c.args.dec) c.args.steps cert from c.args.leaf c.args.cuts (g.F.Shelf.file c.solve_blocks.new.shelf) c.in-Ok.b
+    lift_part c.args.sources.limits files c.args.sources.lp.now (option_map (λ name. name.now) c.args.sources.dec) c.args.steps cert from c.args.leaf c.args.cuts (g.F.Shelf.file c.solve_blocks.new.shelf) c.in-Ok.b
     (c.in-Ok.ensures.blocked told)
     (subst (λ (fs : Files). AsBeforeOr (HoldsPartBy fs from c.args.leaf c.args.steps c.args.cuts c.in-Ok.b) cert fs (g.F.Shelf.file c.solve_blocks.new.shelf))
     c.in-Ok.ensures.files (c.solve_blocks.ensures.part still want))
 
 pub returns-in-Err-Stopped-clause-part : goal.returns-in-Err-Stopped-clause-part
 returns-in-Err-Stopped-clause-part g c = λ told want.
-    untouched_part (g.F.Shelf.file c.args.shelf.now) c.args.lp.now (option_map (λ name. name.now) c.args.dec) c.args.steps (option_map (λ name. name.now) c.args.cert)
+    untouched_part c.args.sources.limits (g.F.Shelf.file c.args.shelf.now) c.args.sources.lp.now (option_map (λ name. name.now) c.args.sources.dec) c.args.steps (option_map (λ name. name.now) c.args.cert)
     (option_map (λ name. name.now) c.args.from) c.args.leaf c.args.cuts (g.F.Shelf.file c.load.new.shelf) c.in-Err-Stopped.ensures.files
 
 pub returns-in-Err-Refused-clause-part : goal.returns-in-Err-Refused-clause-part
 returns-in-Err-Refused-clause-part g c = λ told want.
-    untouched_part (g.F.Shelf.file c.args.shelf.now) c.args.lp.now (option_map (λ name. name.now) c.args.dec) c.args.steps (option_map (λ name. name.now) c.args.cert)
+    untouched_part c.args.sources.limits (g.F.Shelf.file c.args.shelf.now) c.args.sources.lp.now (option_map (λ name. name.now) c.args.sources.dec) c.args.steps (option_map (λ name. name.now) c.args.cert)
     (option_map (λ name. name.now) c.args.from) c.args.leaf c.args.cuts (g.F.Shelf.file c.load.new.shelf) c.in-Err-Refused.ensures.files

@@ -9,7 +9,7 @@ use bp_model::Model;
 use bp_report::{
     Refusal, blocks_text, budget_text, ended_text, proposed_text, refusal_text, show_blocks_text,
 };
-use bp_theory::Claim;
+use bp_theory::{Claim, Limits};
 use branch_tree::{Grove, Outcome};
 use cert_check::Judged;
 use cert_report::demo_text;
@@ -66,7 +66,7 @@ pub enum InBlocks {
 
 /// The report on the model, or none without one.
 pub fn of_model(alloc: Global, told: OfModel) -> Result<Vec<u8>, AllocError> {
-    match read_lp(alloc, MODEL) {
+    match read_lp(alloc, Limits::Usual, MODEL) {
         Ok(model) => with_model(alloc, &model, told),
         Err(_) => Ok(Vec::new(alloc)),
     }
@@ -113,7 +113,7 @@ fn with_point(alloc: Global, model: &Model, told: OfModel) -> Result<Vec<u8>, Al
 
 /// The report on the model in the blocks of a decomposition, or none without them.
 pub fn of_blocks(alloc: Global, dec: &str, told: InBlocks) -> Result<Vec<u8>, AllocError> {
-    match read_lp(alloc, MODEL) {
+    match read_lp(alloc, Limits::Usual, MODEL) {
         Ok(model) => of_dec(alloc, model, dec, told),
         Err(_) => Ok(Vec::new(alloc)),
     }

@@ -39,7 +39,7 @@ returns-in-Check-clause-answered g c = λ told.
     subst (λ (o : Order). AnswersBy (AnswersOrder o (g.F.Shelf.file c.args.shelf.now) c.check.result.kept) c.check.result.status (g.O.Sink.tells c.args.out.now) (g.O.Sink.taken c.args.out.now)
     (g.O.Sink.taken c.check.new.out)) (as_check c.args.order.now c.in-Check.given c.as_str-in-Check.result.now c.as_str-in-Check-2.result.now (option_map (λ name. name.now) c.named-in-Check.result) c.in-Check.is c.as_str-in-Check.ensures c.as_str-in-Check-2.ensures c.named-in-Check.ensures)
     (kept_answers c.check.result.kept
-    (AnswersCheck (g.F.Shelf.file c.args.shelf.now) c.as_str-in-Check.result.now c.as_str-in-Check-2.result.now (option_map (λ name. name.now) c.named-in-Check.result)
+    (AnswersCheck c.in-Check.given.limits (g.F.Shelf.file c.args.shelf.now) c.as_str-in-Check.result.now c.as_str-in-Check-2.result.now (option_map (λ name. name.now) c.named-in-Check.result)
     c.in-Check.given.visits)
     c.check.result.status _ _ _ c.check.ensures.kept (c.check.ensures.answered told))
 
@@ -57,21 +57,21 @@ pub returns-in-Show-clause-answered : goal.returns-in-Show-clause-answered
 returns-in-Show-clause-answered g c = λ told.
     subst (λ (o : Order). AnswersBy (AnswersOrder o (g.F.Shelf.file c.args.shelf.now) c.show.result.kept) c.show.result.status (g.O.Sink.tells c.args.out.now) (g.O.Sink.taken c.args.out.now)
     (g.O.Sink.taken c.show.new.out)) (as_show c.args.order.now c.as_str-in-Show.result.now c.in-Show.lp (option_map (λ name. name.now) c.named-in-Show.result) c.in-Show.dec
-    c.in-Show.blocks c.in-Show.is c.as_str-in-Show.ensures c.named-in-Show.ensures)
+    c.in-Show.blocks c.in-Show.limits c.in-Show.is c.as_str-in-Show.ensures c.named-in-Show.ensures)
     (kept_answers c.show.result.kept
-    (AnswersShow (g.F.Shelf.file c.args.shelf.now) c.as_str-in-Show.result.now (option_map (λ name. name.now) c.named-in-Show.result) c.in-Show.blocks)
+    (AnswersShow c.in-Show.limits (g.F.Shelf.file c.args.shelf.now) c.as_str-in-Show.result.now (option_map (λ name. name.now) c.named-in-Show.result) c.in-Show.blocks)
     c.show.result.status _ _ _ c.show.ensures.kept (c.show.ensures.answered told))
 
 pub returns-in-Show-clause-exact : goal.returns-in-Show-clause-exact
 returns-in-Show-clause-exact g c = λ told.
     subst (λ (o : Order). IsOnly (AnswersOrder o (g.F.Shelf.file c.args.shelf.now) c.show.result.kept) c.show.result.status) (as_show c.args.order.now c.as_str-in-Show.result.now c.in-Show.lp (option_map (λ name. name.now) c.named-in-Show.result) c.in-Show.dec
-    c.in-Show.blocks c.in-Show.is c.as_str-in-Show.ensures c.named-in-Show.ensures)
+    c.in-Show.blocks c.in-Show.limits c.in-Show.is c.as_str-in-Show.ensures c.named-in-Show.ensures)
     (kept_only c.show.result.kept _ c.show.result.status (c.show.ensures.exact told))
 
 pub returns-in-Show-clause-cut_off : goal.returns-in-Show-clause-cut_off
 returns-in-Show-clause-cut_off g c = λ told.
     subst (λ (o : Order). CutsOff (AnswersOrder o (g.F.Shelf.file c.args.shelf.now)) c.show.result.status c.show.result.lost (g.O.Sink.tells c.args.out.now) (g.O.Sink.taken c.args.out.now) (g.O.Sink.taken c.show.new.out)) (as_show c.args.order.now c.as_str-in-Show.result.now c.in-Show.lp (option_map (λ name. name.now) c.named-in-Show.result) c.in-Show.dec
-    c.in-Show.blocks c.in-Show.is c.as_str-in-Show.ensures c.named-in-Show.ensures)
+    c.in-Show.blocks c.in-Show.limits c.in-Show.is c.as_str-in-Show.ensures c.named-in-Show.ensures)
     (kept_cut _ c.show.result.status _ _ _ _ (c.show.ensures.cut_off told))
 
 pub returns-in-Gen-clause-cut_off : goal.returns-in-Gen-clause-cut_off
@@ -105,40 +105,40 @@ pub returns-in-Detect-clause-answered : goal.returns-in-Detect-clause-answered
 returns-in-Detect-clause-answered g c = λ told.
     subst (λ (o : Order). AnswersBy (AnswersOrder o (g.F.Shelf.file c.args.shelf.now) c.detect.result.kept) c.detect.result.status (g.O.Sink.tells c.args.out.now) (g.O.Sink.taken c.args.out.now)
     (g.O.Sink.taken c.detect.new.out)) (as_detect c.args.order.now c.as_str-in-Detect.result.now c.in-Detect.lp c.as_str-in-Detect-2.result.now c.in-Detect.rows c.as_str-in-Detect-3.result.now
-    c.in-Detect.dec c.in-Detect.is c.as_str-in-Detect.ensures c.as_str-in-Detect-2.ensures c.as_str-in-Detect-3.ensures)
-    (kept_answers c.detect.result.kept (AnswersDetect (g.F.Shelf.file c.args.shelf.now) c.as_str-in-Detect.result.now c.as_str-in-Detect-2.result.now)
+    c.in-Detect.dec c.in-Detect.limits c.in-Detect.is c.as_str-in-Detect.ensures c.as_str-in-Detect-2.ensures c.as_str-in-Detect-3.ensures)
+    (kept_answers c.detect.result.kept (AnswersDetect c.in-Detect.limits (g.F.Shelf.file c.args.shelf.now) c.as_str-in-Detect.result.now c.as_str-in-Detect-2.result.now)
     c.detect.result.status _ _ _ c.detect.ensures.kept (c.detect.ensures.answered told))
 
 pub returns-in-Detect-clause-exact : goal.returns-in-Detect-clause-exact
 returns-in-Detect-clause-exact g c = λ told.
     subst (λ (o : Order). IsOnly (AnswersOrder o (g.F.Shelf.file c.args.shelf.now) c.detect.result.kept) c.detect.result.status) (as_detect c.args.order.now c.as_str-in-Detect.result.now c.in-Detect.lp c.as_str-in-Detect-2.result.now c.in-Detect.rows c.as_str-in-Detect-3.result.now
-    c.in-Detect.dec c.in-Detect.is c.as_str-in-Detect.ensures c.as_str-in-Detect-2.ensures c.as_str-in-Detect-3.ensures)
+    c.in-Detect.dec c.in-Detect.limits c.in-Detect.is c.as_str-in-Detect.ensures c.as_str-in-Detect-2.ensures c.as_str-in-Detect-3.ensures)
     (kept_only c.detect.result.kept _ c.detect.result.status (c.detect.ensures.exact told))
 
 pub returns-in-Detect-clause-cut_off : goal.returns-in-Detect-clause-cut_off
 returns-in-Detect-clause-cut_off g c = λ told.
     subst (λ (o : Order). CutsOff (AnswersOrder o (g.F.Shelf.file c.args.shelf.now)) c.detect.result.status c.detect.result.lost (g.O.Sink.tells c.args.out.now) (g.O.Sink.taken c.args.out.now) (g.O.Sink.taken c.detect.new.out)) (as_detect c.args.order.now c.as_str-in-Detect.result.now c.in-Detect.lp c.as_str-in-Detect-2.result.now c.in-Detect.rows c.as_str-in-Detect-3.result.now
-    c.in-Detect.dec c.in-Detect.is c.as_str-in-Detect.ensures c.as_str-in-Detect-2.ensures c.as_str-in-Detect-3.ensures)
+    c.in-Detect.dec c.in-Detect.limits c.in-Detect.is c.as_str-in-Detect.ensures c.as_str-in-Detect-2.ensures c.as_str-in-Detect-3.ensures)
     (kept_cut _ c.detect.result.status _ _ _ _ (c.detect.ensures.cut_off told))
 
 pub returns-in-Propose-clause-answered : goal.returns-in-Propose-clause-answered
 returns-in-Propose-clause-answered g c = λ told.
     subst (λ (o : Order). AnswersBy (AnswersOrder o (g.F.Shelf.file c.args.shelf.now) c.propose.result.kept) c.propose.result.status (g.O.Sink.tells c.args.out.now) (g.O.Sink.taken c.args.out.now)
     (g.O.Sink.taken c.propose.new.out)) (as_propose c.args.order.now c.as_str-in-Propose.result.now c.in-Propose.lp c.as_str-in-Propose-2.result.now
-    c.in-Propose.dec c.in-Propose.is c.as_str-in-Propose.ensures c.as_str-in-Propose-2.ensures)
-    (kept_answers c.propose.result.kept (AnswersPropose (g.F.Shelf.file c.args.shelf.now) c.as_str-in-Propose.result.now)
+    c.in-Propose.dec c.in-Propose.limits c.in-Propose.is c.as_str-in-Propose.ensures c.as_str-in-Propose-2.ensures)
+    (kept_answers c.propose.result.kept (AnswersPropose c.in-Propose.limits (g.F.Shelf.file c.args.shelf.now) c.as_str-in-Propose.result.now)
     c.propose.result.status _ _ _ c.propose.ensures.kept (c.propose.ensures.answered told))
 
 pub returns-in-Propose-clause-exact : goal.returns-in-Propose-clause-exact
 returns-in-Propose-clause-exact g c = λ told.
     subst (λ (o : Order). IsOnly (AnswersOrder o (g.F.Shelf.file c.args.shelf.now) c.propose.result.kept) c.propose.result.status) (as_propose c.args.order.now c.as_str-in-Propose.result.now c.in-Propose.lp c.as_str-in-Propose-2.result.now
-    c.in-Propose.dec c.in-Propose.is c.as_str-in-Propose.ensures c.as_str-in-Propose-2.ensures)
+    c.in-Propose.dec c.in-Propose.limits c.in-Propose.is c.as_str-in-Propose.ensures c.as_str-in-Propose-2.ensures)
     (kept_only c.propose.result.kept _ c.propose.result.status (c.propose.ensures.exact told))
 
 pub returns-in-Propose-clause-cut_off : goal.returns-in-Propose-clause-cut_off
 returns-in-Propose-clause-cut_off g c = λ told.
     subst (λ (o : Order). CutsOff (AnswersOrder o (g.F.Shelf.file c.args.shelf.now)) c.propose.result.status c.propose.result.lost (g.O.Sink.tells c.args.out.now) (g.O.Sink.taken c.args.out.now) (g.O.Sink.taken c.propose.new.out)) (as_propose c.args.order.now c.as_str-in-Propose.result.now c.in-Propose.lp c.as_str-in-Propose-2.result.now
-    c.in-Propose.dec c.in-Propose.is c.as_str-in-Propose.ensures c.as_str-in-Propose-2.ensures)
+    c.in-Propose.dec c.in-Propose.limits c.in-Propose.is c.as_str-in-Propose.ensures c.as_str-in-Propose-2.ensures)
     (kept_cut _ c.propose.result.status _ _ _ _ (c.propose.ensures.cut_off told))
 
 pub returns-in-Gen-clause-written : goal.returns-in-Gen-clause-written
@@ -179,7 +179,7 @@ returns-in-Detect-clause-failed g c = λ is_fault.
     (g.O.Sink.faults c.args.out.now) (g.O.Sink.faults c.detect.new.out) (g.O.Sink.puts c.args.out.now) (g.O.Sink.puts c.detect.new.out)
     (g.O.Sink.taken c.args.out.now) (g.O.Sink.taken c.detect.new.out) refl
     (λ stands told. subst (λ (o : Order). HasPutLast o (g.F.Shelf.file c.args.shelf.now) (g.F.Shelf.file c.detect.new.shelf))
-    (as_detect c.args.order.now c.as_str-in-Detect.result.now c.in-Detect.lp c.as_str-in-Detect-2.result.now c.in-Detect.rows c.as_str-in-Detect-3.result.now c.in-Detect.dec c.in-Detect.is c.as_str-in-Detect.ensures c.as_str-in-Detect-2.ensures c.as_str-in-Detect-3.ensures) (stands told))
+    (as_detect c.args.order.now c.as_str-in-Detect.result.now c.in-Detect.lp c.as_str-in-Detect-2.result.now c.in-Detect.rows c.as_str-in-Detect-3.result.now c.in-Detect.dec c.in-Detect.limits c.in-Detect.is c.as_str-in-Detect.ensures c.as_str-in-Detect-2.ensures c.as_str-in-Detect-3.ensures) (stands told))
     (c.detect.ensures.failed is_fault)
 
 pub returns-in-Propose-clause-failed : goal.returns-in-Propose-clause-failed
@@ -188,7 +188,7 @@ returns-in-Propose-clause-failed g c = λ is_fault.
     (g.O.Sink.faults c.args.out.now) (g.O.Sink.faults c.propose.new.out) (g.O.Sink.puts c.args.out.now) (g.O.Sink.puts c.propose.new.out)
     (g.O.Sink.taken c.args.out.now) (g.O.Sink.taken c.propose.new.out) refl
     (λ stands told. subst (λ (o : Order). HasPutLast o (g.F.Shelf.file c.args.shelf.now) (g.F.Shelf.file c.propose.new.shelf))
-    (as_propose c.args.order.now c.as_str-in-Propose.result.now c.in-Propose.lp c.as_str-in-Propose-2.result.now c.in-Propose.dec c.in-Propose.is c.as_str-in-Propose.ensures c.as_str-in-Propose-2.ensures) (stands told))
+    (as_propose c.args.order.now c.as_str-in-Propose.result.now c.in-Propose.lp c.as_str-in-Propose-2.result.now c.in-Propose.dec c.in-Propose.limits c.in-Propose.is c.as_str-in-Propose.ensures c.as_str-in-Propose-2.ensures) (stands told))
     (c.propose.ensures.failed is_fault)
 
 pub returns-in-Check-clause-failed : goal.returns-in-Check-clause-failed
@@ -200,7 +200,7 @@ returns-in-Check-clause-failed g c = λ is_fault. inr (unput_as
 pub returns-in-Show-clause-failed : goal.returns-in-Show-clause-failed
 returns-in-Show-clause-failed g c = λ is_fault. inr (unput_as
     (λ stands told. subst (λ (o : Order). HasPutLast o (g.F.Shelf.file c.args.shelf.now) (g.F.Shelf.file c.show.new.shelf))
-    (as_show c.args.order.now c.as_str-in-Show.result.now c.in-Show.lp (option_map (λ name. name.now) c.named-in-Show.result) c.in-Show.dec c.in-Show.blocks c.in-Show.is c.as_str-in-Show.ensures c.named-in-Show.ensures) stands)
+    (as_show c.args.order.now c.as_str-in-Show.result.now c.in-Show.lp (option_map (λ name. name.now) c.named-in-Show.result) c.in-Show.dec c.in-Show.blocks c.in-Show.limits c.in-Show.is c.as_str-in-Show.ensures c.named-in-Show.ensures) stands)
     (c.show.ensures.failed is_fault))
 
 pub returns-in-Demo-clause-failed : goal.returns-in-Demo-clause-failed
@@ -215,7 +215,7 @@ returns-in-Merge-clause-answered g c = λ told.
     c.as_str-in-Merge-4.result.now (option_map (λ name. name.now) c.named-in-Merge.result) c.in-Merge.is c.as_str-in-Merge.ensures c.as_str-in-Merge-2.ensures
     c.as_str-in-Merge-3.ensures c.as_str-in-Merge-4.ensures c.named-in-Merge.ensures)
     (kept_answers c.merge.result.kept
-    (AnswersMerge (g.F.Shelf.file c.args.shelf.now) c.as_str-in-Merge.result.now c.as_str-in-Merge-2.result.now c.as_str-in-Merge-3.result.now (option_map (λ name. name.now) c.named-in-Merge.result))
+    (AnswersMerge c.in-Merge.given.limits (g.F.Shelf.file c.args.shelf.now) c.as_str-in-Merge.result.now c.as_str-in-Merge-2.result.now c.as_str-in-Merge-3.result.now (option_map (λ name. name.now) c.named-in-Merge.result))
     c.merge.result.status _ _ _ c.merge.ensures.kept (c.merge.ensures.answered told))
 
 pub returns-in-Merge-clause-exact : goal.returns-in-Merge-clause-exact
@@ -255,21 +255,21 @@ pub returns-in-Migrate-clause-answered : goal.returns-in-Migrate-clause-answered
 returns-in-Migrate-clause-answered g c = λ told.
     subst (λ (o : Order). AnswersBy (AnswersOrder o (g.F.Shelf.file c.args.shelf.now) c.migrate.result.kept) c.migrate.result.status (g.O.Sink.tells c.args.out.now) (g.O.Sink.taken c.args.out.now)
     (g.O.Sink.taken c.migrate.new.out)) (as_migrate c.args.order.now c.as_str-in-Migrate.result.now c.in-Migrate.lp c.as_str-in-Migrate-2.result.now c.in-Migrate.cert c.as_str-in-Migrate-3.result.now c.in-Migrate.new
-    (option_map (λ name. name.now) c.named-in-Migrate.result) c.in-Migrate.dec c.in-Migrate.is c.as_str-in-Migrate.ensures c.as_str-in-Migrate-2.ensures c.as_str-in-Migrate-3.ensures c.named-in-Migrate.ensures)
+    (option_map (λ name. name.now) c.named-in-Migrate.result) c.in-Migrate.dec c.in-Migrate.limits c.in-Migrate.is c.as_str-in-Migrate.ensures c.as_str-in-Migrate-2.ensures c.as_str-in-Migrate-3.ensures c.named-in-Migrate.ensures)
     (kept_answers c.migrate.result.kept
-    (AnswersMigrate (g.F.Shelf.file c.args.shelf.now) c.as_str-in-Migrate.result.now c.as_str-in-Migrate-2.result.now (option_map (λ name. name.now) c.named-in-Migrate.result))
+    (AnswersMigrate c.in-Migrate.limits (g.F.Shelf.file c.args.shelf.now) c.as_str-in-Migrate.result.now c.as_str-in-Migrate-2.result.now (option_map (λ name. name.now) c.named-in-Migrate.result))
     c.migrate.result.status _ _ _ c.migrate.ensures.kept (c.migrate.ensures.answered told))
 
 pub returns-in-Migrate-clause-exact : goal.returns-in-Migrate-clause-exact
 returns-in-Migrate-clause-exact g c = λ told.
     subst (λ (o : Order). IsOnly (AnswersOrder o (g.F.Shelf.file c.args.shelf.now) c.migrate.result.kept) c.migrate.result.status) (as_migrate c.args.order.now c.as_str-in-Migrate.result.now c.in-Migrate.lp c.as_str-in-Migrate-2.result.now c.in-Migrate.cert c.as_str-in-Migrate-3.result.now c.in-Migrate.new
-    (option_map (λ name. name.now) c.named-in-Migrate.result) c.in-Migrate.dec c.in-Migrate.is c.as_str-in-Migrate.ensures c.as_str-in-Migrate-2.ensures c.as_str-in-Migrate-3.ensures c.named-in-Migrate.ensures)
+    (option_map (λ name. name.now) c.named-in-Migrate.result) c.in-Migrate.dec c.in-Migrate.limits c.in-Migrate.is c.as_str-in-Migrate.ensures c.as_str-in-Migrate-2.ensures c.as_str-in-Migrate-3.ensures c.named-in-Migrate.ensures)
     (kept_only c.migrate.result.kept _ c.migrate.result.status (c.migrate.ensures.exact told))
 
 pub returns-in-Migrate-clause-cut_off : goal.returns-in-Migrate-clause-cut_off
 returns-in-Migrate-clause-cut_off g c = λ told.
     subst (λ (o : Order). CutsOff (AnswersOrder o (g.F.Shelf.file c.args.shelf.now)) c.migrate.result.status c.migrate.result.lost (g.O.Sink.tells c.args.out.now) (g.O.Sink.taken c.args.out.now) (g.O.Sink.taken c.migrate.new.out)) (as_migrate c.args.order.now c.as_str-in-Migrate.result.now c.in-Migrate.lp c.as_str-in-Migrate-2.result.now c.in-Migrate.cert c.as_str-in-Migrate-3.result.now c.in-Migrate.new
-    (option_map (λ name. name.now) c.named-in-Migrate.result) c.in-Migrate.dec c.in-Migrate.is c.as_str-in-Migrate.ensures c.as_str-in-Migrate-2.ensures c.as_str-in-Migrate-3.ensures c.named-in-Migrate.ensures)
+    (option_map (λ name. name.now) c.named-in-Migrate.result) c.in-Migrate.dec c.in-Migrate.limits c.in-Migrate.is c.as_str-in-Migrate.ensures c.as_str-in-Migrate-2.ensures c.as_str-in-Migrate-3.ensures c.named-in-Migrate.ensures)
     (kept_cut _ c.migrate.result.status _ _ _ _ (c.migrate.ensures.cut_off told))
 
 pub returns-in-Migrate-clause-failed : goal.returns-in-Migrate-clause-failed
@@ -279,5 +279,5 @@ returns-in-Migrate-clause-failed g c = λ is_fault.
     (g.O.Sink.taken c.args.out.now) (g.O.Sink.taken c.migrate.new.out) refl
     (λ stands told. subst (λ (o : Order). HasPutLast o (g.F.Shelf.file c.args.shelf.now) (g.F.Shelf.file c.migrate.new.shelf))
     (as_migrate c.args.order.now c.as_str-in-Migrate.result.now c.in-Migrate.lp c.as_str-in-Migrate-2.result.now c.in-Migrate.cert c.as_str-in-Migrate-3.result.now c.in-Migrate.new
-    (option_map (λ name. name.now) c.named-in-Migrate.result) c.in-Migrate.dec c.in-Migrate.is c.as_str-in-Migrate.ensures c.as_str-in-Migrate-2.ensures c.as_str-in-Migrate-3.ensures c.named-in-Migrate.ensures) (stands told))
+    (option_map (λ name. name.now) c.named-in-Migrate.result) c.in-Migrate.dec c.in-Migrate.limits c.in-Migrate.is c.as_str-in-Migrate.ensures c.as_str-in-Migrate-2.ensures c.as_str-in-Migrate-3.ensures c.named-in-Migrate.ensures) (stands told))
     (c.migrate.ensures.failed is_fault)

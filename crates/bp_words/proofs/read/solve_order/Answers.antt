@@ -1,4 +1,4 @@
-use Rattle.std.proofs.Common.{refl, rules}
+use Rattle.std.proofs.Common.{refl, sym, rules}
 use Rattle.clap.specs.Words.{found_of, rows_of}
 use Rattle.cli_orders.proofs.Needs.{not_there, solve_needs}
 use Rattle.bp_words.proofs.read.solve_order.Goals as goal
@@ -19,4 +19,4 @@ returns-clause-order c =
     let numbers = c.in_ok-numbers.ensures.numbers in
     let ends = c.in_ok-ends.ensures in
     let problem = c.in_ok-lp.ensures.files in
-    (refl, problem.lp, problem.dec, numbers.steps, ends.cert, ends.from, numbers.leaf, numbers.workers, numbers.order, search rules, numbers.cuts)
+    (refl, problem.lp, problem.dec, numbers.steps, ends.cert, ends.from, numbers.leaf, numbers.workers, numbers.order, search rules, numbers.cuts, sym c.limits_of.ensures)

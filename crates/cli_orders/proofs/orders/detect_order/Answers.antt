@@ -1,4 +1,4 @@
-use Rattle.std.proofs.Common.{refl, rules}
+use Rattle.std.proofs.Common.{refl, sym, rules}
 use Rattle.clap.specs.Words.{found_of, rows_of}
 use Rattle.cli_orders.proofs.Needs.{not_there, detect_needs}
 use Rattle.cli_orders.proofs.orders.detect_order.Goals as goal
@@ -17,4 +17,4 @@ returns-in_err-lp-clause-refused c = λ e order has.
 pub returns-clause-order : goal.returns-clause-order
 returns-clause-order c =
     let pair = c.in_ok-lp.ensures.files in
-    (refl, pair.lp, c.in_ok-rows.ensures.value, pair.dec)
+    (refl, pair.lp, c.in_ok-rows.ensures.value, pair.dec, sym c.limits_of.ensures)

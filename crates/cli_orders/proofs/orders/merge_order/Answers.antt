@@ -1,4 +1,4 @@
-use Rattle.std.proofs.Common.{refl, rules}
+use Rattle.std.proofs.Common.{refl, sym, rules}
 use Rattle.clap.specs.Words.{found_of, rows_of}
 use Rattle.cli_orders.proofs.Needs.{not_there, merge_needs}
 use Rattle.cli_orders.proofs.orders.merge_order.Goals as goal
@@ -23,4 +23,4 @@ pub returns-clause-order : goal.returns-clause-order
 returns-clause-order c =
     let sides = c.in_ok-sides.ensures.files in
     let problem = c.in_ok-lp.ensures.files in
-    (refl, problem.lp, sides.first, sides.second, c.in_ok-new.ensures.value, problem.dec)
+    (refl, problem.lp, sides.first, sides.second, c.in_ok-new.ensures.value, problem.dec, sym c.limits_of.ensures)

@@ -1,4 +1,4 @@
-use Rattle.std.proofs.Common.{refl, rules}
+use Rattle.std.proofs.Common.{refl, sym, rules}
 use Rattle.clap.specs.Words.{found_of, rows_of}
 use Rattle.cli_orders.proofs.Needs.{not_there, migrate_needs}
 use Rattle.cli_orders.proofs.orders.migrate_order.Goals as goal
@@ -22,4 +22,4 @@ returns-in_err-lp-clause-refused c = λ e order has.
 pub returns-clause-order : goal.returns-clause-order
 returns-clause-order c =
     let problem = c.in_ok-lp.ensures.files in
-    (refl, problem.lp, c.in_ok-cert.ensures.value, c.in_ok-new.ensures.value, problem.dec)
+    (refl, problem.lp, c.in_ok-cert.ensures.value, c.in_ok-new.ensures.value, problem.dec, sym c.limits_of.ensures)

@@ -17,8 +17,8 @@ pub returns : goal.returns
 returns g c =
     let files = g.F.Shelf.file c.args.shelf.now in
     let now = g.F.Shelf.file c.write_merged-come.new.shelf in
-    let dec = option_map (λ name. name.now) c.args.dec in
-    let Right = Merges files c.args.lp.now c.args.first.now c.args.second.now dec in
+    let dec = option_map (λ name. name.now) c.args.sources.dec in
+    let Right = Merges c.args.sources.limits files c.args.sources.lp.now c.args.first.now c.args.second.now dec in
     let told = g.F.Shelf.tells c.args.shelf.now in
     let reads = g.F.Shelf.read_faults c.args.shelf.now in
     let reads_now = g.F.Shelf.read_faults c.write_merged-come.new.shelf in
@@ -30,7 +30,7 @@ returns g c =
     c.load_merged-merged.ensures.files c.load_merged-merged.ensures.writes c.write_merged-come.ensures.reads c.write_merged-come.ensures.writes in
     let end = writers_end Right (now ≡ files) told c.args.new.now files now reads reads_now writes writes_now c.write_merged-come.result c.finish.result.status c.finish.result.lost
     (g.O.Sink.tells c.args.out.now) (g.O.Sink.taken c.args.out.now) (g.O.Sink.taken c.finish.new.out) (g.O.Sink.faults c.args.out.now)
-    (g.O.Sink.faults c.finish.new.out) (g.O.Sink.puts c.args.out.now) (g.O.Sink.puts c.finish.new.out) (one_answer files c.args.lp.now c.args.first.now c.args.second.now dec)
+    (g.O.Sink.faults c.finish.new.out) (g.O.Sink.puts c.args.out.now) (g.O.Sink.puts c.finish.new.out) (one_answer c.args.sources.limits files c.args.sources.lp.now c.args.first.now c.args.second.now dec)
     (draft_others c.args.new.now files now) comes c.finish.ensures.ends in
     record {
       answered = end.ends.answered;

@@ -8,13 +8,13 @@ use Rattle.cmd_certificates.proofs.migration.load_migrated.Goals as goal
 
 pub returns-in_err-b-clause-halted : goal.returns-in_err-b-clause-halted
 returns-in_err-b-clause-halted g c = λ told.
-    front_halts (g.F.Shelf.file c.args.shelf.now) c.args.lp.now c.args.cert.now (option_map (λ name. name.now) c.args.dec) c.in_err-b.field-0.0
+    front_halts c.args.sources.limits (g.F.Shelf.file c.args.shelf.now) c.args.sources.lp.now c.args.cert.now (option_map (λ name. name.now) c.args.sources.dec) c.in_err-b.field-0.0
     c.from_residual.result c.from_residual.ensures.1 (c.in_err-b.ensures.halted told)
 
 pub returns-in_err-read-clause-halted : goal.returns-in_err-read-clause-halted
 returns-in_err-read-clause-halted g c = λ told.
     let still : IsTrue (g.F.Shelf.tells c.load.new.shelf) = subst (λ (t : Bool). IsTrue t) (sym c.in_ok-b.ensures.told) told in
-    fault_halts (g.F.Shelf.file c.args.shelf.now) c.args.lp.now c.args.cert.now (option_map (λ name. name.now) c.args.dec) c.in_ok-b.b c.in_err-read.field-0.0
+    fault_halts c.args.sources.limits (g.F.Shelf.file c.args.shelf.now) c.args.sources.lp.now c.args.cert.now (option_map (λ name. name.now) c.args.sources.dec) c.in_ok-b.b c.in_err-read.field-0.0
     c.from_residual-in_err-read.result c.from_residual-in_err-read.ensures.1 (c.in_ok-b.ensures.blocked told)
     (λ (is : c.in_err-read.field-0.0 ≡ Missing). ap (λ (files : Files). files c.args.cert.now) (sym c.in_ok-b.ensures.files) ∙ c.in_err-read.ensures.missing still (still_missing c.in_err-read.field-0.0 is))
 
@@ -22,14 +22,14 @@ pub returns-clause-read : goal.returns-clause-read
 returns-clause-read g c = λ told.
     let still : IsTrue (g.F.Shelf.tells c.load.new.shelf) = subst (λ (t : Bool). IsTrue t) (sym c.in_ok-b.ensures.told) told in
     let file = c.in_ok-read.ensures.read in
-    file_read (g.F.Shelf.file c.args.shelf.now) c.args.lp.now c.args.cert.now (option_map (λ name. name.now) c.args.dec) c.in_ok-b.b file.text c.migrated_of.result (c.in_ok-b.ensures.blocked told)
+    file_read c.args.sources.limits (g.F.Shelf.file c.args.shelf.now) c.args.sources.lp.now c.args.cert.now (option_map (λ name. name.now) c.args.sources.dec) c.in_ok-b.b file.text c.migrated_of.result (c.in_ok-b.ensures.blocked told)
     (sym (file.there still) ∙ ap (λ (files : Files). files c.args.cert.now) c.in_ok-b.ensures.files) (c.migrated_of.ensures.read file.text file.short file.reads)
 
 pub returns-clause-halted : goal.returns-clause-halted
 returns-clause-halted g c = λ told.
     let still : IsTrue (g.F.Shelf.tells c.load.new.shelf) = subst (λ (t : Bool). IsTrue t) (sym c.in_ok-b.ensures.told) told in
     let file = c.in_ok-read.ensures.read in
-    file_halted (g.F.Shelf.file c.args.shelf.now) c.args.lp.now c.args.cert.now (option_map (λ name. name.now) c.args.dec) c.in_ok-b.b file.text c.migrated_of.result (c.in_ok-b.ensures.blocked told)
+    file_halted c.args.sources.limits (g.F.Shelf.file c.args.shelf.now) c.args.sources.lp.now c.args.cert.now (option_map (λ name. name.now) c.args.sources.dec) c.in_ok-b.b file.text c.migrated_of.result (c.in_ok-b.ensures.blocked told)
     (sym (file.there still) ∙ ap (λ (files : Files). files c.args.cert.now) c.in_ok-b.ensures.files) (c.migrated_of.ensures.halted file.text file.reads)
 
 pub returns-clause-cause : goal.returns-clause-cause

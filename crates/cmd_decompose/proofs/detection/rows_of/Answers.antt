@@ -1,6 +1,5 @@
-use Rattle.std.proofs.Common.{◌≡◌, refl, sym, subst, ℕ, List, Some}
+use Rattle.std.proofs.Common.{refl, sym, subst, ℕ, List, Some}
 use Rattle.dec_write.specs.Rows.{IsRowsFault}
-use Rattle.bp_report.specs.Refusals.{rows_refusal}
 use Rattle.frontend.specs.Written.{stops}
 use Rattle.cmd_decompose.specs.Detects.{RowsCome, faulty}
 use Rattle.cmd_decompose.proofs.detection.rows_of.Goals as goal

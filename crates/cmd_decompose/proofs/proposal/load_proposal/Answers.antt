@@ -5,7 +5,7 @@ use Rattle.cmd_decompose.proofs.proposal.load_proposal.Goals as goal
 
 pub returns-in_err-model-clause-halted : goal.returns-in_err-model-clause-halted
 returns-in_err-model-clause-halted g c = λ told.
-    lp_halts (Proposes (g.F.Shelf.file c.args.shelf.now) c.args.lp.now) (g.F.Shelf.file c.args.shelf.now c.args.lp.now) c.in_err-model.field-0.0
+    lp_halts c.args.limits (Proposes c.args.limits (g.F.Shelf.file c.args.shelf.now) c.args.lp.now) (g.F.Shelf.file c.args.shelf.now c.args.lp.now) c.in_err-model.field-0.0
     c.from_residual.result missing_lp faulty_lp c.from_residual.ensures.1 (c.in_err-model.ensures.halted told)
 
 pub returns-clause-proposed : goal.returns-clause-proposed

@@ -14,7 +14,7 @@ pub returns : goal.returns
 returns g c =
     let files = g.F.Shelf.file c.args.shelf.now in
     let now = g.F.Shelf.file c.write_draft-come.new.shelf in
-    let Right = Proposes files c.args.lp.now in
+    let Right = Proposes c.args.limits files c.args.lp.now in
     let told = g.F.Shelf.tells c.args.shelf.now in
     let reads = g.F.Shelf.read_faults c.args.shelf.now in
     let reads_now = g.F.Shelf.read_faults c.write_draft-come.new.shelf in
@@ -26,7 +26,7 @@ returns g c =
     c.write_draft-come.ensures.reads c.write_draft-come.ensures.writes in
     let end = writers_end Right (now ≡ files) told c.args.dec.now files now reads reads_now writes writes_now c.write_draft-come.result c.finish.result.status c.finish.result.lost
     (g.O.Sink.tells c.args.out.now) (g.O.Sink.taken c.args.out.now) (g.O.Sink.taken c.finish.new.out) (g.O.Sink.faults c.args.out.now)
-    (g.O.Sink.faults c.finish.new.out) (g.O.Sink.puts c.args.out.now) (g.O.Sink.puts c.finish.new.out) (one_answer files c.args.lp.now)
+    (g.O.Sink.faults c.finish.new.out) (g.O.Sink.puts c.args.out.now) (g.O.Sink.puts c.finish.new.out) (one_answer c.args.limits files c.args.lp.now)
     (draft_others c.args.dec.now files now) comes c.finish.ensures.ends in
     record {
       answered = end.ends.answered;

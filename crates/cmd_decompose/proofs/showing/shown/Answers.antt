@@ -13,4 +13,4 @@ returns-in-Ok-reply_to-clause-statuses g c = shown_status c.args.blocks c.in-Ok.
 
 pub returns-clause-right : goal.returns-clause-right
 returns-clause-right g c = λ told.
-    halt_right (g.F.Shelf.file c.args.shelf.now) c.args.lp.now (option_map (λ name. name.now) c.args.dec) (Unit {0}) (ShowsBlocked c.args.blocks) c.in-Err.halt tt (c.in-Err.ensures.halted told)
+    halt_right c.args.sources.limits (g.F.Shelf.file c.args.shelf.now) c.args.sources.lp.now (option_map (λ name. name.now) c.args.sources.dec) (Unit {0}) (ShowsBlocked c.args.blocks) c.in-Err.halt tt (c.in-Err.ensures.halted told)
