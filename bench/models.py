@@ -6,7 +6,8 @@
     bench/models.py                    prints the names
 
 `make(NAME)` gives the two texts. A NAME is a class and its numbers, as `assignment-C-5-100` or `bins-u-120`; `-s3` behind it is a seed
-(1 where none stands). Models past the limits of bprice, as `bins-u-250`, can be asked for by name. Sources: P. C. Chu and J. E. Beasley, A genetic algorithm for the generalised assignment problem, 1997 (A to D);
+(1 where none stands). Models past the usual limits of bprice, which `--large` reads, are those of LARGE_SIZES (`bench/large.py`), and others
+can be asked for by name. Sources: P. C. Chu and J. E. Beasley, A genetic algorithm for the generalised assignment problem, 1997 (A to D);
 M. Yagiura and others, A variable depth search algorithm with branching search for the generalized assignment problem, 1998 (E);
 E. Falkenauer, A hybrid grouping genetic algorithm for bin packing, 1996 (bins of sizes and of triplets).
 """
@@ -463,13 +464,32 @@ SIZES = [
     "pairings-5-20", "pairings-8-40", "conflicts-4-20", "conflicts-5-30",
 ]
 
+# Models that are read with --large alone.
+LARGE_SIZES = [
+    "bins-u-250", "bins-u-500", "bins-u-1000", "bins-u-5000",
+    "bins-single-100", "bins-single-200", "bins-single-500", "bins-single-1000",
+    "bins-t-249", "bins-t-501",
+    "rolls-100", "rolls-200",
+    "roster-80-28", "roster-200-28", "roster-500-28",
+    "median-80", "median-150", "median-250", "median-400",
+    "assignment-C-20-400", "assignment-C-40-400", "assignment-D-20-400", "assignment-E-20-400",
+    "facility-40-160", "facility-60-240",
+    "colouring-80-50", "colouring-125-50",
+    "vehicles-two-20-200",
+]
 
-def make(name):
-    """The LP and the DEC text of a model."""
+
+def model(name):
+    """A model by its name."""
     found = re.fullmatch(r"([A-Za-z-]+?)((?:-\d+)+)(?:-s(\d+))?", name)
     seed = int(found[3] or 1)
     numbers = [int(number) for number in found[2][1:].split("-")]
-    return MAKERS[found[1]](random.Random(f"{name}" if found[3] else f"{name}-s1"), seed, *numbers).texts()
+    return MAKERS[found[1]](random.Random(f"{name}" if found[3] else f"{name}-s1"), seed, *numbers)
+
+
+def make(name):
+    """The LP and the DEC text of a model."""
+    return model(name).texts()
 
 
 def main():

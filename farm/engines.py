@@ -56,7 +56,7 @@ class Parallel:
     def command(self):
         words = ["parallel", "--will-cite", "--ungroup", "--colsep", "\t", "--joblog", str(self.log)]
         if self.hosts:
-            base = [word for name in ("bprice", "work", "model.lp", "model.dec") if (self.folder / name).exists() for word in ("--basefile", name)]
+            base = [word for name in ("bprice", "work", "model.lp", "model.dec", "model.large") if (self.folder / name).exists() for word in ("--basefile", name)]
             words += ["--sshlogin", ",".join(self.hosts), "--workdir", self.workdir(), *base, "--transferfile", "{1}", "--return", "{4}", "--cleanup"]
         else:
             words += ["--jobs", str(self.workers)]
@@ -66,7 +66,7 @@ class Parallel:
         """The folder on other machines: a farm of its own has one of its own there, whatever others are called, so that no file of another is taken for
         its own, as a decomposition where it has none."""
         digest = hashlib.sha256(f"{socket.gethostname()}:{self.folder}".encode())
-        for name in ("model.lp", "model.dec"):
+        for name in ("model.lp", "model.dec", "model.large"):
             file = self.folder / name
             digest.update(b"none" if not file.exists() else hashlib.sha256(file.read_bytes()).digest())
         return f".bprice-farm/{self.folder.name}-{digest.hexdigest()[:12]}"

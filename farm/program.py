@@ -21,11 +21,12 @@ class Program:
 
     def __init__(self, processes: Processes, look):
         self.folder, self.processes, self.look = processes.folder, processes, look
-        self.dec = ["--dec", "model.dec"] if (self.folder / "model.dec").exists() else []
+        self.model = ["--dec", "model.dec"] if (self.folder / "model.dec").exists() else []
+        self.model += ["--large"] if (self.folder / "model.large").exists() else []
 
     def call(self, *words):
         """What the program prints and its status."""
-        told, status = self.processes.call(["./bprice", *words, *self.dec], self.look)
+        told, status = self.processes.call(["./bprice", *words, *self.model], self.look)
         return told.decode("latin-1"), status
 
     def solve(self, steps, is_new=False):
@@ -48,7 +49,7 @@ class Program:
 
     def begin_alone(self, report):
         """A search of the whole model, which writes the certificate alone.cert and its report."""
-        return self.processes.begin(["./bprice", "solve", "model.lp", "--cert", "alone.cert", *self.dec], stdin=subprocess.DEVNULL, stdout=report)
+        return self.processes.begin(["./bprice", "solve", "model.lp", "--cert", "alone.cert", *self.model], stdin=subprocess.DEVNULL, stdout=report)
 
     def accepts(self, new):
         return self.call("check", "model.lp", new)[1] == 0

@@ -86,6 +86,7 @@ class Plans:
     def run(self, lp, cert, dec):
         """The report and the status of bprice-run for one text."""
         command = [sys.executable, "-S", "-E", os.path.join(HERE, "bprice-run"), lp, "--cert", cert, *(["--dec", dec] if dec else [])]
+        command += self.words.limits()
         left = self.left()
         command += [] if left is None else ["--time", str(max(0.0, left))]
         command += [] if self.words.steps is None else ["--steps", str(self.words.steps)]

@@ -51,7 +51,7 @@ class Way:
         self.ran, self.since = self.used, time.monotonic()
         self.call = Call(program, ["solve", words.lp, *(["--dec", self.dec] if self.dec else []), *(["--from", self.cert] if goes_on else []),
                                    *(["--cuts", str(self.cuts)] if self.cuts and not goes_on else []), "--steps", str(self.steps),
-                                   "--cert", self.cert + ".part", *words.rest])
+                                   "--cert", self.cert + ".part", *words.limits(), *words.rest])
 
     def suspend(self):
         self.call.suspend()
@@ -178,7 +178,7 @@ class Race:
 
     def propose(self):
         if self.wants_proposal() and not self.has_proposal():
-            self.proposal = Call(self.program, ["propose", self.words.lp, self.path("proposed.dec.part")])
+            self.proposal = Call(self.program, ["propose", self.words.lp, self.path("proposed.dec.part"), *self.words.limits()])
 
     def take_proposal(self):
         call, self.proposal = self.proposal, None
@@ -399,7 +399,7 @@ class Race:
         else:
             value = f", value by the way {found.value_by}: both are true of the model" if found.value_by else ""
             self.progress.say(f"bound by the way {found.bound_by}{value}")
-        words = ["check", self.words.lp, found.cert, *(["--dec", found.dec] if found.dec else [])]
+        words = ["check", self.words.lp, found.cert, *(["--dec", found.dec] if found.dec else []), *self.words.limits()]
         self.progress.say("judge it by: " + " ".join(quoted(word) for word in (called(), *words)))
 
 

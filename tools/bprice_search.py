@@ -282,7 +282,7 @@ class Run:
             return ["--dec", self.words.dec] if self.words.dec else []
         name = self.words.cert + ".dec"
         if not (os.path.exists(name) and os.path.exists(self.words.cert)):
-            call = self.call(self.program, "propose", self.words.lp, name)
+            call = self.call(self.program, "propose", self.words.lp, name, *self.words.limits())
             if call.status != 0:
                 raise Refused(call.report(), call.status, "this bprice has no command `propose`: name a decomposition's file with --dec"
                               if call.status == WORDS else f"propose {self.words.lp} {name}")
@@ -295,7 +295,7 @@ class Run:
         goes_on = os.path.exists(words.cert)
         cuts = ["--cuts", str(words.cuts)] if words.cuts and not goes_on else []
         call = self.call(self.program, "solve", words.lp, *self.dec, *cuts, "--steps", str(steps), "--cert", self.part,
-                         *(["--from", words.cert] if goes_on else []), *words.rest)
+                         *(["--from", words.cert] if goes_on else []), *words.limits(), *words.rest)
         if call.status not in (OPTIMAL, INFEASIBLE, BUDGET):
             raise Refused(call.report(), call.status, hint(call, words.cert) if goes_on else "")
         os.replace(self.part, words.cert)

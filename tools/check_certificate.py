@@ -1,12 +1,12 @@
 #!/usr/bin/env python3
-"""Judges a certificate without bprice: it prints what `bprice check` prints, and was written from docs/FORMATS.md alone. All its numbers
+"""Judges a certificate without bprice: it prints what `bprice check` prints, and was written from docs/FORMATS.md alone. All numbers
 are exact. A block that a leaf prices is solved variable by variable, over the sums that its rows can still have.
 
-    tools/check_certificate.py LP CERT [--dec DEC] [--states N] [--seconds S]
+    tools/check_certificate.py LP CERT [--dec DEC] [--states N] [--seconds S] [--large]
 
-`accepted CLAIM` has status 0, `refused ..` 3, `rejected LINE KIND` 6; a file that can't be read 7, one that is not there 11. Where a block takes more
-than N states (5,000,000 without the option) it prints `unknown LINE`, status 10: a greater N may judge the certificate. After S seconds, and at Ctrl-C,
-it prints `not judged`, status 12. The limits on sizes of models and a decomposition's lists of variables are not looked at: no claim rests on these."""
+`accepted CLAIM` has status 0, `refused ..` 3, `rejected LINE KIND` 6; a file that can't be read 7, one not there 11. Where a block takes more than N
+states (5,000,000 without the option) it prints `unknown LINE`, status 10: a greater N may do. After S seconds, and at Ctrl-C, it prints `not judged`,
+status 12. --large: more blocks and splits, as `bprice check --large`. Sizes of models and lists of variables are not looked at: no claim rests on these."""
 import argparse
 import functools
 import math
@@ -16,8 +16,8 @@ import signal
 import sys
 from collections import Counter, deque, namedtuple
 
-LARGEST, BLOCKS, DEPTH, CUTS, SCALE, MULTIPLIER = 2**62 - 1, 4_096, 8_256, 256, 2**20, 2**40
-INFINITE = 2**200  # all sums of finite numbers are below 2^116
+LARGEST, CUTS, SCALE, MULTIPLIER, BLOCKS, DEPTH = 2**62 - 1, 256, 2**20, 2**40, (4_096, 131_072), (8_256, 1_048_640)  # pairs: the usual and the large limit
+INFINITE = 2**200  # all sums of finite numbers are below 2^123
 SECTIONS = {word: section for section, words in {
     "objective": "maximize,maximum,max,minimize,minimum,min", "rows": "subject to,such that,st,s.t.,st.", "bounds": "bounds,bound",
     "generals": "general,generals,gen,integer,integers,int", "binaries": "binary,binaries,bin", "end": "end",
@@ -170,7 +170,7 @@ def set_side(sides, mark, value):
     sides[:] = [value if mark in ">=" else sides[0], value if mark in "<=" else sides[1]]
 
 
-def read_dec(text, model):
+def read_dec(text, model, is_large=False):
     """Each row's block from 1, 0 for master rows, and how many blocks are named. Lists of variables only say again what the rows say."""
     block_of, given, keyword, wants, block = {}, {}, None, False, 0
     for line, written in enumerate(text.split(b"\n"), 1):
@@ -189,7 +189,7 @@ def read_dec(text, model):
                 right(keyword not in ONCE[1:] or block <= 1, "syntax")
                 right(keyword != "PRESOLVED" or block == 0, "presolved")
                 right(keyword not in NAMING or 1 <= block <= given["NBLOCKS"], "block-number")
-                right(keyword != "NBLOCKS" or block <= BLOCKS, "limit")
+                right(keyword != "NBLOCKS" or block <= BLOCKS[is_large], "limit")
                 given[keyword] = block
             else:
                 right(keyword and keyword not in ONCE, "syntax")
@@ -220,8 +220,8 @@ def form_blocks(model, block_of, count):
 
 class Certificate:
     """A claim, its point if it has one, its cuts, and the tree's nodes, which are read one by one in the order of their lines."""
-    def __init__(self, text, variables, block_of, blocks):
-        self.text, self.at, self.line, self.block_of, self.cuts = text, 0, 1, block_of + [0] * CUTS, []
+    def __init__(self, text, variables, block_of, blocks, is_large=False):
+        self.text, self.at, self.line, self.block_of, self.cuts, self.deepest = text, 0, 1, block_of + [0] * CUTS, [], DEPTH[is_large]
         self.version = int(self.take(b"bpcert 1\n", b"bpcert 2\n", b"bpcert 3\n")[7:8])
         begin, self.word = self.at + len(self.take(b"claim ")), self.take(b"optimal ", b"infeasible", b"bound ")
         self.bound = self.number(LARGEST) if self.word == b"bound " else None
@@ -288,11 +288,11 @@ class Certificate:
         while depths:
             line, word, depth = self.line, self.take(b"split ", b"leaf ", b"open "), depths.pop()
             if word == b"split ":
-                number = self.number(INFINITE, 1, variables, depth > DEPTH and "depth") - 1
+                number = self.number(INFINITE, 1, variables, depth > self.deepest and "depth") - 1
                 node = Node(line, word, number, self.take(b" ") and self.number(LARGEST), None, None)
                 depths += [depth + 1] * 2
             else:
-                scale = self.number(SCALE, 0, first_kind=depth > DEPTH and "depth")
+                scale = self.number(SCALE, 0, first_kind=depth > self.deepest and "depth")
                 is_whole = self.take(b" rows " if self.version == 1 else b" change ") == b" rows "
                 rows = dict.fromkeys(had if is_whole else (), 0) | self.read_rows({} if is_whole else had, MULTIPLIER, -1)
                 is_all = self.take(b" priced ") and self.take(b"all", b"")
@@ -416,12 +416,12 @@ class Judge:
         return min(least_of.values(), default=INFINITE)
 
 
-def check(lp, cert, dec=None, most_states=5_000_000):
+def check(lp, cert, dec=None, most_states=5_000_000, is_large=False):
     """The report for the texts of a model, a certificate and perhaps a decomposition."""
     try:
         model = Model(lp)
-        block_of, blocks, links = form_blocks(model, *read_dec(b"NBLOCKS 0" if dec is None else dec, model))
-        Judge(model, blocks, links, most_states).judge(cert := Certificate(cert, len(model.names), block_of, len(blocks)))
+        block_of, blocks, links = form_blocks(model, *read_dec(b"NBLOCKS 0" if dec is None else dec, model, is_large))
+        Judge(model, blocks, links, most_states).judge(cert := Certificate(cert, len(model.names), block_of, len(blocks), is_large))
     except Stop as stop:
         return str(stop)
     return f"accepted {cert.claim}"
@@ -430,13 +430,13 @@ def check(lp, cert, dec=None, most_states=5_000_000):
 def main():
     parser = argparse.ArgumentParser(description=__doc__.split("\n\n", 1)[0])
     parser.add_argument("lp"), parser.add_argument("cert"), parser.add_argument("--dec"), parser.add_argument("--states", type=int, default=5_000_000)
-    parser.add_argument("--seconds", type=float)
+    parser.add_argument("--seconds", type=float), parser.add_argument("--large", action="store_true")
     words = parser.parse_args()
     words.seconds is None or 0 < words.seconds < INFINITE or parser.error("--seconds: a number above 0")
     try:
         signal.signal(signal.SIGALRM, signal.default_int_handler)
         signal.setitimer(signal.ITIMER_REAL, words.seconds or 0)  # 0 is no limit
-        report = check(*(open(name, "rb").read() for name in (words.lp, words.cert, words.dec) if name), most_states=words.states)
+        report = check(*(open(name, "rb").read() for name in (words.lp, words.cert, words.dec) if name), most_states=words.states, is_large=words.large)
     except KeyboardInterrupt:
         report = "not judged"
     except OSError as fault:

@@ -1,7 +1,7 @@
 #!/usr/bin/env python3
 """Writes a certificate as a VIPR file, which checkers of other solvers' proofs read.
 
-    tools/to_vipr.py LP CERT [FILE] [--dec DEC] [--lines N] [--states N]
+    tools/to_vipr.py LP CERT [FILE] [--dec DEC] [--lines N] [--states N] [--large]
 
 The format is that of K. K. H. Cheung, A. Gleixner, D. E. Steffy, "Verifying Integer Programming Results", 2017, version 1.1: sections VER, VAR, INT, OBJ,
 CON, RTP, SOL and DER, with the reasons `asm`, `lin`, `rnd` and `uns`. FILE gets it, or the standard output.
@@ -10,7 +10,7 @@ tools/check_certificate.py judges the certificate first; where it does not accep
 constant of the objective, which the format does not have, is subtracted from the values in RTP. A leaf becomes one rounded sum of rows and of bounds, a
 split two assumptions, a cut one rounded sum. A block that a leaf prices becomes a branch and bound of its own below that leaf; this is done for blocks
 of at most 20 variables. Where a block has more, or more than N lines (1,000,000 where no number is given) would be derived, a sentence says so: status 1,
-and nothing is written.
+and nothing is written. --large: the certificate is of a larger model, as for `bprice check --large`.
 """
 import argparse
 import math
@@ -172,10 +172,11 @@ class BlockProof:
 class Translation:
     """A VIPR file from the texts of a model, a valid certificate and perhaps a decomposition."""
 
-    def __init__(self, lp, cert, dec, most_lines, most_states):
+    def __init__(self, lp, cert, dec, most_lines, most_states, is_large=False):
         self.model = model = Model(lp)
-        block_of, blocks, links = form_blocks(model, *read_dec(b"NBLOCKS 0" if dec is None else dec, model))
-        self.cert, self.judge = Certificate(cert, len(model.names), block_of, len(blocks)), Judge(model, blocks, links, most_states)
+        block_of, blocks, links = form_blocks(model, *read_dec(b"NBLOCKS 0" if dec is None else dec, model, is_large))
+        self.cert = Certificate(cert, len(model.names), block_of, len(blocks), is_large)
+        self.judge = Judge(model, blocks, links, most_states)
         self.given, self.rows, self.spans = [], [], []  # texts of CON's constraints; the bounds of each row, and of each variable in the zone at hand
         self.block_rows = {k: [i for i, own in enumerate(block_of[:len(model.rows)]) if own == k + 1] for k in self.judge.copies}
         self.write_constraints()
@@ -318,14 +319,15 @@ def main():
     parser = argparse.ArgumentParser(description=__doc__.split("\n\n", 1)[0])
     parser.add_argument("lp"), parser.add_argument("cert"), parser.add_argument("file", nargs="?"), parser.add_argument("--dec")
     parser.add_argument("--lines", type=int, default=1_000_000), parser.add_argument("--states", type=int, default=5_000_000)
+    parser.add_argument("--large", action="store_true")
     words = parser.parse_args()
     try:
         lp, cert, dec = (pathlib.Path(name).read_bytes() if name else None for name in (words.lp, words.cert, words.dec))
-        report = check_certificate.check(lp, cert, dec, words.states)
+        report = check_certificate.check(lp, cert, dec, words.states, words.large)
         if not report.startswith("accepted"):
             print(report, file=sys.stderr)
             return {"refused": 3, "rejected": 6}.get(report.split(" ", 1)[0], 10)
-        translation = Translation(lp, cert, dec, words.lines, words.states)
+        translation = Translation(lp, cert, dec, words.lines, words.states, words.large)
         with open(words.file, "w", encoding="ascii") if words.file else sys.stdout as file:
             translation.write(file)
     except NotWritten as why:

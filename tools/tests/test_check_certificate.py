@@ -385,3 +385,22 @@ def test_command(tmp_path):
     for wrong in ("0", "-1", "nan", "inf", "1e300", "soon"):
         assert told("model.lp", "model.cert", "--seconds", wrong) == ("", 2)
     assert len(TOOL.read_text(encoding="ascii").splitlines()) <= 450
+
+
+def test_large_limits(tmp_path):
+    """Blocks and splits past the usual limits are those of a larger model's certificate, up to the large ones."""
+    def told(blocks, splits, *words):
+        (tmp_path / "lp").write_text("Minimize\n obj: x\nSubject To\n c: x >= 0\nBounds\n x <= 1000000000\nGenerals\n x\nEnd\n", encoding="ascii")
+        (tmp_path / "dec").write_text(f"NBLOCKS {blocks}\n", encoding="ascii")
+        lines = ["bpcert 2", "claim bound 0", *(f"split 1 {at}" for at in range(splits, 0, -1)), *["open 1 change 0 priced 0"] * (splits + 1), "end", ""]
+        (tmp_path / "cert").write_text("\n".join(lines), encoding="ascii")
+        ran = subprocess.run([sys.executable, TOOL, "lp", "cert", "--dec", "dec", *words], capture_output=True, text=True, check=False, cwd=tmp_path)
+        return ran.stdout, ran.returncode
+    assert told(4096, 8256) == ("accepted bound 0\n", 0)
+    assert told(4097, 1) == ("refused dec 1 limit\n", 3)
+    assert told(4097, 1, "--large") == ("accepted bound 0\n", 0)
+    assert told(131_072, 1, "--large") == ("accepted bound 0\n", 0)
+    assert told(131_073, 1, "--large") == ("refused dec 1 limit\n", 3)
+    assert told(1, 8257) == ("refused cert 8260 depth\n", 3)
+    assert told(1, 8257, "--large") == ("accepted bound 0\n", 0)
+    assert told(1, 1_048_641, "--large") == ("refused cert 1048644 depth\n", 3)

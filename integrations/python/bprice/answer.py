@@ -12,7 +12,8 @@ WORDS, STATUSES = 2, {0: "optimal", 4: "infeasible", 5: "budget"}
 HELP = {
     "too-large": "a number is past 2^62 - 1 once the row is whole: give it fewer digits",
     "activity": "a row's sums may pass 2^62 - 1 once it is whole: give it fewer digits, or tighter bounds",
-    "limit": "the model is larger than bprice takes: 4,096 variables, 8,192 rows, 65,536 terms, 8,192 binary digits of upper - lower bounds",
+    "limit": "the model is larger than bprice takes: 4,096 variables, 8,192 rows, 65,536 terms, 8,192 binary digits of upper - lower bounds; "
+             "with large=True 524,288, 524,288, 4,194,304 and 1,048,576",
 }
 
 
@@ -41,10 +42,11 @@ class Answer:
             written = {name: int(number) for name, number in words[value_at + 1:]}
             self.point = written if names is None else {name: written[own] for name, own in names.items()}
         self.certificate = self.lp = self.dec = self.program = self.room = None
+        self.large = False  # whether the model was read as a larger one
 
     def check(self):
         """Has the certificate judged by the program's `check`: `accepted ..` where it is valid. Raises Refused where it is not."""
-        return check(self.lp, self.certificate, self.dec, self.program)
+        return check(self.lp, self.certificate, self.dec, self.program, self.large)
 
     def __repr__(self):
         return f"<bprice.Answer {self.status} value={self.value} bound={self.bound}>"
@@ -67,12 +69,17 @@ def refusal(report, status, errors):
                    + (f" ({HELP[kind]})" if kind in HELP else f" ({errors})" if report.strip() and errors else ""), status)
 
 
-def check(lp, certificate, dec=None, program=None):
+def check(lp, certificate, dec=None, program=None, large=False):
     """What `check` prints of a certificate: `accepted ..`. Raises Refused where the certificate is not valid or can't be read."""
-    report, status, errors = call([find_program(program), "check", lp, certificate, *(["--dec", dec] if dec else [])])
+    report, status, errors = call([find_program(program), "check", lp, certificate, *(["--dec", dec] if dec else []), *limits(large)])
     if status != 0:
         raise refusal(report, status, errors)
     return report.strip()
+
+
+def limits(large):
+    """The word for larger models."""
+    return ["--large"] if large else []
 
 
 class Files:
@@ -94,7 +101,7 @@ def is_path(value):
     return isinstance(value, (str, os.PathLike))
 
 
-def solve(lp, dec=None, time=None, *, gap=None, steps=None, cuts=None, cert=None, start=None, program=None):
+def solve(lp, dec=None, time=None, *, gap=None, steps=None, cuts=None, cert=None, start=None, program=None, large=False):
     """
     Solves a model, and leaves the certificate of what it says.
 
@@ -107,21 +114,23 @@ def solve(lp, dec=None, time=None, *, gap=None, steps=None, cuts=None, cert=None
     :param cert: where the certificate is written; a Model's LP text and a decomposition that is made go beside it, as cert.lp and cert.dec
     :param start: a point {variable: value} with which the search begins (with a Model), or the path of a certificate to go on from
     :param program: the path of the program, see `find_program`
+    :param large: whether the model may be a larger one, as with `bprice solve --large`
     :returns: an `Answer`
     :raises Refused: where the model can't be said to bprice, or the program refuses it, in words
     """
     program, files = find_program(program), Files(lp, cert)
-    files.dec = decomposition(program, lp, dec, files)
+    files.dec = decomposition(program, lp, dec, files, large)
     begin = beginning(lp, start, files)
-    report, status, errors = search(program, files, begin, dict(time=time, gap=gap, steps=steps, cuts=cuts))
+    report, status, errors = search(program, files, begin, dict(time=time, gap=gap, steps=steps, cuts=cuts, large=large))
     if status not in STATUSES:
         raise refusal(report, status, errors)
     answer = Answer(report, status) if is_path(lp) else Answer(report, status, lp.scale, lp.own)
     answer.lp, answer.dec, answer.certificate, answer.program, answer.room = files.lp, files.dec, files.cert, program, files.room
+    answer.large = large
     return answer
 
 
-def decomposition(program, lp, dec, files):
+def decomposition(program, lp, dec, files, large):
     """The path of the decomposition, or None."""
     if dec is None or is_path(dec) and dec != "auto":
         return None if dec is None else os.fspath(dec)
@@ -130,7 +139,7 @@ def decomposition(program, lp, dec, files):
             raise Refused("blocks by the names of rows go with a bprice.Model; for a file name a DEC file, or read it by bprice.Model.read")
         return files.write(".dec", lp.decomposition(dec))
     name = files.cert + ".dec"
-    report, status, errors = call([program, "propose", files.lp, name])
+    report, status, errors = call([program, "propose", files.lp, name, *limits(large)])
     if status != 0:
         raise refusal(report, status, errors)
     return name
@@ -148,23 +157,23 @@ def beginning(lp, start, files):
     return files.write(".start", text)
 
 
-def search(program, files, begin, limits):
+def search(program, files, begin, wanted):
     """The report, the status and the errors of `solve`, or of bprice-run where a time or a gap is given."""
-    words = [program, "solve", files.lp, *(["--dec", files.dec] if files.dec else []), "--cert", files.cert]
+    words = [program, "solve", files.lp, *(["--dec", files.dec] if files.dec else []), "--cert", files.cert, *limits(wanted["large"])]
     words += [] if begin is None else ["--from", begin]
-    words += [] if limits["cuts"] is None else ["--cuts", limits["cuts"]]
-    if limits["time"] is None and limits["gap"] is None:
-        return call(words + ([] if limits["steps"] is None else ["--steps", limits["steps"]]))
+    words += [] if wanted["cuts"] is None else ["--cuts", wanted["cuts"]]
+    if wanted["time"] is None and wanted["gap"] is None:
+        return call(words + ([] if wanted["steps"] is None else ["--steps", wanted["steps"]]))
     runner = find_runner()
     if runner is None:
         raise Refused("time and gap need bprice-run, which was not found: it is in the repository's folder tools")
-    if begin is not None or limits["cuts"] is not None:
+    if begin is not None or wanted["cuts"] is not None:
         first = call(words + ["--steps", 0])
         if first[1] != 5:
             return first
     elif os.path.exists(files.cert):
         os.remove(files.cert)
-    run = [sys.executable, runner, files.lp, *(["--dec", files.dec] if files.dec else []), "--cert", files.cert]
+    run = [sys.executable, runner, files.lp, *(["--dec", files.dec] if files.dec else []), "--cert", files.cert, *limits(wanted["large"])]
     for name in ("time", "gap", "steps"):
-        run += [] if limits[name] is None else [f"--{name}", limits[name]]
+        run += [] if wanted[name] is None else [f"--{name}", wanted[name]]
     return call(run, {**os.environ, "BPRICE": program})

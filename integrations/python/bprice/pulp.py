@@ -23,7 +23,7 @@ from pulp import constants
 from pulp.apis.core import LpSolver_CMD, PulpSolverError
 
 from bprice import model as models
-from bprice.answer import HELP, STATUSES, Answer
+from bprice.answer import HELP, STATUSES, Answer, limits
 from bprice.exact import Refused, end_of
 from bprice.program import find_runner, repository
 
@@ -85,7 +85,7 @@ class BPRICE_CMD(LpSolver_CMD):
     name = "BPRICE_CMD"
 
     def __init__(self, path=None, keepFiles=False, mip=True, msg=True, options=None, timeLimit=None, gapRel=None, warmStart=False,
-                 blocks=None, dec=None):
+                 blocks=None, dec=None, large=False):
         """
         :param str path: the program; else BPRICE of the environment, the repository's launcher, or `bprice` on the PATH
         :param bool keepFiles: the texts, the certificate and the report stay in the current directory
@@ -96,12 +96,13 @@ class BPRICE_CMD(LpSolver_CMD):
         :param bool warmStart: the search begins with the variables' values, where these are a point of the model
         :param dict blocks: {name of a constraint: its block}; what is left out is a master row
         :param str dec: the name of a decomposition's file in GCG's format, or "auto": `bprice propose` finds one
+        :param bool large: the model may be a larger one, as with `bprice solve --large`
         """
         LpSolver_CMD.__init__(self, path=path, keepFiles=keepFiles, mip=mip, msg=msg, options=options, timeLimit=timeLimit,
                               gapRel=gapRel, warmStart=warmStart)
         if blocks is not None and dec is not None:
             raise PulpSolverError("bprice: blocks and dec both name a decomposition")
-        self.blocks, self.dec, self.bound, self.report = blocks, dec, None, None
+        self.blocks, self.dec, self.large, self.bound, self.report = blocks, dec, large, None, None
 
     def defaultPath(self):
         top = repository()
@@ -164,7 +165,7 @@ class BPRICE_CMD(LpSolver_CMD):
         return self.take(lp, model, report, status)
 
     def propose(self, files):
-        ran = subprocess.run([self.path, "propose", files["lp"], files["dec"]], capture_output=True, text=True, check=False)
+        ran = subprocess.run([self.path, "propose", files["lp"], files["dec"], *limits(self.large)], capture_output=True, text=True, check=False)
         if ran.returncode == 2:
             raise Refused("dec='auto' needs the command `propose`, which this bprice does not have")
         if ran.returncode != 0:
@@ -179,13 +180,13 @@ class BPRICE_CMD(LpSolver_CMD):
             self.tell("bprice: warmStart needs `solve --from`, which this bprice does not have: it is left out")
         gap, runner = self.optionsDict.get("gapRel"), find_runner()
         if (self.timeLimit is not None or gap is not None) and goes_on and runner:
-            words = [sys.executable, runner, files["lp"], "--cert", files["cert"], *words, *self.options]
+            words = [sys.executable, runner, files["lp"], "--cert", files["cert"], *limits(self.large), *words, *self.options]
             words += [] if self.timeLimit is None else ["--time", str(self.timeLimit)]
             words += [] if gap is None else ["--gap", str(gap)]
             return self.run(words, {**os.environ, "BPRICE": str(self.path)})
         if gap is not None:
             self.tell("bprice: gapRel needs bprice-run and `solve --from`: it is left out")
-        words = [self.path, "solve", files["lp"], *words, *self.options, "--cert", files["cert"]]
+        words = [self.path, "solve", files["lp"], *limits(self.large), *words, *self.options, "--cert", files["cert"]]
         if has_start and goes_on:
             words += ["--from", files["cert"]]
         return self.run(words, dict(os.environ), self.timeLimit)
