@@ -139,6 +139,17 @@ bare ../'a clone'/bprice solve own.lp --cert own.cert
 expect 'relative names' 0 "$report" 0
 bare ../'a clone'/bprice check own.lp own.cert
 expect 'the certificate that was written' 0 'accepted optimal 8' 0
+# A chain of more splits than a tree may have in 8 MiB of stack: with --large the launcher gives what the machine allows.
+printf '%s\n' Minimize ' obj: x' 'Subject To' ' c: x >= 0' Bounds ' x <= 1000000000' Generals ' x' End >"$room/user/deep.lp"
+{
+    printf '%s\n' 'bpcert 2' 'claim bound 0'
+    for ((at = 0; at < 20000; at++)); do printf 'split 1 %d\nopen 1 change 0 priced 0\n' "$at"; done
+    printf '%s\n' 'open 1 change 0 priced 0' end
+} >"$room/user/deep.cert"
+bare ../'a clone'/bprice solve deep.lp --from deep.cert --steps 1 --large
+expect 'a deep certificate with --large' 5 $'budget 1\nbound 0\nvalue 0\nx 0' 0
+bare ../'a clone'/bprice check deep.lp deep.cert
+expect 'a deep certificate without it' 3 'refused cert 16516 depth' 1 'depth'
 ln -s "$clone/bprice" "$room/user/link"
 ln -s link "$room/user/other-link"
 bare ./other-link solve own.lp
