@@ -1,11 +1,13 @@
 -- Lines that are written one behind another.
-use Rattle.std.proofs.Common.{◌≡◌, ◌+◌, sym, ap, subst, ◌∙◌, ℕ, List, ◌++◌, Some, Result, Ok, Err, append_assoc}
-use Rattle.std.specs.Prelude.{codes}
-use Rattle.std.proofs.Math.IntN.{ℤ}
-use Rattle.bp_theory.specs.Trees.{Tree, split}
-use Rattle.cert_format.specs.Text.{Two, numeral, signed_numeral}
+use Rattle.std.proofs.Common.{◌≡◌, refl, sym, ap, subst, ◌∙◌, ℕ, ℤ, List, [], ◌++◌, drop, Some, Result, Ok, Err, append_assoc, append-nil}
+use Rattle.bp_theory.specs.Trees.{Tree}
+use Rattle.cert_format.specs.Text.{Two}
 use Rattle.cert_format.specs.Plain.{tree_text}
-use Rattle.cert_write.specs.Changes.{changing_nodes, last_mults}
+use Rattle.cert_format.specs.Preorder.{Line, line_of, node_lines, IsFirst}
+use Rattle.cert_format.specs.declared.lines.NodeLine.{NodeLine}
+use Rattle.cert_write.specs.Changes.{changing_nodes}
+use Rattle.cert_write.specs.LineTexts.{line_text, lines_text, changing_line, mults_behind, changing_lines}
+use Rattle.cert_write.proofs.TreeLines.{one_change, tree_changes}
 use Rattle.bp_shelf.specs.Shelf.{Files, OthersAsBefore}
 use Rattle.cert_file.specs.Appends.{Adds, Appends}
 use Rattle.cert_file.specs.declared.stop.StreamStop.{StreamStop}
@@ -40,39 +42,63 @@ added_on {X} {Y} name text more before mid now x result h g = record { adds = by
           part.3 ∙ ap Some (append_assoc file text part.0),
         )
 
--- ---- a split and its parts
+-- nothing was written yet
+pub none_added : (name : List ℕ) (before : Files) → Appends {X = Unit {0}} name [] before before (Ok tt)
+none_added name before = record { adds = λ file is. is ∙ ap Some (sym (append-nil file)); others = λ other differs. refl }
 
--- a split's line
-abbrev pub split_text : ℕ → ℤ → List ℕ
-split_text v at = codes "split " ++ numeral (v + 1) ++ codes " " ++ signed_numeral at ++ codes "\n"
+-- want of memory behind what was written
+pub stopped_behind : {X : Type 0} (name text more : List ℕ) (before now : Files) → Appends {X = Unit {0}} name text before now (Ok tt) → Appends {X = X} name (text ++ more) before now (Err NoMemory)
+stopped_behind name text more before now h = record { adds = λ file is. (text, more, refl, h.adds file is); others = h.others }
 
--- the lines of a tree that is a split
-pub fork_stopped : {X Y : Type 0} (name : List ℕ) (had : List (ℕ × ℤ)) (t : Tree) (v : ℕ) (at : ℤ) (low high : Tree) (before now : Files) (stop : StreamStop) → t ≡ split v at low high
-    → Appends {X = X} name (split_text v at) before now (Err stop) → Appends {X = Y} name (tree_text Two (changing_nodes had t)) before now (Err stop)
-fork_stopped {X} {Y} name had t v at low high before now stop is h =
-    let P : Tree → Type 0 = λ x. Appends {X = Y} name (tree_text Two (changing_nodes had x)) before now (Err stop) in
-    let L = tree_text Two (changing_nodes had low) in
-    let H = tree_text Two (changing_nodes (last_mults low) high) in
-    let one : Appends {X = X} name (split_text v at ++ L) before now (Err stop) = stopped_before name (split_text v at) L before now stop h in
-    subst P (sym is) (stopped_before name (split_text v at ++ L) H before now stop one)
+-- ---- the lines of a tree
 
-pub low_stopped : {X Y Z : Type 0} (name : List ℕ) (had : List (ℕ × ℤ)) (t : Tree) (v : ℕ) (at : ℤ) (low high : Tree) (before mid now : Files) (x : X) (stop : StreamStop)
-    → t ≡ split v at low high → Appends name (split_text v at) before mid (Ok x) → Appends {X = Y} name (tree_text Two (changing_nodes had low)) mid now (Err stop)
-    → Appends {X = Z} name (tree_text Two (changing_nodes had t)) before now (Err stop)
-low_stopped {X} {Y} {Z} name had t v at low high before mid now x stop is h g =
-    let P : Tree → Type 0 = λ y. Appends {X = Z} name (tree_text Two (changing_nodes had y)) before now (Err stop) in
-    let L = tree_text Two (changing_nodes had low) in
-    let H = tree_text Two (changing_nodes (last_mults low) high) in
-    let both : Appends {X = Y} name (split_text v at ++ L) before now (Err stop) = added_on name (split_text v at) L before mid now x (Err stop) h g in
-    subst P (sym is) (stopped_before name (split_text v at ++ L) H before now stop both)
+-- so much of the lines was written, and this is left
+pub record IsWritten (name : List ℕ) (told : Type 0) (before now : Files) (whole left : List ℕ) : Type 0 where
+  pub text : List ℕ
+  pub parts : whole ≡ text ++ left
+  pub files : told → Appends {X = Unit {0}} name text before now (Ok tt)
 
-pub fork_added : {X Y Z : Type 0} (name : List ℕ) (had last : List (ℕ × ℤ)) (t : Tree) (v : ℕ) (at : ℤ) (low high : Tree) (before mid there now : Files) (x : X) (y : Y) (result : Result Z StreamStop)
-    → t ≡ split v at low high → last ≡ last_mults low → Appends name (split_text v at) before mid (Ok x) → Appends name (tree_text Two (changing_nodes had low)) mid there (Ok y)
-    → Appends name (tree_text Two (changing_nodes last high)) there now result → Appends name (tree_text Two (changing_nodes had t)) before now result
-fork_added {X} {Y} {Z} name had last t v at low high before mid there now x y result is same h g k =
-    let P : Tree → Type 0 = λ z. Appends name (tree_text Two (changing_nodes had z)) before now result in
-    let Q : List (ℕ × ℤ) → Type 0 = λ ms. Appends name (tree_text Two (changing_nodes ms high)) there now result in
-    let L = tree_text Two (changing_nodes had low) in
-    let H = tree_text Two (changing_nodes (last_mults low) high) in
-    let both : Appends name (split_text v at ++ L) before there (Ok y) = added_on name (split_text v at) L before mid there x (Ok y) h g in
-    subst P (sym is) (added_on name (split_text v at ++ L) H before there now y result both (subst Q same k))
+pub none_written : (name : List ℕ) (told : Type 0) (before : Files) (whole : List ℕ) → IsWritten name told before before whole whole
+none_written name told before whole = record { text = []; parts = refl; files = λ _. none_added name before }
+
+-- one line more
+pub line_written : (name : List ℕ) (told : Type 0) (before mid now : Files) (whole left rest line : List ℕ) → IsWritten name told before mid whole left → left ≡ line ++ rest
+    → (told → Appends {X = Unit {0}} name line mid now (Ok tt)) → IsWritten name told before now whole rest
+line_written name told before mid now whole left rest line had is put = record {
+  text = had.text ++ line;
+  parts = had.parts ∙ ap (λ (xs : List ℕ). had.text ++ xs) is ∙ sym (append_assoc had.text line rest);
+  files = λ t. added_on {X = Unit {0}} {Y = Unit {0}} name had.text line before mid now tt (Ok tt) (had.files t) (put t);
+}
+
+-- a line that was not written, or not all of it
+pub line_stopped : (name : List ℕ) (told : Type 0) (before mid now : Files) (whole left rest line : List ℕ) (stop : StreamStop) → IsWritten name told before mid whole left → left ≡ line ++ rest
+    → (told → Appends {X = Unit {0}} name line mid now (Err stop)) → told → Appends {X = Unit {0}} name whole before now (Err stop)
+line_stopped name told before mid now whole left rest line stop had is put t =
+    let P : List ℕ → Type 0 = λ text. Appends {X = Unit {0}} name text before now (Err stop) in
+    let parts : whole ≡ (had.text ++ line) ++ rest = had.parts ∙ ap (λ (xs : List ℕ). had.text ++ xs) is ∙ sym (append_assoc had.text line rest) in
+    subst P (sym parts) (stopped_before name (had.text ++ line) rest before now stop (added_on {X = Unit {0}} {Y = Unit {0}} name had.text line before mid now tt (Err stop) (had.files t) (put t)))
+
+-- want of memory between two lines
+pub between_stopped : (name : List ℕ) (told : Type 0) (before now : Files) (whole left : List ℕ) → IsWritten name told before now whole left → told → Appends {X = Unit {0}} name whole before now (Err NoMemory)
+between_stopped name told before now whole left had t =
+    let P : List ℕ → Type 0 = λ text. Appends {X = Unit {0}} name text before now (Err NoMemory) in
+    subst P (sym had.parts) (stopped_behind name had.text left before now (had.files t))
+
+-- all of it
+pub all_written : (name : List ℕ) (told : Type 0) (before now : Files) (whole left : List ℕ) → IsWritten name told before now whole left → left ≡ [] → told → Appends {X = Unit {0}} name whole before now (Ok tt)
+all_written name told before now whole left had none t =
+    let P : List ℕ → Type 0 = λ text. Appends {X = Unit {0}} name text before now (Ok tt) in
+    subst P (sym (had.parts ∙ ap (λ (xs : List ℕ). had.text ++ xs) none ∙ append-nil had.text)) (had.files t)
+
+-- the lines that are left are the one at hand and those behind it
+pub left_parts : (line : NodeLine) (lines next : List Line) (had last : List (ℕ × ℤ)) → IsFirst (Some line) lines → next ≡ drop 1 lines → last ≡ mults_behind had (line_of line)
+    → lines_text Two (changing_lines had lines) ≡ line_text Two (changing_line had (line_of line)) ++ lines_text Two (changing_lines last next)
+left_parts line lines next had last first behind now =
+    let l : List ℕ = line_text Two (changing_line had (line_of line)) in
+    sym (one_change line lines next had last [] l first behind now refl)
+
+-- the text of a tree is that of its lines
+pub of_tree : {R : Type 0} (name : List ℕ) (before now : Files) (had : List (ℕ × ℤ)) (lines : List Line) (tree : Tree) (result : Result R StreamStop) → lines ≡ node_lines tree
+    → Appends name (lines_text Two (changing_lines had lines)) before now result → Appends name (tree_text Two (changing_nodes had tree)) before now result
+of_tree name before now had lines tree result is h =
+    subst (λ (text : List ℕ). Appends name text before now result) (ap (λ (ls : List Line). lines_text Two (changing_lines had ls)) is ∙ tree_changes had tree) h

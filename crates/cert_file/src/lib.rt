@@ -5,5 +5,5 @@
 mod lines;
 mod stop;
 
-pub use lines::{put_heads, put_line, put_nodes, put_sketch};
+pub use lines::{put_heads, put_line, put_nodes};
 pub use stop::StreamStop;

@@ -22,3 +22,4 @@ pub mod Claims
 pub mod Total
 pub mod Fine
 pub mod Clean
+pub mod Preorder

@@ -1,4 +1,4 @@
--- Other crates cite Cert, Nodes, Text, Fault, Frames, Sketch, Written, Plain and Kept. The rest are words of the contracts here and of
+-- Other crates cite Cert, Nodes, Text, Fault, Frames, Sketch, Preorder, Written, Plain and Kept. The rest are words of the contracts here and of
 -- those that read and write.
 pub mod Cert
 pub mod Ascending
@@ -7,6 +7,8 @@ pub mod Text
 pub mod Fault
 pub mod Laws
 pub mod Sketch
+pub mod Preorder
+pub mod SketchLines
 pub mod Written
 pub mod Plain
 pub mod Grammar

@@ -1,12 +1,13 @@
 // A certificate as it is kept: its claim, the point of its value, its cuts, and its tree of proofs.
-ghost use Rattle.std.specs.Prelude.{◌≡◌, ◌-◌, ◌^◌, min, MatchOption, None, Some};
-ghost use Rattle.cert_format.specs.Kept.{certificate_of, kept_cert};
+ghost use Rattle.std.specs.Prelude.{◌≡◌, ◌-◌, ◌^◌, min, IfOk, MatchOption, None, Some};
 ghost use Rattle.cert_format.specs.Nodes.{nodes};
 ghost use Rattle.cert_format.specs.Written.{written_tree};
 ghost use Rattle.cert_format.specs.Sketch.{tree_of};
 
+use crate::lines::{NodeLines, SketchLines};
 use crate::sketch::Sketch;
 use bp_theory::{Claim, Cut, Items};
+use std::alloc::{AllocError, Global};
 
 /// A certificate: a claim, the point of its value, rounding cuts, and a tree with the proofs of its leaves.
 #[derive(Drop)]
@@ -15,9 +16,37 @@ pub struct Cert {
     pub point: Items<i64>,
     pub cuts: Items<Cut>,
     pub tree: Sketch,
+    // How many nodes the tree has, or the greatest number of a u64.
+    size: u64,
+    ghost counted: { size ≡ min (nodes (written_tree (tree_of tree))) (2 ^ 64 - 1) },
 }
 
 impl Cert {
+    ghost use Rattle.cert_format.specs.Kept.{certificate_of, kept_cert};
+
+    /// A certificate of these parts.
+    pub fn new(
+        alloc: Global,
+        claim: Claim,
+        point: Items<i64>,
+        cuts: Items<Cut>,
+        tree: Sketch,
+    ) -> Result<Cert, AllocError>
+        ensures claim { IfOk result (λ cert. cert.claim ≡ claim) }
+        ensures point { IfOk result (λ cert. cert.point ≡ point) }
+        ensures cuts { IfOk result (λ cert. cert.cuts ≡ cuts) }
+        ensures tree { IfOk result (λ cert. cert.tree ≡ tree) }
+    {
+        let size = count(alloc, &tree)?;
+        Ok(Cert {
+            claim,
+            point,
+            cuts,
+            tree,
+            size,
+        })
+    }
+
     /// What is claimed.
     pub fn claim(&self) -> Claim
         ensures { result ≡ (certificate_of self.now).claim }
@@ -56,19 +85,20 @@ impl Cert {
     pub fn nodes(&self) -> u64
         ensures { result ≡ min (nodes (kept_cert self.now).tree) (2 ^ 64 - 1) }
     {
-        count(&self.tree)
+        self.size
     }
 }
 
-// How many nodes a tree has.
-fn count(tree: &Sketch) -> u64
-    ensures { result ≡ min (nodes (written_tree (tree_of tree.now))) (2 ^ 64 - 1) }
+// How many nodes a tree has. More than a u64 can hold are its greatest number.
+#[tactic(auto, using(crate::proofs::Preorder::one_line_less, crate::proofs::Preorder::as_many_lines))]
+fn count(alloc: Global, tree: &Sketch) -> Result<u64, AllocError>
+    ensures { IfOk result (λ count. count ≡ min (nodes (written_tree (tree_of tree.now))) (2 ^ 64 - 1)) }
 {
-    match tree {
-        Sketch::Leaf(_) | Sketch::Open(_) => 1,
-        Sketch::Fork { low, high, .. } => {
-            let below = count(low).saturating_add(count(high));
-            below.saturating_add(1)
-        }
+    let mut lines = SketchLines::new(alloc, tree);
+    let mut count: u64 = 0;
+    while let Some(_line) = lines.line() {
+        count = count.saturating_add(1);
+        lines.advance()?;
     }
+    Ok(count)
 }

@@ -6,6 +6,7 @@ mod cert;
 mod fault;
 mod frame;
 mod judge;
+mod lines;
 mod sketch;
 mod spots;
 mod version;
@@ -20,6 +21,7 @@ pub use judge::{
     is_last_cut, is_too_deep, judge_block, judge_combined, judge_coordinate, judge_divisor,
     judge_multiplier, judge_row, judge_scale, judge_value, judge_variable,
 };
+pub use lines::{NodeLine, NodeLines, SketchLines};
 pub use sketch::Sketch;
 pub use spots::{Sort, Spot, first_spot, pick, sort_of, words_at};
 pub use version::Version;

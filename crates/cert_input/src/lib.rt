@@ -47,7 +47,7 @@ pub fn read_file<F: Shelf>(
     let mut reader = Reader::new(alloc);
     let fed = feed_file(alloc, shelf, &frame, name, &mut reader, &mut buffer)?;
     match fed {
-        Ok(()) => Ok(reader.finish(&frame)),
+        Ok(()) => Ok(reader.finish(alloc, &frame)),
         Err(fault) => Ok(Err(fault)),
     }
 }

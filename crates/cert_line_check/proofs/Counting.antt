@@ -1,7 +1,7 @@
 -- Counting visits block by block, once for each class.
-use Rattle.std.proofs.Common.{◌≡◌, ◌≢◌, refl, sym, ap, subst, ◌∙◌, ℕ, zero, suc, ◌+◌, ◌-◌, ◌<◌, ◌≤◌, ◌^◌, Bool, true, false, List, [], length, get_or, set, replicate, Option, Some, None, Result, Ok, Err, min, arith, inl, inr, ⊎_elim}
-use Rattle.std.specs.Prelude.{◌⊎◌, All, IfOk}
-use Rattle.std.proofs.Math.Nat.{min-le_left, min-le_right, min-eq_left, min-eq_right}
+use Rattle.std.proofs.Common.{◌≡◌, refl, sym, ap, subst, ◌∙◌, ℕ, zero, suc, ◌+◌, ◌-◌, ◌<◌, ◌≤◌, ◌^◌, Bool, true, false, List, [], length, get_or, set, replicate, Some, Result, Ok, Err, arith, inl, inr, ⊎_elim}
+use Rattle.std.specs.Prelude.{All, IfOk}
+use Rattle.std.proofs.Math.Nat.{min-le_left, min-eq_left, min-eq_right}
 use Rattle.std.proofs.lemmas.Bool.{cases_lt, cases_eq, true≢false}
 use Rattle.std.proofs.lemmas.List.{get_or-set_same, get_or-set_other, get_or-replicate, length-replicate}
 use Rattle.bp_theory.specs.Blocking.{Copy, Block, Blocking}
@@ -14,13 +14,12 @@ use Rattle.bp_theory.proofs.DecompositionProof.{decomposition_lem}
 use Rattle.bp_theory.proofs.CutProof.{cuts_are_met_lem}
 use Rattle.block_program.specs.Blocked.{BlockedProgram, IsFormed}
 use Rattle.bp_theory.specs.Bound.{is_picked}
-use Rattle.bp_theory.specs.Classes.{IsSame}
 use Rattle.bp_theory.specs.declared.Span.{Span}
 use Rattle.bp_theory.specs.declared.Picked.{Picked}
 use Rattle.bp_theory.specs.declared.Picked.TheVariants.{These}
-use Rattle.search_laws.specs.Spread.{block_at, class_at}
+use Rattle.search_laws.specs.Spread.{class_at}
 use Rattle.block_class.specs.Classes.{Grouping, AreSameClasses}
-use Rattle.cert_line_check.specs.Visits.{IsLowestPicked, IsBlockVisits, searched, spared, AreBlockVisits}
+use Rattle.cert_line_check.specs.Visits.{IsLowestPicked, searched, spared, AreBlockVisits}
 use Rattle.cert_line_check.specs.Counting.{cut_off, AreCutPrefixes, IsCutBlock, AreCutBelow, AreCutVisits, IsDifference, IsSeen, AreSeen}
 use Rattle.cert_line_check.specs.Judging.{IsSpentOn}
 use Rattle.cert_line_check.specs.declared.visits.Spent.{Spent}

@@ -1,5 +1,5 @@
 -- Visits of lines: those of lists together are those of their parts, and lines have one number of visits.
-use Rattle.std.proofs.Common.{◌≡◌, refl, sym, ap, subst, ◌∙◌, ℕ, zero, suc, ◌+◌, ◌<◌, ◌≤◌, List, [], ◌∷◌, ◌++◌, Option, Some, None, arith, inl, inr}
+use Rattle.std.proofs.Common.{◌≡◌, refl, sym, subst, ◌∙◌, ℕ, zero, suc, ◌+◌, List, [], ◌∷◌, ◌++◌, Option, Some, None, arith, inl, inr}
 use Rattle.std.proofs.Math.IntN.{ℤ}
 use Rattle.std.specs.Prelude.{◌⊎◌}
 use Rattle.bp_theory.specs.Blocking.{Blocking}
@@ -9,7 +9,7 @@ use Rattle.bp_theory.specs.declared.Span.{Span}
 use Rattle.bp_theory.specs.declared.Picked.{Picked}
 use Rattle.std.specs.Option.{option_map}
 use Rattle.cert_line_check.specs.Visits.{IsBlockVisits, searched, spared, AreBlockVisits, AreZoneVisits, IsLineVisits, AreLineVisits}
-use Rattle.cert_line_check.specs.Judging.{IsLeft, IsAfforded, Exceeds, LeavesOf}
+use Rattle.cert_line_check.specs.Judging.{IsLeft, IsAfforded, LeavesOf}
 
 -- ---- one number of visits
 

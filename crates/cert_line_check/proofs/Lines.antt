@@ -1,5 +1,5 @@
 -- The lines of a tree, judged one after another.
-use Rattle.std.proofs.Common.{◌≡◌, refl, sym, ap, subst, ◌∙◌, ℕ, zero, suc, ◌+◌, ◌<◌, ◌^◌, Bool, true, List, [], ◌∷◌, ◌++◌, length, get_or, set, Option, Some, None, Result, Ok, Err, arith, inl, inr, append_assoc, length-append}
+use Rattle.std.proofs.Common.{◌≡◌, refl, sym, ap, subst, ◌∙◌, ℕ, zero, suc, Bool, true, List, [], ◌∷◌, ◌++◌, get_or, set, Option, Some, None, arith, inl, inr}
 use Rattle.std.proofs.Math.IntN.{ℤ, pos, ◌+ℤ◌, ◌-ℤ◌, ◌*ℤ◌}
 use Rattle.std.specs.Prelude.{◌<ℤ◌, ◌↔◌, IsTrue, MatchOption}
 use Rattle.std.specs.List.{AllByRecursion}
@@ -17,9 +17,8 @@ use Rattle.bp_theory.specs.declared.CheckKind.{CheckKind}
 use Rattle.bp_theory.specs.declared.CheckKind.TheVariants.{Split, Sign, Weak, Open}
 use Rattle.bp_theory.proofs.ShrinkProof.{one_bound_lem}
 use Rattle.block_program.proofs.BlockLemmas.{part_zones}
-use Rattle.cert_line_check.specs.Judging.{ProofsFit, IsLeft, IsAfforded, Exceeds, LeavesOf, EndsWalk, IsEnd, JudgesLines}
-use Rattle.cert_line_check.proofs.LineVisits.{nothing_spent, split_left, both_left, afforded_by}
-use Rattle.cert_line_check.specs.declared.place.NodePlace.{NodePlace}
+use Rattle.cert_line_check.specs.Judging.{ProofsFit, IsAfforded, Exceeds, LeavesOf, EndsWalk, IsEnd}
+use Rattle.cert_line_check.proofs.LineVisits.{nothing_spent, afforded_by}
 use Rattle.cert_line_check.specs.declared.place.Stop.{Stop}
 
 -- ---- lists
@@ -67,60 +66,7 @@ low_zone root zone z v at sound is h = (part_zones root zone z (high_part zone v
 pub high_zone : (root zone z : List Span) (v : ℕ) (at : ℤ) → IsSoundSplit zone v at → z ≡ high_part zone v at → IsZone root zone → IsZone root z
 high_zone root zone z v at sound is h = (part_zones root zone (low_part zone v at) z v at sound refl is h).1
 
--- ---- counts
-
--- how many nodes a tree has
-abbrev pub nodes : Tree → ℕ
-nodes (shut_leaf p) = 1
-nodes (open_leaf p) = 1
-nodes (split v at low high) = 1 + nodes low + nodes high
-
-pub fewer_nodes : (t : Tree) (v : ℕ) (at : ℤ) (low high : Tree) → t ≡ split v at low high → (nodes low < nodes t) × (nodes high < nodes t)
-fewer_nodes t v at low high is = subst (λ (x : Tree). (nodes low < nodes x) × (nodes high < nodes x)) (sym is) (omega arith, omega arith)
-
-split_size : (zone : List Span) (v : ℕ) (at : ℤ) (low high : Tree)
-    → length (tree_lines (split v at low high) zone) ≡ 1 + length (tree_lines low (low_part zone v at)) + length (tree_lines high (high_part zone v at))
-split_size zone v at low high = omega (arith, length-append (tree_lines low (low_part zone v at)) (tree_lines high (high_part zone v at)))
-
-pub some_lines : (t : Tree) (zone : List Span) → 0 < length (tree_lines t zone)
-some_lines (shut_leaf p) zone = omega arith
-some_lines (open_leaf p) zone = omega arith
-some_lines (split v at low high) zone = omega (arith, split_size zone v at low high)
-
-pub few_low : (zone z : List Span) (v : ℕ) (at : ℤ) (low high : Tree) (first next : ℕ) → z ≡ low_part zone v at → next ≡ first + 1
-    → first + length (tree_lines (split v at low high) zone) < 2 ^ 64 → next + length (tree_lines low z) < 2 ^ 64
-few_low zone z v at low high first next is line few =
-    omega (arith, split_size zone v at low high, ap (λ (ss : List Span). length (tree_lines low ss)) is, line, few)
-
-pub few_high : (zone y z : List Span) (v : ℕ) (at : ℤ) (low high : Tree) (first second next : ℕ) → y ≡ low_part zone v at → z ≡ high_part zone v at
-    → second ≡ first + 1 → next ≡ second + length (tree_lines low y)
-    → first + length (tree_lines (split v at low high) zone) < 2 ^ 64 → next + length (tree_lines high z) < 2 ^ 64
-few_high zone y z v at low high first second next low_is high_is' line behind few =
-    omega (
-      arith,
-      split_size zone v at low high,
-      ap (λ (ss : List Span). length (tree_lines low ss)) low_is,
-      ap (λ (ss : List Span). length (tree_lines high ss)) high_is',
-      line,
-      behind,
-      few,
-    )
-
-pub behind_both : (zone y z : List Span) (v : ℕ) (at : ℤ) (low high : Tree) (first second third next : ℕ) → y ≡ low_part zone v at → z ≡ high_part zone v at
-    → second ≡ first + 1 → third ≡ second + length (tree_lines low y) → next ≡ third + length (tree_lines high z)
-    → next ≡ first + length (tree_lines (split v at low high) zone)
-behind_both zone y z v at low high first second third next low_is high_is' line behind last =
-    omega (
-      arith,
-      split_size zone v at low high,
-      ap (λ (ss : List Span). length (tree_lines low ss)) low_is,
-      ap (λ (ss : List Span). length (tree_lines high ss)) high_is',
-      line,
-      behind,
-      last,
-    )
-
--- ---- the line that ends a walk over a split's lines
+-- ---- a split that is not sound
 
 no_leaf : (zone : List Span) (v : ℕ) (at : ℤ) (leaf : Leaf) → split_line zone v at ≡ leaf_line leaf → ⊥
 no_leaf zone v at leaf e = absurd (cc)
@@ -138,70 +84,6 @@ end_split p b claim zone v at low high left first none = record {
   ends = (unsound zone v at none, λ leaf e signs. absurd (no_leaf zone v at leaf e));
   numbered = omega arith;
 }
-
-end_low : (p : Program) (b : Blocking) (claim : Claim) (zone z : List Span) (v : ℕ) (at : ℤ) (low high : Tree) (left : Option ℕ) (first next number : ℕ) (fault : Option CheckKind)
-    → IsSoundSplit zone v at → z ≡ low_part zone v at → next ≡ first + 1 → IsEnd p b claim (tree_lines low z) left next number fault
-    → IsEnd p b claim (tree_lines (split v at low high) zone) left first number fault
-end_low p b claim zone z v at low high left first next number fault sound is line found =
-    let H : List Line = tree_lines high (high_part zone v at) in
-    record {
-      before = split_line zone v at ∷ found.before;
-      line = found.line;
-      after = found.after ++ H;
-      parts = ap (λ (ss : List Span). split_line zone v at ∷ (tree_lines low ss ++ H)) (sym is)
-          ∙ ap (λ (xs : List Line). split_line zone v at ∷ (xs ++ H)) found.parts
-          ∙ ap (λ (xs : List Line). split_line zone v at ∷ xs) (append_assoc found.before (found.line ∷ found.after) H);
-      passed = (sound, found.passed);
-      now = found.now;
-      is_left = split_left p.spans b zone v at found.before left found.now found.is_left;
-      ends = found.ends;
-      numbered = omega (arith, found.numbered, line);
-    }
-
-end_high : (p : Program) (b : Blocking) (claim : Claim) (zone y z : List Span) (v : ℕ) (at : ℤ) (low high : Tree) (left middle : Option ℕ) (first second next number : ℕ)
-    (fault : Option CheckKind)
-    → IsSoundSplit zone v at → y ≡ low_part zone v at → z ≡ high_part zone v at → second ≡ first + 1 → next ≡ second + length (tree_lines low y)
-    → AllByRecursion (Passes p b claim) (tree_lines low y) → IsLeft p.spans b (tree_lines low y) left middle → IsEnd p b claim (tree_lines high z) middle next number fault
-    → IsEnd p b claim (tree_lines (split v at low high) zone) left first number fault
-end_high p b claim zone y z v at low high left middle first second next number fault sound low_is high_is' line behind passed spent found =
-    let L : List Line = tree_lines low y in
-    record {
-      before = split_line zone v at ∷ (L ++ found.before);
-      line = found.line;
-      after = found.after;
-      parts = ap (λ (ss : List Span). split_line zone v at ∷ (tree_lines low ss ++ tree_lines high (high_part zone v at))) (sym low_is)
-          ∙ ap (λ (ss : List Span). split_line zone v at ∷ (L ++ tree_lines high ss)) (sym high_is')
-          ∙ ap (λ (xs : List Line). split_line zone v at ∷ (L ++ xs)) found.parts
-          ∙ ap (λ (xs : List Line). split_line zone v at ∷ xs) (sym (append_assoc L found.before (found.line ∷ found.after)));
-      passed = (sound, both_all (Passes p b claim) L found.before passed found.passed);
-      now = found.now;
-      is_left = split_left p.spans b zone v at (L ++ found.before) left found.now (both_left p.spans b L found.before left middle found.now spent found.is_left);
-      ends = found.ends;
-      numbered = omega (arith, found.numbered, line, behind, length-append L found.before);
-    }
-
-both_spent : (root : List Span) (b : Blocking) (zone y z : List Span) (v : ℕ) (at : ℤ) (low high : Tree) (left middle now : Option ℕ)
-    → y ≡ low_part zone v at → z ≡ high_part zone v at → IsLeft root b (tree_lines low y) left middle → IsLeft root b (tree_lines high z) middle now
-    → IsLeft root b (tree_lines (split v at low high) zone) left now
-both_spent root b zone y z v at low high left middle now low_is high_is' l h =
-    let L : List Line = tree_lines low (low_part zone v at) in
-    let H : List Line = tree_lines high (high_part zone v at) in
-    split_left root b zone v at (L ++ H) left now
-    (both_left root b L H left middle now
-    (subst (λ (ss : List Span). IsLeft root b (tree_lines low ss) left middle) low_is l)
-    (subst (λ (ss : List Span). IsLeft root b (tree_lines high ss) middle now) high_is' h))
-
-pub both_pass : (p : Program) (b : Blocking) (claim : Claim) (zone y z : List Span) (v : ℕ) (at : ℤ) (low high : Tree)
-    → IsSoundSplit zone v at → y ≡ low_part zone v at → z ≡ high_part zone v at
-    → AllByRecursion (Passes p b claim) (tree_lines low y) → AllByRecursion (Passes p b claim) (tree_lines high z)
-    → AllByRecursion (Passes p b claim) (tree_lines (split v at low high) zone)
-both_pass p b claim zone y z v at low high sound low_is high_is' l h =
-    let P : Line → Type 0 = Passes p b claim in (
-      sound,
-      both_all P (tree_lines low (low_part zone v at)) (tree_lines high (high_part zone v at))
-          (subst (λ (ss : List Span). AllByRecursion P (tree_lines low ss)) low_is l)
-          (subst (λ (ss : List Span). AllByRecursion P (tree_lines high ss)) high_is' h),
-    )
 
 -- ---- the proofs of leaves
 
@@ -364,73 +246,9 @@ pub fault_there : (p : Program) (b : Blocking) (claim : Claim) (line : Line) (fo
     → MatchOption found (Passes p b claim line) (HasFault p b claim line) → HasFault p b claim line kind
 fault_there p b claim line found kind is h = subst (λ (o : Option CheckKind). MatchOption o (Passes p b claim line) (HasFault p b claim line)) is h
 
--- what judging lines answered, by cases
-pub lines_end : (p : Program) (b : Blocking) (claim : Claim) (lines : List Line) (at : NodePlace) (r : Result NodePlace Stop) (found : Stop) → r ≡ Err found
-    → JudgesLines p b claim lines at r → IsEnd p b claim lines at.left at.line found.line found.fault
-lines_end p b claim lines at r found is h = subst (λ (x : Result NodePlace Stop). JudgesLines p b claim lines at x) is h
-
-pub lines_pass : (p : Program) (b : Blocking) (claim : Claim) (lines : List Line) (at : NodePlace) (r : Result NodePlace Stop) (now : NodePlace) → r ≡ Ok now
-    → JudgesLines p b claim lines at r
-    → (now.zone ≡ at.zone) × (now.line ≡ at.line + length lines) × AllByRecursion (Passes p b claim) lines × IsLeft p.spans b lines at.left now.left
-lines_pass p b claim lines at r now is h = subst (λ (x : Result NodePlace Stop). JudgesLines p b claim lines at x) is h
-
 -- ---- the same where a tree is known to be a split
 
 pub split_end : (p : Program) (b : Blocking) (claim : Claim) (t : Tree) (zone : List Span) (v : ℕ) (at : ℤ) (low high : Tree) (left : Option ℕ) (first : ℕ) → t ≡ split v at low high
     → (IsSoundSplit zone v at → ⊥) → IsEnd p b claim (tree_lines t zone) left first first (Some Split)
 split_end p b claim t zone v at low high left first is none =
     subst (λ (x : Tree). IsEnd p b claim (tree_lines x zone) left first first (Some Split)) (sym is) (end_split p b claim zone v at low high left first none)
-
-pub parts_fit : (b : Blocking) (t : Tree) (v : ℕ) (at : ℤ) (low high : Tree) → t ≡ split v at low high → ProofsFit b t → ProofsFit b low × ProofsFit b high
-parts_fit b t v at low high is h = subst (λ (x : Tree). ProofsFit b x) is h
-
-pub low_few : (t : Tree) (zone z : List Span) (v : ℕ) (at : ℤ) (low high : Tree) (first next : ℕ) → t ≡ split v at low high → z ≡ low_part zone v at → next ≡ first + 1
-    → first + length (tree_lines t zone) < 2 ^ 64 → next + length (tree_lines low z) < 2 ^ 64
-low_few t zone z v at low high first next is low_is line few =
-    few_low zone z v at low high first next low_is line (subst (λ (x : Tree). first + length (tree_lines x zone) < 2 ^ 64) is few)
-
-pub high_few : (t : Tree) (zone y z : List Span) (v : ℕ) (at : ℤ) (low high : Tree) (first second next : ℕ) → t ≡ split v at low high → y ≡ low_part zone v at
-    → z ≡ high_part zone v at → second ≡ first + 1 → next ≡ second + length (tree_lines low y)
-    → first + length (tree_lines t zone) < 2 ^ 64 → next + length (tree_lines high z) < 2 ^ 64
-high_few t zone y z v at low high first second next is low_is high_is' line behind few =
-    few_high zone y z v at low high first second next low_is high_is' line behind (subst (λ (x : Tree). first + length (tree_lines x zone) < 2 ^ 64) is few)
-
-pub low_end : (p : Program) (b : Blocking) (claim : Claim) (t : Tree) (zone z : List Span) (v : ℕ) (at : ℤ) (low high : Tree) (left begun : Option ℕ) (first next number : ℕ)
-    (fault : Option CheckKind)
-    → t ≡ split v at low high → IsSoundSplit zone v at → z ≡ low_part zone v at → next ≡ first + 1 → begun ≡ left → IsEnd p b claim (tree_lines low z) begun next number fault
-    → IsEnd p b claim (tree_lines t zone) left first number fault
-low_end p b claim t zone z v at low high left begun first next number fault is sound low_is line same found =
-    subst (λ (x : Tree). IsEnd p b claim (tree_lines x zone) left first number fault) (sym is)
-    (end_low p b claim zone z v at low high left first next number fault sound low_is line
-    (subst (λ (o : Option ℕ). IsEnd p b claim (tree_lines low z) o next number fault) same found))
-
-pub high_end : (p : Program) (b : Blocking) (claim : Claim) (t : Tree) (zone y z : List Span) (v : ℕ) (at : ℤ) (low high : Tree) (left begun middle again : Option ℕ)
-    (first second next number : ℕ) (fault : Option CheckKind)
-    → t ≡ split v at low high → IsSoundSplit zone v at → y ≡ low_part zone v at → z ≡ high_part zone v at → second ≡ first + 1 → next ≡ second + length (tree_lines low y)
-    → begun ≡ left → again ≡ middle → AllByRecursion (Passes p b claim) (tree_lines low y) → IsLeft p.spans b (tree_lines low y) begun middle
-    → IsEnd p b claim (tree_lines high z) again next number fault
-    → IsEnd p b claim (tree_lines t zone) left first number fault
-high_end p b claim t zone y z v at low high left begun middle again first second next number fault is sound low_is high_is' line behind same still passed spent found =
-    subst (λ (x : Tree). IsEnd p b claim (tree_lines x zone) left first number fault) (sym is)
-    (end_high p b claim zone y z v at low high left middle first second next number fault sound low_is high_is' line behind passed
-    (subst (λ (o : Option ℕ). IsLeft p.spans b (tree_lines low y) o middle) same spent)
-    (subst (λ (o : Option ℕ). IsEnd p b claim (tree_lines high z) o next number fault) still found))
-
--- both parts pass, and the zone is that of before
-pub fork_passes : (p : Program) (b : Blocking) (claim : Claim) (t : Tree) (zone y z last : List Span) (v : ℕ) (at : ℤ) (low high : Tree) (left begun middle again done now : Option ℕ)
-    (first second third fourth next : ℕ)
-    → t ≡ split v at low high → IsSoundSplit zone v at → y ≡ low_part zone v at → z ≡ high_part zone v at
-    → second ≡ first + 1 → third ≡ second + length (tree_lines low y) → fourth ≡ third + length (tree_lines high z) → next ≡ fourth
-    → begun ≡ left → again ≡ middle → now ≡ done
-    → AllByRecursion (Passes p b claim) (tree_lines low y) → AllByRecursion (Passes p b claim) (tree_lines high z)
-    → IsLeft p.spans b (tree_lines low y) begun middle → IsLeft p.spans b (tree_lines high z) again done → last ≡ zone
-    → (last ≡ zone) × (next ≡ first + length (tree_lines t zone)) × AllByRecursion (Passes p b claim) (tree_lines t zone) × IsLeft p.spans b (tree_lines t zone) left now
-fork_passes p b claim t zone y z last v at low high left begun middle again done now first second third fourth next is sound low_is high_is' line behind above end same still ends l h spent more back =
-    subst (λ (x : Tree). (last ≡ zone) × (next ≡ first + length (tree_lines x zone)) × AllByRecursion (Passes p b claim) (tree_lines x zone) × IsLeft p.spans b (tree_lines x zone) left now) (sym is) (
-      back,
-      end ∙ behind_both zone y z v at low high first second third fourth low_is high_is' line behind above,
-      both_pass p b claim zone y z v at low high sound low_is high_is' l h,
-      both_spent p.spans b zone y z v at low high left middle now low_is high_is'
-          (subst (λ (o : Option ℕ). IsLeft p.spans b (tree_lines low y) o middle) same spent)
-          (subst (λ (o : Option ℕ). IsLeft p.spans b (tree_lines high z) middle o) (sym ends) (subst (λ (o : Option ℕ). IsLeft p.spans b (tree_lines high z) o done) still more)),
-    )

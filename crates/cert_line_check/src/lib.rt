@@ -2,6 +2,7 @@
 //! leaf's bound is computed anew. A line passes, or has its fault; a leaf may ask for more visits than are left.
 #![tactic(auto)]
 
+mod ahead;
 mod cuts;
 mod leaf;
 mod place;
@@ -10,6 +11,7 @@ mod price;
 mod tree;
 mod visits;
 
+pub use ahead::{Ahead, push_parts};
 pub use cuts::{judge_cut, judge_cuts};
 pub use leaf::judge_leaf;
 pub use place::{NodePlace, Rejection, Stop};

@@ -1,5 +1,5 @@
 // The judgement of a tree, line by line in preorder.
-ghost use Rattle.std.specs.Prelude.{◌≡◌, ◌↔◌, [], ◌+◌, ◌<◌, ◌≤◌, ◌^◌, ◌+ℤ◌, ◌<ℤ◌, ◌≤ℤ◌, pos, IsTrue, length, slice_set, IfOk, IfSome, MatchOption};
+ghost use Rattle.std.specs.Prelude.{◌≡◌, ◌↔◌, ◌∷◌, ◌+◌, ◌<◌, ◌≤◌, ◌^◌, ◌+ℤ◌, ◌<ℤ◌, ◌≤ℤ◌, pos, IsTrue, length, slice_set, IfOk, IfSome, MatchOption};
 ghost use Rattle.bp_theory.specs.Program.{span_at};
 ghost use Rattle.bp_theory.specs.Trees.{IsZone, IsSoundSplit, low_part};
 ghost use Rattle.bp_theory.specs.Judgement.{tree_lines};
@@ -8,7 +8,9 @@ ghost use Rattle.cert_text.specs.Programs.{IsSmallClaim};
 ghost use Rattle.block_pricers.specs.Forms.{forms_in};
 ghost use Rattle.block_pricers.specs.Works.{forms_of};
 ghost use Rattle.cert_line_check.specs.Judging.{ProofsFit, JudgesLines};
+ghost use Rattle.cert_line_check.specs.Steps.{node, steps_of, lines_ahead, MayJudge, JudgesNode};
 
+use crate::ahead::{Ahead, push_parts};
 use crate::leaf::judge_leaf;
 use crate::place::{NodePlace, Stop};
 use block_program::{Blocked, Zone};
@@ -17,7 +19,8 @@ use cert_text::Sketch;
 use lagr_bound::Work;
 use std::alloc::{AllocError, Global};
 
-/// Judges the lines of a tree from a place on. The zone is changed along the path and changed back.
+/// Judges the lines of a tree from a place on. The zone is changed along the path and changed back, with a list of the steps
+/// that are still to come.
 pub fn judge_tree(
     alloc: Global,
     b: &Blocked,
@@ -35,6 +38,44 @@ pub fn judge_tree(
         (tree_lines (tree_of tree.now) at.zone) at found) }
     ensures made_for { IfSome work.new (λ made. forms_of made ≡ forms_in b.now) }
 {
+    let mut place = at;
+    let mut ahead: Vec<Ahead> = Vec::new(alloc);
+    ahead.push(Ahead::Node(tree))?;
+    while let Some(step) = ahead.pop() {
+        match step {
+            Ahead::Node(node) => {
+                match judge_node(alloc, b, claim, work, place, node, &mut ahead)? {
+                    Err(found) => return Ok(Err(found)),
+                    Ok(next) => place = next,
+                }
+            }
+            Ahead::High { var, at, span } => place = to_high(place, var, &span, &at),
+            Ahead::Back { var, span } => place = back(place, var, &span),
+        }
+    }
+    Ok(Ok(place))
+}
+
+// Judges the line of a node. Where it is a split, its parts are still to come.
+fn judge_node<'a>(
+    alloc: Global,
+    b: &Blocked,
+    claim: &Claim,
+    work: &mut Option<Work>,
+    at: NodePlace,
+    tree: &'a Sketch,
+    ahead: &mut Vec<Ahead<'a>>,
+) -> Result<Result<NodePlace, Stop>, AllocError>
+    requires made_for { IfSome work.old (λ made. forms_of made ≡ forms_in b.now) }
+    requires claim { IsSmallClaim claim.now }
+    requires may { MayJudge b.now.named.program.spans b.now.blocking
+        (node (tree_of tree.now) ∷ steps_of ahead.old.items) at.zone }
+    requires few { at.line + length (lines_ahead
+        (node (tree_of tree.now) ∷ steps_of ahead.old.items) at.zone) < 2 ^ 64 }
+    ensures judged { IfOk result (JudgesNode b.now.named.program b.now.blocking claim.now
+        (node (tree_of tree.now) ∷ steps_of ahead.old.items) at (steps_of ahead.new.items)) }
+    ensures made_for { IfSome work.new (λ made. forms_of made ≡ forms_in b.now) }
+{
     match tree {
         Sketch::Leaf(proof) => judge_leaf(alloc, b, claim, work, at, proof, false),
         Sketch::Open(proof) => judge_leaf(alloc, b, claim, work, at, proof, true),
@@ -50,18 +91,8 @@ pub fn judge_tree(
                     fault: Some(CheckKind::Split),
                 }));
             };
-            let first = judge_tree(alloc, b, claim, work, to_low(at, *var, split), low)?;
-            match first {
-                Err(fault) => Ok(Err(fault)),
-                Ok(below) => {
-                    let there = to_high(below, *var, &span, split);
-                    let second = judge_tree(alloc, b, claim, work, there, high)?;
-                    match second {
-                        Err(found) => Ok(Err(found)),
-                        Ok(above) => Ok(Ok(back(above, *var, &span))),
-                    }
-                }
-            }
+            push_parts(ahead, *var, split, &span, low, high)?;
+            Ok(Ok(to_low(at, *var, split)))
         }
     }
 }

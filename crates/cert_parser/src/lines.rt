@@ -33,17 +33,24 @@ use std::mem;
 // How much of a token has come.
 #[derive(Clone, Copy)]
 pub enum Part {
+    // Nothing: the next byte begins a token.
     Fresh,
+    // So many bytes of a word, at least one and not all.
     InWord { word: Word, done: usize },
+    // The minus of a number.
     Minus,
+    // The minus of a number on the line of a node that is too deep, or of a cut too many.
     DeepMinus,
+    // Digits, behind a minus where `negative`; their number so far, which stands still at 2^64 - 1.
     Digits { negative: bool, value: u64 },
 }
 
 /// A variable, by its number from 0, and the number behind which its span is split.
 #[derive(Clone, Copy)]
 pub struct SplitPlace {
+    /// The number of the variable, from 0; the text counts from 1.
     pub var: u32,
+    /// The greatest number of the low part; the high part begins one above.
     pub at: i64,
 }
 
@@ -66,26 +73,46 @@ pub enum Event {
 /// that the next leaf changes; of the cuts that were read, how many there are.
 #[derive(Drop)]
 pub struct Lines {
+    // Where in the grammar the token at hand stands, or else the next one.
     spot: Spot,
+    // How much of that token has come.
     part: Part,
+    // The number of the line at hand, from 1.
     line: u64,
+    // The version that the first line says; 1 before.
     version: Version,
+    /// The claim that the second line makes; `Infeasible` before.
     pub claim: Claim,
+    // The bound of a claim, in the text's own sense, until the whole claim is known.
     bound: i64,
+    /// The numbers of the claimed point so far, by number of variable.
     pub point: Items<i64>,
     // How many cuts have begun: their divisors have come.
     cuts: u16,
+    // The divisor of the cut at hand.
     divisor: u32,
+    // The depth of the node that comes next; the root's is 0.
     depth: usize,
+    // The depths of the high parts that are still to come, the nearest last.
     highs: Vec<usize>,
+    // The multipliers of the leaf before, which the next leaf changes; none in version 1.
     had: Multipliers,
+    // Whether the leaf at hand is open.
     is_open: bool,
+    // The scale of the leaf at hand.
     scale: u32,
+    // The rows of the leaf or cut at hand so far, by numbers from 0, with their multipliers; from version 2 on a leaf
+    // has only those that change, with 0 for a row that loses its multiplier.
     mults: Items<(u32, i64)>,
+    // The picked blocks of the leaf at hand so far, by numbers from 0.
     blocks: Items<u32>,
+    // The row, by its number from 0, whose multiplier comes next.
     row: u32,
+    // The last row or block of the list at hand, as the text counts from 1; 0 before the first.
     last: u64,
+    // How many rows or blocks of the list at hand are still to come.
     left: u64,
+    // The variable and the number of the split at hand.
     place: SplitPlace,
 }
 

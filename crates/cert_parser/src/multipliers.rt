@@ -14,7 +14,9 @@ use std::mem;
 /// The multipliers of rows, in the order of rows.
 #[derive(Drop)]
 pub struct Multipliers {
+    // Rows, by numbers from 0, with their multipliers, none of which is 0.
     pairs: Vec<(u32, i64)>,
+    // Rows ascend, each once.
     ghost ascend: { IsStrictlyIncreasing (rows_of pairs.items) },
 }
 
@@ -89,7 +91,9 @@ impl Multipliers {
         Ok(())
     }
 
-    /// The multipliers of a leaf that has these changes, which the next leaf changes in its turn, but in version 1.
+    /// The multipliers of a leaf that has these changes, which the next leaf changes in its turn, but in version 1. A
+    /// change is the row's new multiplier, 0 where it loses it; all are as the text has them, each leaf's at its own
+    /// scale.
     pub fn next(
         &mut self,
         alloc: Global,

@@ -24,9 +24,13 @@ pub enum Pending {
 /// A reader of a certificate's text, which is fed in pieces.
 #[derive(Drop)]
 pub struct Reader {
+    // What is read of the lines, and of the line at hand.
     lines: Lines,
+    // The cuts so far, in order.
     cuts: Items<Cut>,
+    // The splits above the tree that comes next, the nearest last.
     pending: Vec<Pending>,
+    // The whole tree, once its last leaf has come; before that a leaf that means nothing.
     root: Sketch,
 }
 
@@ -156,19 +160,18 @@ impl Reader {
     }
 
     /// The certificate that was read, where the text ends here.
-    pub fn finish(self, frame: &Frame) -> Result<Cert, CertFault>
+    pub fn finish(self, alloc: Global, frame: &Frame) -> Result<Cert, CertFault>
         ensures { (text : List ℕ) → Builds frame.now self text →
             ReadsCertificate frame.now text result }
     {
         let lines = self.lines;
         match lines.end(frame) {
-            Err(fault) => Err(fault),
-            Ok(()) => Ok(Cert {
-                claim: lines.claim,
-                point: lines.point,
-                cuts: self.cuts,
-                tree: self.root,
-            }),
+            Err(fault) => return Err(fault),
+            Ok(()) => {}
+        }
+        match Cert::new(alloc, lines.claim, lines.point, self.cuts, self.root) {
+            Err(_) => Err(CertFault::NoMemory),
+            Ok(cert) => Ok(cert),
         }
     }
 }
@@ -183,6 +186,6 @@ pub fn read(alloc: Global, frame: &Frame, bytes: &[u8]) -> Result<Cert, CertFaul
     let mut reader = Reader::new(alloc);
     match reader.feed(alloc, frame, bytes) {
         Err(fault) => Err(fault),
-        Ok(()) => reader.finish(frame),
+        Ok(()) => reader.finish(alloc, frame),
     }
 }

@@ -53,6 +53,11 @@ whole_put Spells name head text all before mid now result h g spells is = record
         let parts : head ++ text ≡ (head ++ part.0) ++ part.1 = ap (λ (xs : List ℕ). head ++ xs) part.2 ∙ sym (append_assoc head part.0 part.1) in
         inr (head ++ part.0, part.1, subst Spells parts there, part.3)
 
+-- a tree behind no leaf
+pub behind_none : {X : Type 0} (name : List ℕ) (had : List (ℕ × ℤ)) (t : Tree) (before now : Files) (result : Result X StreamStop) → had ≡ []
+    → Appends name (tree_text Two (changing_nodes had t)) before now result → Appends name (tree_text Two (changing_nodes [] t)) before now result
+behind_none name had t before now result none h = subst (λ (ms : List (ℕ × ℤ)). Appends name (tree_text Two (changing_nodes ms t)) before now result) none h
+
 -- a whole text from the parts that are written
 parts_of : (claim : Claim) (zs : List ℤ) (cuts : List Cut) (t : Tree)
     → plain_text (version_with cuts) claim zs cuts t ≡ head_text (version_with cuts) claim zs cuts ++ (tree_text Two t ++ codes "end\n")

@@ -29,13 +29,21 @@ use std::mem;
 /// program in blocks that it was made for.
 #[derive(Drop)]
 pub struct Checker {
+    // What reading needs to know of the program.
     frame: Frame,
+    // What is read of the lines, and of the line at hand.
     lines: Lines,
+    // The cuts that came, and the program with them.
     cuts: Cutting,
+    // What has been judged of the lines that came.
     walk: Walk,
+    // The pricers that leaves share; none before the first leaf, and none behind a further cut.
     work: Option<Work>,
+    // How many high parts of splits are still to come.
     held: u64,
+    // How many bytes came, up to the one that shows the first fault.
     fed: u64,
+    // The first fault of the text or want of memory, which every later call answers.
     fault: Option<FeedFault>,
 }
 

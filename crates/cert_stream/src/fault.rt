@@ -7,7 +7,7 @@ use cert_text::{CertFault, CertKind};
 /// Why a certificate that is fed in pieces is not judged.
 #[derive(Clone, Copy, Debug, PartialEq, Eq)]
 pub enum FeedFault {
-    /// The first fault of the text, by line and kind.
+    /// The first fault of the text: its line, from 1, and its kind.
     At { line: u64, kind: CertKind },
     /// Memory was wanted.
     NoMemory,

@@ -10,8 +10,8 @@ ghost use Rattle.cert_stream.specs.Streams.{Rewrites, Streams};
 use block_program::Blocked;
 use bp_shelf::Shelf;
 use branch_tree::Outcome;
-use cert_file::{StreamStop, put_heads, put_line, put_nodes, put_sketch};
-use cert_text::{Cert, outcome_claim, outcome_grove, outcome_point};
+use cert_file::{StreamStop, put_heads, put_line, put_nodes};
+use cert_text::{Cert, SketchLines, TreeLines, outcome_claim, outcome_grove, outcome_point};
 use std::alloc::Global;
 
 /// Writes the certificate of a search's outcome, with the cuts of the program, into a named file: the lines in front of the
@@ -34,9 +34,11 @@ pub fn write_stream<F: Shelf>(
         Err(stop) => return Err(stop),
         Ok(()) => {}
     }
-    match put_nodes(alloc, shelf, name, outcome_grove(outcome).tree(), &[]) {
+    let mut lines = TreeLines::new(alloc, outcome_grove(outcome).tree());
+    let mut had = Vec::new(alloc);
+    match put_nodes(alloc, shelf, name, &mut lines, &mut had) {
         Err(stop) => return Err(stop),
-        Ok(_) => {}
+        Ok(()) => {}
     }
     put_end(shelf, name)
 }
@@ -61,9 +63,11 @@ pub fn rewrite_stream<F: Shelf>(
         Err(stop) => return Err(stop),
         Ok(()) => {}
     }
-    match put_sketch(alloc, shelf, name, cert.tree(), &[]) {
+    let mut lines = SketchLines::new(alloc, cert.tree());
+    let mut had = Vec::new(alloc);
+    match put_nodes(alloc, shelf, name, &mut lines, &mut had) {
         Err(stop) => return Err(stop),
-        Ok(_) => {}
+        Ok(()) => {}
     }
     put_end(shelf, name)
 }

@@ -6,17 +6,17 @@ ghost use Rattle.search_laws.specs.Grove.{certificate_tree};
 ghost use Rattle.search_laws.specs.Outcomes.{read_off};
 ghost use Rattle.open_nodes.specs.Trees.{tree_of};
 ghost use Rattle.cert_format.specs.Fault.{IsText};
-ghost use Rattle.cert_format.specs.Text.{Two};
 ghost use Rattle.cert_format.specs.Written.{cert_of};
-ghost use Rattle.cert_format.specs.Plain.{version_with, plain_text, tree_text};
-ghost use Rattle.cert_write.specs.Changes.{changing_nodes, last_mults};
+ghost use Rattle.cert_format.specs.Plain.{version_with, plain_text};
+ghost use Rattle.cert_write.specs.Changes.{changing_nodes};
 ghost use Rattle.cert_text.specs.Programs.{frame_for};
 ghost use Rattle.cert_text.specs.Outcomes.{grove_of, claim_of, point_of, HasSmallNumbers, IsWritable};
 
+use crate::lines::TreeLines;
 use block_program::Blocked;
 use bp_theory::{Claim, Cut, Items};
 use branch_tree::{Grove, Outcome, Tree};
-use cert_write::{put_changed_leaf, put_head, put_split};
+use cert_write::{put_changed_lines, put_head};
 use std::alloc::{AllocError, Global};
 
 /// The text of the certificate of a search's outcome: its claim, its best point where there is one, the cuts of the
@@ -57,31 +57,9 @@ fn put_outcome(
         (changing_nodes [] (certificate_tree (tree_of tree.now)))) }
 {
     put_head(out, claim, point, cuts)?;
-    put_nodes(out, alloc, tree, &[])?;
+    let mut had = Vec::new(alloc);
+    put_changed_lines(out, alloc, &mut TreeLines::new(alloc, tree), &mut had)?;
     out.extend_from_slice(b"end\n")
-}
-
-// The lines of a search's tree, behind a leaf that has these multipliers; gives those of its last leaf.
-fn put_nodes<'a>(
-    out: &mut Vec<u8>,
-    alloc: Global,
-    tree: &'a Tree,
-    had: &'a [(u32, i64)],
-) -> Result<&'a [(u32, i64)], AllocError>
-    ensures text { OnOk result (out.new.items ≡ out.old.items ++
-        tree_text Two (changing_nodes had.now (certificate_tree (tree_of tree.now)))) }
-    ensures last { IfOk result (λ last. last.now ≡
-        last_mults (certificate_tree (tree_of tree.now))) }
-{
-    match tree {
-        Tree::Live(proof, _) => put_changed_leaf(out, alloc, b"open ", had, proof),
-        Tree::Shut(proof) => put_changed_leaf(out, alloc, b"leaf ", had, proof),
-        Tree::Fork { var, at, low, high } => {
-            put_split(out, *var, at)?;
-            let last = put_nodes(out, alloc, low, had)?;
-            put_nodes(out, alloc, high, last)
-        }
-    }
 }
 
 /// The tree of an outcome, with its queue.

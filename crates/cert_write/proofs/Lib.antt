@@ -3,3 +3,4 @@ pub mod DifferProof
 pub mod BothTexts
 pub mod ChangeText
 pub mod CutTexts
+pub mod TreeLines

@@ -4,4 +4,4 @@
 mod differences;
 mod writer;
 
-pub use writer::{put_changed_leaf, put_claim, put_head, put_split, rewrite, write};
+pub use writer::{put_changed_line, put_changed_lines, put_claim, put_head, rewrite, write};

@@ -1,18 +1,21 @@
 // The text of a certificate, written in one spelling.
-ghost use Rattle.std.specs.Prelude.{◌≡◌, ℕ, ◌+◌, ◌++◌, List, [], codes, length, IfOk, OnOk};
+ghost use Rattle.std.specs.Prelude.{◌≡◌, ℕ, ◌++◌, List, [], codes, length, IfOk, OnOk};
 ghost use Rattle.std.specs.List.{flat_map};
 ghost use Rattle.cert_format.specs.Cert.{Frame};
 ghost use Rattle.cert_format.specs.Text.{numeral, signed_numeral, text_of, tokens_of, One, Two};
 ghost use Rattle.cert_format.specs.Plain.{pair_text, block_text, coordinate_text, picked_text, tail_text, proof_text, tree_text, point_text, bound_text, claim_text, cut_text, version_text, version_with, head_text, plain_text};
 ghost use Rattle.cert_write.specs.Changes.{changing_proof, changing_nodes, last_mults};
+ghost use Rattle.cert_write.specs.LineTexts.{split_text, line_text, changing_line, mults_behind};
 ghost use Rattle.cert_format.specs.Fault.{IsText, IsCertText};
 ghost use Rattle.cert_format.specs.Kept.{kept_cert};
 ghost use Rattle.cert_format.specs.Sketch.{tree_of};
+ghost use Rattle.cert_format.specs.Preorder.{line_of, node_lines};
+ghost use Rattle.bp_theory.specs.Trees.{Tree};
 ghost use Rattle.cert_format.specs.Written.{cert_of, certificate};
 
 use crate::differences::differences;
 use bp_theory::{Claim, Cut, Picked, Proof};
-use cert_format::{Cert, Sketch};
+use cert_format::{Cert, NodeLine, NodeLines, Sketch, SketchLines};
 use itoa::Buffer;
 use std::alloc::{AllocError, Global};
 
@@ -137,27 +140,27 @@ fn put_changes(
     put_tail(out, changes.as_slice(), &proof.picked)
 }
 
-/// A leaf's line of versions 2 and 3 with its first word, behind a leaf that has these multipliers; gives its own.
-pub fn put_changed_leaf<'a>(
+// A leaf's line of versions 2 and 3 with its first word, behind a leaf that has these multipliers, which become its own.
+fn put_changed_leaf(
     out: &mut Vec<u8>,
     alloc: Global,
     word: &[u8],
-    had: &[(u32, i64)],
-    proof: &'a Proof,
-) -> Result<&'a [(u32, i64)], AllocError>
+    had: &mut Vec<(u32, i64)>,
+    proof: &Proof,
+) -> Result<(), AllocError>
     ensures text { OnOk result (out.new.items ≡ out.old.items ++
-        (word.now ++ proof_text Two (changing_proof had.now proof.now))) }
-    ensures last { IfOk result (λ last. last.now ≡ proof.now.mults) }
+        (word.now ++ proof_text Two (changing_proof had.old.items proof.now))) }
+    ensures last { OnOk result (had.new.items ≡ proof.now.mults) }
 {
     out.extend_from_slice(word)?;
-    put_changes(out, alloc, had, proof)?;
-    Ok(proof.mults.as_slice())
+    put_changes(out, alloc, had.as_slice(), proof)?;
+    had.clear();
+    had.extend_from_slice(proof.mults.as_slice())
 }
 
-/// A split's line.
-pub fn put_split(out: &mut Vec<u8>, var: u32, at: &i64) -> Result<(), AllocError>
-    ensures { OnOk result (out.new.items ≡ out.old.items ++
-        (codes "split " ++ numeral (var + 1) ++ codes " " ++ signed_numeral at.now ++ codes "\n")) }
+// A split's line.
+fn put_split(out: &mut Vec<u8>, var: u32, at: &i64) -> Result<(), AllocError>
+    ensures { OnOk result (out.new.items ≡ out.old.items ++ split_text var at.now) }
 {
     out.extend_from_slice(b"split ")?;
     put_number(out, u64::from(var) + 1)?;
@@ -166,25 +169,71 @@ pub fn put_split(out: &mut Vec<u8>, var: u32, at: &i64) -> Result<(), AllocError
     out.extend_from_slice(b"\n")
 }
 
-// The lines of a tree.
-fn put_tree(out: &mut Vec<u8>, tree: &Sketch) -> Result<(), AllocError>
-    ensures { OnOk result (out.new.items ≡ out.old.items ++ tree_text One (tree_of tree.now)) }
+// A node's line of version 1.
+fn put_line(out: &mut Vec<u8>, line: &NodeLine) -> Result<(), AllocError>
+    ensures { OnOk result (out.new.items ≡ out.old.items ++ line_text One (line_of line.now)) }
 {
-    match tree {
-        Sketch::Leaf(proof) => {
+    match line {
+        NodeLine::Leaf(proof) => {
             out.extend_from_slice(b"leaf ")?;
             put_proof(out, proof)
         }
-        Sketch::Open(proof) => {
+        NodeLine::Open(proof) => {
             out.extend_from_slice(b"open ")?;
             put_proof(out, proof)
         }
-        Sketch::Fork { var, at, low, high } => {
-            put_split(out, *var, at)?;
-            put_tree(out, low)?;
-            put_tree(out, high)
-        }
+        NodeLine::Split { var, at } => put_split(out, *var, at),
     }
+}
+
+// The lines of a tree in version 1.
+fn put_lines<L: NodeLines>(out: &mut Vec<u8>, lines: &mut L) -> Result<(), AllocError>
+    ensures { OnOk result ((tree : Tree) → L.lines lines.old ≡ node_lines tree →
+        out.new.items ≡ out.old.items ++ tree_text One tree) }
+{
+    while let Some(line) = lines.line() {
+        put_line(out, &line)?;
+        lines.advance()?;
+    }
+    Ok(())
+}
+
+/// A node's line of versions 2 and 3, behind a leaf that has these multipliers, which become those of a leaf of the line.
+pub fn put_changed_line(
+    out: &mut Vec<u8>,
+    alloc: Global,
+    had: &mut Vec<(u32, i64)>,
+    line: &NodeLine,
+) -> Result<(), AllocError>
+    ensures text { OnOk result (out.new.items ≡ out.old.items ++
+        line_text Two (changing_line had.old.items (line_of line.now))) }
+    ensures last { OnOk result (had.new.items ≡ mults_behind had.old.items (line_of line.now)) }
+{
+    match line {
+        NodeLine::Leaf(proof) => put_changed_leaf(out, alloc, b"leaf ", had, proof),
+        NodeLine::Open(proof) => put_changed_leaf(out, alloc, b"open ", had, proof),
+        NodeLine::Split { var, at } => put_split(out, *var, at),
+    }
+}
+
+/// The lines of a tree in versions 2 and 3, behind a leaf that has these multipliers, which become those of the tree's last
+/// leaf.
+pub fn put_changed_lines<L: NodeLines>(
+    out: &mut Vec<u8>,
+    alloc: Global,
+    lines: &mut L,
+    had: &mut Vec<(u32, i64)>,
+) -> Result<(), AllocError>
+    ensures text { OnOk result ((tree : Tree) → L.lines lines.old ≡ node_lines tree →
+        out.new.items ≡ out.old.items ++ tree_text Two (changing_nodes had.old.items tree)) }
+    ensures last { OnOk result ((tree : Tree) → L.lines lines.old ≡ node_lines tree →
+        had.new.items ≡ last_mults tree) }
+{
+    while let Some(line) = lines.line() {
+        put_changed_line(out, alloc, had, &line)?;
+        lines.advance()?;
+    }
+    Ok(())
 }
 
 // The line of a point.
@@ -289,6 +338,7 @@ pub fn put_head(
 // The text of a certificate without cuts.
 fn put_cert(
     out: &mut Vec<u8>,
+    alloc: Global,
     claim: &Claim,
     point: &[i64],
     tree: &Sketch,
@@ -298,30 +348,8 @@ fn put_cert(
 {
     out.extend_from_slice(b"bpcert 1\n")?;
     put_claim(out, claim, point)?;
-    put_tree(out, tree)?;
+    put_lines(out, &mut SketchLines::new(alloc, tree))?;
     out.extend_from_slice(b"end\n")
-}
-
-// The lines of a tree in version 2, behind a leaf that has these multipliers; gives those of its last leaf.
-fn put_changed_tree<'a>(
-    out: &mut Vec<u8>,
-    alloc: Global,
-    tree: &'a Sketch,
-    had: &'a [(u32, i64)],
-) -> Result<&'a [(u32, i64)], AllocError>
-    ensures text { OnOk result (out.new.items ≡ out.old.items ++
-        tree_text Two (changing_nodes had.now (tree_of tree.now))) }
-    ensures last { IfOk result (λ last. last.now ≡ last_mults (tree_of tree.now)) }
-{
-    match tree {
-        Sketch::Leaf(proof) => put_changed_leaf(out, alloc, b"leaf ", had, proof),
-        Sketch::Open(proof) => put_changed_leaf(out, alloc, b"open ", had, proof),
-        Sketch::Fork { var, at, low, high } => {
-            put_split(out, *var, at)?;
-            let last = put_changed_tree(out, alloc, low, had)?;
-            put_changed_tree(out, alloc, high, last)
-        }
-    }
 }
 
 // The text of a certificate whose leaves have changes.
@@ -339,7 +367,8 @@ fn put_changed_cert(
         (changing_nodes [] (tree_of tree.now))) }
 {
     put_head(out, claim, point, cuts)?;
-    put_changed_tree(out, alloc, tree, &[])?;
+    let mut had = Vec::new(alloc);
+    put_changed_lines(out, alloc, &mut SketchLines::new(alloc, tree), &mut had)?;
     out.extend_from_slice(b"end\n")
 }
 
@@ -356,7 +385,7 @@ pub fn write(
         (cert_of (certificate claim.now point.now [] (tree_of tree.now))))) }
 {
     let mut out = Vec::new(alloc);
-    put_cert(&mut out, claim, point, tree)?;
+    put_cert(&mut out, alloc, claim, point, tree)?;
     Ok(out)
 }
 

@@ -1,24 +1,25 @@
 // The open leaf of a certificate's tree that a number names.
-ghost use Rattle.std.specs.Prelude.{◌≡◌, IfOk};
+ghost use Rattle.std.specs.Prelude.{◌≡◌, ◌≤◌, [], map, reverse, IfOk};
 ghost use Rattle.cert_format.specs.Sketch.{tree_of};
-ghost use Rattle.search_start.specs.Leaves.{open_path, Seeks};
+ghost use Rattle.search_start.specs.Leaves.{open_path, side_of, paths_above, paths_at, nodes_above, nodes_at};
 
 use bp_theory::Items;
 use cert_text::Sketch;
 use search_laws::Side;
 use std::alloc::{AllocError, Global};
 
-/// What came of seeking an open leaf at a node and below it.
-#[derive(Clone, Copy)]
-pub enum Sought {
-    /// The path leads to it.
-    There,
-    /// It stands behind the node's leaves, and so many other open leaves come before it there.
-    Behind(u64),
+// A fork above a node.
+#[derive(Drop)]
+enum Above<'a> {
+    // The node stands in its low part; its high part is still to come.
+    Low(&'a Sketch),
+    // The node stands in its high part.
+    High,
 }
 
 /// The path of an open leaf of a certificate's tree, by its number in the order of their lines, from 1. None exactly
 /// where there is no such leaf.
+#[tactic(auto, using(crate::proofs::Paths::passed_open))]
 pub fn open_path(
     alloc: Global,
     tree: &Sketch,
@@ -29,42 +30,64 @@ pub fn open_path(
     if number == 0 {
         return Ok(None);
     }
-    let mut path = Vec::new(alloc);
-    match seek(tree, &mut path, number - 1)? {
-        Sought::There => Ok(Some(Items::from_vec(path))),
-        Sought::Behind(_) => Ok(None),
+    let mut left = number - 1;
+    let mut above: Vec<Above> = Vec::new(alloc);
+    let mut here = Some(tree);
+    while let Some(node) = here {
+        match node {
+            Sketch::Fork { low, high, .. } => {
+                above.push(Above::Low(high))?;
+                here = Some(low);
+            }
+            Sketch::Leaf(_) => here = next_high(&mut above)?,
+            Sketch::Open(_) => {
+                if left == 0 {
+                    return Ok(Some(sides_of(alloc, above.as_slice())?));
+                }
+                left -= 1;
+                here = next_high(&mut above)?;
+            }
+        }
     }
+    Ok(None)
 }
 
-// Seeks the open leaf at a node or below it that so many others come before. The path is that of the node: it becomes the
-// leaf's, or stays as it was.
-fn seek(tree: &Sketch, path: &mut Vec<Side>, before: u64) -> Result<Sought, AllocError>
-    ensures { IfOk result (Seeks (tree_of tree.now) path.old.items before path.new.items) }
+// Goes to the nearest high part that is still to come, if there is one.
+fn next_high<'a>(above: &mut Vec<Above<'a>>) -> Result<Option<&'a Sketch>, AllocError>
+    ensures paths { IfOk result (λ node. paths_at node (reverse above.new.items) ≡
+        paths_above (reverse above.old.items) []) }
+    ensures fewer { IfOk result (λ node. nodes_at node (reverse above.new.items) ≤
+        nodes_above (reverse above.old.items)) }
 {
-    match tree {
-        Sketch::Leaf(_) => Ok(Sought::Behind(before)),
-        Sketch::Open(_) => {
-            if before == 0 {
-                Ok(Sought::There)
-            } else {
-                Ok(Sought::Behind(before - 1))
+    while let Some(fork) = above.pop() {
+        match fork {
+            Above::Low(high) => {
+                above.push(Above::High)?;
+                return Ok(Some(high));
             }
+            Above::High => {}
         }
-        Sketch::Fork { low, high, .. } => {
-            path.push(Side::Low)?;
-            let left = match seek(low, path, before)? {
-                Sought::There => return Ok(Sought::There),
-                Sought::Behind(left) => left,
-            };
-            let _ = path.pop();
-            path.push(Side::High)?;
-            match seek(high, path, left)? {
-                Sought::There => Ok(Sought::There),
-                Sought::Behind(left) => {
-                    let _ = path.pop();
-                    Ok(Sought::Behind(left))
-                }
-            }
-        }
+    }
+    Ok(None)
+}
+
+// The path of a node below these forks, the first of which is the root.
+fn sides_of(alloc: Global, above: &[Above]) -> Result<Items<Side>, AllocError>
+    ensures { IfOk result (λ path. path ≡ map side_of above.now) }
+{
+    let mut path = Items::new(alloc);
+    for fork in above {
+        path.push(side_of(fork))?;
+    }
+    Ok(path)
+}
+
+// The part of a fork in which the node stands.
+fn side_of(fork: &Above) -> Side
+    ensures { result ≡ side_of fork.now }
+{
+    match fork {
+        Above::Low(_) => Side::Low,
+        Above::High => Side::High,
     }
 }

@@ -4,4 +4,5 @@ pub mod NodeProof
 pub mod LostProof
 pub mod BoundProof
 pub mod CountProof
+mod ComingProof
 pub mod LoadedProof

@@ -40,20 +40,14 @@ pub fn merge(
     let cost = less_of(&cost_in(&best), &cost_in(&other));
     let best = cheaper_of(best, other);
     let tree = joined(alloc, &cost, left, right)?;
-    let grove = Grove::adopt(alloc, b, Box::into_inner(tree))?;
+    let grove = Grove::adopt(alloc, b, tree)?;
     Ok(Loaded { grove, best })
 }
 
 // The trees of two groves made into one. The groves are let go here, on one path: each form of a tree goes in its own way,
 // and a caller would have to prove all of them wherever it ends.
-fn joined(
-    alloc: Global,
-    cost: &Option<i64>,
-    left: Grove,
-    right: Grove,
-) -> Result<Box<Tree>, AllocError>
-    ensures { IfOk result (λ node. tree_of node.value ≡ shut_by cost.now
-        (merged left.tree right.tree)) }
+fn joined(alloc: Global, cost: &Option<i64>, left: Grove, right: Grove) -> Result<Tree, AllocError>
+    ensures { IfOk result (λ tree. tree_of tree ≡ shut_by cost.now (merged left.tree right.tree)) }
 {
     join(alloc, cost, left.tree(), right.tree())
 }

@@ -1,7 +1,5 @@
-use Rattle.std.proofs.Common.{◌≡◌, ◌≤◌, ◌∙◌, ◌+◌, ◌++◌, ◌∷◌, [], ℕ, List, length, take, get_or, sym, subst, ap, All, Ok, Err, Result, arith}
-use Rattle.std.proofs.lemmas.List.{take_all}
+use Rattle.std.proofs.Common.{◌≤◌, ◌+◌, List, length, take, get_or, sym, subst, All, Ok, Err, Result, arith}
 use Rattle.bp_theory.specs.Decomposition.{proof_rows}
-use Rattle.bp_theory.specs.Cuts.{cut_row}
 use Rattle.bp_theory.specs.declared.Cut.{Cut}
 use Rattle.bp_theory.specs.declared.Row.{Row}
 use Rattle.cut_sums.specs.Cutting.{IsCutOver, IsEarlierCut}

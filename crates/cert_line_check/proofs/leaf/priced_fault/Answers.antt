@@ -1,4 +1,4 @@
-use Rattle.std.proofs.Common.{refl, sym, ◌∙◌}
+use Rattle.std.proofs.Common.{sym, ◌∙◌}
 use Rattle.std.proofs.lemmas.Bool.{true≢false}
 use Rattle.cert_line_check.proofs.Lines.{weak_fault, open_fault}
 use Rattle.cert_line_check.proofs.leaf.priced_fault.Goals as goal

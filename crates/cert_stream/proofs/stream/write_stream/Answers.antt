@@ -9,7 +9,7 @@ use Rattle.cert_format.specs.Plain.{tree_text}
 use Rattle.cert_write.specs.Changes.{changing_nodes}
 use Rattle.cert_text.specs.Outcomes.{claim_of}
 use Rattle.cert_file.proofs.Appending.{stopped_before, added_on}
-use Rattle.cert_stream.proofs.Streaming.{put_whole}
+use Rattle.cert_stream.proofs.Streaming.{behind_none, put_whole}
 use Rattle.cert_stream.proofs.stream.write_stream.Goals as goal
 
 pub returns-in-Err-put_nodes-clause-files : goal.returns-in-Err-put_nodes-clause-files
@@ -25,7 +25,8 @@ returns-in-Err-put_nodes-clause-files g c = λ told.
     (ap certificate_tree (c.tree.ensures.tree ∙ ap (λ (x : GroveState). x.tree) c.outcome_grove.ensures))
     (c.in-Ok.ensures.files told)
     (stopped_before c.args.name.now (tree_text Two (changing_nodes [] t)) (codes "end\n") (g.F.Shelf.file c.put_heads.new.shelf) (g.F.Shelf.file c.put_nodes.new.shelf)
-    c.in-Err-put_nodes.stop (c.in-Err-put_nodes.ensures.files first))
+    c.in-Err-put_nodes.stop (behind_none c.args.name.now c.new-had.result.items t (g.F.Shelf.file c.put_heads.new.shelf) (g.F.Shelf.file c.put_nodes.new.shelf) _ c.new-had.ensures.items
+    (c.in-Err-put_nodes.ensures.files first t c.new-lines.ensures)))
 
 pub returns-clause-files : goal.returns-clause-files
 returns-clause-files g c = λ told.
@@ -41,4 +42,6 @@ returns-clause-files g c = λ told.
     (ap certificate_tree (c.tree.ensures.tree ∙ ap (λ (x : GroveState). x.tree) c.outcome_grove.ensures))
     (c.in-Ok.ensures.files told)
     (added_on c.args.name.now (tree_text Two (changing_nodes [] t)) (codes "end\n") (g.F.Shelf.file c.put_heads.new.shelf) (g.F.Shelf.file c.put_nodes.new.shelf)
-    (g.F.Shelf.file c.put_end.new.shelf) c.in-Ok-put_nodes.field-0 c.put_end.result (c.in-Ok-put_nodes.ensures.files first) (c.put_end.ensures.files second))
+    (g.F.Shelf.file c.put_end.new.shelf) c.in-Ok-put_nodes.field-0 c.put_end.result
+    (behind_none c.args.name.now c.new-had.result.items t (g.F.Shelf.file c.put_heads.new.shelf) (g.F.Shelf.file c.put_nodes.new.shelf) _ c.new-had.ensures.items
+    (c.in-Ok-put_nodes.ensures.files first t c.new-lines.ensures)) (c.put_end.ensures.files second))

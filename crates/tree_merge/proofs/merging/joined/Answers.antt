@@ -8,6 +8,6 @@ use Rattle.tree_merge.proofs.merging.joined.Goals as goal
 
 pub returns : goal.returns
 returns c =
-    subst (λ (t : GrowingTree). IfOk c.join.result (λ node. tree_of node.value ≡ shut_by c.args.cost.now (merged t c.args.right.tree))) c.tree.ensures.tree
-    (subst (λ (t : GrowingTree). IfOk c.join.result (λ node. tree_of node.value ≡ shut_by c.args.cost.now (merged (tree_of c.tree.result.now) t))) c.tree-2.ensures.tree
+    subst (λ (t : GrowingTree). IfOk c.join.result (λ tree. tree_of tree ≡ shut_by c.args.cost.now (merged t c.args.right.tree))) c.tree.ensures.tree
+    (subst (λ (t : GrowingTree). IfOk c.join.result (λ tree. tree_of tree ≡ shut_by c.args.cost.now (merged (tree_of c.tree.result.now) t))) c.tree-2.ensures.tree
     c.join.ensures)
