@@ -2,7 +2,7 @@
 use Rattle.std.proofs.Common.{◌≡◌, ℕ, ◌+◌, ◌<◌, ◌≤◌, ◌^◌, List, [], Some, None, sym, subst, ap, ◌∙◌, arith, zero-add}
 use Rattle.bp_theory.specs.declared.Limits.TheVariants.{Large}
 use Rattle.bp_theory.specs.Limits.{greatest_depth}
-use Rattle.bp_theory.specs.Trees.{HasSoundSplits, IsProper, IsZone, steps, depth}
+use Rattle.bp_theory.specs.Trees.{HasSoundSplits, IsZone, steps, depth}
 use Rattle.bp_theory.specs.declared.Span.{Span}
 use Rattle.block_program.specs.Blocked.{BlockedProgram, IsFormed}
 use Rattle.search_laws.specs.Grove.{GrowingTree, LiveLeaf, live, shut, fork, live_at, live_count, certificate_tree}

@@ -1,19 +1,16 @@
 -- What a grove keeps, when it is planted, and when a leaf is shut or forked.
-use Rattle.std.proofs.Common.{◌≡◌, ◌≢◌, ℕ, suc, ◌+◌, ◌-◌, ◌<◌, ◌≤◌, ◌^◌, max, Bool, true, false, List, [], ◌∷◌, ◌++◌, length, Option, Some, None, ℤ, ◌⊎◌, inl, inr, ⊎_elim, sym, subst, ap, ◌∙◌, refl, arith, if◌then◌else◌}
-use Rattle.std.specs.Prelude.{IfSome, unsigned_abs}
+use Rattle.std.proofs.Common.{◌≡◌, ℕ, ◌+◌, ◌-◌, ◌<◌, ◌≤◌, ◌^◌, max, Bool, true, false, List, [], ◌∷◌, ◌++◌, length, Option, Some, None, ℤ, sym, subst, ap, ◌∙◌, refl, arith, if◌then◌else◌}
+use Rattle.std.specs.Prelude.{unsigned_abs}
 use Rattle.std.specs.Ordering.{is_eq}
-use Rattle.std.proofs.lemmas.Bool.{cases_eq}
-use Rattle.std.proofs.lemmas.Int.{ints, by_lt_z}
 use Rattle.bp_theory.specs.declared.Limits.TheVariants.{Large}
 use Rattle.bp_theory.specs.Limits.{greatest_depth}
-use Rattle.bp_theory.specs.Blocking.{Blocking}
 use Rattle.bp_theory.specs.Bound.{IsBound, plain_proof}
 use Rattle.bp_theory.specs.Trees.{HasSoundSplits, IsProper, IsZone, IsSoundSplit, steps, depth, low_part, high_part}
 use Rattle.bp_theory.specs.declared.Span.{Span}
 use Rattle.bp_theory.specs.declared.Proof.{Proof}
 use Rattle.block_program.specs.Blocked.{BlockedProgram}
 use Rattle.block_program.proofs.BlockLemmas.{root_zone, part_zones}
-use Rattle.search_laws.specs.Grove.{GrowingTree, GrowingLeaf, LiveLeaf, live, shut, fork, live_at, zone_at, put_at, shut_at, fork_at, live_count, live_bounds, certificate_tree, growing_leaves, planted}
+use Rattle.search_laws.specs.Grove.{GrowingTree, LiveLeaf, live, shut, fork, live_at, zone_at, shut_at, fork_at, live_count, live_bounds, certificate_tree, planted}
 use Rattle.search_laws.specs.GroveFacts.{IsGrove, IsKept, IsSoundProof, KeepsBound, IsLeastOf}
 use Rattle.search_laws.specs.Queue.{Queue, IsQueue, IsWith, IsWithout, IsFirstEntry, IsEmptyQueue, SameKey}
 use Rattle.search_laws.specs.declared.Side.{Side}
@@ -22,7 +19,7 @@ use Rattle.search_laws.proofs.Places.{leaf_at_path, splits_put}
 use Rattle.search_laws.proofs.GroveProof.{plant_keeps_lem, shut_keeps_lem, fork_keeps_lem, counts_change_by_one_lem}
 use Rattle.search_laws.proofs.QueueProof.{queue_keeps_lem}
 use Rattle.open_nodes.specs.Queues.{Entries, queue_of, key_cmp, IsDivided, IsParted}
-use Rattle.branch_tree.specs.Groves.{GroveState, IsStanding, AreCounts, IsGroveOf, IsPlanted, IsLiveTurn, IsNextTurn, IsShutQueue, IsForkedQueue, made}
+use Rattle.branch_tree.specs.Groves.{GroveState, IsStanding, AreCounts, IsGroveOf, IsLiveTurn, IsNextTurn, IsShutQueue, IsForkedQueue, made}
 use Rattle.branch_tree.specs.Turns.{IsTurn}
 use Rattle.open_nodes.specs.declared.turn.Turn.{Turn}
 use Rattle.open_nodes.proofs.Keys.{at_itself, at_other, same_key_of, apart_of}

@@ -1,9 +1,9 @@
 // The tree of a search with the queue of its live leaves.
 use block_program::{Blocked, Zone};
-use bp_theory::{Items, Proof};
+use bp_theory::Proof;
 use open_nodes::{
-    Fork, LeafQueue, Tree, Turn, bound_of, depth_in, filled_queue, fork_leaf, key_at, plain_bound,
-    plain_proof, put, steps_in, turn_at,
+    Fork, LeafQueue, SharedPath, Tree, Turn, bound_of, depth_in, filled_queue, fork_leaf, key_at,
+    plain_bound, plain_proof, put, steps_in, turn_at,
 };
 use search_laws::Side;
 use std::alloc::{AllocError, Global};
@@ -72,7 +72,7 @@ impl Grove {
         let root = Zone::root(alloc, b)?;
         let bound = plain_bound(b);
         let mut queue = LeafQueue::new(alloc);
-        queue.add(key_at(&bound, 0), Items::new(alloc))?;
+        queue.add(key_at(&bound, 0), SharedPath::root())?;
         Ok(Grove {
             tree: Tree::Live(plain_proof(alloc), bound),
             root,

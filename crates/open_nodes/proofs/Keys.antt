@@ -1,9 +1,9 @@
 -- The queue's keys, and what a map's clauses say of the queue.
-use Rattle.std.proofs.Common.{◌≡◌, ℕ, ◌+◌, ◌<◌, ◌≤◌, Bool, true, false, cond, List, [], ◌∷◌, ◌++◌, Option, Some, None, ℤ, ◌<ℤ◌, ◌⊎◌, inl, inr, sym, subst, ap, ◌∙◌, refl, arith, nat_lt, int_lt, is_some, Ordering, filter, ◌&&◌, not, if◌then◌else◌}
+use Rattle.std.proofs.Common.{◌≡◌, ℕ, Bool, true, false, cond, List, [], ◌∷◌, Some, None, ℤ, sym, subst, ap, ◌∙◌, refl, arith, is_some, Ordering, filter, if◌then◌else◌}
 use Rattle.std.specs.Ordering.{is_eq, is_gt, int_cmp, nat_cmp, match_ordering}
 use Rattle.std.specs.declared.cmp.Ordering.TheVariants.{Less, Equal, Greater}
 use Rattle.std.specs.Cmp.{IsTotalOrder, nat_cmp_total, int_cmp_total, then_total, on_total}
-use Rattle.std.specs.Map.{lookup, remove_entry}
+use Rattle.std.specs.Map.{remove_entry}
 use Rattle.std.specs.List.{All, AllByRecursion}
 use Rattle.std.specs.declared.ops.Bound.{Bound}
 use Rattle.std.specs.BTreeMap.Range.{range_contains, entries_between, IsEntryInRange}

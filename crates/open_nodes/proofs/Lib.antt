@@ -7,3 +7,4 @@ pub mod Below
 pub mod PlainBound
 pub mod Built
 pub mod Ahead
+pub mod Paths

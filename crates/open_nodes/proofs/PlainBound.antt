@@ -1,7 +1,7 @@
 -- The bound of the plain proof: the costs at the better ends of the spans, and the constant.
-use Rattle.std.proofs.Common.{◌≡◌, ◌≢◌, refl, sym, ap, subst, ◌∙◌, ℕ, suc, ◌+◌, ◌*◌, ◌<◌, ◌≤◌, ◌^◌, Bool, true, false, List, [], ◌∷◌, map, length, get_or, take, sum_by, arith, ⊎_elim}
-use Rattle.std.specs.Prelude.{ℤ, pos, unsigned_abs, ◌+ℤ◌, ◌-ℤ◌, ◌*ℤ◌, ◌≤ℤ◌, ◌==◌, if◌then◌else◌, All, int_lt}
-use Rattle.std.specs.List.{AllByRecursion, flat_map, range_with_len}
+use Rattle.std.proofs.Common.{◌≡◌, refl, sym, ap, subst, ◌∙◌, ℕ, suc, ◌+◌, ◌*◌, ◌<◌, ◌≤◌, ◌^◌, Bool, true, false, List, [], ◌∷◌, map, length, get_or, take, sum_by, arith, ⊎_elim}
+use Rattle.std.specs.Prelude.{ℤ, pos, unsigned_abs, ◌+ℤ◌, ◌*ℤ◌, ◌≤ℤ◌, if◌then◌else◌, int_lt}
+use Rattle.std.specs.List.{AllByRecursion, range_with_len}
 use Rattle.std.specs.Int.{int_min}
 use Rattle.std.proofs.lemmas.Bool.{cases_lt}
 use Rattle.std.proofs.lemmas.Bool.Decides.{eqb_tells}
@@ -13,8 +13,8 @@ use Rattle.std.proofs.Math.Nat.{mul-le-mul_left}
 use Rattle.bp_theory.specs.Sums.{sum_of, sum_at}
 use Rattle.bp_theory.specs.Program.{Program, coefficient, span_at, reach}
 use Rattle.bp_theory.specs.Blocking.{Copy, Block, Blocking, all_copies}
-use Rattle.bp_theory.specs.Bound.{IsBound, IsPart, IsLeast, spans_of, reduced_cost, end_cost, box_least, base, plain_proof}
-use Rattle.bp_theory.specs.Decomposition.{Decomposition, ProofRow, IsClosed, IsTidyFrom, HasVariablesBelow, blocking_of, proof_rows, at_first, copy_of, is_in, is_first}
+use Rattle.bp_theory.specs.Bound.{IsBound, IsPart, spans_of, reduced_cost, end_cost, box_least, base, plain_proof}
+use Rattle.bp_theory.specs.Decomposition.{Decomposition, IsClosed, IsTidyFrom, HasVariablesBelow, blocking_of, proof_rows, at_first, copy_of, is_in, is_first}
 use Rattle.bp_theory.specs.Cuts.{cut_rows}
 use Rattle.bp_theory.specs.Trees.{IsProper}
 use Rattle.bp_theory.specs.declared.Row.{Row}
@@ -22,7 +22,7 @@ use Rattle.bp_theory.specs.declared.Span.{Span}
 use Rattle.bp_theory.specs.declared.Term.{Term}
 use Rattle.bp_theory.proofs.ClassProof.{least_over_box_lem}
 use Rattle.bp_theory.proofs.DecompositionProof.{copies_at, copies_past, first_takes, kept_at}
-use Rattle.bp_theory.proofs.KeyLaws.{if_same, if_other, sum_of-same_keys}
+use Rattle.bp_theory.proofs.KeyLaws.{if_other, sum_of-same_keys}
 use Rattle.bp_theory.proofs.RoundProof.{parts_add_up_lem}
 use Rattle.bp_theory.proofs.SumLaws.{sum_of-flat_map, sum_of-map, sum_of-same, sum_of_more, sum_of_so_far_within}
 use Rattle.bp_model.specs.Named.{NamedProgram, IsKept}

@@ -3,7 +3,7 @@ use Rattle.std.proofs.Common.{◌≡◌, ℕ, ◌+◌, ◌<◌, ◌≤◌, Bool,
 use Rattle.std.specs.Ordering.{is_eq}
 use Rattle.bp_theory.specs.declared.Proof.{Proof}
 use Rattle.search_laws.specs.Grove.{GrowingTree, LiveLeaf, live, shut, fork, live_at, live_count}
-use Rattle.search_laws.specs.Queue.{Queue, IsWith, IsEmptyQueue, SameKey}
+use Rattle.search_laws.specs.Queue.{Queue, IsWith, SameKey}
 use Rattle.search_laws.specs.declared.Side.{Side}
 use Rattle.search_laws.specs.declared.Side.TheVariants.{Low, High}
 use Rattle.open_nodes.specs.Queues.{key_cmp}

@@ -1,5 +1,5 @@
 -- A walk down a tree along a path.
-use Rattle.std.proofs.Common.{◌≡◌, ℕ, ◌+◌, ◌<◌, List, [], ◌∷◌, length, drop, get_or, Option, Some, None, ℤ, sym, subst, ap, ◌∙◌, refl, add-one, drop-cons, arith, ◌≤◌}
+use Rattle.std.proofs.Common.{◌≡◌, ℕ, ◌+◌, ◌<◌, List, [], ◌∷◌, length, drop, get_or, Some, ℤ, sym, subst, ap, ◌∙◌, refl, add-one, drop-cons, ◌≤◌}
 use Rattle.std.proofs.lemmas.List.{drop_all}
 use Rattle.bp_theory.specs.Trees.{HasSoundSplits, low_part, high_part}
 use Rattle.bp_theory.specs.declared.Span.{Span}

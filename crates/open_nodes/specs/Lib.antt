@@ -4,3 +4,4 @@ pub mod Nodes
 pub mod Queues
 pub mod Filled
 pub mod Bounds
+pub mod Paths

@@ -1,28 +1,9 @@
-// Copies of paths and proofs.
-ghost use Rattle.std.specs.Prelude.{◌≡◌, [], ◌∷◌, ◌++◌, IfOk};
+// Copies of proofs.
+ghost use Rattle.std.specs.Prelude.{◌≡◌, IfOk};
 ghost use Rattle.bp_theory.specs.Bound.{plain_proof};
 
 use bp_theory::{Items, Picked, Proof};
-use search_laws::Side;
 use std::alloc::{AllocError, Global};
-
-/// A path once more.
-pub fn path_copy(alloc: Global, path: &[Side]) -> Result<Items<Side>, AllocError>
-    ensures { IfOk result (λ copy. copy ≡ path.now) }
-{
-    let copy = path.to_vec(alloc)?;
-    Ok(Items::from_vec(copy))
-}
-
-/// A path and a side more.
-pub fn path_to(alloc: Global, path: &[Side], side: Side) -> Result<Items<Side>, AllocError>
-    ensures { IfOk result (λ longer. longer ≡ path.now ++ side ∷ []) }
-{
-    let mut longer = Vec::new(alloc);
-    longer.extend_from_slice(path)?;
-    longer.push(side)?;
-    Ok(Items::from_vec(longer))
-}
 
 /// A proof once more.
 pub fn proof_copy(alloc: Global, proof: &Proof) -> Result<Proof, AllocError>

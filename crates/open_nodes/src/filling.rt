@@ -1,6 +1,6 @@
 // The queue of a tree's live leaves, its steps and its depth. Each walks over the tree with a list of the nodes that are
 // still to come, the next one last: no more than two for each level of the tree.
-ghost use Rattle.std.specs.Prelude.{◌≡◌, ◌<◌, ◌≤◌, ◌^◌, ◌++◌, [], take, option_to_list, IfOk, OnOk, None};
+ghost use Rattle.std.specs.Prelude.{◌≡◌, ◌<◌, ◌≤◌, ◌^◌, [], IfOk, None};
 ghost use Rattle.bp_theory.specs.Limits.{greatest_depth};
 ghost use Rattle.bp_theory.specs.declared.Limits.TheVariants.{Large};
 ghost use Rattle.bp_theory.specs.Trees.{steps, depth};
@@ -9,20 +9,16 @@ ghost use Rattle.open_nodes.specs.Trees.{tree_of};
 ghost use Rattle.open_nodes.specs.Queues.{queue_of};
 ghost use Rattle.open_nodes.specs.Filled.{IsFilled};
 
-use crate::copies::path_copy;
+use crate::path::SharedPath;
 use crate::queue::{LeafQueue, key_at};
 use crate::tree::Tree;
-use search_laws::Side;
 use std::alloc::{AllocError, Global};
 
-// A node that is still to come.
+// A node that is still to come, and its path.
 #[derive(Drop)]
 struct Ahead<'a> {
     node: &'a Tree,
-    // How long the path of the fork is that it is a part of; 0 for the root.
-    above: usize,
-    // Which part of the fork it is; none for the root.
-    side: Option<Side>,
+    path: SharedPath,
 }
 
 /// The queue of a tree's live leaves, numbered in preorder from 0, and how many there are.
@@ -32,47 +28,33 @@ pub fn filled_queue(alloc: Global, tree: &Tree) -> Result<(LeafQueue, u64), Allo
     ensures live { IfOk result (λ k. k.1 ≡ live_count (tree_of tree.now)) }
 {
     let mut queue = LeafQueue::new(alloc);
-    let mut path: Vec<Side> = Vec::new(alloc);
     let mut ahead: Vec<Ahead> = Vec::new(alloc);
     let mut next: u64 = 0;
-    ahead.push(ahead_of(tree, 0, None))?;
+    ahead.push(ahead_of(tree, SharedPath::root()))?;
     while let Some(here) = ahead.pop() {
-        go_to(&mut path, here.above, &here.side)?;
-        match here.node {
+        let Ahead { node, path } = here;
+        match node {
             Tree::Live(_, bound) => {
-                let leaf = path_copy(alloc, &path)?;
-                queue.add(key_at(bound, next), leaf)?;
+                queue.add(key_at(bound, next), path)?;
                 next += 1;
             }
             Tree::Shut(_) => {}
             Tree::Fork { low, high, .. } => {
-                ahead.push(ahead_of(high, path.len(), Some(Side::High)))?;
-                ahead.push(ahead_of(low, path.len(), Some(Side::Low)))?;
+                let (left, right) = path.parts(alloc)?;
+                ahead.push(ahead_of(high, right))?;
+                ahead.push(ahead_of(low, left))?;
             }
         }
     }
     Ok((queue, next))
 }
 
-// Changes the path into one that has no more than so many sides of it, and then a side.
-fn go_to(path: &mut Vec<Side>, above: usize, side: &Option<Side>) -> Result<(), AllocError>
-    ensures { OnOk result (path.new.items ≡ take above path.old.items ++
-        option_to_list side.now) }
-{
-    path.truncate(above);
-    if let Some(side) = side {
-        path.push(*side)?;
-    }
-    Ok(())
-}
-
 // A node that is still to come.
-fn ahead_of<'a>(node: &'a Tree, above: usize, side: Option<Side>) -> Ahead<'a>
+fn ahead_of(node: &Tree, path: SharedPath) -> Ahead
     ensures node { tree_of result.node.now ≡ tree_of node.now }
-    ensures above { result.above ≡ above }
-    ensures side { result.side ≡ side }
+    ensures path { result.path ≡ path }
 {
-    Ahead { node, above, side }
+    Ahead { node, path }
 }
 
 /// How many splits and shut leaves a tree has.

@@ -4,12 +4,11 @@ ghost use Rattle.search_laws.specs.Grove.{fork_at};
 ghost use Rattle.open_nodes.specs.Trees.{tree_of};
 ghost use Rattle.open_nodes.specs.Queues.{queue_of, IsParted};
 
-use crate::copies::{path_to, proof_copy};
+use crate::copies::proof_copy;
 use crate::queue::{LeafQueue, key_at};
 use crate::tree::{Tree, forked, put};
 use crate::turn::Turn;
 use bp_theory::Proof;
-use search_laws::Side;
 use std::alloc::{AllocError, Global};
 
 /// How a live leaf is forked: into two live leaves with one proof and bound.
@@ -53,11 +52,10 @@ pub fn fork_leaf(
         bound,
     } = fork;
     let path = turn.path.as_slice();
-    let low = path_to(alloc, path, Side::Low)?;
-    let high = path_to(alloc, path, Side::High)?;
+    let key = queue.key_of(&turn.bound, path);
+    let (low, high) = queue.path_at(&key).parts(alloc)?;
     let second = proof_copy(alloc, &proof)?;
     let node = forked(alloc, var, &at, (proof, second), &bound)?;
-    let key = queue.key_of(&turn.bound, path);
     queue.divide(&key, key_at(&bound, number), low, high)?;
     put(tree, path, node);
     Ok(())

@@ -1,5 +1,5 @@
-//! The open nodes of a branch-and-bound tree: the growing tree with copies of paths and proofs, the queue of its live leaves by dual
-//! bound, the turn that a node is handed out as, the bound that a search begins with, and how nodes are queued and branched on.
+//! The open nodes of a branch-and-bound tree: the growing tree, the queue of its live leaves by dual bound with paths that
+//! share their beginnings, the turn that a node is handed out as, the bound that a search begins with, and how nodes are queued and branched on.
 #![tactic(auto)]
 
 mod bound;
@@ -7,6 +7,7 @@ mod copies;
 mod filling;
 mod forking;
 mod nodes;
+mod path;
 mod queue;
 mod tree;
 mod turn;
@@ -16,6 +17,7 @@ pub use crate::copies::{plain_proof, proof_copy};
 pub use crate::filling::{depth_in, filled_queue, steps_in};
 pub use crate::forking::{Fork, fork_leaf};
 pub use crate::nodes::{GrowingNode, grown};
+pub use crate::path::SharedPath;
 pub use crate::queue::{LeafQueue, bound_of, key_at};
 pub use crate::tree::{Tree, put};
 pub use crate::turn::{Turn, turn_at};

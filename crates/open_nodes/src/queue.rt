@@ -1,8 +1,7 @@
 // The queue of a tree's live leaves, in order of bound and then of making.
-ghost use Rattle.std.specs.Prelude.{◌≡◌, ◌↔◌, IsTrue};
-ghost use Rattle.open_nodes.specs.Queues.{LiesBelow};
+ghost use Rattle.std.specs.Prelude.{◌≡◌};
 
-use bp_theory::Items;
+use crate::path::SharedPath;
 use search_laws::Side;
 use std::alloc::{AllocError, Global};
 use std::collections::BTreeMap;
@@ -10,7 +9,7 @@ use std::collections::BTreeMap;
 /// The paths of live leaves, by bound and number of making.
 #[derive(Drop)]
 pub struct LeafQueue {
-    entries: BTreeMap<(i64, u64), Items<Side>>,
+    entries: BTreeMap<(i64, u64), SharedPath>,
 }
 
 impl std::marker::Model for LeafQueue {
@@ -40,7 +39,7 @@ impl LeafQueue {
     }
 
     /// One entry more, under a key that has none.
-    pub fn add(&mut self, key: (i64, u64), path: Items<Side>) -> Result<(), AllocError>
+    pub fn add(&mut self, key: (i64, u64), path: SharedPath) -> Result<(), AllocError>
         requires { queue_of self.old key.0 key.1 ≡ None }
         ensures added { OnOk result (IsWith (queue_of self.old) key.0 key.1 path
             (queue_of self.new)) }
@@ -60,43 +59,54 @@ impl LeafQueue {
     }
 
     /// The first entry: that of least bound, and of those the first made.
-    pub fn first(&self) -> Option<(&(i64, u64), &[Side])>
+    pub fn first(&self) -> Option<(&(i64, u64), &SharedPath)>
         ensures some { IfSome result (λ e. IsFirstEntry (queue_of self.now) e.0.now.0
             e.0.now.1 e.1.now) }
         ensures none { IfNone result (IsEmptyQueue (queue_of self.now)) }
     {
         match self.entries.first_key_value() {
             None => None,
-            Some((key, path)) => Some((key, path.as_slice())),
+            Some((key, path)) => Some((key, path)),
         }
     }
 
     /// The entry that exactly `place` others come before, or None where there are no more entries than that. The walk from
     /// the front is `place` entries long.
-    pub fn at_place(&self, place: u64) -> Option<(&(i64, u64), &[Side])>
+    pub fn at_place(&self, place: u64) -> Option<(&(i64, u64), &SharedPath)>
         ensures some { IfSome result (λ e. IsEntryAt self.now place e.0.now.0 e.0.now.1 e.1.now) }
         ensures none { IfNone result (length self.now ≤ place) }
     {
         match self.entries.iter().nth(place as usize) {
             None => None,
-            Some((key, path)) => Some((key, path.as_slice())),
+            Some((key, path)) => Some((key, path)),
         }
     }
 
     /// The first of the entries whose leaves lie at or below a path, or None where there is no such entry. The walk from the
     /// front passes all entries before it.
-    pub fn first_below(&self, above: &[Side]) -> Option<(&(i64, u64), &[Side])>
+    pub fn first_below(&self, above: &[Side]) -> Option<(&(i64, u64), &SharedPath)>
         ensures some { IfSome result (λ e. IsFirstBelow (queue_of self.now) above.now e.0.now.0
             e.0.now.1 e.1.now) }
         ensures none { IfNone result ((z : ℤ) (n : ℕ) (path : List Side) →
             queue_of self.now z n ≡ Some path → LiesBelow above.now path → ⊥) }
     {
         for (key, path) in self.entries.range(..) {
-            if lies_below(path.as_slice(), above) {
-                return Some((key, path.as_slice()));
+            if path.lies_below(above) {
+                return Some((key, path));
             }
         }
         None
+    }
+
+    /// The path of a key that has an entry.
+    pub fn path_at(&self, key: &(i64, u64)) -> &SharedPath
+        requires { IsSome (queue_of self.now key.now.0 key.now.1) }
+        ensures { queue_of self.now key.now.0 key.now.1 ≡ Some result.now }
+    {
+        match self.entries.get(key) {
+            Some(path) => path,
+            None => unreachable!(),
+        }
     }
 
     /// Puts two entries in place of one, under a key and that of the next number. Where memory is short nothing changes.
@@ -104,8 +114,8 @@ impl LeafQueue {
         &mut self,
         key: &(i64, u64),
         next: (i64, u64),
-        low: Items<Side>,
-        high: Items<Side>,
+        low: SharedPath,
+        high: SharedPath,
     ) -> Result<(), AllocError>
         requires there { IsSome (queue_of self.old key.now.0 key.now.1) }
         requires none { queue_of self.old next.0 next.1 ≡ None }
@@ -132,7 +142,7 @@ impl LeafQueue {
     {
         let start = key_at(bound, 0);
         for (key, other) in self.entries.range(start..) {
-            if same_path(other.as_slice(), path) {
+            if other.is(path) {
                 return *key;
             }
         }
@@ -152,28 +162,4 @@ pub fn bound_of(key: &(i64, u64)) -> i64
     ensures { result ≡ key.now.0 }
 {
     key.0
-}
-
-// Whether two paths are one.
-fn same_path(path: &[Side], other: &[Side]) -> bool
-    ensures { IsTrue result ↔ (path.now ≡ other.now) }
-{
-    match (path, other) {
-        ([], []) => true,
-        ([Side::Low, rest @ ..], [Side::Low, others @ ..]) => same_path(rest, others),
-        ([Side::High, rest @ ..], [Side::High, others @ ..]) => same_path(rest, others),
-        _ => false,
-    }
-}
-
-// Whether a leaf's path goes through a node's.
-fn lies_below(path: &[Side], above: &[Side]) -> bool
-    ensures { IsTrue result ↔ LiesBelow above.now path.now }
-{
-    match (above, path) {
-        ([], _) => true,
-        ([Side::Low, rest @ ..], [Side::Low, others @ ..]) => lies_below(others, rest),
-        ([Side::High, rest @ ..], [Side::High, others @ ..]) => lies_below(others, rest),
-        _ => false,
-    }
 }

@@ -4,7 +4,8 @@ ghost use Rattle.bp_theory.specs.Trees.{HasSoundSplits};
 ghost use Rattle.search_laws.specs.Grove.{LiveLeaf, live_at, zone_at, certificate_tree};
 ghost use Rattle.open_nodes.specs.Trees.{tree_of};
 
-use crate::copies::{path_copy, proof_copy};
+use crate::copies::proof_copy;
+use crate::path::SharedPath;
 use crate::tree::{Tree, walk};
 use block_program::Zone;
 use bp_theory::{Items, Proof};
@@ -23,7 +24,12 @@ pub struct Turn {
 }
 
 /// The live leaf at a path, with its zone: that of the node in a tree whose root has this zone.
-pub fn turn_at(alloc: Global, tree: &Tree, path: &[Side], root: &Zone) -> Result<Turn, AllocError>
+pub fn turn_at(
+    alloc: Global,
+    tree: &Tree,
+    path: &SharedPath,
+    root: &Zone,
+) -> Result<Turn, AllocError>
     requires splits { HasSoundSplits (certificate_tree (tree_of tree.now)) root.now }
     requires live { (leaf : LiveLeaf) × (live_at (tree_of tree.now) path.now ≡ Some leaf) }
     requires deep { length path.now < 2 ^ 32 }
@@ -33,30 +39,30 @@ pub fn turn_at(alloc: Global, tree: &Tree, path: &[Side], root: &Zone) -> Result
     ensures path { IfOk result (λ turn. turn.path ≡ path.now) }
     ensures depth { IfOk result (λ turn. turn.depth ≡ length path.now) }
 {
+    let sides = path.to_items(alloc)?;
     let copy = root.copy(alloc)?;
-    turn_in(alloc, tree, path, copy)
+    turn_in(alloc, tree, sides, copy)
 }
 
 // The same with a zone that is walked down.
-fn turn_in(alloc: Global, tree: &Tree, path: &[Side], root: Zone) -> Result<Turn, AllocError>
+fn turn_in(alloc: Global, tree: &Tree, path: Items<Side>, root: Zone) -> Result<Turn, AllocError>
     requires splits { HasSoundSplits (certificate_tree (tree_of tree.now)) root }
-    requires live { (leaf : LiveLeaf) × (live_at (tree_of tree.now) path.now ≡ Some leaf) }
-    requires deep { length path.now < 2 ^ 32 }
-    ensures live { IfOk result (λ turn. live_at (tree_of tree.now) path.now ≡
+    requires live { (leaf : LiveLeaf) × (live_at (tree_of tree.now) path ≡ Some leaf) }
+    requires deep { length path < 2 ^ 32 }
+    ensures live { IfOk result (λ turn. live_at (tree_of tree.now) path ≡
         Some (record { proof = turn.proof; bound = turn.bound })) }
-    ensures zone { IfOk result (λ turn. turn.zone ≡ zone_at (tree_of tree.now) root path.now) }
-    ensures path { IfOk result (λ turn. turn.path ≡ path.now) }
-    ensures depth { IfOk result (λ turn. turn.depth ≡ length path.now) }
+    ensures zone { IfOk result (λ turn. turn.zone ≡ zone_at (tree_of tree.now) root path) }
+    ensures path { IfOk result (λ turn. turn.path ≡ path) }
+    ensures depth { IfOk result (λ turn. turn.depth ≡ length path) }
 {
-    let copy = path_copy(alloc, path)?;
-    let (node, zone) = walk(tree, path, root);
+    let (node, zone) = walk(tree, path.as_slice(), root);
     match node {
         Tree::Live(proof, bound) => {
             let proof = proof_copy(alloc, proof)?;
             Ok(Turn {
-                path: copy,
                 zone,
                 depth: path.len() as u32,
+                path,
                 proof,
                 bound: *bound,
             })

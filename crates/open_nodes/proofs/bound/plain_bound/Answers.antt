@@ -1,7 +1,7 @@
 use Rattle.std.proofs.Common.{◌≡◌, ap, ◌∙◌, subst, sym, to_z, of_z, w64, arith}
 use Rattle.std.specs.Int.{w128}
 use Rattle.std.proofs.lemmas.Int.{ints}
-use Rattle.bp_model.specs.Named.{NamedProgram, IsKept}
+use Rattle.bp_model.specs.Named.{NamedProgram}
 use Rattle.bp_theory.specs.Bound.{IsBound, plain_proof}
 use Rattle.open_nodes.proofs.PlainBound.{can_total, plain_is_bound}
 use Rattle.open_nodes.proofs.bound.plain_bound.Goals as goal

@@ -1,5 +1,5 @@
-use Rattle.std.proofs.Common.{◌≡◌, ◌+◌, ◌∙◌, ap, subst, sym, arith, refl, length, List, [], ℕ, reverse}
-use Rattle.search_laws.specs.Grove.{GrowingTree, live, shut, fork, live_count}
+use Rattle.std.proofs.Common.{◌≡◌, ◌+◌, ◌∙◌, ap, subst, sym, arith, refl, List, [], reverse}
+use Rattle.search_laws.specs.Grove.{GrowingTree, fork, live_count}
 use Rattle.open_nodes.specs.Trees.{tree_of}
 use Rattle.open_nodes.specs.Queues.{queue_of}
 use Rattle.open_nodes.specs.Filled.{IsFilled}
@@ -14,8 +14,8 @@ loop-here-init c =
     let t = tree_of c.args.tree.now in
     let empty = queue_of c.new-queue.result in
     let all = first_ahead c.new-ahead.result.items c.push.new.self.items c.ahead_of.result c.new-ahead.ensures.items c.in_ok-push.ensures.items in
-    subst (λ (l : List Ahead). IsFilling t c.new-path.result.items l empty 0) (sym all)
-    (filling_begins c.ahead_of.result t c.new-path.result.items empty c.ahead_of.ensures.node c.ahead_of.ensures.above c.ahead_of.ensures.side
+    subst (λ (l : List Ahead). IsFilling t l empty 0) (sym all)
+    (filling_begins c.ahead_of.result t empty c.ahead_of.ensures.node (c.ahead_of.ensures.path ∙ c.root.ensures)
     (λ z n l. c.new-queue.ensures z n) (λ after filled. filled_alone t empty after [] refl filled))
 
 pub loop-here-preserved-in-Live : goal.loop-here-preserved-in-Live
@@ -24,53 +24,46 @@ loop-here-preserved-in-Live c =
     let here = c.in-Some.here in
     let before = queue_of c.loop-here.queue in
     let after = queue_of c.add.new.self in
-    let path = c.go_to.new.path.items in
-    let taken = subst (λ (l : List Ahead). IsFilling t c.loop-here.path.items l before c.loop-here.next)
+    let taken = subst (λ (l : List Ahead). IsFilling t l before c.loop-here.next)
     (next_ahead c.loop-here.ahead.items c.pop.new.self.items here c.in-Some.ensures.items) c.loop-here.invariant in
-    let filled : IsFilled before (tree_of here.node.now) path c.loop-here.next after =
-    filled_leaf before (tree_of here.node.now) c.in-Live.field-0 c.in-Live.bound c.key_at.result path c.in_ok-leaf-in-Live.leaf c.loop-here.next after
-    (ap tree_of c.in-Live.is) c.key_at.ensures (c.in_ok-leaf-in-Live.ensures ∙ c.deref.ensures.value) c.loop-here.invariant.free
-    c.in_ok-add-in-Live.ensures.added in
+    let filled : IsFilled before (tree_of here.node.now) here.path c.loop-here.next after =
+    filled_leaf before (tree_of here.node.now) c.in-Live.field-0 c.in-Live.bound c.key_at.result here.path here.path c.loop-here.next after
+    (ap tree_of c.in-Live.is) c.key_at.ensures refl c.loop-here.invariant.free c.in_ok-add-in-Live.ensures.added in
     let one : live_count (tree_of here.node.now) ≡ 1 = ap (λ (u : Tree). live_count (tree_of u)) c.in-Live.is in
     let count : c.loop-here.next + 1 ≡ c.loop-here.next + live_count (tree_of here.node.now) = omega (arith, one) in
-    filling_leaf t c.loop-here.path.items path here (reverse c.pop.new.self.items) before after c.loop-here.next (c.loop-here.next + 1) taken
-    c.in_ok-go_to.ensures filled (free_behind before (tree_of here.node.now) path c.loop-here.next (c.loop-here.next + 1) after filled count) count
+    filling_leaf t here (reverse c.pop.new.self.items) before after c.loop-here.next (c.loop-here.next + 1) taken
+    filled (free_behind before (tree_of here.node.now) here.path c.loop-here.next (c.loop-here.next + 1) after filled count) count
 
-pub loop-here-preserved-in-Shut : goal.loop-here-preserved-in-Shut
-loop-here-preserved-in-Shut c =
+pub loop-here-preserved-in-Shut-1 : goal.loop-here-preserved-in-Shut-1
+loop-here-preserved-in-Shut-1 c =
     let t = tree_of c.args.tree.now in
     let here = c.in-Some.here in
     let before = queue_of c.loop-here.queue in
-    let path = c.go_to.new.path.items in
-    let taken = subst (λ (l : List Ahead). IsFilling t c.loop-here.path.items l before c.loop-here.next)
+    let taken = subst (λ (l : List Ahead). IsFilling t l before c.loop-here.next)
     (next_ahead c.loop-here.ahead.items c.pop.new.self.items here c.in-Some.ensures.items) c.loop-here.invariant in
-    let filled : IsFilled before (tree_of here.node.now) path c.loop-here.next before =
-    subst (λ (u : GrowingTree). IsFilled before u path c.loop-here.next before) (sym (ap tree_of c.in-Shut.is))
-    (filled_shut before c.in-Shut.field-0 path c.loop-here.next c.loop-here.invariant.free) in
+    let filled : IsFilled before (tree_of here.node.now) here.path c.loop-here.next before =
+    subst (λ (u : GrowingTree). IsFilled before u here.path c.loop-here.next before) (sym (ap tree_of c.in-Shut.is))
+    (filled_shut before c.in-Shut.field-0 here.path c.loop-here.next c.loop-here.invariant.free) in
     let none : live_count (tree_of here.node.now) ≡ 0 = ap (λ (u : Tree). live_count (tree_of u)) c.in-Shut.is in
     let count : c.loop-here.next ≡ c.loop-here.next + live_count (tree_of here.node.now) = omega (arith, none) in
-    filling_leaf t c.loop-here.path.items path here (reverse c.pop.new.self.items) before before c.loop-here.next c.loop-here.next taken
-    c.in_ok-go_to.ensures filled c.loop-here.invariant.free count
+    filling_leaf t here (reverse c.pop.new.self.items) before before c.loop-here.next c.loop-here.next taken
+    filled c.loop-here.invariant.free count
 
 pub loop-here-preserved : goal.loop-here-preserved
 loop-here-preserved c =
     let t = tree_of c.args.tree.now in
     let here = c.in-Some.here in
     let before = queue_of c.loop-here.queue in
-    let path = c.go_to.new.path.items in
     let high = c.ahead_of-in-Fork.result in
     let low = c.ahead_of-in-Fork-2.result in
-    let taken = subst (λ (l : List Ahead). IsFilling t c.loop-here.path.items l before c.loop-here.next)
+    let taken = subst (λ (l : List Ahead). IsFilling t l before c.loop-here.next)
     (next_ahead c.loop-here.ahead.items c.pop.new.self.items here c.in-Some.ensures.items) c.loop-here.invariant in
-    let low_tree : tree_of low.node.now ≡ tree_of c.in-Fork.low.value = c.ahead_of-in-Fork-2.ensures.node ∙ ap tree_of c.deref-in-Fork-2.ensures in
-    let high_tree : tree_of high.node.now ≡ tree_of c.in-Fork.high.value = c.ahead_of-in-Fork.ensures.node ∙ ap tree_of c.deref-in-Fork.ensures in
+    let low_tree : tree_of low.node.now ≡ tree_of c.in-Fork.low.value = c.ahead_of-in-Fork-2.ensures.node ∙ ap tree_of c.deref-in-Fork.ensures in
+    let high_tree : tree_of high.node.now ≡ tree_of c.in-Fork.high.value = c.ahead_of-in-Fork.ensures.node ∙ ap tree_of c.deref.ensures in
     let is : tree_of here.node.now ≡ fork c.in-Fork.var c.in-Fork.at (tree_of low.node.now) (tree_of high.node.now) =
     ap tree_of c.in-Fork.is ∙ ap (λ (x : GrowingTree). fork c.in-Fork.var c.in-Fork.at x (tree_of c.in-Fork.high.value)) (sym low_tree)
     ∙ ap (λ (x : GrowingTree). fork c.in-Fork.var c.in-Fork.at (tree_of low.node.now) x) (sym high_tree) in
-    let long : c.go_to.new.path.len ≡ length path = c.go_to.new.path.ok.0 in
-    subst (λ (l : List Ahead). IsFilling t path l before c.loop-here.next)
+    subst (λ (l : List Ahead). IsFilling t l before c.loop-here.next)
     (sym (two_ahead c.pop.new.self.items c.push-in-Fork.new.self.items c.push-in-Fork-2.new.self.items high low c.in_ok-push-in-Fork.ensures.items c.in_ok-push-in-Fork-2.ensures.items))
-    (filling_fork t c.loop-here.path.items path here low high (reverse c.pop.new.self.items) before c.loop-here.next c.in-Fork.var c.in-Fork.at taken
-    c.in_ok-go_to.ensures is
-    (c.ahead_of-in-Fork-2.ensures.above ∙ c.len-in-Fork.ensures ∙ long) c.ahead_of-in-Fork-2.ensures.side
-    (c.ahead_of-in-Fork.ensures.above ∙ c.len.ensures ∙ long) c.ahead_of-in-Fork.ensures.side)
+    (filling_fork t here low high (reverse c.pop.new.self.items) before c.loop-here.next c.in-Fork.var c.in-Fork.at taken
+    is (c.ahead_of-in-Fork-2.ensures.path ∙ c.in_ok-left-in-Fork.ensures.low) (c.ahead_of-in-Fork.ensures.path ∙ c.in_ok-left-in-Fork.ensures.high))

@@ -1,7 +1,7 @@
 use Rattle.std.proofs.Common.{refl}
 use Rattle.open_nodes.specs.Trees.{tree_of}
 use Rattle.open_nodes.specs.Queues.{queue_of}
-use Rattle.branch_tree.proofs.Adopting.{adopt_whole, adopt_numbered, adopt_kept}
+use Rattle.branch_tree.proofs.Adopting.{adopt_whole, adopt_numbered}
 use Rattle.branch_tree.proofs.grove.Grove.adopt.Goals as goal
 
 pub invariant_of-result : goal.invariant_of-result

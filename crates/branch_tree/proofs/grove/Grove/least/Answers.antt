@@ -1,5 +1,4 @@
-use Rattle.std.proofs.Common.{◌≡◌, subst, sym, ap, rules, arith, to_z, of_z, w64, ℕ, ◌∙◌}
-use Rattle.std.specs.Prelude.{ℤ}
+use Rattle.std.proofs.Common.{◌≡◌, subst, sym, rules, arith, to_z, of_z, w64, ◌∙◌}
 use Rattle.search_laws.specs.Grove.{live_bounds}
 use Rattle.search_laws.specs.GroveFacts.{IsLeastOf}
 use Rattle.open_nodes.specs.Trees.{tree_of}

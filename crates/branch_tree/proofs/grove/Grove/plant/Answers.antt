@@ -8,8 +8,8 @@ use Rattle.branch_tree.proofs.grove.Grove.plant.Goals as goal
 pub invariant_of-result : goal.invariant_of-result
 invariant_of-result c =
     plant_whole c.args.b.now.named.program.spans c.in_ok-root.root c.plain_proof.result (to_z w64 (of_z w64 c.plain_bound-bound.result))
-    c.new-queue.result c.add.new.self c.key_at.result c.new.result c.plain_proof.ensures c.in_ok-root.ensures.zone c.new-queue.ensures
-    c.key_at.ensures c.new.ensures c.in_ok-add.ensures.added
+    c.new-queue.result c.add.new.self c.key_at.result c.root-2.result c.plain_proof.ensures c.in_ok-root.ensures.zone c.new-queue.ensures
+    c.key_at.ensures c.root-2.ensures c.in_ok-add.ensures.added
 
 pub returns-clause-kept : goal.returns-clause-kept
 returns-clause-kept c =

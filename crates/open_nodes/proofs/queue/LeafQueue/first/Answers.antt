@@ -1,4 +1,4 @@
-use Rattle.std.proofs.Common.{subst, sym}
+use Rattle.std.proofs.Common.{subst}
 use Rattle.search_laws.specs.Queue.{IsFirstEntry}
 use Rattle.open_nodes.specs.Queues.{Entries, queue_of}
 use Rattle.open_nodes.proofs.Keys.{first_from_bound}
@@ -6,6 +6,5 @@ use Rattle.open_nodes.proofs.queue.LeafQueue.first.Goals as goal
 
 pub returns-in-Some-clause-some : goal.returns-in-Some-clause-some
 returns-in-Some-clause-some c =
-    subst (λ path. IsFirstEntry (queue_of c.args.self.now) c.in-Some.key.now.0 c.in-Some.key.now.1 path) (sym c.as_slice.ensures)
-    (subst (λ (q : Entries). IsFirstEntry (queue_of q) c.in-Some.key.now.0 c.in-Some.key.now.1 c.in-Some.path.now) c.self.view_is
-    (first_from_bound c.self.inside.entries _ _ _ c.in-Some.ensures.value c.in-Some.ensures.least))
+    subst (λ (q : Entries). IsFirstEntry (queue_of q) c.in-Some.key.now.0 c.in-Some.key.now.1 c.in-Some.path.now) c.self.view_is
+    (first_from_bound c.self.inside.entries _ _ _ c.in-Some.ensures.value c.in-Some.ensures.least)

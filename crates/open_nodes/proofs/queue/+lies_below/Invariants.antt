@@ -1,5 +1,0 @@
-use Rattle.std.proofs.Common.{length}
-use Rattle.open_nodes.proofs.queue.+lies_below.Given as goal
-
-abbrev pub decreases-lies_below : goal.decreases-lies_below
-decreases-lies_below l = length l.path.now
