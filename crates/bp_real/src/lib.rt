@@ -9,6 +9,7 @@ mod file_shelf;
 mod obstacle;
 mod out_sink;
 mod place;
+mod survey;
 mod watch;
 mod whole;
 
@@ -16,4 +17,6 @@ pub use disk::{Disk, HostDisk};
 pub use file_shelf::FileShelf;
 pub use obstacle::{NamedFiles, Obstacle, find_obstacle};
 pub use out_sink::OutSink;
+pub use place::Place;
+pub use survey::{HostSurvey, Kind, Survey};
 pub use watch::{Files, Watched, WatchedSink};

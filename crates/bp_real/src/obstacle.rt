@@ -1,14 +1,13 @@
 // What stands in the way of a run before it has begun: files that would be written over what is read, and certificates that
 // can't be written.
-ghost use Rattle.std.specs.Prelude.{◌≡◌, false, None};
+ghost use Rattle.std.specs.Prelude.{◌≡◌, ◌∷◌, [], Option, None, IfSome};
 ghost use Rattle.std.specs.Option.{option_map};
 ghost use Rattle.bp_real.specs.Apart.{Differ};
+ghost use Rattle.bp_real.specs.Obstacles.{spot_of, said, hindrance, shared_of, shared_with as specs_shared_with, unwritable_of, write_fault as specs_write_fault};
 
-use crate::place::{Place, is_same, place_of};
-use std::fs;
-use std::fs::OpenOptions;
+use crate::place::{Place, is_same};
+use crate::survey::{Kind, Survey};
 use std::io::ErrorKind;
-use std::rt::Files;
 
 /// The files that a command line names.
 #[derive(Clone, Copy)]
@@ -48,10 +47,13 @@ pub enum Obstacle<'a> {
 /// that are named, by its place or by its name; or that a certificate can't be written. To see that, a file that isn't there
 /// is made and removed at once, and one that is there is opened, which leaves it as it is. Where no file is written, nothing
 /// stands in the way.
-pub fn find_obstacle<'a, R: Files + AllocGlobal>(
-    rt: &R,
-    files: &NamedFiles<'a>,
-) -> Option<Obstacle<'a>>
+pub fn find_obstacle<'a, S: Survey>(survey: &S, files: &NamedFiles<'a>) -> Option<Obstacle<'a>>
+    ensures exactly { IfSome (S.told survey.now) (λ told.
+        option_map said result ≡ hindrance told files.now.is_certificate
+        (option_map (λ name. name.now) files.now.read)
+        (option_map (λ name. name.now) files.now.read_too)
+        (option_map (λ name. name.now) files.now.written)
+        (option_map (λ name. name.now) files.now.written_too)) }
     ensures read { result ≡ None → Differ (option_map (λ name. name.now) files.now.written)
         (option_map (λ name. name.now) files.now.read) }
     ensures read_too { result ≡ None → Differ (option_map (λ name. name.now) files.now.written)
@@ -68,7 +70,7 @@ pub fn find_obstacle<'a, R: Files + AllocGlobal>(
         result ≡ None }
 {
     let found = shared(
-        rt,
+        survey,
         files.written,
         files.read,
         files.read_too,
@@ -77,24 +79,29 @@ pub fn find_obstacle<'a, R: Files + AllocGlobal>(
     if found.is_some() {
         return found;
     }
-    let found = shared(rt, files.written_too, files.read, files.read_too, None);
+    let found = shared(survey, files.written_too, files.read, files.read_too, None);
     if found.is_some() {
         return found;
     }
     if files.is_certificate {
-        return unwritable(rt, files.written);
+        return unwritable(survey, files.written);
     }
     None
 }
 
 // A file that would be written, where it is one of three others too, with the first of them.
-fn shared<'a, R: Files + AllocGlobal>(
-    rt: &R,
+fn shared<'a, S: Survey>(
+    survey: &S,
     written: Option<&'a str>,
     first: Option<&'a str>,
     second: Option<&'a str>,
     third: Option<&'a str>,
 ) -> Option<Obstacle<'a>>
+    ensures exactly { IfSome (S.told survey.now) (λ told.
+        option_map said result ≡ shared_of told (option_map (λ name. name.now) written.entry)
+        (option_map (λ name. name.now) first.entry ∷
+        option_map (λ name. name.now) second.entry ∷
+        option_map (λ name. name.now) third.entry ∷ [])) }
     ensures first { result ≡ None → Differ (option_map (λ name. name.now) written.entry)
         (option_map (λ name. name.now) first.entry) }
     ensures second { result ≡ None → Differ (option_map (λ name. name.now) written.entry)
@@ -106,10 +113,10 @@ fn shared<'a, R: Files + AllocGlobal>(
     let Some(written) = written else {
         return None;
     };
-    let place = place_of(rt, written);
-    match shared_with(rt, written, &place, first) {
-        None => match shared_with(rt, written, &place, second) {
-            None => shared_with(rt, written, &place, third),
+    let place = survey.place_of(written);
+    match shared_with(survey, written, &place, first) {
+        None => match shared_with(survey, written, &place, second) {
+            None => shared_with(survey, written, &place, third),
             found => found,
         },
         found => found,
@@ -117,16 +124,21 @@ fn shared<'a, R: Files + AllocGlobal>(
 }
 
 // A file that would be written, where another name stands for it too.
-fn shared_with<'a, R: Files + AllocGlobal>(
-    rt: &R,
+fn shared_with<'a, S: Survey>(
+    survey: &S,
     written: &'a str,
     place: &Option<Place>,
     other: Option<&'a str>,
 ) -> Option<Obstacle<'a>>
-    ensures { result ≡ None → Differ (Some written.now) (option_map (λ name. name.now) other.entry) }
+    requires { IfSome (S.told survey.now) (λ told. option_map spot_of place.now ≡ told.spot written.now) }
+    ensures exactly { IfSome (S.told survey.now) (λ told.
+        option_map said result ≡ specs_shared_with told written.now
+        (option_map (λ name. name.now) other.entry)) }
+    ensures apart { result ≡ None → Differ (Some written.now)
+        (option_map (λ name. name.now) other.entry) }
 {
     match other {
-        Some(other) if other == written || is_same(place, &place_of(rt, other)) => {
+        Some(other) if other == written || is_same(place, &survey.place_of(other)) => {
             Some(Obstacle::Shared { written, other })
         }
         _ => None,
@@ -134,13 +146,15 @@ fn shared_with<'a, R: Files + AllocGlobal>(
 }
 
 // A certificate that can't be written.
-fn unwritable<'a, R: Files>(rt: &R, name: Option<&'a str>) -> Option<Obstacle<'a>>
+fn unwritable<'a, S: Survey>(survey: &S, name: Option<&'a str>) -> Option<Obstacle<'a>>
+    ensures exactly { IfSome (S.told survey.now) (λ told.
+        option_map said result ≡ unwritable_of told (option_map (λ name. name.now) name.entry)) }
     ensures nothing_written { name.entry ≡ None → result ≡ None }
 {
     let Some(name) = name else {
         return None;
     };
-    match write_fault(rt, name) {
+    match write_fault(survey, name) {
         Some(kind) => Some(Obstacle::Unwritable { name, kind }),
         None => None,
     }
@@ -148,31 +162,13 @@ fn unwritable<'a, R: Files>(rt: &R, name: Option<&'a str>) -> Option<Obstacle<'a
 
 // Why a file can't be written, as far as that can be seen before. Of what is there, plain files alone are opened: a pipe would
 // tell its reader.
-fn write_fault<R: Files>(rt: &R, name: &str) -> Option<ErrorKind> {
-    match fs::metadata(rt, name) {
-        Ok(found) if found.is_dir() => Some(ErrorKind::IsADirectory),
-        Ok(found) if found.is_file() => match OpenOptions::new().write(true).open(rt, name) {
-            Ok(_) => None,
-            Err(fault) => Some(fault.kind()),
-        },
-        Ok(_) => None,
-        Err(_) => make_fault(rt, name),
-    }
-}
-
-// Why a file that isn't there can't be made. It is made, and removed again. Where there is one meanwhile, or a link to none, that
-// isn't known.
-fn make_fault<R: Files>(rt: &R, name: &str) -> Option<ErrorKind> {
-    match OpenOptions::new()
-        .write(true)
-        .create_new(true)
-        .open(rt, name)
-    {
-        Ok(_) => {
-            let _ = fs::remove_file(rt, name);
-            None
-        }
-        Err(fault) if fault.kind() == ErrorKind::AlreadyExists => None,
-        Err(fault) => Some(fault.kind()),
+fn write_fault<S: Survey>(survey: &S, name: &str) -> Option<ErrorKind>
+    ensures { IfSome (S.told survey.now) (λ told. result ≡ specs_write_fault told name.now) }
+{
+    match survey.kind_of(name) {
+        None => survey.making_fault(name),
+        Some(Kind::Folder) => Some(ErrorKind::IsADirectory),
+        Some(Kind::Plain) => survey.opening_fault(name),
+        Some(Kind::Other) => None,
     }
 }

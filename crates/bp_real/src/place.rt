@@ -1,4 +1,8 @@
 // Where the files are that names stand for.
+ghost use Rattle.std.specs.Prelude.{◌≡◌, string_bytes};
+ghost use Rattle.std.specs.Option.{option_map};
+ghost use Rattle.bp_real.specs.Obstacles.{spot_of, is_same_spot, same_below as specs_same_below};
+
 use std::fs;
 use std::os::unix::fs::MetadataExt;
 use std::path::Path;
@@ -10,18 +14,37 @@ const MOST_LINKS: usize = 40;
 /// Where a file is: the device and the inode of a file that is there; of one that isn't, those of the folder that it would be
 /// in, and its name there. Links are followed.
 #[derive(Drop)]
-pub(crate) struct Place {
-    device: u64,
-    inode: u64,
-    below: Option<String>,
+pub struct Place {
+    /// The device's number.
+    pub device: u64,
+    /// The number of the file or the folder on it.
+    pub inode: u64,
+    /// The name in the folder, of a file that isn't there.
+    pub below: Option<String>,
 }
 
 /// Whether two names stand for one file, as far as it is known where they are.
-pub(crate) fn is_same(one: &Option<Place>, other: &Option<Place>) -> bool {
+pub(crate) fn is_same(one: &Option<Place>, other: &Option<Place>) -> bool
+    ensures { result ≡ is_same_spot (option_map spot_of one.now) (option_map spot_of other.now) }
+{
     match (one, other) {
         (Some(one), Some(other)) => {
-            one.device == other.device && one.inode == other.inode && one.below == other.below
+            one.device == other.device
+                && one.inode == other.inode
+                && is_same_below(&one.below, &other.below)
         }
+        _ => false,
+    }
+}
+
+// Whether names in a folder are the same, or both lack.
+fn is_same_below(one: &Option<String>, other: &Option<String>) -> bool
+    ensures { result ≡ specs_same_below (option_map string_bytes one.now)
+        (option_map string_bytes other.now) }
+{
+    match (one, other) {
+        (Some(one), Some(other)) => one.as_str() == other.as_str(),
+        (None, None) => true,
         _ => false,
     }
 }

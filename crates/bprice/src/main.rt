@@ -5,7 +5,9 @@
 mod named;
 
 use bp_cli::run;
-use bp_real::{FileShelf, Files, HostDisk, Obstacle, OutSink, Watched, WatchedSink, find_obstacle};
+use bp_real::{
+    FileShelf, Files, HostDisk, HostSurvey, Obstacle, OutSink, Watched, WatchedSink, find_obstacle,
+};
 use bp_words::{Order, WordFault, read_words};
 use named::files_of;
 use notes::{explain, explain_obstacle};
@@ -64,7 +66,7 @@ fn run_words(rt: &HostRuntime, words: &[String]) -> u8 {
 
 // Whether files stand in the way of what is ordered, which is told.
 fn is_stopped(rt: &HostRuntime, order: &Order) -> bool {
-    match find_obstacle(rt, &files_of(order)) {
+    match find_obstacle(&HostSurvey::new(rt), &files_of(order)) {
         Some(found) => {
             put_obstacle(rt, &found);
             true
