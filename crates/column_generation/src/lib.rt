@@ -7,6 +7,7 @@ mod costs;
 mod generation;
 mod partition;
 mod several;
+mod start;
 mod subgradient;
 
 pub use generation::{Centre, Effort, add_class, generate_columns, mean_mult, round_up};

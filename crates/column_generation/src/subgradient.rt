@@ -8,6 +8,7 @@ ghost use Rattle.std.specs.Prelude.{◌≡◌};
 ghost use Rattle.node_memory.specs.Pools.{AreMadeFor};
 
 use crate::costs::reduced_cost;
+use crate::start::relaxed_mults;
 use block_class::Classes;
 use block_program::{Blocked, MAX_SCALE};
 use bp_theory::{MasterRow, Sense, Span};
@@ -45,6 +46,14 @@ const ALONE: Pace = Pace {
     patience: 3,
     least_gain: 1 << 9,
     aim_part: 32,
+};
+
+// How steps go from the multipliers of the relaxation.
+const RELAXED: Pace = Pace {
+    steps: 20,
+    patience: 5,
+    least_gain: 1 << 4,
+    aim_part: 8,
 };
 
 /// How many steps are taken at the root, where columns are generated from their multipliers, and where not.
@@ -114,6 +123,8 @@ pub struct Subgradient {
     pub gain: i128,
     /// How many steps in a row had no gain.
     failures: u32,
+    /// Whether steps began with the multipliers of the relaxation.
+    is_relaxed: bool,
 }
 
 /// Multipliers with a great dual bound in a node's zone by subgradient steps from those of the node's proof. A dual bound that
@@ -129,11 +140,61 @@ pub fn take_steps(
     requires made_for { AreMadeFor node.program.now pools.old }
     ensures made_for { AreMadeFor node.entry.program.now pools.new }
 {
+    if let Some(steps) = relaxed_steps(alloc, node, pools, turn, known, with_columns)? {
+        return Ok(steps);
+    }
     let course = course_of(with_columns);
     let pace = pace_at(turn.depth, with_columns);
     let mut steps = make(alloc, node.program, turn, known, course, pace)?;
     take_all(alloc, node, pools, turn, with_columns, &mut steps)?;
     Ok(steps)
+}
+
+// Steps from the multipliers of the root's relaxation. There are none below the root, where no columns follow, where there are
+// no such multipliers, and where the pricing of a block is cut at them: the node then begins anew.
+fn relaxed_steps(
+    alloc: Global,
+    node: NodeContext,
+    pools: &mut Pools,
+    turn: &Turn,
+    known: Option<i64>,
+    with_columns: bool,
+) -> Result<Option<Subgradient>, AllocError>
+    requires made_for { AreMadeFor node.program.now pools.old }
+    ensures made_for { AreMadeFor node.entry.program.now pools.new }
+{
+    if !with_columns || turn.depth > 0 {
+        return Ok(None);
+    }
+    let mut steps = make(alloc, node.program, turn, known, Course::Newest, RELAXED)?;
+    if !begin_relaxed(alloc, node, &mut steps)? {
+        return Ok(None);
+    }
+    take_all(alloc, node, pools, turn, with_columns, &mut steps)?;
+    if pools.budget.leaves_out() {
+        pools.budget.begin();
+        return Ok(None);
+    }
+    Ok(Some(steps))
+}
+
+// Begins with the multipliers of the node's relaxation, where most blocks are alike; whether it has such.
+fn begin_relaxed(
+    alloc: Global,
+    node: NodeContext,
+    steps: &mut Subgradient,
+) -> Result<bool, AllocError> {
+    if !are_alike(node.program, node.classes) {
+        return Ok(false);
+    }
+    let Some(mults) = relaxed_mults(alloc, node)? else {
+        return Ok(false);
+    };
+    steps.best = mults.as_slice().to_vec(alloc)?;
+    steps.from = mults.as_slice().to_vec(alloc)?;
+    steps.mults = mults;
+    steps.is_relaxed = true;
+    Ok(true)
 }
 
 // Takes steps as long as there is one to take. The last ones give columns, where columns follow.
@@ -247,6 +308,7 @@ fn make(
         short: 0,
         gain: 0,
         failures: 0,
+        is_relaxed: false,
     };
     fill(alloc, b, turn, &mut steps)?;
     Ok(steps)
@@ -314,7 +376,8 @@ fn begin(
         return Ok(false);
     };
     steps.value = value;
-    steps.gain = first_gain(node.program, turn.depth, steps.pace.aim_part, &value);
+    let is_far = turn.depth == 0 && !steps.is_relaxed;
+    steps.gain = first_gain(node.program, is_far, steps.pace.aim_part, &value);
     write_sums(
         node.program,
         steps.point.as_slice(),
@@ -360,14 +423,14 @@ fn write_ends(b: &Blocked, spans: &[Span], steps: &mut Subgradient) {
     }
 }
 
-// How far above the first bound the first aim is.
-fn first_gain(b: &Blocked, depth: u32, aim_part: i128, value: &i128) -> i128 {
+// How far above the first bound the first aim is: far where the multipliers are those of a root without a relaxation.
+fn first_gain(b: &Blocked, is_far: bool, aim_part: i128, value: &i128) -> i128 {
     let mut most: i128 = 1;
     for term in b.model().costs() {
         most = most.max(i128::from(term.coef.unsigned_abs()));
     }
     let most = most.saturating_mul(UNIT);
-    if depth == 0 {
+    if is_far {
         let part = quotient(*value, 4);
         most.max(part).max(part.saturating_neg())
     } else {
