@@ -78,7 +78,8 @@ impl<'a> Source<'a> {
         place_of(self.homes[var as usize].as_slice(), block)
     }
 
-    /// The cost of a variable's copy in a block.
+    /// The cost of a variable's copy in a block, minimised and not scaled: the variable's at its first copy, 0 at a
+    /// further one.
     pub fn copy_cost(&self, block: u32, var: u32) -> i64
         requires source { IsSource self.now }
         requires var { var < length self.now.model.now.program.spans }

@@ -4,10 +4,15 @@ use bp_theory::{Items, Row, Span};
 /// A block: the copies of its variables, each with its span at the root, its cost and its coefficients in the master
 /// rows, and the block's own rows, whose terms name places among the copies.
 pub struct Block {
+    // By place: the variable of the copy, by its number in the model; in a program in blocks they ascend.
     vars: Items<u32>,
+    // By place: the variable's span at the root, as the model has it.
     spans: Items<Span>,
+    // By place: the cost, minimised and not scaled; 0 at a copy that isn't the variable's first.
     costs: Items<i64>,
+    // By place: the rows that proofs may name, ascending, with the copy's coefficient, which isn't 0.
     masters: Items<Items<(u32, i64)>>,
+    // The rows that the decomposition gives the block, in the model's order; none in a block of a single variable.
     rows: Items<Row>,
 }
 
@@ -43,7 +48,8 @@ impl Block {
     ghost use Rattle.bp_theory.specs.Blocking.{Copy};
     ghost use Rattle.block_program.specs.Blocked.{copies_from};
 
-    /// The block of these variables, with their spans, costs and coefficients in master rows, and of these rows.
+    /// The block of these variables, with their spans, costs and coefficients in master rows, and of these rows. Costs
+    /// are minimised and not scaled.
     pub fn make(
         vars: Items<u32>,
         spans: Items<Span>,
@@ -94,7 +100,7 @@ impl Block {
         self.spans.as_slice()
     }
 
-    /// The variables' costs.
+    /// The variables' costs, minimised and not scaled; 0 at a copy that isn't the variable's first.
     pub fn costs(&self) -> &[i64]
         ensures { result.now ≡ map (λ (c : Copy). c.cost) self.now.block.copies }
     {

@@ -18,10 +18,15 @@ pub struct Base {
 
 /// A program in blocks: a model, a decomposition of it, cuts, and the blocks that these make.
 pub struct Blocked {
+    // The model and the decomposition, shared with programs that differ by their cuts alone.
     base: Rc<Base>,
+    // The cuts, in order: each may name the ones before it.
     cuts: Items<Cut>,
+    // The blocks of the decomposition, and then one for each variable that stands in no block's row.
     blocks: Items<Block>,
+    // By number of the row in proofs (the model's rows, the link rows, the cuts): its sides; none at a block's row.
     rows: Items<Option<MasterRow>>,
+    // By number of the variable: the first block that has a copy of it, and the copy's place there.
     places: Items<(u32, u32)>,
 }
 

@@ -14,7 +14,9 @@ pub const MAX_SCALE: u32 = 1 << 20;
 /// The greatest magnitude of a multiplier.
 pub const MAX_MULTIPLIER: u64 = 1 << 40;
 
-/// Whether a proof keeps the limits and names master rows and blocks that are there, each once and in order.
+/// Whether a proof keeps the limits and names master rows and blocks that are there, each once and in order: its scale
+/// is at most 1,048,576, and its multipliers, which are whole numbers at that scale, are not 0 and at most 2^40 in
+/// size.
 pub fn fits(b: &Blocked, proof: &Proof) -> bool
     ensures { IsTrue result ↔ Fits b.now.blocking proof.now }
 {

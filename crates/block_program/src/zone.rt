@@ -8,6 +8,7 @@ use std::alloc::{AllocError, Global};
 /// A zone of a program's points: a span for each variable, each with a number.
 #[derive(Drop)]
 pub struct Zone {
+    // By number of the variable, in the model's order.
     spans: Items<Span>,
 }
 

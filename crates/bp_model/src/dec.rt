@@ -9,8 +9,12 @@ use std::alloc::{AllocError, Global};
 /// A decomposition: the number of its blocks, for each row its block or the master, and the listed variables with
 /// their places, at most 131,072 blocks. It goes with the model that it was made for.
 pub struct Dec {
+    // At most 131,072. The blocks of single variables, which a program in blocks adds, are not counted.
     blocks: u32,
+    // By number of the row: its block, from 0, or none for a master row.
     places: Items<Option<u32>>,
+    // In the order of the text: the number of a variable, and the block that it is listed with, or none for the master.
+    // A variable may be listed several times.
     listed: Items<(u32, Option<u32>)>,
 }
 

@@ -9,13 +9,22 @@ use std::alloc::Global;
 
 /// A bounded integer program in minimised form, with the names of its variables and rows.
 pub struct Model {
+    // By number of the variable, each once.
     names: NameList,
+    // By number of the row, each once.
     row_names: NameList,
+    // By number of the variable: its bounds, both below 2^62 in size; none is empty.
     spans: Items<Span>,
+    // By number of the row: terms ascend by variable without zeros, and no sum within the spans reaches 2^62 in size.
     rows: Items<Row>,
+    // By ascending variable, without zeros; a variable that isn't there costs 0. Where the text maximises they are
+    // negated.
     costs: Items<Term>,
+    // What the objective adds to the costs of a point, negated where the text maximises.
     constant: i64,
+    // Whether a value, as texts and reports have it, is a cost negated.
     maximises: bool,
+    // The limits that the text was read with.
     limits: Limits,
 }
 

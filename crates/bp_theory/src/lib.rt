@@ -13,6 +13,7 @@ use std::marker::Model;
 /// A vector that contracts see as its list.
 #[derive(Drop)]
 pub struct Items<T> {
+    // The elements, in the order of the list.
     inside: Vec<T>,
 }
 
@@ -177,14 +178,18 @@ impl Limits {
 /// The whole numbers from `lo` to `hi`.
 #[derive(Clone, Copy)]
 pub struct Span {
+    /// The least number.
     pub lo: i64,
+    /// The greatest number, included; at least `lo` in models and zones.
     pub hi: i64,
 }
 
 /// A variable with its coefficient.
 #[derive(Clone, Copy)]
 pub struct Term {
+    /// The number of the variable, from 0; in a row of a block its place among the block's copies.
     pub var: u32,
+    /// Its coefficient. In a row of a model none is 0, and no variable comes twice.
     pub coef: i64,
 }
 
@@ -200,17 +205,24 @@ pub enum Sense {
 /// A row of a program or of a block, with two sides, equal but for `In`.
 #[derive(Drop)]
 pub struct Row {
+    /// Which sides bind the sum: `Le` the upper, `Ge` the lower, `Eq` and `In` both.
     pub sense: Sense,
+    /// The lower side. At `Le` it repeats `rhs` and binds nothing.
     pub low: i64,
+    /// The upper side. At `Ge` it repeats `low` and binds nothing.
     pub rhs: i64,
+    /// The left side; in a model by ascending variable.
     pub terms: Items<Term>,
 }
 
 /// What a proof needs of a row that it gives a multiplier.
 #[derive(Clone, Copy)]
 pub struct MasterRow {
+    /// Which signs a multiplier may have: positive at `Ge`, negative at `Le`, either at `Eq` and `In`.
     pub sense: Sense,
+    /// The lower side, which counts in a bound where the multiplier is positive.
     pub low: i64,
+    /// The upper side, which counts in a bound where the multiplier is negative.
     pub rhs: i64,
 }
 
@@ -224,15 +236,23 @@ pub enum Picked {
 /// A scale, multipliers of rows by the rows' numbers, and the picked blocks.
 #[derive(Drop)]
 pub struct Proof {
+    /// What costs are multiplied by in the bound, up to 2^20. At 0 the costs drop out, and a positive bound shows that
+    /// the zone is empty.
     pub scale: u32,
+    /// Rows with multipliers: whole numbers other than 0, up to 2^40 in size, each the row's dual value times the
+    /// scale. By ascending row, each once; rows are numbered as the model's, then the link rows, then the cuts.
     pub mults: Items<(u32, i64)>,
+    /// The blocks that are priced over the points of their rows; the others are priced over their boxes.
     pub picked: Picked,
 }
 
 /// A rounding cut: a divisor, and multipliers of rows by the rows' numbers.
 #[derive(Drop)]
 pub struct Cut {
+    /// What the sum of the rows is divided by before it is rounded up: 1 to 2^20.
     pub q: u32,
+    /// Rows with multipliers: whole numbers other than 0, up to 2^20 in size. By ascending row, each once; a row is a
+    /// master row or an earlier cut, numbered as in proofs.
     pub rows: Items<(u32, i64)>,
 }
 

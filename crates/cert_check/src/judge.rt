@@ -19,8 +19,11 @@ use std::alloc::{AllocError, Global};
 /// leaf's line asks for more than are left before any line is at fault.
 #[derive(Clone, Copy)]
 pub enum Judged {
+    /// What the certificate claims, which is true of the program.
     Accepted(Claim),
+    /// The first line at fault, from 1, and what is wrong with it.
     Rejected { line: u64, kind: CheckKind },
+    /// The line, from 1, of the leaf that asks for more visits than are left.
     Unknown { line: u64 },
 }
 

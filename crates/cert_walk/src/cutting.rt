@@ -26,8 +26,11 @@ const MOST_EARLIER: usize = 255;
 // The cuts that came and passed, with their rows; and the program with them, which is made before the first leaf is judged.
 #[derive(Drop)]
 pub struct Cutting {
+    // The cuts, in order; none once the program is made, which has them then.
     pub cuts: Items<Cut>,
+    // By number of the cut: its row over the program's variables; none once the program is made.
     pub rows: Items<Row>,
+    // The program with the cuts; none before the first leaf, and where there is no cut.
     pub program: Option<Blocked>,
 }
 

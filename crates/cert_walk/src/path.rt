@@ -13,15 +13,20 @@ use std::alloc::AllocError;
 // A split above the node that comes next, with the span that its variable had: the node is in its low or its high part.
 #[derive(Clone, Copy)]
 pub struct Fork {
+    // The variable and the number behind which its span is split.
     pub place: SplitPlace,
+    // The span of the variable above the split, which is put back where the walk leaves the high part.
     pub span: Span,
+    // Whether the node is in the high part.
     pub is_high: bool,
 }
 
 // The place of the node that comes next, and the splits above it, the nearest last.
 #[derive(Drop)]
 pub struct Path {
+    // The node's zone, the number of its line, and the visits that are left.
     pub place: NodePlace,
+    // The splits above the node; none above the root.
     pub forks: Vec<Fork>,
 }
 

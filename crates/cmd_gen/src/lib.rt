@@ -16,8 +16,11 @@ use std::alloc::{AllocError, Global};
 // The generator's texts, and the report on them.
 #[derive(Drop)]
 struct Made {
+    // The model's text, which is written first.
     lp: Vec<u8>,
+    // The text of its decomposition, a block for each agent.
     dec: Vec<u8>,
+    // The report and its status, where both writes go well.
     reply: Reply,
 }
 

@@ -21,8 +21,12 @@ struct Mix {
 // A variable that is far from whole, with the whole number below it.
 #[derive(Clone, Copy)]
 struct Fraction {
+    // How far its number is from the nearest whole one, in units of 2^-20; four times that where it is in no master
+    // row.
     distance: u64,
+    // Its number in the model, from 0.
     var: u32,
+    // The greatest whole number up to its number.
     floor: i64,
 }
 

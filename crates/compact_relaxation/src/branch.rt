@@ -28,7 +28,8 @@ struct Tried {
 }
 
 impl CompactRelaxation {
-    /// The variable to split at, of those with fractional values, where the relaxation's objective is given.
+    /// The variable to split at, of those with fractional values. The relaxation's objective is in ones, without the
+    /// constant; the incumbent's cost, where it is known, has the constant.
     pub(crate) fn choose(
         &mut self,
         mut fractions: Vec<Fraction>,

@@ -28,7 +28,8 @@ impl CompactRelaxation {
         whole(alloc, b, self.lp.last_multipliers(), scale)
     }
 
-    /// Whole multipliers by row of the ray, that show that there is no point within spans.
+    /// Whole multipliers by row of the ray, that show at scale 0, where costs drop out, that there is no point within
+    /// spans.
     pub(crate) fn emptying(
         &mut self,
         alloc: Global,
@@ -58,7 +59,7 @@ impl CompactRelaxation {
     }
 
     /// The scale at which multipliers at the greatest scale show a wanted bound within spans, the smaller the better;
-    /// where none does, the one that shows the most.
+    /// where none does, the one that shows the most. The wanted bound is a cost, not scaled.
     pub(crate) fn scale_of(
         &mut self,
         b: &Blocked,

@@ -65,7 +65,7 @@ struct Optimum<'a> {
 }
 
 impl CompactRelaxation {
-    /// Hints for a node, where the best cost may be known.
+    /// Hints for a node, where the incumbent's cost may be known: minimised, not scaled, with the constant.
     pub fn hint(
         &mut self,
         alloc: Global,

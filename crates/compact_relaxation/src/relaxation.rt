@@ -133,7 +133,8 @@ impl CompactRelaxation {
         }
     }
 
-    /// The objective that shows that nothing cheaper than a cost is left.
+    /// The objective, in ones and without the constant, that shows that nothing cheaper than a cost is left. The cost
+    /// has the constant.
     pub(crate) fn cutoff(&self, best: Option<i64>) -> Option<f64> {
         match best {
             None => None,
@@ -141,7 +142,8 @@ impl CompactRelaxation {
         }
     }
 
-    /// Solves from the basis that there is; where a cutoff was feigned, without it. The multipliers are then written.
+    /// Solves from the basis that there is, up to the cutoff of a cost; where a cutoff was feigned, without it. The
+    /// multipliers are then written.
     pub(crate) fn relax(&mut self, best: Option<i64>) -> Result<Relaxed, AllocError> {
         let cutoff = self.cutoff(best);
         let mut effort = Effort {

@@ -133,7 +133,8 @@ impl Scores {
         }
     }
 
-    /// The score of a variable whose value is so far above a whole number, by gains below and above: the greater the better.
+    /// The score of a variable whose value is so far above a whole number, by gains below and above, in ones: the
+    /// greater the better.
     pub fn score(&self, var: u32, part: f64, below: f64, above: f64) -> f64 {
         let scale = (self.below.mean() * self.above.mean()).max(LEAST) * 0.25;
         let gain = below.max(LEAST) * above.max(LEAST) / scale;

@@ -15,7 +15,9 @@ pub enum Task {
 /// What one worker may do.
 #[derive(Clone, Copy)]
 pub struct Choice {
+    /// The number of the worker, from 0.
     pub worker: u32,
+    /// What it may do next.
     pub task: Task,
 }
 

@@ -15,10 +15,15 @@ use std::alloc::{AllocError, Global};
 /// here. Each live leaf is free or held by one worker alone.
 #[derive(Drop)]
 pub struct Crew {
+    // The growing tree, with the queue of all its live leaves, those that are held too.
     grove: Grove,
+    // The incumbent; none as long as no feasible point is known.
     best: Option<Kept>,
+    // By number of the worker: what it holds; none where it holds nothing.
     hands: Vec<Option<Hand>>,
+    // How many workers hold a leaf.
     holders: usize,
+    // All events so far, in order, with room for one more of each holder.
     events: Vec<Event>,
 }
 
@@ -161,8 +166,8 @@ impl Crew {
         }
     }
 
-    /// The best cost that a worker was given with the leaf that it holds. None exactly where it holds nothing, or no best
-    /// point was kept when it took the leaf.
+    /// The best cost, minimised, that a worker was given with the leaf that it holds. None exactly where it holds
+    /// nothing, or no best point was kept when it took the leaf.
     pub fn given(&self, worker: u32) -> Option<i64>
         requires { worker < length self.now.hands }
         ensures { result ≡ given_in (hand_of self.now worker) }

@@ -8,7 +8,9 @@ use std::alloc::{AllocError, Global};
 /// What a worker holds: a live leaf as it was handed out, and the best cost of that moment, where there was one.
 #[derive(Drop)]
 pub struct Hand {
+    /// The live leaf, with its zone and its bound.
     pub turn: Turn,
+    /// The incumbent's cost when the leaf was handed out; none where there was no incumbent.
     pub given: Option<i64>,
 }
 

@@ -94,7 +94,7 @@ impl Relaxation {
         self.lp.iterations() > most
     }
 
-    /// What the values cost.
+    /// What the values cost, not scaled and without the objective's constant.
     pub fn objective(&self) -> f64 {
         self.lp.objective()
     }

@@ -112,7 +112,7 @@ impl Trial {
         self.side = 0;
     }
 
-    /// Adds a row, by its place, times a multiplier.
+    /// Adds a row, by its place, times a multiplier: a whole number without a scale.
     pub fn add(&mut self, state: &State, row: u32, mult: i64) {
         let Some((side, terms)) = state.sided(row) else {
             return;

@@ -11,7 +11,8 @@ use bp_theory::Term;
 use std::alloc::{AllocError, Global};
 use std::collections::BTreeMap;
 
-/// The coefficients of the sum of rows, each times its multiplier, by variable.
+/// The coefficients of the sum of rows, each times its multiplier, by variable. The multipliers are a cut's: whole
+/// numbers without a scale.
 pub fn combined(
     alloc: Global,
     rows: &Rows,

@@ -4,7 +4,7 @@ ghost use Rattle.std.specs.Prelude.{◌≡◌, [], ◌∷◌, IfOk};
 use bp_theory::{Cut, Items};
 use std::alloc::{AllocError, Global};
 
-/// The cut of one row and its multiplier, by a divisor.
+/// The cut of one row and its multiplier, a whole number, by a divisor.
 pub fn lone_cut(alloc: Global, q: u32, mult: &(u32, i64)) -> Result<Cut, AllocError>
     ensures divisor { IfOk result (λ cut. cut.q ≡ q) }
     ensures rows { IfOk result (λ cut. cut.rows ≡ mult.now ∷ []) }

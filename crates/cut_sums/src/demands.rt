@@ -13,8 +13,8 @@ ghost use Rattle.cut_sums.specs.Rows.{entry_demand, low_activity, program_of, ro
 use crate::rows::Rows;
 use bp_theory::{Row, Span, Term};
 
-/// The sum of rows' sides, each times its multiplier, less that of their sums where each variable is at the lower end of its
-/// span.
+/// The sum of rows' sides, each times its multiplier, less that of their sums where each variable is at the lower end
+/// of its span. The multipliers are a cut's: whole numbers without a scale.
 pub fn demand(rows: &Rows, mults: &[(u32, i64)]) -> i128
     requires rows { IsRows rows.now }
     requires entries { AreEntries (program_of rows.now) (rows_in rows.now) mults.now }

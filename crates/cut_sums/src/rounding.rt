@@ -11,8 +11,8 @@ use crate::rows::Rows;
 use std::alloc::{AllocError, Global};
 use std::collections::BTreeMap;
 
-/// The coefficients of the sum of rows, each times its multiplier, divided by a number and rounded up, without zeros and in
-/// order of variables.
+/// The coefficients of the sum of rows, each times its multiplier, divided by a number and rounded up, without zeros
+/// and in order of variables. The multipliers are a cut's: whole numbers without a scale.
 pub fn rounded(
     alloc: Global,
     rows: &Rows,

@@ -13,7 +13,9 @@ use std::alloc::{AllocError, Global};
 /// Each row's parent, and for each variable the first row outside the master that has it, its home.
 #[derive(Drop)]
 pub struct Ties {
+    /// By number of the row: an earlier row of its tree, or at the tree's first row itself.
     pub parents: Vec<u32>,
+    /// By number of the variable: the first row outside the master that has it; none as long as no such row came.
     pub homes: Vec<Option<u32>>,
 }
 

@@ -11,7 +11,9 @@ use std::alloc::{AllocError, Global};
 /// For each row its block or the master, and the number of blocks.
 #[derive(Drop)]
 pub struct Places {
+    /// By number of the row, of the rows so far: the block, from 0, or none for the master.
     pub places: Vec<Option<u32>>,
+    /// How many blocks there are so far; they are numbered in the order of their first rows.
     pub blocks: u32,
 }
 

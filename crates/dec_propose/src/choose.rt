@@ -58,12 +58,19 @@ const PAIRED: [Likeness; 5] = [
 // wanting, with which no decomposition is proposed.
 #[derive(Drop)]
 struct Proposal {
+    // By number of the row: whether it is a master row in the best decomposition so far; all are at the start.
     marks: Vec<bool>,
+    // The score of that decomposition, 0 to 1,800 as `score_of` has it; 0 at the start.
     score: u64,
+    // By how much the score of a list has to exceed `score` for the list to be taken; 0 once one was taken.
     margin: u64,
+    // A hash of each list that was looked at.
     seen: Vec<u64>,
+    // How much one look takes: the variables, rows and terms of the model together.
     size: u64,
+    // How much may still be looked at, in the unit of `size`; granted anew for lists by structure.
     work_left: u64,
+    // Whether memory was wanting; nothing more is looked at then.
     lacks: bool,
 }
 

@@ -10,10 +10,15 @@ const FREE: u32 = u32::MAX;
 /// directions, and its neighbours, one that several edges lead to as often.
 #[derive(Drop)]
 pub struct Graph {
+    /// How many rows the model has: the sum of the weights.
     pub rows: u32,
+    /// How many vertices there are, at most one for each row.
     pub vertices: u32,
+    /// By number of the vertex: how many rows it stands for.
     pub weights: Vec<u32>,
+    // The edges as pairs of vertices, in both directions, each as often as there are between the two.
     edges: Vec<(u32, u32)>,
+    /// By number of the vertex: the other ends of its edges.
     pub neighbours: Lists,
 }
 

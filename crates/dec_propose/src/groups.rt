@@ -35,7 +35,9 @@ pub enum Likeness {
 /// For each row its key, and for each group its key, the first groups alone.
 #[derive(Drop)]
 pub struct Keyed {
+    /// By number of the row: a hash of that in which it is like others.
     pub keys: Vec<u64>,
+    /// The keys that differ, in the order of their first rows, at most 24.
     pub groups: Vec<u64>,
 }
 

@@ -19,8 +19,11 @@ const PASSES: u32 = 3;
 // A graph, and for each of its vertices the vertex of the next coarser graph, of so many.
 #[derive(Drop)]
 struct Level {
+    // The graph of this level; on the first level its vertices are the rows.
     graph: Graph,
+    // By number of the vertex: the vertex of the next coarser graph, which one or two have.
     merged: Vec<u32>,
+    // How many vertices the next coarser graph has.
     count: u32,
 }
 
@@ -38,6 +41,7 @@ impl Level {
 /// The graphs of a model's rows, each coarser than the one before.
 #[derive(Drop)]
 pub struct Levels {
+    // The graphs, at most 12, the finest first.
     all: Vec<Level>,
 }
 
@@ -189,8 +193,11 @@ fn mend(alloc: Global, graph: &Graph, parts: &mut [u32], count: u32) -> Result<(
 // How many rows each part has, how many it may have, and how many edges lead from a vertex to each part.
 #[derive(Drop)]
 struct Sizes {
+    // By number of the part: how many rows it has.
     rows: Vec<u32>,
+    // How many rows a part may have: an equal share, a quarter of it and one more. No move takes a part past it.
     most: u32,
+    // By number of the part: how many edges lead there from the vertex at hand; all 0 between two vertices.
     links: Vec<u32>,
 }
 

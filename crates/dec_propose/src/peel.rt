@@ -15,8 +15,11 @@ const LONGEST_WAY: u32 = 64;
 // that are counted are told.
 #[derive(Drop)]
 struct Parts {
+    // By number of the variable: one that is nearer to the first of its part; the first has itself.
     above: Vec<u32>,
+    // By number of the variable: how many variables its part has; out of date where it isn't the first of the part.
     sizes: Vec<u32>,
+    // By number of the variable: whether its part, of which it is the first, was counted; all false between two rows.
     counted: Vec<bool>,
 }
 

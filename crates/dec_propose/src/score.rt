@@ -22,9 +22,13 @@ const MOST_OF_ONE: u64 = 500;
 // What is seen of a block: its rows, its variables, the weight of its rows, and a hash of them.
 #[derive(Clone, Copy)]
 struct Sight {
+    // How many rows it has.
     rows: u64,
+    // How many variables its rows have that no earlier row has, of another block either.
     vars: u64,
+    // The greatest weight of a row: 0, 6 or 10.
     weight: u64,
+    // A hash of sides and coefficients, but not of variables: blocks that are alike have the same.
     hash: u64,
 }
 

@@ -7,25 +7,35 @@ ghost use Rattle.dec_syntax.specs.Scan.{is_word_byte, begins, tokens_left, token
 /// A place in a text: its line, and whether no word stands before it in its line.
 #[derive(Clone, Copy, Debug)]
 pub struct Cursor {
+    /// The place, from 0 up to the length of the text.
     pub at: usize,
+    /// The line of the place, from 1.
     pub line: u32,
+    /// Whether no word stands before it in its line: only then may a keyword come.
     pub first: bool,
 }
 
 /// A word: the slice `from..to` of the text, its line, and whether it is the first of its line.
 #[derive(Clone, Copy, Debug)]
 pub struct Word {
+    /// Where the first byte stands, from 0.
     pub from: usize,
+    /// One place behind the last byte.
     pub to: usize,
+    /// The line that it stands on, from 1.
     pub line: u32,
+    /// Whether it is the first word of its line: only then may it be a keyword.
     pub first: bool,
 }
 
 /// A place between words: its line, whether no word stands before it in its line, whether it is in a comment.
 #[derive(Clone, Copy, Debug)]
 pub struct Blank {
+    /// The line of the place, from 1.
     pub line: u32,
+    /// Whether no word stands before it in its line; blanks and comments are none.
     pub first: bool,
+    /// Whether it is in a comment, which goes from a backslash to the end of its line.
     pub comment: bool,
 }
 

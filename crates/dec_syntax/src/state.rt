@@ -20,7 +20,9 @@ use std::str;
 /// For each row whether it is listed, and its block (from 0) or the master.
 #[derive(Drop)]
 pub struct Listing {
+    /// By number of the row: its block, or none for the master, and as long as it isn't listed.
     pub places: Vec<Option<u32>>,
+    /// By number of the row: whether it is listed.
     pub seen: Vec<bool>,
 }
 
@@ -28,14 +30,24 @@ pub struct Listing {
 /// whether rows that aren't listed are refused, the limits of its model, the rows and the variables that are listed.
 #[derive(Drop)]
 pub struct Reader {
+    /// What the next word is, unless it is a keyword.
     pub section: Section,
+    /// Whether PRESOLVED came.
     pub presolved: bool,
+    /// Whether NBLOCKS came; no block may be named before.
     pub counted: bool,
+    /// Whether CONSDEFAULTMASTER came.
     pub defaulted: bool,
+    /// The number behind NBLOCKS, 0 before.
     pub blocks: u32,
+    /// Whether CONSDEFAULTMASTER came with 0: each row has to be listed.
     pub strict: bool,
+    /// The limits of the model, which bound the number of blocks.
     pub limits: Limits,
+    /// The rows that are listed, with an entry for each row of the model.
     pub rows: Listing,
+    /// In the order of the text: the number of a variable, and its block, from 0, or none under the master. A variable
+    /// may come several times.
     pub listed: Vec<(u32, Option<u32>)>,
 }
 

@@ -14,7 +14,9 @@ use std::str;
 /// The rows that were listed, in order, and for each row whether it is listed.
 #[derive(Drop)]
 pub struct Listing {
+    /// By number of the row: whether it is listed.
     pub seen: Vec<bool>,
+    /// The numbers of the listed rows, in the order of the text, each once.
     pub rows: Vec<u32>,
 }
 

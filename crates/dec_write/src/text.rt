@@ -13,7 +13,9 @@ use std::alloc::{AllocError, Global};
 /// A line for each block and one of the master rows, without their ends.
 #[derive(Drop)]
 pub struct Lines {
+    /// By number of the block: BLOCK with that number from 1, and the names of the block's rows.
     pub blocks: Vec<Vec<u8>>,
+    /// MASTERCONSS and the names of the master rows.
     pub master: Vec<u8>,
 }
 

@@ -36,13 +36,14 @@ pub struct Line {
 }
 
 impl Line {
-    // Wishes that the price be no further from this one than so much; a negative distance wishes nothing.
+    // Wishes that the price be no further from this one than so much, both in units; a negative distance wishes
+    // nothing.
     pub fn wish(&mut self, price: i64, width: i64) {
         self.wished = price;
         self.width = width;
     }
 
-    // Sets what the logicals cost, where a missed line costs so much. Says whether they make a box.
+    // Sets what the logicals cost, where a missed line costs so much, in units. Says whether they make a box.
     // The centre is a price that the line may have, so that both costs together are never below 0.
     pub fn set_costs(&mut self, penalty: i64) -> bool {
         let most_plus = if self.plus_pays { penalty } else { 0 };

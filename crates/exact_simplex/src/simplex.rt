@@ -170,9 +170,9 @@ impl Simplex {
         Ok(())
     }
 
-    /// Wishes that later multipliers of rows be no further from these than so much, in units. Where none is given, or the
-    /// distance is negative, nothing is wished. The lines of a row of two sides share one multiplier: each takes what has
-    /// its sign.
+    /// Wishes that later multipliers of rows be no further from these than so much, both in units of 2^-20. Where none
+    /// is given, or the distance is negative, nothing is wished. The lines of a row of two sides share one multiplier:
+    /// each takes what has its sign.
     pub fn stay_near(&mut self, mults: &[i64], width: i64) {
         for row in 1..self.firsts.len() {
             let (price, far) = match mults.get(row - 1) {

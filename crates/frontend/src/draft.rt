@@ -10,7 +10,9 @@ use bp_shelf::{Shelf, ShelfFault};
 /// A text that is to be written into a file, and the reply that is printed behind it.
 #[derive(Drop)]
 pub struct Draft {
+    /// All bytes that the file is to have.
     pub text: Vec<u8>,
+    /// The report and its status, where the write goes well.
     pub reply: Reply,
 }
 

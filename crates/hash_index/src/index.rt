@@ -10,6 +10,7 @@ pub struct HashIndex {
     heads: Vec<u32>,
     // For each hash one more than the number of the last one before it in its slot, 0 where there is none.
     links: Vec<u32>,
+    // There is a slot: that of a hash is its rest by their number.
     ghost slotted: { 0 < length heads.items },
 }
 

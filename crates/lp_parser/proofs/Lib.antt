@@ -3,3 +3,4 @@ pub mod Accepts
 pub mod Shown
 pub mod Kept
 pub mod Good
+pub mod Signs

@@ -2,6 +2,7 @@
 use Rattle.std.specs.Prelude.{ℕ, List, map, Bool, Option, None, Some}
 use Rattle.std.specs.Option.{option_map}
 use Rattle.lp_syntax.specs.declared.tree.Site.{Site}
+use Rattle.lp_syntax.specs.declared.tree.Site.TheVariants.{ObjectiveFirst, RowFirst}
 use Rattle.lp_syntax.specs.declared.tree.Item.{Item}
 use Rattle.lp_syntax.specs.declared.tree.Sum.{Sum}
 use Rattle.lp_syntax.specs.declared.tree.Term.{Term}
@@ -82,3 +83,9 @@ stage_in text (stages.Done tree) = parser.done (tree_in text tree)
 -- what a step gives
 abbrev pub step_in : List ℕ → Option (Site × Stage) → parser.Step
 step_in text result = option_map (λ r. (r.0, stage_in text r.1)) result
+
+-- a site behind the first symbol of an objective or a row
+abbrev pub IsFurther : Site → Type 0
+IsFurther ObjectiveFirst = ⊥
+IsFurther RowFirst = ⊥
+IsFurther _ = Unit {0}

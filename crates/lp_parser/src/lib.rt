@@ -5,6 +5,7 @@
 mod bound;
 mod objective;
 mod row;
+mod sign;
 mod stage;
 
 ghost use Rattle.std.specs.Prelude.{◌≡◌, ℕ, List, map, IfOk};
@@ -18,6 +19,7 @@ use crate::row::from_row;
 use crate::stage::{Step, behind_part, let_tree_go};
 use bp_theory::Items;
 use lp_syntax::{Part, Site, Symbol, TextRange};
+pub use sign::add_sign;
 pub use stage::{BoundStage, Front, Gap, ObjectiveStage, RowStage, Stage, Within, let_go};
 use std::alloc::Global;
 

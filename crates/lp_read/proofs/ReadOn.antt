@@ -1,10 +1,10 @@
 -- What reading one symbol more shows.
-use Rattle.std.proofs.Common.{◌≡◌, ℕ, zero, suc, ◌+◌, ◌<◌, ◌≤◌, ◌⊎◌, true, false, List, [], ◌∷◌, ◌++◌, map, drop, length, refl, sym, ◌∙◌, ap, subst, inl, inr, arith, Option, None, Some, add-one}
+use Rattle.std.proofs.Common.{◌≡◌, ℕ, suc, ◌+◌, ◌<◌, ◌≤◌, ◌⊎◌, true, false, List, [], ◌∷◌, ◌++◌, map, drop, length, refl, sym, ◌∙◌, ap, subst, inl, inr, arith, Option, None, Some, add-one}
 use Rattle.bp_theory.specs.declared.Limits.{Limits}
 use Rattle.std.proofs.lemmas.List.{map-append, length-take-le, take_all}
 use Rattle.std.proofs.lemmas.Option.{slice_get_within}
 use Rattle.std.proofs.lemmas.Bool.{cases_Bool, or_cases}
-use Rattle.std.specs.Prelude.{slice_get, get_or, Result, Ok, Err, IfOk, IfErr}
+use Rattle.std.specs.Prelude.{slice_get, Result, Ok, Err, IfOk, IfErr}
 use Rattle.lp_token.specs.declared.LpKind.{LpKind}
 use Rattle.lp_token.specs.declared.LpKind.TheVariants.{Syntax, RowTwice, Limit}
 use Rattle.lp_syntax.specs.declared.symbol as rust
@@ -206,18 +206,6 @@ read_unended limits text all n state l m h e =
     go (inl f) whole =
         let t : (t : SyntaxTree) × (stage_in text state.stage ≡ done t) = ends start (stage_in text state.stage) h.0 h.1.read.leads (ap is_ended whole ∙ f) in
         absurd (not_done text state.stage t.0 e t.1)
-
--- the first of what stands from a place on
-pub first_from : (f : rust.Symbol.Symbol → Symbol) (xs : List rust.Symbol.Symbol) (k : ℕ) (d : rust.Symbol.Symbol) → k < length xs → first_of_symbols (drop k (map f xs)) ≡ Some (f (get_or xs k d))
-first_from f [] k d l = absurd (omega arith)
-first_from f (x ∷ xs) zero d l = refl
-first_from f (x ∷ xs) (suc k) d l = first_from f xs k d (omega arith)
-
-pub none_from : (f : rust.Symbol.Symbol → Symbol) (xs : List rust.Symbol.Symbol) (k : ℕ) → length xs ≤ k → first_of_symbols (drop k (map f xs)) ≡ None
-none_from f [] zero l = refl
-none_from f [] (suc k) l = refl
-none_from f (x ∷ xs) zero l = absurd (omega arith)
-none_from f (x ∷ xs) (suc k) l = none_from f xs k (omega arith)
 
 -- the same, whatever the symbols are
 pub reads_on : (text : List ℕ) (n : ℕ) (state more : State) (symbol : rust.Symbol.Symbol) (next : Option rust.Symbol.Symbol) (site : Site)

@@ -1,5 +1,5 @@
 -- What a reader of a text's symbols keeps, and what it gives.
-use Rattle.std.specs.Prelude.{◌≡◌, ℕ, ◌+◌, List, map, take, drop, length, Option, None, Some, slice_get, IsFalse}
+use Rattle.std.specs.Prelude.{◌≡◌, ℕ, ◌+◌, ◌≤◌, List, map, take, drop, length, Option, None, Some, slice_get, IsFalse}
 use Rattle.bp_theory.specs.declared.Limits.{Limits}
 use Rattle.lp_syntax.specs.declared.symbol as symbols
 use Rattle.lp_read.specs.declared.notes.ParseFault.{ParseFault}
@@ -8,6 +8,8 @@ use Rattle.lp_read.specs.declared.parse.State.{State}
 use Rattle.lp_read.specs.declared.parse.Parsed.{Parsed}
 use Rattle.lp_syntax.specs.Tree.{Symbol, Written, IsText, spelling}
 use Rattle.lp_syntax.specs.TreeIn.{symbol_in, next_in, tree_in}
+use Rattle.lp_syntax.specs.declared.cursor.Cursor.{Cursor}
+use Rattle.lp_syntax.specs.Remaining.{IsRest}
 use Rattle.lp_parser.specs.StageIn.{stage_in}
 use Rattle.lp_parser.specs.Parser.{Stage, start, Leads}
 use Rattle.lp_syntax.specs.Roles.{seen, first_of_symbols, role_fault}
@@ -33,6 +35,12 @@ IsRead limits text all n state = (ws : List Written) × IsReadBy limits text all
 pub record IsNext (text : List ℕ) (all : List Symbol) (n : ℕ) (symbol : symbols.Symbol.Symbol) (next : Option symbols.Symbol.Symbol) : Type 0 where
   pub here : slice_get all n ≡ Some (symbol_in text symbol)
   pub behind : first_of_symbols (drop (n + 1) all) ≡ next_in text next
+
+-- a reader has read the first n symbols, holds the next one, if there is one, and has its cursor behind that
+pub record IsReading (limits : Limits) (text : List ℕ) (all : List Symbol) (n : ℕ) (current : Option symbols.Symbol.Symbol) (cursor : Cursor) (state : State) : Type 0 where
+  pub inside : n ≤ length all
+  pub read : IsRead limits text all n state
+  pub rest : IsRest text (drop n all) current cursor
 
 -- the first fault of symbols, or want of memory
 abbrev pub IsParseFault : Limits → List Symbol → ParseFault → Type 0

@@ -1,9 +1,11 @@
 // Reading the symbols of a text, one by one, up to its tree or its first fault.
-ghost use Rattle.std.specs.Prelude.{◌≡◌, ℕ, ◌+◌, ◌<◌, List, map, drop, length, IfOk, IfErr, All, None, Some, false};
-ghost use Rattle.lp_syntax.specs.Tree as plain;
+ghost use Rattle.std.specs.Prelude.{◌≡◌, ℕ, ◌≤◌, ◌^◌, List, Option, length, IfOk, IfErr, None, false, true};
 ghost use Rattle.lp_syntax.specs.declared.tree.Tree.{Tree};
-ghost use Rattle.lp_syntax.specs.TreeIn.{IsNamed, symbol_in, next_in};
-ghost use Rattle.lp_syntax.specs.Roles.{first_of_symbols};
+ghost use Rattle.lp_syntax.specs.TreeIn.{IsNamed, symbol_in};
+ghost use Rattle.lp_syntax.specs.Symbols.{symbols as specs_symbols};
+ghost use Rattle.lp_syntax.specs.declared.symbol.Symbol as symbols;
+ghost use Rattle.lp_token.specs.declared.Tok.{Tok};
+ghost use Rattle.lp_token.specs.Cut.{Cut, HasCut};
 ghost use Rattle.lp_semantics.specs.Reading.{own_fault as specs_own_fault};
 ghost use Rattle.lp_read.specs.Noted.{HaveRoom, seen_in, noted, is_repeated_in, are_too_many, IsRoleFault};
 ghost use Rattle.lp_read.specs.Parsing.{ReadsOn, StopsAt, IsParseFault, IsParsed};
@@ -12,8 +14,8 @@ ghost use Rattle.lp_read.specs.declared.notes.ParseFault.TheVariants as faults;
 
 use crate::notes::{Notes, ParseFault, let_notes_go, no_notes, note};
 use bp_theory::Limits;
-use lp_parser::{Stage, let_go, step};
-use lp_syntax::{Site, Symbol, Tree};
+use lp_parser::{Stage, add_sign, let_go, step};
+use lp_syntax::{Site, Symbol, Tree, first_cursor, next_symbol};
 use lp_token::LpKind;
 use std::alloc::Global;
 
@@ -127,16 +129,22 @@ fn read_symbol(
     }
 }
 
-/// The symbol behind a place.
-fn symbol_behind(symbols: &[Symbol], at: usize) -> Option<Symbol>
-    requires { at < length symbols.now }
-    ensures { (text : List ℕ) → first_of_symbols
-        (drop (at + 1) (map (symbol_in text) symbols.now)) ≡ next_in text result }
+/// Reads a sign in place where a run of signs goes on, and tells whether it did; else nothing changes.
+fn read_sign(state: &mut State, symbol: Symbol) -> Result<bool, ParseFault>
+    requires room { HaveRoom state.old.notes }
+    ensures read { IfOk result (λ read. read ≡ true →
+        (text : List ℕ) (at : ℕ) (next : Option symbols.Symbol) →
+        ReadsOn text at symbol next state.old state.new) }
+    ensures other { IfOk result (λ read. read ≡ false → state.new ≡ state.old) }
+    ensures notes { state.new.notes ≡ state.old.notes }
+    ensures fault { IfErr result (λ f. f ≡ faults.NoMemory) }
 {
-    if at + 1 < symbols.len() {
-        Some(symbols[at + 1])
-    } else {
-        None
+    match symbol {
+        Symbol::Sign(sign) => {
+            let site = add_sign(&mut state.stage, sign)?;
+            Ok(site.is_some())
+        }
+        _ => Ok(false),
     }
 }
 
@@ -156,24 +164,31 @@ fn finish(state: State) -> Result<Parsed, ParseFault>
     }
 }
 
-/// The tree of a text's symbols, with what is noted of them; or their first fault.
-pub fn parse(
-    alloc: Global,
-    limits: Limits,
-    bytes: &[u8],
-    symbols: &[Symbol],
-) -> Result<Parsed, ParseFault>
-    requires { All (IsNamed bytes.now) symbols.now }
-    ensures text { IfOk result (IsParsed limits bytes.now (map (symbol_in bytes.now) symbols.now)) }
-    ensures fault { IfErr result (IsParseFault limits (map (symbol_in bytes.now) symbols.now)) }
+/// The tree of a text of at most 2^28 bytes that can be cut, with what is noted of its tokens; or the first fault of its symbols.
+/// No more of them is kept than the tree.
+pub fn parse(alloc: Global, limits: Limits, bytes: &[u8]) -> Result<Parsed, ParseFault>
+    requires size { length bytes.now ≤ 2 ^ 28 }
+    requires cut { HasCut bytes.now }
+    ensures text { IfOk result (λ parsed. (tokens : List Tok) → Cut bytes.now tokens →
+        IsParsed limits bytes.now (specs_symbols bytes.now tokens) parsed) }
+    ensures fault { IfErr result (λ fault. (tokens : List Tok) → Cut bytes.now tokens →
+        IsParseFault limits (specs_symbols bytes.now tokens) fault) }
 {
     let mut state = State {
         stage: Stage::Start,
         notes: no_notes(alloc, limits),
     };
-    for at in 0..symbols.len() {
-        let next = symbol_behind(symbols, at);
-        state = read_symbol(alloc, bytes, state, at, symbols[at], next)?;
+    let (mut current, mut cursor) = next_symbol(bytes, first_cursor());
+    let mut at = 0;
+    'read: while let Some(symbol) = current {
+        let (next, further) = next_symbol(bytes, cursor);
+        let here = at;
+        current = next;
+        cursor = further;
+        at += 1;
+        if !read_sign(&mut state, symbol)? {
+            state = read_symbol(alloc, bytes, state, here, symbol, next)?;
+        }
     }
     finish(state)
 }

@@ -1,23 +1,24 @@
 // The model that an LP text means, or its first fault.
-ghost use Rattle.std.specs.Prelude.{◌≡◌, ◌+◌, ◌≤◌, ◌^◌, length, count_by, slice_index_or, IfOk, IfErr};
+ghost use Rattle.std.specs.Prelude.{◌≡◌, ◌+◌, ◌≤◌, ◌^◌, List, length, count_by, slice_index_or, IfOk, IfErr};
 ghost use Rattle.bp_theory.specs.Limits.{most_bytes};
-ghost use Rattle.lp_token.specs.Cut.{Cut, is_line_feed, line_at};
+ghost use Rattle.lp_token.specs.declared.Tok.{Tok};
+ghost use Rattle.lp_token.specs.Cut.{Cut, HasCut, is_line_feed, line_at};
 ghost use Rattle.lp_syntax.specs.Symbols.{symbols};
 ghost use Rattle.lp_syntax.specs.TreeIn.{tree_in};
 ghost use Rattle.lp_syntax.specs.Roles as roles;
 ghost use Rattle.lp_semantics.specs.Meaning.{tokens_of};
 ghost use Rattle.lp_semantics.specs.PartsOf.{IsTextOfSome, IsRefused, IsModelOf};
-ghost use Rattle.lp_semantics.specs.Reading.{line_of as specs_line_of};
 ghost use Rattle.lp_read.specs.Parsing.{IsParsed};
 ghost use Rattle.lp_semantics.specs.Model.{Means, IsFaultOf};
 
+use crate::lines::line_of;
 use crate::notes::{Notes, ParseFault};
 use crate::parse::{Parsed, parse};
 use bp_model::Model;
 use bp_theory::{Items, Limits};
 use lp_semantics::{MeaningFault, model_of};
-use lp_syntax::{Tree, symbols_of};
-use lp_token::{LpFault, LpKind, Tok, tokens};
+use lp_syntax::Tree;
+use lp_token::{LpFault, LpKind, check_cut};
 use name_table::NameTable;
 use std::alloc::Global;
 
@@ -33,29 +34,23 @@ pub fn read_lp(alloc: Global, limits: Limits, bytes: &[u8]) -> Result<Model, LpF
             kind: LpKind::Limit,
         });
     }
-    match tokens(alloc, bytes) {
-        Ok(cut) => read_tokens(alloc, limits, bytes, cut.as_slice()),
+    match check_cut(bytes) {
+        Ok(()) => read_cut(alloc, limits, bytes),
         Err(fault) => Err(fault),
     }
 }
 
-/// The model of a text's tokens, or their first fault.
-fn read_tokens(
-    alloc: Global,
-    limits: Limits,
-    bytes: &[u8],
-    tokens: &[Tok],
-) -> Result<Model, LpFault>
+/// The model of a text that can be cut, or its first fault.
+fn read_cut(alloc: Global, limits: Limits, bytes: &[u8]) -> Result<Model, LpFault>
     requires size { length bytes.now ≤ most_bytes limits }
-    requires cut { Cut bytes.now tokens.now }
+    requires cut { HasCut bytes.now }
     ensures read { IfOk result (λ model. Means limits bytes.now model) }
     ensures fault { IfErr result (λ fault. IsFaultOf limits bytes.now fault) }
 {
-    let symbols = symbols_of(alloc, bytes, tokens)?;
-    match parse(alloc, limits, bytes, symbols.as_slice()) {
-        Ok(parsed) => read_tree(alloc, limits, bytes, tokens, parsed),
+    match parse(alloc, limits, bytes) {
+        Ok(parsed) => read_tree(alloc, limits, bytes, parsed),
         Err(ParseFault::At { token, kind }) => Err(LpFault::At {
-            line: line_of(tokens, token),
+            line: line_of(bytes, token),
             kind,
         }),
         Err(ParseFault::NoEnd) => Err(LpFault::At {
@@ -67,16 +62,11 @@ fn read_tokens(
 }
 
 /// The model of a text's tree, or the tree's first fault.
-fn read_tree(
-    alloc: Global,
-    limits: Limits,
-    bytes: &[u8],
-    tokens: &[Tok],
-    parsed: Parsed,
-) -> Result<Model, LpFault>
+fn read_tree(alloc: Global, limits: Limits, bytes: &[u8], parsed: Parsed) -> Result<Model, LpFault>
     requires size { length bytes.now ≤ most_bytes limits }
-    requires cut { Cut bytes.now tokens.now }
-    requires parsed { IsParsed limits bytes.now (symbols bytes.now tokens.now) parsed }
+    requires cut { HasCut bytes.now }
+    requires parsed { (tokens : List Tok) → Cut bytes.now tokens →
+        IsParsed limits bytes.now (symbols bytes.now tokens) parsed }
     ensures read { IfOk result (λ model. Means limits bytes.now model) }
     ensures fault { IfErr result (λ fault. IsFaultOf limits bytes.now fault) }
 {
@@ -92,15 +82,15 @@ fn read_tree(
     match model_of_tree(alloc, limits, bytes, tree, names, row_names) {
         Ok(model) => Ok(model),
         Err(MeaningFault::At { variable, kind }) => Err(LpFault::At {
-            line: line_of(tokens, place_at(&first_tokens, variable)),
+            line: line_of(bytes, place_at(&first_tokens, variable)),
             kind,
         }),
         Err(MeaningFault::Sums(None)) => Err(LpFault::At {
-            line: line_of(tokens, 0),
+            line: line_of(bytes, 0),
             kind: LpKind::Activity,
         }),
         Err(MeaningFault::Sums(Some(row))) => Err(LpFault::At {
-            line: line_of(tokens, place_at(&row_tokens, row)),
+            line: line_of(bytes, place_at(&row_tokens, row)),
             kind: LpKind::Activity,
         }),
         Err(MeaningFault::NoMemory) => Err(LpFault::NoMemory),
@@ -131,16 +121,6 @@ fn place_at(places: &Items<usize>, number: u32) -> usize
 {
     match places.as_slice().get(number as usize) {
         Some(place) => *place,
-        None => 0,
-    }
-}
-
-/// The line of a token.
-fn line_of(tokens: &[Tok], place: usize) -> u32
-    ensures { result ≡ specs_line_of tokens.now place }
-{
-    match tokens.get(place) {
-        Some(token) => token.line,
         None => 0,
     }
 }

@@ -2,3 +2,4 @@ pub mod Ascii
 pub mod SymbolLemmas
 pub mod Roles
 pub mod NumberLemmas
+pub mod Remaining

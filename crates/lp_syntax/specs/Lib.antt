@@ -5,3 +5,4 @@ pub mod TreeIn
 pub mod Symbols
 pub mod Worth
 pub mod Roles
+pub mod Remaining

@@ -1,14 +1,12 @@
 // The tokens as the grammar sees them.
-ghost use Rattle.std.specs.Prelude.{◌≡◌, ℕ, ◌≤◌, ◌^◌, ◌||◌, List, length, map, slice_range, codes, IfOk, All};
+ghost use Rattle.std.specs.Prelude.{◌≡◌, ℕ, ◌≤◌, ◌^◌, ◌||◌, List, length, slice_range, codes};
 ghost use Rattle.std.specs.Str.{bytes_eq, str_to_ascii_lowercase};
-ghost use Rattle.lp_token.specs.Cut.{Cut};
-ghost use Rattle.lp_syntax.specs.Symbols.{symbols, symbol_of as specs_symbol_of, number_symbol as specs_number_symbol, name_symbol as specs_name_symbol, mark_symbol as specs_mark_symbol, word_symbol as specs_word_symbol, stays_in_bounds as specs_stays_in_bounds};
-ghost use Rattle.lp_syntax.specs.TreeIn.{IsNamed, IsNameOf, IsNameAt, IsNoName, symbol_in, name_in};
+ghost use Rattle.lp_syntax.specs.Symbols.{symbol_of as specs_symbol_of, number_symbol as specs_number_symbol, name_symbol as specs_name_symbol, mark_symbol as specs_mark_symbol, word_symbol as specs_word_symbol, stays_in_bounds as specs_stays_in_bounds};
+ghost use Rattle.lp_syntax.specs.TreeIn.{IsNameOf, IsNameAt, IsNoName, symbol_in, name_in};
 
 use crate::number::{Worth, worth_of};
 use crate::tree::{Comparison, Sign, TextRange, bytes_at};
 use lp_token::{LpKind, Section, Tok, TokKind, section_of};
-use std::alloc::{AllocError, Global};
 
 /// A token as the grammar sees it. An unfit one has a fault of its own, and stands in no text.
 #[derive(Clone, Copy, Debug, PartialEq, Eq)]
@@ -96,7 +94,7 @@ fn word_symbol(bytes: &[u8]) -> Symbol
 }
 
 /// The symbol of a token, by whether it stands in a bounds section.
-fn symbol_of(bytes: &[u8], token: &Tok, in_bounds: bool) -> Symbol
+pub(crate) fn symbol_of(bytes: &[u8], token: &Tok, in_bounds: bool) -> Symbol
     requires { length bytes.now ≤ 2 ^ 28 }
     ensures same { symbol_in bytes.now result ≡ specs_symbol_of in_bounds token.now.kind
         (slice_range bytes.now token.now.from token.now.to) }
@@ -115,7 +113,7 @@ fn symbol_of(bytes: &[u8], token: &Tok, in_bounds: bool) -> Symbol
 }
 
 /// Whether what follows a symbol stands in a bounds section.
-fn stays_in_bounds(in_bounds: bool, symbol: Symbol) -> bool
+pub(crate) fn stays_in_bounds(in_bounds: bool, symbol: Symbol) -> bool
     ensures { (text : List ℕ) → result ≡ specs_stays_in_bounds in_bounds (symbol_in text symbol) }
 {
     match symbol {
@@ -123,22 +121,4 @@ fn stays_in_bounds(in_bounds: bool, symbol: Symbol) -> bool
         Symbol::Word(_) => false,
         _ => in_bounds,
     }
-}
-
-/// The symbols of a text's tokens.
-pub fn symbols_of(alloc: Global, bytes: &[u8], tokens: &[Tok]) -> Result<Vec<Symbol>, AllocError>
-    requires size { length bytes.now ≤ 2 ^ 28 }
-    requires cut { Cut bytes.now tokens.now }
-    ensures same { IfOk result (λ found. map (symbol_in bytes.now) found.items ≡
-        symbols bytes.now tokens.now) }
-    ensures named { IfOk result (λ found. All (IsNamed bytes.now) found.items) }
-{
-    let mut found = Vec::new(alloc);
-    let mut in_bounds = false;
-    for token in tokens {
-        let symbol = symbol_of(bytes, token, in_bounds);
-        found.push(symbol)?;
-        in_bounds = stays_in_bounds(in_bounds, symbol);
-    }
-    Ok(found)
 }

@@ -29,7 +29,8 @@ fn fitting(sense: &Sense, proposed: &i64) -> i64
     number.max(least).min(most)
 }
 
-/// Proposed multipliers as rows may have them, 0 where none is proposed.
+/// Proposed multipliers as rows may have them, 0 where none is proposed: of the row's sign, and up to 2^40 in size.
+/// They are in units of 2^-20.
 pub fn clipped_multipliers(
     alloc: Global,
     rows: &[MasterRow],
@@ -71,7 +72,8 @@ fn rooms(alloc: Global, classes: usize) -> Result<Vec<u64>, AllocError>
     Vec::from_elem(alloc, MOST_WEIGHT, classes)
 }
 
-/// Proposed weights as an answer may have them, 0 where none is proposed.
+/// Proposed weights as an answer may have them, 0 where none is proposed: from 0 to 2^33, also those of a class
+/// together. They are in units of 2^-20.
 pub fn clipped_weights(
     alloc: Global,
     cols: &[Column],

@@ -9,7 +9,7 @@ use crate::numbers::{plus, product, widened};
 use search_laws::Column;
 use std::alloc::{AllocError, Global};
 
-// The cost of weighted columns.
+// The cost of weighted columns, in the unit of the weights: costs are not scaled.
 pub fn cost_of(cols: &[Column], weights: &[i64]) -> i128
     requires { length weights.now ≡ length cols.now }
     ensures { result ≡ int_wrap w128 (weighted_cost (zip cols.now weights.now)) }
@@ -62,7 +62,7 @@ fn add_activities(sums: &mut [i128], acts: &[(u32, i64)], weight: &i64)
     }
 }
 
-// The activity of weighted columns in each row.
+// The activity of weighted columns in each row, in the unit of the weights.
 pub fn activities(
     alloc: Global,
     cols: &[Column],

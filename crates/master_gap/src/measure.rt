@@ -12,7 +12,8 @@ use bp_theory::MasterRow;
 use search_laws::Column;
 use std::alloc::{AllocError, Global};
 
-/// The weighted cost less what multipliers and least prices give.
+/// The weighted cost less what multipliers and least prices give. It is in units of 2^-20, as weights, multipliers and
+/// least prices are; costs, sides and counts are not scaled.
 pub fn gap_of(
     cols: &[Column],
     rows: &[MasterRow],
@@ -34,7 +35,7 @@ pub fn gap_of(
     minus(&cost, &worth)
 }
 
-/// How far weighted columns miss rows and counts, together.
+/// How far weighted columns miss rows and counts, together, in units of 2^-20, as weights are.
 pub fn short_of(
     alloc: Global,
     cols: &[Column],

@@ -50,7 +50,8 @@ fn ceilings(alloc: Global, classes: usize) -> Result<Vec<i128>, AllocError>
     Vec::from_elem(alloc, i128::MAX, classes)
 }
 
-/// The least price of each class's columns.
+/// The least price of each class's columns: cost less multipliers times activities, in units of 2^-20, as multipliers
+/// are. Costs of columns are not scaled.
 pub fn least_prices(
     alloc: Global,
     cols: &[Column],

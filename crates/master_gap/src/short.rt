@@ -32,7 +32,7 @@ fn row_short(row: &MasterRow, sum: &i128) -> i128
     }
 }
 
-// How far sums miss rows, together.
+// How far sums miss rows, together; sums are in units, and so is this.
 pub fn rows_short(rows: &[MasterRow], sums: &[i128]) -> i128
     requires each { length sums.now ≡ length rows.now }
     requires small { All (λ z. unsigned_abs z < 2 ^ 120) sums.now }
@@ -59,7 +59,7 @@ fn class_short(count: &u32, weight: &i128) -> i128
     (*weight - wanted).abs()
 }
 
-// How far weights are from counts, together.
+// How far weights are from counts, together; weights are in units, and so is this.
 pub fn classes_short(counts: &[u32], weights: &[i128]) -> i128
     requires each { length weights.now ≡ length counts.now }
     requires small { All (λ z. unsigned_abs z < 2 ^ 120) weights.now }

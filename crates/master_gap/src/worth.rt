@@ -24,7 +24,7 @@ fn row_worth(row: &MasterRow, mult: &i64) -> i128
     product(mult, &side)
 }
 
-// Multipliers times sides.
+// Multipliers times sides, in units, as multipliers are.
 pub fn rows_worth(rows: &[MasterRow], mults: &[i64]) -> i128
     requires { length mults.now ≡ length rows.now }
     ensures { result ≡ int_wrap w128
@@ -39,7 +39,7 @@ pub fn rows_worth(rows: &[MasterRow], mults: &[i64]) -> i128
     sum
 }
 
-// Counts times least prices.
+// Counts times least prices, in units, as prices are.
 pub fn classes_worth(counts: &[u32], convex: &[i128]) -> i128
     requires { length convex.now ≡ length counts.now }
     ensures { result ≡ int_wrap w128

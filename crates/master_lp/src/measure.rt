@@ -9,7 +9,7 @@ use master_gap::{clipped_multipliers, clipped_weights, gap_of, least_prices, sho
 use search_laws::Column;
 use std::alloc::{AllocError, Global};
 
-// The answer that proposed weights and multipliers come to.
+// The answer that proposed weights and multipliers come to, both in units of 2^-20.
 pub fn measured(
     alloc: Global,
     cols: &[Column],

@@ -33,7 +33,8 @@ pub enum Order {
     Scarce,
 }
 
-/// More of a variable is wanted for a great mean and a small reduced cost at multipliers by row.
+/// More of a variable is wanted for a great mean and a small reduced cost at multipliers by row. Multipliers are at the
+/// greatest scale, 1,048,576, and means are in units of 2^-20.
 pub fn guide_of(
     alloc: Global,
     b: &Blocked,
@@ -53,7 +54,8 @@ pub fn guide_of(
     })
 }
 
-/// More of a variable is wanted for a small reduced cost at multipliers by row, and rows with few open spans come first.
+/// More of a variable is wanted for a small reduced cost at multipliers by row, which are at the greatest scale, and
+/// rows with few open spans come first.
 pub fn plain_guide(alloc: Global, b: &Blocked, mults: &[i64]) -> Result<Guide, AllocError> {
     let costs = dense_costs(alloc, b)?;
     let mut wants = reduced_costs(alloc, b, mults, costs.as_slice())?;
@@ -89,7 +91,7 @@ fn weigh(wants: &mut [i128], mean: &[i128]) {
     }
 }
 
-/// The cost of each variable.
+/// The cost of each variable, minimised and not scaled.
 pub fn dense_costs(alloc: Global, b: &Blocked) -> Result<Vec<i64>, AllocError> {
     let mut costs = Vec::from_elem(alloc, 0i64, b.model().vars() as usize)?;
     for term in b.model().costs() {
@@ -108,7 +110,7 @@ pub fn reduced_cost(cost: i64, coefs: &[(u32, i64)], mults: &[i64]) -> i128 {
     reduced
 }
 
-/// The reduced cost of each variable at multipliers by row, at the greatest scale.
+/// The reduced cost of each variable at multipliers by row: both are at the greatest scale, while costs are in ones.
 pub fn reduced_costs(
     alloc: Global,
     b: &Blocked,

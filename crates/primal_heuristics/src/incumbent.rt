@@ -4,7 +4,7 @@ use crate::residuals::UNIT;
 use block_program::Blocked;
 use std::alloc::{AllocError, Global};
 
-/// The cost of a point, if it is feasible.
+/// The cost of a point, minimised and not scaled, if it is feasible.
 pub fn feasible_cost(b: &Blocked, point: &[i64]) -> Option<i64> {
     match b.model().misses(point) {
         None => Some(b.model().cost(point)),
@@ -20,7 +20,8 @@ pub fn is_below(cost: i64, known: Option<i64>) -> bool {
     }
 }
 
-/// Whether a bound in units reaches a known cost, where there is one.
+/// Whether a bound at the greatest scale, with the constant, reaches a known cost in ones, where there is one: no whole
+/// cost below it is left.
 pub fn is_reached(value: i128, known: Option<i64>) -> bool {
     match known {
         None => false,

@@ -64,7 +64,7 @@ enum Node {
     Open(Split),
 }
 
-/// The cheapest point in a leaf's zone that was found and is feasible and cheaper than a known cost.
+/// The cheapest point in a leaf's zone that was found and is feasible and cheaper than a known cost, which is in ones.
 pub fn search_point(
     alloc: Global,
     b: &Blocked,

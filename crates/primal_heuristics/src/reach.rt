@@ -117,7 +117,7 @@ pub fn quotient(number: i128, divisor: i128) -> i128 {
     if divisor > 0 { number / divisor } else { 0 }
 }
 
-/// A number within the limit of multipliers.
+/// A number within the limit of multipliers, 2^40 in size.
 pub fn clipped(number: i128) -> i64 {
     let most = i128::from(MAX_MULTIPLIER);
     number.min(most).max(-most) as i64

@@ -8,7 +8,8 @@ use block_program::{Block, Zone};
 use bp_theory::Proof;
 use pricing_problem::{least_end, plus};
 
-/// The least of a block's reduced costs over its box in a zone: at one end of each copy's span.
+/// The least of a block's reduced costs over its box in a zone: at one end of each copy's span. It is at the proof's
+/// scale.
 pub fn box_least(block: &Block, zone: &Zone, proof: &Proof) -> i128
     requires block { IsSmallBlock zone.now proof.now block.now.block }
     requires proof { IsSmallProof proof.now }

@@ -11,7 +11,7 @@ use block_program::{Block, Blocked};
 use bp_theory::{MasterRow, Proof};
 use pricing_problem::{minus, plus};
 
-/// What a proof gives before the blocks: scale times constant, and multipliers times sides of their rows.
+/// What a proof gives before the blocks, at its scale: scale times constant, and multipliers times sides of their rows.
 pub fn base(b: &Blocked, proof: &Proof) -> i128
     requires { base_size b.now.blocking proof.now ≤ price_limit }
     ensures { result ≡ base b.now.blocking proof.now }
@@ -24,7 +24,8 @@ pub fn base(b: &Blocked, proof: &Proof) -> i128
     sum
 }
 
-/// The reduced cost of the copy at a place of a block: scale times cost, less multipliers times coefficients.
+/// The reduced cost of the copy at a place of a block, at the proof's scale: scale times cost, less multipliers times
+/// coefficients.
 pub fn reduced_cost(block: &Block, place: u32, proof: &Proof) -> i128
     requires there { place < length block.now.block.copies }
     requires copies { All IsSmallCopy block.now.block.copies }

@@ -9,7 +9,7 @@ use crate::costs::reduced_cost;
 use block_program::{Block, Zone};
 use bp_theory::{Proof, Span};
 
-/// Writes a block's reduced costs.
+/// Writes a block's reduced costs, by place, at the proof's scale.
 pub fn fill_costs(costs: &mut Vec<i128>, block: &Block, proof: &Proof)
     requires room { vec_len costs.old ≡ length block.now.block.copies }
     requires few { length block.now.block.copies ≤ most_variables Large }

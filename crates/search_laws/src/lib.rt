@@ -19,9 +19,14 @@ pub enum Side {
 pub enum Next {
     Shut(Proof),
     Fork {
+        /// The number of the branching variable, from 0.
         var: u32,
+        /// The greatest number of the variable in the low part; the high part begins one above.
         at: i64,
+        /// The proof that both new leaves keep, which shows `bound` in the zone of the leaf.
         proof: Proof,
+        /// A dual bound of the leaf, as a minimised cost: no point of its zone costs less. It is no lower than the
+        /// bound that the leaf had, and below the incumbent's cost.
         bound: i64,
     },
 }
@@ -29,7 +34,10 @@ pub enum Next {
 /// A cheaper point, if one was found, and what is done with the leaf.
 #[derive(Drop)]
 pub struct Verdict {
+    /// A feasible point, by number of variable, that costs less than the incumbent that the leaf was judged against;
+    /// none where none was found.
     pub point: Option<Items<i64>>,
+    /// What is done with the leaf, right against the cheaper of that incumbent and `point`.
     pub next: Next,
 }
 
@@ -45,30 +53,40 @@ pub enum Kind {
 /// A column of a restricted master: its class, its cost and its activities in master rows.
 #[derive(Drop)]
 pub struct Column {
+    /// The number of its class of identical blocks, from 0.
     pub class: u32,
+    /// The cost of its point, not scaled, without the constant of the objective.
     pub cost: i64,
+    /// Master rows, by number from 0, with the activities of the point in them; a row that isn't listed has 0.
     pub acts: Items<(u32, i64)>,
 }
 
 /// A worker with what it does.
 #[derive(Clone, Copy)]
 pub struct Event {
+    /// The number of the worker, from 0.
     pub worker: u32,
+    /// What it does at this moment; `Shut` and `Fork` are reports on the leaf that it holds.
     pub kind: Kind,
 }
 
 /// A column that an answer uses: its class, its weight and its point.
 #[derive(Drop)]
 pub struct UsedColumn {
+    /// The number of its class of identical blocks, from 0.
     pub class: u32,
+    /// In units of 2^-20: at 1,048,576 one block of the class gets the point.
     pub weight: i64,
+    /// A point of the class's first block, by place among the block's copies.
     pub point: Items<i64>,
 }
 
 /// What a worker holds: the path of a live leaf, and the best cost that it was given.
 #[derive(Drop)]
 pub struct Holding {
+    /// The sides taken from the root down to the leaf.
     pub path: Items<Side>,
+    /// The incumbent's cost, minimised, when the worker took the leaf; none where there was no incumbent.
     pub given: Option<i64>,
 }
 

@@ -11,17 +11,26 @@ use bp_theory::{Cut, Items, Proof, Term};
 /// multipliers of rows by the rows' numbers, and the variables that are measured from their upper ends.
 #[derive(Drop)]
 pub struct MirCut {
+    /// What the sum of the rows is divided by before it is rounded, at least 2.
     pub divisor: u32,
+    /// The remainder to round by, from 1 to below that of the sum's side by the divisor; where there is none, the
+    /// side's own.
     pub lowered: Option<u32>,
+    /// Rows with multipliers of either sign. A row is one of the program, of a block too, or an earlier cut; the
+    /// program's rows have their own numbers, the link rows come behind them, then the cuts.
     pub rows: Items<(u32, i64)>,
+    /// The numbers of these variables, from 0; all others are measured from their lower ends.
     pub upper: Items<u32>,
 }
 
 /// A cut that is a price: an objective, its lower side, and a proof that shows it in the root's spans.
 #[derive(Drop)]
 pub struct PricedCut {
+    /// The left side of the cut, over variables of the program.
     pub objective: Items<Term>,
+    /// What the objective is at least, not scaled.
     pub low: i64,
+    /// A proof for this objective in place of the program's, with constant 0: it shows `low` at the root.
     pub proof: Proof,
 }
 

@@ -6,9 +6,13 @@ use std::alloc::{AllocError, Global};
 /// A row: coefficients of its variables, sense and sides.
 #[derive(Clone, Copy)]
 pub struct Line {
+    /// By place of the variable.
     pub coefs: [i64; 4],
+    /// Which sides bind.
     pub sense: Sense,
+    /// The lower side.
     pub low: i64,
+    /// The upper side.
     pub rhs: i64,
 }
 
@@ -16,11 +20,17 @@ pub struct Line {
 /// keep terms of coefficient 0. The span of a variable that is not there is that of 0, and its coefficients are 0.
 #[derive(Clone, Copy)]
 pub struct Problem {
+    /// How many variables count, up to 4.
     pub vars: usize,
+    /// How many rows count, up to 3.
     pub rows: usize,
+    /// By place of the variable: its span in the block.
     pub root: [Span; 4],
+    /// The rows, of which the first `rows` count.
     pub lines: [Line; 3],
+    /// By place of the variable: its span where the block is priced.
     pub zone: [Span; 4],
+    /// By place of the variable: what it costs where the block is priced; the block's own costs are 0.
     pub costs: [i128; 4],
 }
 
@@ -104,9 +114,13 @@ fn rows_of(alloc: Global, given: &[Given<'_>], vars: usize) -> Result<Items<Row>
 
 // Variables with their spans, their costs and their coefficients in master rows.
 struct Vars {
+    // By place: the variable of the copy.
     vars: Items<u32>,
+    // By place: its span at the root.
     spans: Items<Span>,
+    // By place: its own cost.
     costs: Items<i64>,
+    // By place: its coefficients in master rows, none here.
     masters: Items<Items<(u32, i64)>>,
 }
 

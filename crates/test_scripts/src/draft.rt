@@ -7,8 +7,11 @@ const BLOCK: u32 = 4096;
 /// A file whose lines are being read.
 #[derive(Drop)]
 pub struct Draft {
+    // What repeated lines are made by.
     alloc: Global,
+    /// The name of the file.
     pub name: String,
+    /// Its lines so far, each with its line feed.
     pub bytes: Vec<u8>,
     /// Whether the last line ends with a line feed.
     pub is_ended: bool,

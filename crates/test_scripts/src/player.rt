@@ -24,9 +24,13 @@ use std::alloc::{AllocError, Global};
 // A script in the midst of its lines.
 #[derive(Drop)]
 struct Player {
+    // What words and files are stored by.
     alloc: Global,
+    // The files and outputs of later commands.
     stage: Stage,
+    // The file that the next line belongs to; none where the next line is a command.
     draft: Option<Draft>,
+    // What the commands so far answered.
     told: Vec<u8>,
 }
 

@@ -14,15 +14,20 @@ const ROOM: usize = 1_000_000;
 /// A file that a script gave.
 #[derive(Drop)]
 struct Given {
+    // The name, which a later file may have too and then replaces it.
     name: String,
+    // The whole file.
     bytes: Vec<u8>,
 }
 
 /// What a command answered: the bytes that it printed, its status, and what the workers of a crew did, if one worked.
 #[derive(Drop)]
 pub struct Answer {
+    /// All bytes that it printed.
     pub report: Vec<u8>,
+    /// The exit status.
     pub status: u8,
+    /// The crew's events, in order; none without a crew.
     pub events: Vec<Event>,
 }
 
@@ -36,10 +41,15 @@ impl Answer {
 /// A shelf of files, with those that the script gave, and what the outputs of the commands are like.
 #[derive(Drop)]
 pub struct Stage {
+    // What files and answers are stored by.
     alloc: Global,
+    // The files that the script gave, in its order, to be put on each new shelf.
     given: Vec<Given>,
+    // The files as the commands so far left them.
     shelf: MemShelf,
+    // How many bytes each output takes.
     room: usize,
+    // The numbers of the puts that fail, from 1 in each run.
     failing: Vec<u64>,
 }
 

@@ -44,9 +44,13 @@ pub fn answer(alloc: Global, reading: Reading, text: &[u8]) -> Result<String, Al
 // A front of a text, a piece so many times, and what is behind.
 #[derive(Clone, Copy)]
 struct Part<'a> {
+    // How often the piece stands there.
     count: u32,
+    // What comes first; a bar in it is a line feed, and a `#` is 0.
     front: &'a str,
+    // What is repeated; a bar in it is a line feed, and a `#` the number of the turn, from 1.
     piece: &'a str,
+    // The rest of the line, which may begin with a further part.
     back: &'a str,
 }
 

@@ -13,10 +13,15 @@ use std::alloc::{AllocError, Global};
 /// A row: its terms, its sense, its sides, and its block.
 #[derive(Drop)]
 pub struct Line<'a> {
+    /// Variables, by numbers from 0, with their coefficients.
     pub terms: &'a [(u32, i64)],
+    /// Which sides bind.
     pub sense: Sense,
+    /// The lower side, `rhs` but at `In`.
     pub low: i64,
+    /// The upper side.
     pub rhs: i64,
+    /// The number of its block, from 0; none for a master row.
     pub block: Option<u32>,
 }
 

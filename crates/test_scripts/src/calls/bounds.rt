@@ -28,8 +28,11 @@ enum Pick {
 // A proof of a multiplier of the row and of picked blocks, with the words for it and for where it is tried.
 #[derive(Clone, Copy)]
 struct Case {
+    // The multiplier of the row `ROW`, at scale 1.
     mult: i64,
+    // The blocks that are priced over their points.
     pick: Pick,
+    // What stands in the answer.
     name: &'static str,
 }
 

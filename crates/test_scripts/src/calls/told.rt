@@ -6,8 +6,11 @@ use std::string::String;
 /// at their end.
 #[derive(Drop)]
 pub struct Told {
+    // What the digits of numbers are written by.
     alloc: Global,
+    // The lines so far, each with its line feed.
     bytes: Vec<u8>,
+    // Whether memory was short for a part.
     is_short: bool,
 }
 
