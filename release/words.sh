@@ -11,7 +11,7 @@ part_words() {
         shift
         case $word in
         --) places+=("$@") && return ;;
-        --blocks | --large) given[${word#--}]= ;;
+        --blocks | --classes | --large) given[${word#--}]= ;;
         --?*=*) name=${word%%=*} && given[${name#--}]=${word#*=} ;;
         --?*)
             given[${word#--}]=${1-}

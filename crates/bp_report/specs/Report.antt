@@ -6,7 +6,7 @@ use Rattle.block_class.specs.Classes.{Grouping}
 use Rattle.branch_tree.specs.declared.outcome.Outcome.{Outcome}
 use Rattle.report_lines.specs.Lines.{count_line}
 use Rattle.report_lines.specs.Searches.{ended_line, known_lines, budget_lines, outcome_lines, outcome_point}
-use Rattle.report_lines.specs.Blocks.{size_lines, class_lines, shown_blocks, first_classes, proposed_line}
+use Rattle.report_lines.specs.Blocks.{size_lines, class_lines, shown_blocks, first_classes, proposed_line, shown_firsts}
 
 -- ---- ended searches
 
@@ -39,8 +39,8 @@ abbrev pub show_report : BlockedProgram → Grouping → List ℕ
 show_report b g = size_lines b (length g.firsts) ++ class_lines b g
 
 -- the report on sizes and classes, followed by the lines of the blocks where they are wanted
-abbrev pub show_report_with : BlockedProgram → Grouping → (blocks : Bool) → List ℕ
-show_report_with b g blocks = show_report b g ++ (if blocks then shown_blocks b else [])
+abbrev pub show_report_with : BlockedProgram → Grouping → (blocks classes : Bool) → List ℕ
+show_report_with b g blocks classes = show_report b g ++ (if blocks then shown_blocks b else (if classes then shown_firsts b g else []))
 
 -- ---- texts that were made
 

@@ -24,7 +24,8 @@ pub fn ended_text(alloc: Global, m: &Model, best: Option<&[i64]>) -> Result<Vec<
 }
 
 /// The report of a search that was stopped after so many steps, with the least cost that it leaves open, and with the
-/// best point that it knows, where it knows one.
+/// best point that it knows, where it knows one. The cost is given as a minimised one, and told as a bound in the
+/// text's own sense.
 pub fn budget_text(
     alloc: Global,
     m: &Model,

@@ -6,8 +6,8 @@ ghost use Rattle.bp_report.specs.Report.{show_report, show_report_with, made_rep
 use block_class::Classes;
 use block_program::Blocked;
 use report_lines::{
-    first_classes, master_rows, push_blocks, push_classes, push_count_line, push_named,
-    push_proposed, push_sizes,
+    first_classes, master_rows, push_blocks, push_classes, push_count_line, push_firsts,
+    push_named, push_proposed, push_sizes,
 };
 use std::alloc::{AllocError, Global};
 
@@ -56,19 +56,22 @@ fn show_text(alloc: Global, b: &Blocked, root: &Classes) -> Result<Vec<u8>, Allo
 }
 
 /// The report on the sizes of a program in blocks and on the classes of its blocks at the root, and, where it is wanted, a
-/// line for each block with the names of its rows and of its variables.
+/// line for each block, or for the first block of each class, with the names of its rows and of its variables.
 pub fn show_blocks_text(
     alloc: Global,
     b: &Blocked,
     root: &Classes,
     blocks: bool,
+    classes: bool,
 ) -> Result<Vec<u8>, AllocError>
     requires { AreSameClasses b.now.named.program.spans b.now.blocking root.now }
-    ensures { IfOk result (λ text. text.items ≡ show_report_with b.now root.now blocks) }
+    ensures { IfOk result (λ text. text.items ≡ show_report_with b.now root.now blocks classes) }
 {
     let mut text = show_text(alloc, b, root)?;
     if blocks {
         push_blocks(alloc, &mut text, b)?;
+    } else if classes {
+        push_firsts(alloc, &mut text, b, root)?;
     }
     Ok(text)
 }

@@ -43,6 +43,7 @@ static SUBCOMMANDS: [Subcommand; 9] = [
             Argument::FileWord("lp"),
             Argument::FileOption("dec"),
             Argument::Flag("blocks"),
+            Argument::Flag("classes"),
             Argument::Flag("large"),
         ],
     },

@@ -98,7 +98,7 @@ needs name rows (Check given) has = by_name name rows (codes "check") has.0 (rec
   cert = record { text = given.cert; is = has.2 };
   lp = record { text = given.lp; is = has.1 };
 })
-needs name rows (Show lp dec blocks limits) has = by_name name rows (codes "show") has.0 (record { lp = record { text = lp; is = has.1 } })
+needs name rows (Show lp dec blocks classes limits) has = by_name name rows (codes "show") has.0 (record { lp = record { text = lp; is = has.1 } })
 needs name rows (Gen seed size lp dec) has = by_name name rows (codes "gen") has.0 (record {
   scale = record { seed = seed; size = size };
   is = record { seed = has.1; size = has.2 };

@@ -10,7 +10,7 @@ pub other_name : (name : Text) (rows : List Row) (order : Order) → name ≢ co
     → name ≢ codes "demo" → name ≢ codes "detect" → name ≢ codes "propose" → name ≢ codes "merge" → name ≢ codes "migrate" → HasValues name rows order → ⊥
 other_name name rows (Solve given) s c h g d t p m n has = s has.0
 other_name name rows (Check given) s c h g d t p m n has = c has.0
-other_name name rows (Show lp dec blocks limits) s c h g d t p m n has = h has.0
+other_name name rows (Show lp dec blocks classes limits) s c h g d t p m n has = h has.0
 other_name name rows (Gen seed size lp dec) s c h g d t p m n has = g has.0
 other_name name rows (Demo seed size) s c h g d t p m n has = d has.0
 other_name name rows (Detect lp list dec limits) s c h g d t p m n has = t has.0

@@ -116,7 +116,10 @@ show_checks = (
     record { wants = inl refl; plain = tt; passes = λ v e. refl },
     (
       record { wants = inr tt; plain = (refl, tt); passes = λ v e. refl },
-      (record { wants = inr tt; plain = (refl, tt); passes = λ v e. refl }, tt),
+      (
+        record { wants = inr tt; plain = (refl, tt); passes = λ v e. refl },
+        (record { wants = inr tt; plain = (refl, tt); passes = λ v e. refl }, tt),
+      ),
     ),
   ),
 )
@@ -319,12 +322,12 @@ show_states words e =
     let rows : List Row = rows_after show_level.rules [] words in
     let level = full_level good show_level words show_checks e in
     let lp = given_has good (codes "lp") rows (one_there (is_given (codes "lp") rows) level.1) level.0 in (
-      Show lp.0 (first_of (codes "dec") rows) (is_set (first_of (codes "blocks") rows)) (limits_of (first_of (codes "large") rows)),
+      Show lp.0 (first_of (codes "dec") rows) (is_set (first_of (codes "blocks") rows)) (is_set (first_of (codes "classes") rows)) (limits_of (first_of (codes "large") rows)),
       record {
         name = codes "show";
         rows = rows;
         subcommand = refl;
-        values = (refl, lp.1, refl, refl, refl);
+        values = (refl, lp.1, refl, refl, refl, refl);
       },
     )
 

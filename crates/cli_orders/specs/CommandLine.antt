@@ -27,6 +27,10 @@ from_option = record (new_rule (codes "from")) { long = Some (codes "from") }
 abbrev pub blocks_flag : Rule
 blocks_flag = record (new_rule (codes "blocks")) { long = Some (codes "blocks"); action = Some SetTrue }
 
+-- whether one block of each class is listed, by `--classes`
+abbrev pub classes_flag : Rule
+classes_flag = record (new_rule (codes "classes")) { long = Some (codes "classes"); action = Some SetTrue }
+
 -- whether the large limits are asked for, by `--large`
 abbrev pub large_flag : Rule
 large_flag = record (new_rule (codes "large")) { long = Some (codes "large"); action = Some SetTrue }
@@ -115,9 +119,9 @@ solve_words = record (new_shape (codes "solve")) {
 abbrev pub check_words : Shape
 check_words = record (new_shape (codes "check")) { rules = lp_word ∷ cert_word ∷ dec_option ∷ visits_option ∷ large_flag ∷ [] }
 
--- `show LP [--dec FILE] [--blocks] [--large]`
+-- `show LP [--dec FILE] [--blocks] [--classes] [--large]`
 abbrev pub show_words : Shape
-show_words = record (new_shape (codes "show")) { rules = lp_word ∷ dec_option ∷ blocks_flag ∷ large_flag ∷ [] }
+show_words = record (new_shape (codes "show")) { rules = lp_word ∷ dec_option ∷ blocks_flag ∷ classes_flag ∷ large_flag ∷ [] }
 
 -- `gen SEED SIZE LP DEC`
 abbrev pub gen_words : Shape

@@ -67,9 +67,9 @@ HasValues name rows (Check given) =
     (name ≡ codes "check") × (first_of (codes "lp") rows ≡ Some given.lp) × (first_of (codes "cert") rows ≡ Some given.cert)
     × (first_of (codes "dec") rows ≡ given.dec) × MayHaveNumber (first_of (codes "visits") rows) 0 most_visits given.visits
     × (limits_of (first_of (codes "large") rows) ≡ given.limits)
-HasValues name rows (Show lp dec blocks limits) =
+HasValues name rows (Show lp dec blocks classes limits) =
     (name ≡ codes "show") × (first_of (codes "lp") rows ≡ Some lp) × (first_of (codes "dec") rows ≡ dec)
-    × (is_set (first_of (codes "blocks") rows) ≡ blocks) × (limits_of (first_of (codes "large") rows) ≡ limits)
+    × (is_set (first_of (codes "blocks") rows) ≡ blocks) × (is_set (first_of (codes "classes") rows) ≡ classes) × (limits_of (first_of (codes "large") rows) ≡ limits)
 HasValues name rows (Gen seed size lp dec) =
     (name ≡ codes "gen") × HasNumber (first_of (codes "seed") rows) 0 most_seed seed
     × HasNumber (first_of (codes "size") rows) 1 most_size size × (first_of (codes "lp") rows ≡ Some lp)
@@ -99,7 +99,7 @@ IsInRange (Solve given) =
     × IfSome given.leaf (λ n. (1 ≤ n) × IsSome given.from × (given.workers ≡ None) × (given.order ≡ None))
     × (given.cuts ≤ most_cuts)
 IsInRange (Check given) = Unit {0}
-IsInRange (Show lp dec blocks limits) = Unit {0}
+IsInRange (Show lp dec blocks classes limits) = Unit {0}
 IsInRange (Gen seed size lp dec) = (1 ≤ size) × (size ≤ most_size)
 IsInRange (Demo seed size) = (1 ≤ size) × (size ≤ most_size)
 IsInRange (Detect lp list dec limits) = Unit {0}

@@ -81,6 +81,8 @@ pub enum Order {
         dec: Option<Text>,
         /// Whether each block is listed.
         blocks: bool,
+        /// Whether the first block of each class is listed, where not all are.
+        classes: bool,
         /// The limits that the model keeps.
         limits: Limits,
     },

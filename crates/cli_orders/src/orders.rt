@@ -38,11 +38,13 @@ pub fn show_order(alloc: Global, show: &ArgMatches) -> Result<Order, WordFault>
         (order : Order) → HasValues (codes "show") (rows_of (found_of show.now)) order → ⊥ }
 {
     let blocks = flag(show, "blocks");
+    let classes = flag(show, "classes");
     let Problem { lp, dec } = problem_of(alloc, show)?;
     Ok(Order::Show {
         lp,
         dec,
         blocks,
+        classes,
         limits: limits_of(show),
     })
 }

@@ -123,9 +123,13 @@ fn read_on<F: Shelf>(shelf: &mut F, name: &str, at: u64, into: &mut [u8]) -> Opt
 // the line that the next byte stands on, and what is found of it.
 #[derive(Drop)]
 struct Line {
+    // The number of the line, from 1.
     number: u64,
+    // The most of its bytes that are kept.
     most: usize,
+    // The number of the line that the next byte stands on, from 1; past `number` the line is whole.
     here: u64,
+    // Its first bytes so far, without the line feed.
     front: Vec<u8>,
 }
 

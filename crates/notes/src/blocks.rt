@@ -47,15 +47,20 @@ enum Part {
 /// A word of a text: the slice `from..to`.
 #[derive(Clone, Copy)]
 pub struct Word {
+    /// Where its first byte stands, from 0.
     pub from: usize,
+    /// One place behind its last byte.
     pub to: usize,
 }
 
 /// A fault: the key of its sentence, its word, and what is expected there.
 #[derive(Clone, Copy)]
 pub struct Wrong {
+    /// The kind of the fault, as a line of `DEC` or `ROWS` in `kinds.rt` begins.
     pub key: &'static str,
+    /// The word at fault, the first in the text.
     pub word: Word,
+    /// What may stand in the word's place; of use at the key `syntax` alone.
     pub expected: &'static str,
 }
 
@@ -63,16 +68,27 @@ pub struct Wrong {
 // next word is the first of its line and may be a keyword, how many bytes are passed over, and what was said before.
 #[derive(Drop)]
 struct Reader {
+    // What the names of listed rows are stored by.
     alloc: Global,
+    // Whether the text is a list of rows; else it is a decomposition.
     list: bool,
+    // The greatest number behind NBLOCKS, by the limits of the model.
     most_blocks: u64,
+    // Whether the next word is the first of its line, and may be a keyword; never so in a list of rows.
     fresh: bool,
+    // How many of the next bytes belong to the word or comment at hand, and are passed over.
     skip: usize,
+    // What the next word is, unless it is a keyword.
     part: Part,
+    // Whether PRESOLVED came, which comes at most once.
     presolved: bool,
+    // Whether NBLOCKS came, which comes at most once, and before blocks are named.
     counted: bool,
+    // Whether CONSDEFAULTMASTER came, which comes at most once.
     defaulted: bool,
+    // The number behind NBLOCKS, 0 before.
     blocks: u64,
+    // The names of the rows that were listed, each at most once.
     listed: BTreeSet<Vec<u8>>,
 }
 

@@ -15,9 +15,14 @@ use std::str;
 // A refusal: the name of the file that was read last, the line and the kind of the report, and the limits of the run.
 #[derive(Clone, Copy)]
 struct Refusal<'a> {
+    // The file at fault, by the name that the words of the run have.
     name: &'a str,
+    // The number of the line, from 1, as the report has it: "0" where a text is refused as a whole, "" where the report
+    // names no line, and for a leaf its number.
     line: &'a str,
+    // The word by which the sentence is found, as `row-twice`.
     kind: &'a str,
+    // The limits of the run: those of the texts that are read again, and of the sentences.
     limits: Limits,
 }
 

@@ -22,11 +22,17 @@ const ENDLESS_DIGITS: i64 = 21;
 // A number's digits without the zeros at its ends, and where they stand.
 #[derive(Clone, Copy)]
 struct Digits {
+    // The digits from the first to the last that is not 0, as long as they fit.
     value: u64,
+    // Whether `value` lacks some of them, since all do not fit.
     past: bool,
+    // How many they are, zeros among them included; 0 where no digit but 0 came.
     count: i64,
+    // How many zeros came behind them.
     zeros: i64,
+    // How many digits came behind the point, zeros included.
     places: i64,
+    // Whether the point came.
     point: bool,
 }
 

@@ -9,10 +9,15 @@ use std::alloc::{AllocError, Global};
 /// expected in the token's place, or nothing.
 #[derive(Clone, Copy)]
 pub struct Spot {
+    /// The column of the token's first byte, from 1, in bytes.
     pub column: u64,
+    /// Where the token begins in the text, from 0.
     pub from: usize,
+    /// One place behind its last byte.
     pub to: usize,
+    /// The key of the sentence, as a line of `LP`, `DEC` or `ROWS` in `kinds.rt` begins.
     pub key: &'static str,
+    /// What is expected in the token's place; empty but at the key `syntax`.
     pub expected: &'static str,
 }
 

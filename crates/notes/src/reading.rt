@@ -45,32 +45,44 @@ const MARKS: [(&str, Symbol); 10] = [
 /// A row: the token that it begins with, and whether that is its name.
 #[derive(Clone, Copy)]
 pub struct Row {
+    /// The number of its first token, from 0.
     pub token: usize,
+    /// Whether the row has a name; one without is called `c` and its number, from 1.
     pub labelled: bool,
 }
 
 /// A variable: the token where it occurs first, and its bounds so far.
 #[derive(Clone, Copy)]
 pub struct Variable {
+    /// The number of the token where it occurs first, from 0.
     pub token: usize,
+    /// The lower bound so far: 0 where nothing is said, `-i64::MAX` where there is none.
     pub lower: i64,
+    /// The upper bound so far: `i64::MAX` where nothing is said or there is none.
     pub upper: i64,
+    /// Whether it is under generals or binaries, and so is whole.
     pub listed: bool,
+    /// Whether it is under binaries: its bounds are cut to 0 and 1 once all are read.
     pub binary: bool,
 }
 
 /// A fault: the key of its sentence, and its token, where it has one.
 #[derive(Clone, Copy)]
 pub struct Found {
+    /// The key of its sentence, as a line of `LP` in `kinds.rt` begins.
     pub key: &'static str,
+    /// The number of its token, from 0; none where the text ends too early.
     pub token: Option<usize>,
 }
 
 // A bound that is being read.
 #[derive(Clone, Copy)]
 struct Open {
+    // Whether the signs before the next value are negative together.
     negative: bool,
+    // The last value, with its sign; `i64::MAX` in size where it is endless.
     value: i64,
+    // The variable that occurred last, by its number.
     variable: usize,
 }
 
@@ -79,18 +91,31 @@ struct Open {
 /// and where the grammar stands.
 #[derive(Drop)]
 pub struct Reading {
+    // What names and numbers are stored by.
     alloc: Global,
+    // The limits of the run, usual or large.
     limits: Limits,
+    // All tokens of the text, those behind the fault too.
     tokens: Vec<Tok>,
+    // The rows so far, in the order of the text.
     rows: Vec<Row>,
+    // The names that rows are given.
     labels: BTreeSet<Vec<u8>>,
+    // Each N for which a row is given the name `cN`: row N must then have a name of its own.
     numbers: BTreeSet<u64>,
+    // The variables so far, in the order in which they occur first.
     variables: Vec<Variable>,
+    // The number of each variable, by its name.
     places: BTreeMap<Vec<u8>, usize>,
+    // How many terms came in the objective and in rows.
     terms: u32,
+    // The state before the next token, or before the one at fault.
     state: State,
+    // The direction of the last comparison, which the second one of a row or bound must share.
     sense: Sense,
+    // The bound at hand, or what is left of the last one.
     open: Open,
+    // The first fault; none as long as there is none.
     found: Option<Found>,
 }
 

@@ -11,7 +11,9 @@ const DIGITS: [u8; 16] = *b"0123456789abcdef";
 /// A note that is being written. Where memory is wanting for a piece, the note goes on without it, and fails at its end.
 #[derive(Drop)]
 pub struct Note {
+    // What is written so far.
     text: Vec<u8>,
+    // Whether memory was wanting for a piece.
     lacks: bool,
 }
 
@@ -119,7 +121,9 @@ impl Note {
 /// Sentences, each of a kind: lines of a kind, ` @ ` and its sentence; and those that are others under the large limits.
 #[derive(Clone, Copy)]
 pub struct Sentences {
+    /// One sentence for each kind; `%` in it stands for the token at fault.
     pub usual: &'static str,
+    /// Only the kinds whose sentence differs under the large limits; for all others that of `usual` holds.
     pub large: &'static str,
 }
 

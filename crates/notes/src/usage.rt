@@ -8,9 +8,13 @@ const KIT: &str = "rattle-kit-13f, logic dac8208d650f15bf";
 // A command: its name, the words that it wants, the options that it takes, and what it does.
 #[derive(Clone, Copy)]
 struct Command {
+    // The first word behind the program's name.
     name: &'static str,
+    // The words that it wants, in order, with a space between them; one that `NUMBERS` has stands for a number.
     places: &'static str,
+    // The options that it takes, by their names in `OPTIONS`.
     options: &'static [&'static str],
+    // What the usage says behind the words.
     does: &'static str,
 }
 
@@ -40,7 +44,7 @@ const COMMANDS: [Command; 9] = [
     Command {
         name: "show",
         places: "LP",
-        options: &["--dec", "--blocks", "--large"],
+        options: &["--dec", "--blocks", "--classes", "--large"],
         does: "the blocks, and which are identical",
     },
     Command {
@@ -84,12 +88,15 @@ const COMMANDS: [Command; 9] = [
 // An option: its name, its value or nothing, and what it means.
 #[derive(Clone, Copy)]
 struct Choice {
+    // Its name with the two dashes.
     name: &'static str,
+    // What the usage calls its value: a number where `NUMBERS` has the name. Empty where the option takes none.
     value: &'static str,
+    // What the usage says behind the value; it begins with the spaces that align it.
     means: &'static str,
 }
 
-const OPTIONS: [Choice; 11] = [
+const OPTIONS: [Choice; 12] = [
     Choice {
         name: "--dec",
         value: "DEC",
@@ -141,6 +148,11 @@ const OPTIONS: [Choice; 11] = [
         means: "      tell the rows and variables of each block",
     },
     Choice {
+        name: "--classes",
+        value: "",
+        means: "     tell them of the first block of each class",
+    },
+    Choice {
         name: "--large",
         value: "",
         means: "       read models of up to 524288 variables, not 4096",
@@ -171,8 +183,11 @@ const WIDTH: usize = 28;
 // awaited.
 #[derive(Drop)]
 struct Reach {
+    // Whether `--` came: no word behind it is an option.
     ended: bool,
+    // How many words were no options: the next such word is the one of this number, from 0, of the command's `places`.
     places: usize,
+    // The option whose value the next word is; none where it is no value.
     awaits: Option<Choice>,
 }
 

@@ -69,6 +69,10 @@ shown_block b block =
     ++ counted_names (codes " rows ") b.named.row_names (rows_of_block b.dec.places block)
     ++ counted_names (codes " variables ") b.named.names (map (λ (c : Copy). c.var) (block_at b.blocking block).copies) ++ codes "\n"
 
+-- the lines of the first blocks of all classes
+abbrev pub shown_firsts : BlockedProgram → Grouping → List ℕ
+shown_firsts b g = flat_map (λ class. shown_block b (class_at g.firsts class)) (range_with_len 0 (length g.firsts))
+
 -- the lines of all blocks
 abbrev pub shown_blocks : BlockedProgram → List ℕ
 shown_blocks b = flat_map (shown_block b) (range_with_len 0 (length b.blocking.blocks))

@@ -4,9 +4,11 @@ ghost use Rattle.std.specs.List.{range_with_len};
 ghost use Rattle.bp_theory.specs.Blocking.{Copy};
 ghost use Rattle.bp_theory.specs.Decomposition.{IsPlace, is_block};
 ghost use Rattle.search_laws.specs.Spread.{block_at};
-ghost use Rattle.report_lines.specs.Blocks.{rows_of_block, counted_names, shown_block, shown_blocks};
+ghost use Rattle.report_lines.specs.Blocks.{rows_of_block, counted_names, shown_block, shown_blocks, shown_firsts};
+ghost use Rattle.block_class.specs.Classes.{AreSameClasses};
 
 use crate::push_named;
+use block_class::Classes;
 use block_program::Blocked;
 use bp_model::Model;
 use bp_theory::Items;
@@ -19,6 +21,24 @@ pub fn push_blocks(alloc: Global, text: &mut Vec<u8>, b: &Blocked) -> Result<(),
     let rows = all_rows(alloc, b)?;
     for block in 0..b.blocks() {
         push_block(text, b, block, rows[block as usize].as_slice())?;
+    }
+    Ok(())
+}
+
+/// The lines of the first blocks of all classes.
+pub fn push_firsts(
+    alloc: Global,
+    text: &mut Vec<u8>,
+    b: &Blocked,
+    root: &Classes,
+) -> Result<(), AllocError>
+    requires { AreSameClasses b.now.named.program.spans b.now.blocking root.now }
+    ensures { OnOk result (text.new.items ≡ text.old.items ++ shown_firsts b.now root.now) }
+{
+    let rows = all_rows(alloc, b)?;
+    for class in 0..root.len() {
+        let first = root.first(class);
+        push_block(text, b, first, rows[first as usize].as_slice())?;
     }
     Ok(())
 }

@@ -8,7 +8,7 @@ mod lines;
 mod searches;
 mod sizes;
 
-pub use blocks::push_blocks;
+pub use blocks::{push_blocks, push_firsts};
 pub use kinds::{cert_kind_name, check_kind_name, dec_kind_name, lp_kind_name, rows_kind_name};
 pub use lines::{
     fault_text, push_count, push_count_line, push_fault, push_named, push_value, push_value_line,

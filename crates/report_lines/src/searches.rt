@@ -66,7 +66,8 @@ pub fn push_ended(text: &mut Vec<u8>, m: &Model, best: Option<&[i64]>) -> Result
     }
 }
 
-/// The first lines on a search that was stopped.
+/// The first lines on a search that was stopped. The bound is given as a minimised cost, and told as a value in the
+/// text's own sense.
 pub fn push_budget(
     text: &mut Vec<u8>,
     m: &Model,
@@ -129,7 +130,7 @@ fn value(m: &Model, point: &[i64]) -> i128
     in_sense(m.maximises(), &cost)
 }
 
-/// A cost as a value in the text's own sense.
+/// A minimised cost as a value in the text's own sense: negated where the text maximises.
 pub fn in_sense(maximises: bool, cost: &i64) -> i128
     ensures { result ≡ in_sense maximises cost.now }
 {

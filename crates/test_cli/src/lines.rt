@@ -248,11 +248,13 @@ fn short(alloc: Global, order: &Order) -> Result<String, AllocError> {
             lp,
             dec,
             blocks,
+            classes,
             limits,
         } => {
             let blocks = if *blocks { "blocks" } else { "-" };
+            let classes = if *classes { " classes" } else { "" };
             format!(in alloc;
-                "show {} {} {blocks}{}",
+                "show {} {} {blocks}{classes}{}",
                 lp.as_str(),
                 name(dec),
                 sign(limits)

@@ -18,7 +18,7 @@ const CASES: &str = "\
 - @ 2 refused words @ - @ - @ usage: bprice COMMAND ..|  solve LP [..]             a best point, and a certificate of it|  check LP CERT [..]        whether*
 --help @ 2 refused words @ - @ - @ usage: bprice COMMAND ..|*
 help demo @ 2 refused words @ - @ - @ usage: bprice demo SEED SIZE|  makes one in memory, solves it, checks that|
-help show @ 2 refused words @ - @ - @ usage: bprice show LP [--dec DEC] [--blocks] [--large]|  the blocks, and which are identical|  --dec DEC      the decomposition of the model, as GCG DEC text|  --blocks       tell the rows and variables of each block|  --large        read models of up to 524288 variables, not 4096|
+help show @ 2 refused words @ - @ - @ usage: bprice show LP [--dec DEC] [--blocks] [--classes] [--large]|  the blocks, and which are identical|  --dec DEC      the decomposition of the model, as GCG DEC text|  --blocks       tell the rows and variables of each block|  --classes      tell them of the first block of each class|  --large        read models of up to 524288 variables, not 4096|
 check -h @ 2 refused words @ - @ - @ usage: bprice check LP CERT [--dec DEC] [--visits M] [--large]|  whether a certificate is valid|*
 --version @ 2 refused words @ - @ - @ bprice, proved with rattle-kit-13f, logic dac8208d650f15bf|
 prove m.lp @ 2 refused words @ - @ - @ bprice: 'prove' is no command; the first word is one of solve check show propose detect merge migrate gen demo|usage: bprice COMMAND .., and bprice --help tells more|
@@ -30,7 +30,7 @@ check m.lp c --dec --dec d @ 2 refused words @ - @ - @ bprice: --dec wants a val
 check m.lp c --dec=d --dec e @ 2 refused words @ - @ - @ bprice: --dec is given twice; keep one of the two|usage: bprice check LP CERT [--dec DEC] [--visits M] [--large]|
 check m.lp c --decs d @ 2 refused words @ - @ - @ bprice: '--decs' is no option of check; a file of that name goes behind --|usage: bprice check LP CERT [--dec DEC] [--visits M] [--large]|
 check m.lp c --visits x @ 2 refused words @ - @ - @ bprice: M is a whole number from 0 to 18446744073709551615, and not 'x'|usage: bprice check LP CERT [--dec DEC] [--visits M] [--large]|
-show m.lp --blocks=1 @ 2 refused words @ - @ - @ bprice: --blocks takes no value|usage: bprice show LP [--dec DEC] [--blocks] [--large]|
+show m.lp --blocks=1 @ 2 refused words @ - @ - @ bprice: --blocks takes no value|usage: bprice show LP [--dec DEC] [--blocks] [--classes] [--large]|
 solve --steps=1.5 m.lp @ 2 refused words @ - @ - @ bprice: N is a whole number from 0 to 1152921504606846976, and not '1.5'|*
 solve m.lp --cuts 257 @ 2 refused words @ - @ - @ bprice: C is a whole number from 0 to 256, and not '257'|usage: bprice solve LP [--dec DEC] [--steps N] [--cert CERT] [--from FILE] [--leaf K] [--workers W] [--order SEED] [--cuts C] [--large]|
 solve m.lp --workers 65 @ 2 refused words @ - @ - @ bprice: W is a whole number from 1 to 64, and not '65'|*
@@ -90,10 +90,15 @@ solve m.lp --from o @ 3 refused from 9 depth @ Max @ bpcert 1| @ o:9: depth: the
 // A case.
 #[derive(Clone, Copy)]
 struct Case<'a> {
+    // The words behind the program's name, with spaces between them; a dash where there are none.
     words: &'a str,
+    // The status, and behind a space the first line of the report.
     ended: &'a str,
+    // The text of `m.lp`, with a bar for each line feed; a dash where it can't be read.
     first: &'a str,
+    // The text of `o`, in the same way; a dash where it isn't read.
     other: &'a str,
+    // The note that is wanted, or its beginning and a star.
     note: &'a str,
 }
 

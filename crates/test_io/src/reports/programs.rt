@@ -157,7 +157,7 @@ fn proposed(alloc: Global, b: &Blocked) -> Result<Vec<u8>, AllocError> {
 // The report on its sizes and blocks.
 fn shown(alloc: Global, b: &Blocked) -> Result<Vec<u8>, AllocError> {
     let root = root_classes(alloc, b)?;
-    show_blocks_text(alloc, b, &root, true)
+    show_blocks_text(alloc, b, &root, true, false)
 }
 
 // The classes of a program in blocks at the root.

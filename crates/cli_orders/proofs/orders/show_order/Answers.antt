@@ -12,4 +12,4 @@ returns-in_err-lp-clause-refused c = λ e order has.
 pub returns-clause-order : goal.returns-clause-order
 returns-clause-order c =
     let problem = c.in_ok-lp.ensures.files in
-    (refl, problem.lp, problem.dec, sym c.flag-blocks.ensures, sym c.limits_of.ensures)
+    (refl, problem.lp, problem.dec, sym c.flag-blocks.ensures, sym c.flag-classes.ensures, sym c.limits_of.ensures)

@@ -16,11 +16,11 @@ pub returns : goal.returns
 returns g c =
     let files = g.F.Shelf.file c.args.shelf.now in
     let dec = option_map (λ name. name.now) c.args.sources.dec in
-    let end = readers_end (AnswersShow c.args.sources.limits files c.args.sources.lp.now dec c.args.blocks) (g.F.Shelf.file c.shown-answer.new.shelf ≡ files) c.shown-answer.result c.reply_or_status.result
+    let end = readers_end (AnswersShow c.args.sources.limits files c.args.sources.lp.now dec c.args.blocks c.args.classes) (g.F.Shelf.file c.shown-answer.new.shelf ≡ files) c.shown-answer.result c.reply_or_status.result
     (g.F.Shelf.tells c.args.shelf.now) (g.F.Shelf.read_faults c.args.shelf.now) (g.F.Shelf.read_faults c.shown-answer.new.shelf) (g.F.Shelf.write_faults c.args.shelf.now)
     (g.F.Shelf.write_faults c.shown-answer.new.shelf) c.finish.result.status c.finish.result.lost (g.O.Sink.tells c.args.out.now) (g.O.Sink.taken c.args.out.now) (g.O.Sink.taken c.finish.new.out)
     (g.O.Sink.faults c.args.out.now) (g.O.Sink.faults c.finish.new.out) (g.O.Sink.puts c.args.out.now) (g.O.Sink.puts c.finish.new.out) c.reply_or_status.ensures
-    (one_answer c.args.sources.limits files c.args.sources.lp.now dec c.args.blocks) c.shown-answer.ensures.right c.shown-answer.ensures.statuses c.shown-answer.ensures.cause c.shown-answer.ensures.writes c.shown-answer.ensures.files
+    (one_answer c.args.sources.limits files c.args.sources.lp.now dec c.args.blocks c.args.classes) c.shown-answer.ensures.right c.shown-answer.ensures.statuses c.shown-answer.ensures.cause c.shown-answer.ensures.writes c.shown-answer.ensures.files
     c.finish.ensures.ends in
     record {
       answered = end.ends.answered;
