@@ -36,7 +36,7 @@ solved words files kept status tells before now answers heard = λ order is. by 
     by : (order : Order) → AnswersBy (AnswersOrder order files kept) status tells before now → SolvesTruly order files kept status before now
     by (Solve given) right = solves_truly given.limits files given.lp given.dec given.steps given.from given.leaf given.cuts kept status tells before now right heard
     by (Check given) right = tt
-    by (Show lp dec blocks limits) right = tt
+    by (Show lp dec blocks classes limits) right = tt
     by (Gen seed size lp dec) right = tt
     by (Demo seed size) right = tt
     by (Detect lp list dec limits) right = tt
@@ -53,7 +53,7 @@ accepts words files kept status tells before now known answers = λ order is. by
         (subst (λ (from : Option (List ℕ)). AnswersBy (AnswersSolve given.limits files given.lp None given.steps from given.leaf given.cuts kept) status tells before now) anew
         (subst (λ (dec : Option (List ℕ)). AnswersBy (AnswersSolve given.limits files given.lp dec given.steps given.from given.leaf given.cuts kept) status tells before now) plain right))
     by (Check given) right = tt
-    by (Show lp dec blocks limits) right = tt
+    by (Show lp dec blocks classes limits) right = tt
     by (Gen seed size lp dec) right = tt
     by (Demo seed size) right = tt
     by (Detect lp list dec limits) right = tt
@@ -69,7 +69,7 @@ decomposes words files kept status tells before now known answers = λ order is.
     by (Solve given) right = λ anew. solves_decomposed given.limits files given.lp given.dec given.steps given.leaf given.cuts kept status tells before now known
         (subst (λ (from : Option (List ℕ)). AnswersBy (AnswersSolve given.limits files given.lp given.dec given.steps from given.leaf given.cuts kept) status tells before now) anew right)
     by (Check given) right = tt
-    by (Show lp dec blocks limits) right = tt
+    by (Show lp dec blocks classes limits) right = tt
     by (Gen seed size lp dec) right = tt
     by (Demo seed size) right = tt
     by (Detect lp list dec limits) right = tt
@@ -91,7 +91,7 @@ certifies words files left kept status written = λ order is. by order kept (wri
     by : (order : Order) (k : Option Outcome) → HasWritten order files left k status → WritesCertificate order left k
     by (Solve given) k has = saved given given.cert k has.0 has.1
     by (Check given) k has = tt
-    by (Show lp dec blocks limits) k has = tt
+    by (Show lp dec blocks classes limits) k has = tt
     by (Gen seed size lp dec) k has = tt
     by (Demo seed size) k has = tt
     by (Detect lp list dec limits) k has = tt
@@ -106,7 +106,7 @@ checked words files kept status tells before now answers heard = λ order is. by
     by : (order : Order) → AnswersBy (AnswersOrder order files kept) status tells before now → ChecksTruly order files status before now
     by (Solve given) right = tt
     by (Check given) right = λ zero. checks_truly given.limits files given.lp given.cert given.dec given.visits status tells before now (λ a b c. let answer = right a b c in (answer.0, answer.1.1, answer.2)) heard zero
-    by (Show lp dec blocks limits) right = tt
+    by (Show lp dec blocks classes limits) right = tt
     by (Gen seed size lp dec) right = tt
     by (Demo seed size) right = tt
     by (Detect lp list dec limits) right = tt

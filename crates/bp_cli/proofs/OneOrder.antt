@@ -78,8 +78,8 @@ checks_of a b c d e f i k l m p q r s t = rw (p, q, r, s, t) refl
 checks : (a b : CheckOrder) → a.lp ≡ b.lp → a.cert ≡ b.cert → a.dec ≡ b.dec → a.visits ≡ b.visits → a.limits ≡ b.limits → Check a ≡ Check b
 checks a b p q r s t = checks_of a.lp b.lp a.cert b.cert a.dec b.dec a.visits b.visits a.limits b.limits p q r s t
 
-shows : (a b : Text) (c d : Option Text) (i j : Bool) (k l : Limits) → a ≡ b → c ≡ d → i ≡ j → k ≡ l → Show a c i k ≡ Show b d j l
-shows a b c d i j k l p q r s = rw (p, q, r, s) refl
+shows : (a b : Text) (c d : Option Text) (i j m n : Bool) (k l : Limits) → a ≡ b → c ≡ d → i ≡ j → m ≡ n → k ≡ l → Show a c i m k ≡ Show b d j n l
+shows a b c d i j m n k l p q r s t = rw (p, q, r, s, t) refl
 
 makes : (i j k l : ℕ) (a b c d : Text) → i ≡ j → k ≡ l → a ≡ b → c ≡ d → Gen i k a c ≡ Gen j l b d
 makes i j k l a b c d p q r s = rw (p, q, r, s) refl
@@ -116,7 +116,7 @@ one_stated name rows (Solve a) (Solve b) x y =
     (may_be_one (first_of (codes "order") rows) 0 most_seed a.order b.order x.8 y.8)
     (one_count (first_of (codes "cuts") rows) most_cuts a.cuts b.cuts x.10 y.10) (sym x.11 ∙ y.11)
 one_stated name rows (Solve a) (Check e) x y = apart name (codes "solve") (codes "check") x.0 y.0 refl refl
-one_stated name rows (Solve a) (Show e f g h) x y = apart name (codes "solve") (codes "show") x.0 y.0 refl refl
+one_stated name rows (Solve a) (Show e f g h s) x y = apart name (codes "solve") (codes "show") x.0 y.0 refl refl
 one_stated name rows (Solve a) (Gen e f g h) x y = apart name (codes "solve") (codes "gen") x.0 y.0 refl refl
 one_stated name rows (Solve a) (Demo e f) x y = apart name (codes "solve") (codes "demo") x.0 y.0 refl refl
 one_stated name rows (Solve a) (Detect e f g h) x y = apart name (codes "solve") (codes "detect") x.0 y.0 refl refl
@@ -127,27 +127,27 @@ one_stated name rows (Check a) (Solve e) x y = apart name (codes "check") (codes
 one_stated name rows (Check a) (Check b) x y =
     checks a b (one_value (first_of (codes "lp") rows) a.lp b.lp x.1 y.1) (one_value (first_of (codes "cert") rows) a.cert b.cert x.2 y.2)
     (one_given (first_of (codes "dec") rows) a.dec b.dec x.3 y.3) (may_be_one (first_of (codes "visits") rows) 0 most_visits a.visits b.visits x.4 y.4) (sym x.5 ∙ y.5)
-one_stated name rows (Check a) (Show e f g h) x y = apart name (codes "check") (codes "show") x.0 y.0 refl refl
+one_stated name rows (Check a) (Show e f g h s) x y = apart name (codes "check") (codes "show") x.0 y.0 refl refl
 one_stated name rows (Check a) (Gen e f g h) x y = apart name (codes "check") (codes "gen") x.0 y.0 refl refl
 one_stated name rows (Check a) (Demo e f) x y = apart name (codes "check") (codes "demo") x.0 y.0 refl refl
 one_stated name rows (Check a) (Detect e f g h) x y = apart name (codes "check") (codes "detect") x.0 y.0 refl refl
 one_stated name rows (Check a) (Propose e f g) x y = apart name (codes "check") (codes "propose") x.0 y.0 refl refl
 one_stated name rows (Check a) (Merge e) x y = apart name (codes "check") (codes "merge") x.0 y.0 refl refl
 one_stated name rows (Check a) (Migrate e f g h j) x y = apart name (codes "check") (codes "migrate") x.0 y.0 refl refl
-one_stated name rows (Show a b c d) (Solve e) x y = apart name (codes "show") (codes "solve") x.0 y.0 refl refl
-one_stated name rows (Show a b c d) (Check e) x y = apart name (codes "show") (codes "check") x.0 y.0 refl refl
-one_stated name rows (Show a b c d) (Show e f g h) x y =
-    shows a e b f c g d h (one_value (first_of (codes "lp") rows) a e x.1 y.1) (one_given (first_of (codes "dec") rows) b f x.2 y.2)
-    (sym x.3 ∙ y.3) (sym x.4 ∙ y.4)
-one_stated name rows (Show a b c d) (Gen e f g h) x y = apart name (codes "show") (codes "gen") x.0 y.0 refl refl
-one_stated name rows (Show a b c d) (Demo e f) x y = apart name (codes "show") (codes "demo") x.0 y.0 refl refl
-one_stated name rows (Show a b c d) (Detect e f g h) x y = apart name (codes "show") (codes "detect") x.0 y.0 refl refl
-one_stated name rows (Show a b c d) (Propose e f g) x y = apart name (codes "show") (codes "propose") x.0 y.0 refl refl
-one_stated name rows (Show a b c d) (Merge e) x y = apart name (codes "show") (codes "merge") x.0 y.0 refl refl
-one_stated name rows (Show a b c d) (Migrate e f g h j) x y = apart name (codes "show") (codes "migrate") x.0 y.0 refl refl
+one_stated name rows (Show a b c d s) (Solve e) x y = apart name (codes "show") (codes "solve") x.0 y.0 refl refl
+one_stated name rows (Show a b c d s) (Check e) x y = apart name (codes "show") (codes "check") x.0 y.0 refl refl
+one_stated name rows (Show a b c d s) (Show e f g h t) x y =
+    shows a e b f c g d h s t (one_value (first_of (codes "lp") rows) a e x.1 y.1) (one_given (first_of (codes "dec") rows) b f x.2 y.2)
+    (sym x.3 ∙ y.3) (sym x.4 ∙ y.4) (sym x.5 ∙ y.5)
+one_stated name rows (Show a b c d s) (Gen e f g h) x y = apart name (codes "show") (codes "gen") x.0 y.0 refl refl
+one_stated name rows (Show a b c d s) (Demo e f) x y = apart name (codes "show") (codes "demo") x.0 y.0 refl refl
+one_stated name rows (Show a b c d s) (Detect e f g h) x y = apart name (codes "show") (codes "detect") x.0 y.0 refl refl
+one_stated name rows (Show a b c d s) (Propose e f g) x y = apart name (codes "show") (codes "propose") x.0 y.0 refl refl
+one_stated name rows (Show a b c d s) (Merge e) x y = apart name (codes "show") (codes "merge") x.0 y.0 refl refl
+one_stated name rows (Show a b c d s) (Migrate e f g h j) x y = apart name (codes "show") (codes "migrate") x.0 y.0 refl refl
 one_stated name rows (Gen a b c d) (Solve e) x y = apart name (codes "gen") (codes "solve") x.0 y.0 refl refl
 one_stated name rows (Gen a b c d) (Check e) x y = apart name (codes "gen") (codes "check") x.0 y.0 refl refl
-one_stated name rows (Gen a b c d) (Show e f g h) x y = apart name (codes "gen") (codes "show") x.0 y.0 refl refl
+one_stated name rows (Gen a b c d) (Show e f g h s) x y = apart name (codes "gen") (codes "show") x.0 y.0 refl refl
 one_stated name rows (Gen a b c d) (Gen e f g h) x y =
     makes a e b f c g d h (one_number (first_of (codes "seed") rows) 0 most_seed a e x.1 y.1) (one_number (first_of (codes "size") rows) 1 most_size b f x.2 y.2)
     (one_value (first_of (codes "lp") rows) c g x.3 y.3) (one_value (first_of (codes "dec") rows) d h x.4 y.4)
@@ -158,7 +158,7 @@ one_stated name rows (Gen a b c d) (Merge e) x y = apart name (codes "gen") (cod
 one_stated name rows (Gen a b c d) (Migrate e f g h j) x y = apart name (codes "gen") (codes "migrate") x.0 y.0 refl refl
 one_stated name rows (Demo a b) (Solve e) x y = apart name (codes "demo") (codes "solve") x.0 y.0 refl refl
 one_stated name rows (Demo a b) (Check e) x y = apart name (codes "demo") (codes "check") x.0 y.0 refl refl
-one_stated name rows (Demo a b) (Show e f g h) x y = apart name (codes "demo") (codes "show") x.0 y.0 refl refl
+one_stated name rows (Demo a b) (Show e f g h s) x y = apart name (codes "demo") (codes "show") x.0 y.0 refl refl
 one_stated name rows (Demo a b) (Gen e f g h) x y = apart name (codes "demo") (codes "gen") x.0 y.0 refl refl
 one_stated name rows (Demo a b) (Demo e f) x y =
     demonstrates a e b f (one_number (first_of (codes "seed") rows) 0 most_seed a e x.1 y.1) (one_number (first_of (codes "size") rows) 1 most_size b f x.2 y.2)
@@ -168,7 +168,7 @@ one_stated name rows (Demo a b) (Merge e) x y = apart name (codes "demo") (codes
 one_stated name rows (Demo a b) (Migrate e f g h j) x y = apart name (codes "demo") (codes "migrate") x.0 y.0 refl refl
 one_stated name rows (Detect a b c d) (Solve e) x y = apart name (codes "detect") (codes "solve") x.0 y.0 refl refl
 one_stated name rows (Detect a b c d) (Check e) x y = apart name (codes "detect") (codes "check") x.0 y.0 refl refl
-one_stated name rows (Detect a b c d) (Show e f g h) x y = apart name (codes "detect") (codes "show") x.0 y.0 refl refl
+one_stated name rows (Detect a b c d) (Show e f g h s) x y = apart name (codes "detect") (codes "show") x.0 y.0 refl refl
 one_stated name rows (Detect a b c d) (Gen e f g h) x y = apart name (codes "detect") (codes "gen") x.0 y.0 refl refl
 one_stated name rows (Detect a b c d) (Demo e f) x y = apart name (codes "detect") (codes "demo") x.0 y.0 refl refl
 one_stated name rows (Detect a b c d) (Detect e f g h) x y =
@@ -179,7 +179,7 @@ one_stated name rows (Detect a b c d) (Merge e) x y = apart name (codes "detect"
 one_stated name rows (Detect a b c d) (Migrate e f g h j) x y = apart name (codes "detect") (codes "migrate") x.0 y.0 refl refl
 one_stated name rows (Propose a b c) (Solve e) x y = apart name (codes "propose") (codes "solve") x.0 y.0 refl refl
 one_stated name rows (Propose a b c) (Check e) x y = apart name (codes "propose") (codes "check") x.0 y.0 refl refl
-one_stated name rows (Propose a b c) (Show e f g h) x y = apart name (codes "propose") (codes "show") x.0 y.0 refl refl
+one_stated name rows (Propose a b c) (Show e f g h s) x y = apart name (codes "propose") (codes "show") x.0 y.0 refl refl
 one_stated name rows (Propose a b c) (Gen e f g h) x y = apart name (codes "propose") (codes "gen") x.0 y.0 refl refl
 one_stated name rows (Propose a b c) (Demo e f) x y = apart name (codes "propose") (codes "demo") x.0 y.0 refl refl
 one_stated name rows (Propose a b c) (Detect e f g h) x y = apart name (codes "propose") (codes "detect") x.0 y.0 refl refl
@@ -189,7 +189,7 @@ one_stated name rows (Propose a b c) (Merge e) x y = apart name (codes "propose"
 one_stated name rows (Propose a b c) (Migrate e f g h j) x y = apart name (codes "propose") (codes "migrate") x.0 y.0 refl refl
 one_stated name rows (Merge a) (Solve e) x y = apart name (codes "merge") (codes "solve") x.0 y.0 refl refl
 one_stated name rows (Merge a) (Check e) x y = apart name (codes "merge") (codes "check") x.0 y.0 refl refl
-one_stated name rows (Merge a) (Show e f g h) x y = apart name (codes "merge") (codes "show") x.0 y.0 refl refl
+one_stated name rows (Merge a) (Show e f g h s) x y = apart name (codes "merge") (codes "show") x.0 y.0 refl refl
 one_stated name rows (Merge a) (Gen e f g h) x y = apart name (codes "merge") (codes "gen") x.0 y.0 refl refl
 one_stated name rows (Merge a) (Demo e f) x y = apart name (codes "merge") (codes "demo") x.0 y.0 refl refl
 one_stated name rows (Merge a) (Detect e f g h) x y = apart name (codes "merge") (codes "detect") x.0 y.0 refl refl
@@ -200,7 +200,7 @@ one_stated name rows (Merge a) (Merge b) x y =
 one_stated name rows (Merge a) (Migrate e f g h j) x y = apart name (codes "merge") (codes "migrate") x.0 y.0 refl refl
 one_stated name rows (Migrate a b c d i) (Solve e) x y = apart name (codes "migrate") (codes "solve") x.0 y.0 refl refl
 one_stated name rows (Migrate a b c d i) (Check e) x y = apart name (codes "migrate") (codes "check") x.0 y.0 refl refl
-one_stated name rows (Migrate a b c d i) (Show e f g h) x y = apart name (codes "migrate") (codes "show") x.0 y.0 refl refl
+one_stated name rows (Migrate a b c d i) (Show e f g h s) x y = apart name (codes "migrate") (codes "show") x.0 y.0 refl refl
 one_stated name rows (Migrate a b c d i) (Gen e f g h) x y = apart name (codes "migrate") (codes "gen") x.0 y.0 refl refl
 one_stated name rows (Migrate a b c d i) (Demo e f) x y = apart name (codes "migrate") (codes "demo") x.0 y.0 refl refl
 one_stated name rows (Migrate a b c d i) (Detect e f g h) x y = apart name (codes "migrate") (codes "detect") x.0 y.0 refl refl
@@ -225,7 +225,7 @@ one_order words o p x y =
 solve_is_placed : (rows : List Row) (order : Order) → HasValues (codes "solve") rows order → IsLeafPlaced rows
 solve_is_placed rows (Solve a) has = has.9
 solve_is_placed rows (Check a) has = apart (codes "solve") (codes "solve") (codes "check") refl has.0 refl refl
-solve_is_placed rows (Show a b c d) has = apart (codes "solve") (codes "solve") (codes "show") refl has.0 refl refl
+solve_is_placed rows (Show a b c d s) has = apart (codes "solve") (codes "solve") (codes "show") refl has.0 refl refl
 solve_is_placed rows (Gen a b c d) has = apart (codes "solve") (codes "solve") (codes "gen") refl has.0 refl refl
 solve_is_placed rows (Demo a b) has = apart (codes "solve") (codes "solve") (codes "demo") refl has.0 refl refl
 solve_is_placed rows (Detect a b c d) has = apart (codes "solve") (codes "solve") (codes "detect") refl has.0 refl refl
@@ -250,8 +250,8 @@ pub as_check : (order : Order) (given : CheckOrder) (a b : Text) (c : Option Tex
     → Check (record given { lp = a; cert = b; dec = c }) ≡ order
 as_check order given a b c is p q r = checks (record given { lp = a; cert = b; dec = c }) given p q r refl refl ∙ sym is
 
-pub as_show : (order : Order) (a b : Text) (c d : Option Text) (i : Bool) (limits : Limits) → order ≡ Show b d i limits → a ≡ b → c ≡ d → Show a c i limits ≡ order
-as_show order a b c d i limits is p q = shows a b c d i i limits limits p q refl refl ∙ sym is
+pub as_show : (order : Order) (a b : Text) (c d : Option Text) (i k : Bool) (limits : Limits) → order ≡ Show b d i k limits → a ≡ b → c ≡ d → Show a c i k limits ≡ order
+as_show order a b c d i k limits is p q = shows a b c d i i k k limits limits p q refl refl refl ∙ sym is
 
 pub as_gen : (order : Order) (i k : ℕ) (a b c d : Text) → order ≡ Gen i k b d → a ≡ b → c ≡ d → Gen i k a c ≡ order
 as_gen order i k a b c d is p q = makes i i k k a b c d refl refl p q ∙ sym is

@@ -86,7 +86,7 @@ nothing_written files (Solve given) =
       stands None = refl
       stands (Some name) = λ other apart. refl
 nothing_written files (Check given) = refl
-nothing_written files (Show lp dec blocks limits) = refl
+nothing_written files (Show lp dec blocks classes limits) = refl
 nothing_written files (Gen seed size lp dec) = untouched refl refl
 nothing_written files (Demo seed size) = refl
 nothing_written files (Detect lp list dec limits) = detected.untouched refl (inr refl)
@@ -99,7 +99,7 @@ pub not_demonstrated : (order : Order) (tells : Bool) (before now : List ℕ) �
 not_demonstrated (Demo seed size) tells before now = ((λ no_read no_write no_want. absurd (no_want refl)), (λ no_read no_write no_want meant report right. absurd (no_want refl)), (λ is_fault. absurd (cc)))
 not_demonstrated (Solve given) tells before now = tt
 not_demonstrated (Check given) tells before now = tt
-not_demonstrated (Show lp dec blocks limits) tells before now = tt
+not_demonstrated (Show lp dec blocks classes limits) tells before now = tt
 not_demonstrated (Gen seed size lp dec) tells before now = tt
 not_demonstrated (Detect lp list dec limits) tells before now = tt
 not_demonstrated (Propose lp dec limits) tells before now = tt

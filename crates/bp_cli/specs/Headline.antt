@@ -75,7 +75,7 @@ abbrev pub SolvesTruly : Order → Files → Option Outcome → (status : ℕ) �
 SolvesTruly (Solve given) files kept status before now =
     IsOutcomeStatus status → TellsTruly given.limits (files given.lp) given.leaf (given_steps given.steps) (is_none given.from) kept status before now
 SolvesTruly (Check given) files kept status before now = Unit {0}
-SolvesTruly (Show lp dec blocks limits) files kept status before now = Unit {0}
+SolvesTruly (Show lp dec blocks classes limits) files kept status before now = Unit {0}
 SolvesTruly (Gen seed size lp dec) files kept status before now = Unit {0}
 SolvesTruly (Demo seed size) files kept status before now = Unit {0}
 SolvesTruly (Detect lp list dec limits) files kept status before now = Unit {0}
@@ -88,7 +88,7 @@ abbrev pub SolvesAccepted : Order → Files → (status : ℕ) → Type 0
 SolvesAccepted (Solve given) files status =
     given.dec ≡ None → given.from ≡ None → (m : NamedProgram) → HasProgram given.limits (files given.lp) m → IsOutcomeStatus status ⊎ WasStopped status
 SolvesAccepted (Check given) files status = Unit {0}
-SolvesAccepted (Show lp dec blocks limits) files status = Unit {0}
+SolvesAccepted (Show lp dec blocks classes limits) files status = Unit {0}
 SolvesAccepted (Gen seed size lp dec) files status = Unit {0}
 SolvesAccepted (Demo seed size) files status = Unit {0}
 SolvesAccepted (Detect lp list dec limits) files status = Unit {0}
@@ -107,7 +107,7 @@ pub record AcceptsTruly (limits : Limits) (file : Option (List ℕ)) (before now
 abbrev pub ChecksTruly : Order → Files → (status : ℕ) → (before now : List ℕ) → Type 0
 ChecksTruly (Solve given) files status before now = Unit {0}
 ChecksTruly (Check given) files status before now = status ≡ 0 → AcceptsTruly given.limits (files given.lp) before now
-ChecksTruly (Show lp dec blocks limits) files status before now = Unit {0}
+ChecksTruly (Show lp dec blocks classes limits) files status before now = Unit {0}
 ChecksTruly (Gen seed size lp dec) files status before now = Unit {0}
 ChecksTruly (Demo seed size) files status before now = Unit {0}
 ChecksTruly (Detect lp list dec limits) files status before now = Unit {0}

@@ -20,7 +20,7 @@ abbrev pub SolvesDecomposed : Order → Files → (status : ℕ) → Type 0
 SolvesDecomposed (Solve given) files status =
     given.from ≡ None → (b : BlockedProgram) → FilesCome given.limits files given.lp given.dec (blocked b) → IsOutcomeStatus status ⊎ WasStopped status
 SolvesDecomposed (Check given) files status = Unit {0}
-SolvesDecomposed (Show lp dec blocks limits) files status = Unit {0}
+SolvesDecomposed (Show lp dec blocks classes limits) files status = Unit {0}
 SolvesDecomposed (Gen seed size lp dec) files status = Unit {0}
 SolvesDecomposed (Demo seed size) files status = Unit {0}
 SolvesDecomposed (Detect lp list dec limits) files status = Unit {0}
@@ -33,7 +33,7 @@ abbrev pub WritesCertificate : Order → (now : Files) → Option Outcome → Ty
 WritesCertificate (Solve given) now kept = IfSome given.cert (λ cert. IfSome kept (λ outcome.
     cert ≢ given.lp → given.dec ≢ Some cert → (claim : Claim) × AnswersCheck given.limits now given.lp cert given.dec None 0 (accepted_report claim)))
 WritesCertificate (Check given) now kept = Unit {0}
-WritesCertificate (Show lp dec blocks limits) now kept = Unit {0}
+WritesCertificate (Show lp dec blocks classes limits) now kept = Unit {0}
 WritesCertificate (Gen seed size lp dec) now kept = Unit {0}
 WritesCertificate (Demo seed size) now kept = Unit {0}
 WritesCertificate (Detect lp list dec limits) now kept = Unit {0}
@@ -47,7 +47,7 @@ Demonstrates (Demo seed size) kept status lost tells before now =
     AnswersBy (AnswersDemo seed size kept) status tells before now × IsOnly (AnswersDemo seed size kept) status × CutsOff (AnswersDemo seed size) status lost tells before now
 Demonstrates (Solve given) kept status lost tells before now = Unit {0}
 Demonstrates (Check given) kept status lost tells before now = Unit {0}
-Demonstrates (Show lp dec blocks limits) kept status lost tells before now = Unit {0}
+Demonstrates (Show lp dec blocks classes limits) kept status lost tells before now = Unit {0}
 Demonstrates (Gen seed size lp dec) kept status lost tells before now = Unit {0}
 Demonstrates (Detect lp list dec limits) kept status lost tells before now = Unit {0}
 Demonstrates (Propose lp dec limits) kept status lost tells before now = Unit {0}

@@ -28,7 +28,7 @@ use Rattle.cmd_certificates.specs.MigrateFiles.{MigrateLeaves, MigrateWrites}
 abbrev pub AnswersOrder : Order → Files → Option Outcome → (status : ℕ) → (report : List ℕ) → Type 0
 AnswersOrder (Solve given) files kept status report = AnswersSolve given.limits files given.lp given.dec given.steps given.from given.leaf given.cuts kept status report
 AnswersOrder (Check given) files kept status report = (kept ≡ None) × AnswersCheck given.limits files given.lp given.cert given.dec given.visits status report
-AnswersOrder (Show lp dec blocks limits) files kept status report = (kept ≡ None) × AnswersShow limits files lp dec blocks status report
+AnswersOrder (Show lp dec blocks classes limits) files kept status report = (kept ≡ None) × AnswersShow limits files lp dec blocks classes status report
 AnswersOrder (Gen seed size lp dec) files kept status report = (kept ≡ None) × AnswersGen size status report
 AnswersOrder (Demo seed size) files kept status report = AnswersDemo seed size kept status report
 AnswersOrder (Detect lp list dec limits) files kept status report = (kept ≡ None) × AnswersDetect limits files lp list status report
@@ -50,7 +50,7 @@ HasWritten (Solve given) before now kept status =
     HasCertificate given.limits before given.lp given.dec given.cert given.from given.cuts now kept × FilesStand given.cert before now × (IsUntouched status → now ≡ before)
     × (status ≡ 9 → LeavesPart given.limits before given.lp given.dec given.steps given.cert given.from given.leaf given.cuts now)
 HasWritten (Check given) before now kept status = now ≡ before
-HasWritten (Show lp dec blocks limits) before now kept status = now ≡ before
+HasWritten (Show lp dec blocks classes limits) before now kept status = now ≡ before
 HasWritten (Gen seed size lp dec) before now kept status = GenLeaves seed size lp dec before now status
 HasWritten (Demo seed size) before now kept status = now ≡ before
 HasWritten (Detect lp list dec limits) before now kept status = DetectLeaves limits lp list dec before now status
@@ -63,7 +63,7 @@ HasWritten (Migrate lp cert new dec limits) before now kept status = MigrateLeav
 abbrev pub HasPutLast : Order → (before now : Files) → Type 0
 HasPutLast (Solve given) before now = LeavesCertificate given.limits before given.lp given.dec given.steps given.cert given.from given.leaf given.cuts now
 HasPutLast (Check given) before now = now ≡ before
-HasPutLast (Show lp dec blocks limits) before now = now ≡ before
+HasPutLast (Show lp dec blocks classes limits) before now = now ≡ before
 HasPutLast (Gen seed size lp dec) before now = GenWrites seed size lp dec before now
 HasPutLast (Demo seed size) before now = now ≡ before
 HasPutLast (Detect lp list dec limits) before now = DetectWrites limits lp list dec before now
@@ -77,7 +77,7 @@ HasPutLast (Migrate lp cert new dec limits) before now = MigrateWrites limits lp
 abbrev pub ListsEvents : Order → (before : Files) → Option Outcome → List Event → Type 0
 ListsEvents (Solve given) before kept events = HasEvents given.limits before given.lp given.dec given.steps given.from given.workers given.order given.cuts kept events
 ListsEvents (Check given) before kept events = events ≡ []
-ListsEvents (Show lp dec blocks limits) before kept events = events ≡ []
+ListsEvents (Show lp dec blocks classes limits) before kept events = events ≡ []
 ListsEvents (Gen seed size lp dec) before kept events = events ≡ []
 ListsEvents (Demo seed size) before kept events = events ≡ []
 ListsEvents (Detect lp list dec limits) before kept events = events ≡ []

@@ -17,7 +17,7 @@ use cmd_check::check;
 use cmd_decompose::{detect, propose, show};
 use cmd_demo::demonstrate;
 use cmd_gen::generate;
-use cmd_solve::solve;
+use cmd_solve::{SolveRequest, solve};
 use frontend::{Ended, Reply, Sources, print, stopped};
 use std::alloc::Global;
 
@@ -209,13 +209,15 @@ fn obey<F: Shelf, O: Sink>(alloc: Global, order: &Order, shelf: &mut F, out: &mu
                 dec: named(&given.dec),
                 limits: given.limits,
             },
-            given.steps,
-            named(&given.cert),
-            named(&given.from),
-            given.leaf,
-            given.workers,
-            given.order,
-            given.cuts,
+            SolveRequest {
+                steps: given.steps,
+                cert: named(&given.cert),
+                from: named(&given.from),
+                leaf: given.leaf,
+                workers: given.workers,
+                order: given.order,
+                cuts: given.cuts,
+            },
         ),
         Order::Check(given) => check(
             alloc,
@@ -233,6 +235,7 @@ fn obey<F: Shelf, O: Sink>(alloc: Global, order: &Order, shelf: &mut F, out: &mu
             lp,
             dec,
             blocks,
+            classes,
             limits,
         } => show(
             alloc,
@@ -244,6 +247,7 @@ fn obey<F: Shelf, O: Sink>(alloc: Global, order: &Order, shelf: &mut F, out: &mu
                 limits: *limits,
             },
             *blocks,
+            *classes,
         ),
         Order::Gen {
             seed,

@@ -189,13 +189,14 @@ pub can_begin : (c : BlockedProgram) (leaf : Option ℕ) (start : Start) (from :
 can_begin c leaf start from below is can = subst (CanBegin leaf) is can
 
 -- a search works at a path only without a crew
-pub alone_at : (leaf : Option ℕ) (below : Option (List Side)) (crew : Option CrewOrder) → (leaf ≡ None → below ≡ None) → IfSome leaf (λ _. crew ≡ None) → IfSome below (λ _. crew ≡ None)
-alone_at None None crew placed alone = tt
-alone_at None (Some path) crew placed alone = let none = placed refl in absurd (cc)
-alone_at (Some number) None crew placed alone = tt
-alone_at (Some number) (Some path) crew placed alone = alone
+pub alone_at : (leaf : Option ℕ) (below : Option (List Side)) (workers order : Option ℕ) → (leaf ≡ None → below ≡ None) → IfSome leaf (λ _. (workers ≡ None) × (order ≡ None))
+    → IfSome below (λ _. (workers ≡ None) × (order ≡ None))
+alone_at None None workers order placed alone = tt
+alone_at None (Some path) workers order placed alone = let none = placed refl in absurd (cc)
+alone_at (Some number) None workers order placed alone = tt
+alone_at (Some number) (Some path) workers order placed alone = alone
 
-pub no_crew : (leaf workers order : Option ℕ) (crew : Option CrewOrder) → crew ≡ ordered_crew workers order → IfSome leaf (λ _. (workers ≡ None) × (order ≡ None))
+pub no_crew : {A : Type 0} (leaf : Option A) (workers order : Option ℕ) (crew : Option CrewOrder) → crew ≡ ordered_crew workers order → IfSome leaf (λ _. (workers ≡ None) × (order ≡ None))
     → IfSome leaf (λ _. crew ≡ None)
 no_crew None workers order crew is alone = tt
 no_crew (Some number) workers order crew is alone =

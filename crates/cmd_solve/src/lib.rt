@@ -10,10 +10,10 @@ ghost use Rattle.branch_tree.specs.Loads.{IsLoaded};
 ghost use Rattle.frontend.specs.Answers.{AnswersBy, IsOnly, CutsOff, HasCauses, PutsReport, FailsToWrite, FilesStand};
 ghost use Rattle.cmd_solve.specs.Solves.{AnswersSolve, SolvesBy, SolvesAt};
 ghost use Rattle.search_outcome.specs.Outcomes.{SavesBlocked, HoldsPart, AsBeforeOr};
-ghost use Rattle.cmd_solve.specs.Crews.{HasEventsFrom, EventsBy, HasEvents};
+ghost use Rattle.cmd_solve.specs.Crews.{HasEventsFrom, EventsBy, HasEvents, ordered_crew};
 ghost use Rattle.cmd_solve.specs.Saves.{SavesBy, HasCertificate, LeavesAt, LeavesBy, LeavesCertificate, IsUntouched, HoldsPartBy, LeavesPart};
 
-use crate::crew::{CrewOrder, Searched, crew_ordered, kept_events, search_from};
+use crate::crew::{Searched, crew_ordered, kept_events, search_from};
 use block_program::Blocked;
 use bp_shelf::{Shelf, Sink};
 use bp_theory::Items;
@@ -23,6 +23,25 @@ use search_laws::Side;
 use search_outcome::tell;
 use search_start::{Start, begin};
 use std::alloc::Global;
+
+/// What is asked of a search beside its model.
+#[derive(Clone, Copy)]
+pub struct SolveRequest<'a> {
+    /// After how many steps to stop, at most 2^60, where a number is given.
+    pub steps: Option<u64>,
+    /// The file for the certificate, where one is wanted.
+    pub cert: Option<&'a str>,
+    /// The file of the certificate to go on from, where there is one.
+    pub from: Option<&'a str>,
+    /// The open leaf of that certificate below which alone to work, by its number from 1, where one is given.
+    pub leaf: Option<u64>,
+    /// How many workers a crew has, at least 1, where a number is given.
+    pub workers: Option<u32>,
+    /// The seed of the order in which the workers of a crew have their turns, where one is given.
+    pub order: Option<u64>,
+    /// How many rounding cuts may be added at most.
+    pub cuts: u32,
+}
 
 /// Solves the model of a file, from the start or from where the certificate of a named file stopped, writes the
 /// certificate where a file is named for it, and prints the report. The certificate to go on from is read and judged
@@ -40,36 +59,30 @@ pub fn solve<F: Shelf, O: Sink>(
     shelf: &mut F,
     out: &mut O,
     sources: Sources<'_>,
-    steps: Option<u64>,
-    cert: Option<&str>,
-    from: Option<&str>,
-    leaf: Option<u64>,
-    workers: Option<u32>,
-    order: Option<u64>,
-    cuts: u32,
+    request: SolveRequest<'_>,
 ) -> Ended
-    requires few { IfSome steps (λ n. n ≤ 2 ^ 60) }
-    requires some { IfSome workers (λ w. 1 ≤ w) }
-    requires alone { IfSome leaf (λ _. (workers ≡ None) × (order ≡ None)) }
+    requires few { IfSome request.steps (λ n. n ≤ 2 ^ 60) }
+    requires some { IfSome request.workers (λ w. 1 ≤ w) }
+    requires alone { IfSome request.leaf (λ _. (request.workers ≡ None) × (request.order ≡ None)) }
     ensures answered { IsTrue (F.tells shelf.old) →
         AnswersBy (AnswersSolve sources.entry.limits (F.file shelf.old) sources.entry.lp.now
-        (option_map (λ name. name.now) sources.entry.dec) steps (option_map (λ name. name.now)
-        from.entry) leaf cuts result.kept) result.status (O.tells out.old) (O.taken out.old)
+        (option_map (λ name. name.now) sources.entry.dec) request.entry.steps (option_map (λ name. name.now)
+        request.entry.from) request.entry.leaf request.entry.cuts result.kept) result.status (O.tells out.old) (O.taken out.old)
         (O.taken out.new) }
     ensures exact { IsTrue (F.tells shelf.old) →
         IsOnly (AnswersSolve sources.entry.limits (F.file shelf.old) sources.entry.lp.now
-        (option_map (λ name. name.now) sources.entry.dec) steps (option_map (λ name. name.now)
-        from.entry) leaf cuts result.kept) result.status }
+        (option_map (λ name. name.now) sources.entry.dec) request.entry.steps (option_map (λ name. name.now)
+        request.entry.from) request.entry.leaf request.entry.cuts result.kept) result.status }
     ensures saved { IsTrue (F.tells shelf.old) →
         HasCertificate sources.entry.limits (F.file shelf.old) sources.entry.lp.now (option_map (λ
-        name. name.now) sources.entry.dec) (option_map (λ name. name.now) cert.entry) (option_map (λ
-        name. name.now) from.entry) cuts (F.file shelf.new) result.kept }
+        name. name.now) sources.entry.dec) (option_map (λ name. name.now) request.entry.cert) (option_map (λ
+        name. name.now) request.entry.from) request.entry.cuts (F.file shelf.new) result.kept }
     ensures puts { PutsReport result.status (O.puts out.old) (O.puts out.new) }
     ensures failed { result.status ≡ 8 →
         FailsToWrite (IsTrue (F.tells shelf.old) → LeavesCertificate sources.entry.limits (F.file
-        shelf.old) sources.entry.lp.now (option_map (λ name. name.now) sources.entry.dec) steps
-        (option_map (λ name. name.now) cert.entry) (option_map (λ name. name.now) from.entry) leaf
-        cuts (F.file shelf.new)) (F.write_faults shelf.old) (F.write_faults shelf.new) (O.faults
+        shelf.old) sources.entry.lp.now (option_map (λ name. name.now) sources.entry.dec) request.entry.steps
+        (option_map (λ name. name.now) request.entry.cert) (option_map (λ name. name.now) request.entry.from) request.entry.leaf
+        request.entry.cuts (F.file shelf.new)) (F.write_faults shelf.old) (F.write_faults shelf.new) (O.faults
         out.old) (O.faults out.new) (O.puts out.old) (O.puts out.new) (O.taken out.old) (O.taken
         out.new) }
     ensures causes { HasCauses result.status (F.read_faults shelf.old) (F.read_faults shelf.new)
@@ -79,32 +92,29 @@ pub fn solve<F: Shelf, O: Sink>(
         ((result.status ≡ 0) ⊎ (result.status ≡ 4) ⊎ (result.status ≡ 5)) }
     ensures events { IsTrue (F.tells shelf.old) →
         HasEvents sources.entry.limits (F.file shelf.old) sources.entry.lp.now (option_map (λ name.
-        name.now) sources.entry.dec) steps (option_map (λ name. name.now) from.entry) workers order
-        cuts result.kept result.events.items }
+        name.now) sources.entry.dec) request.entry.steps (option_map (λ name. name.now) request.entry.from) request.entry.workers request.entry.order
+        request.entry.cuts result.kept result.events.items }
     ensures no_events { result.kept ≡ None → result.events.items ≡ [] }
     ensures words { result.status ≢ 2 }
     ensures files { IsTrue (F.tells shelf.old) →
-        FilesStand (option_map (λ name. name.now) cert.entry) (F.file shelf.old)
+        FilesStand (option_map (λ name. name.now) request.entry.cert) (F.file shelf.old)
         (F.file shelf.new) }
     ensures untouched { IsTrue (F.tells shelf.old) → IsUntouched result.status →
         F.file shelf.new ≡ F.file shelf.old }
     ensures part { IsTrue (F.tells shelf.old) →
         result.status ≡ 9 → LeavesPart sources.entry.limits (F.file shelf.old) sources.entry.lp.now
-        (option_map (λ name. name.now) sources.entry.dec) steps (option_map (λ name. name.now)
-        cert.entry) (option_map (λ name. name.now) from.entry) leaf cuts (F.file shelf.new) }
+        (option_map (λ name. name.now) sources.entry.dec) request.entry.steps (option_map (λ name. name.now)
+        request.entry.cert) (option_map (λ name. name.now) request.entry.from) request.entry.leaf request.entry.cuts (F.file shelf.new) }
     ensures silent { (result.status ≡ 7) ⊎ (result.status ≡ 9) ⊎ (result.status ≡ 11) →
         O.taken out.new ≡ O.taken out.old }
     ensures cut_off { IsTrue (F.tells shelf.old) →
         CutsOff (AnswersSolve sources.entry.limits (F.file shelf.old) sources.entry.lp.now
-        (option_map (λ name. name.now) sources.entry.dec) steps (option_map (λ name. name.now)
-        from.entry) leaf cuts) result.status result.lost (O.tells out.old) (O.taken out.old)
+        (option_map (λ name. name.now) sources.entry.dec) request.entry.steps (option_map (λ name. name.now)
+        request.entry.from) request.entry.leaf request.entry.cuts) result.status result.lost (O.tells out.old) (O.taken out.old)
         (O.taken out.new) }
 {
     match load(alloc, shelf, sources) {
-        Ok(b) => {
-            let crew = crew_ordered(workers, order);
-            solve_blocks(alloc, shelf, out, b, steps, cert, from, leaf, crew, cuts)
-        }
+        Ok(b) => solve_blocks(alloc, shelf, out, b, request),
         Err(Halt::Refused(report)) => print(alloc, out, Reply { status: 3, report }, None),
         Err(Halt::Stopped(fault)) => stopped_by(alloc, fault),
     }
@@ -117,31 +127,26 @@ fn solve_blocks<F: Shelf, O: Sink>(
     shelf: &mut F,
     out: &mut O,
     b: Blocked,
-    steps: Option<u64>,
-    cert: Option<&str>,
-    from: Option<&str>,
-    leaf: Option<u64>,
-    crew: Option<CrewOrder>,
-    cuts: u32,
+    request: SolveRequest<'_>,
 ) -> Ended
     requires uncut { b.cuts ≡ [] }
-    requires few { IfSome steps (λ n. n ≤ 2 ^ 60) }
-    requires some { IfSome crew (λ c. 1 ≤ c.workers) }
-    requires alone { IfSome leaf (λ _. crew ≡ None) }
+    requires few { IfSome request.steps (λ n. n ≤ 2 ^ 60) }
+    requires some { IfSome request.workers (λ w. 1 ≤ w) }
+    requires alone { IfSome request.leaf (λ _. (request.workers ≡ None) × (request.order ≡ None)) }
     ensures answered { IsTrue (F.tells shelf.old) →
-        AnswersBy (SolvesBy (F.file shelf.old) (option_map (λ name. name.now) from.entry) leaf steps
-        cuts result.kept b) result.status (O.tells out.old) (O.taken out.old) (O.taken out.new) }
+        AnswersBy (SolvesBy (F.file shelf.old) (option_map (λ name. name.now) request.entry.from) request.entry.leaf request.entry.steps
+        request.entry.cuts result.kept b) result.status (O.tells out.old) (O.taken out.old) (O.taken out.new) }
     ensures exact { IsTrue (F.tells shelf.old) →
-        IsOnly (SolvesBy (F.file shelf.old) (option_map (λ name. name.now) from.entry) leaf steps
-        cuts result.kept b) result.status }
+        IsOnly (SolvesBy (F.file shelf.old) (option_map (λ name. name.now) request.entry.from) request.entry.leaf request.entry.steps
+        request.entry.cuts result.kept b) result.status }
     ensures saved { IsTrue (F.tells shelf.old) →
-        SavesBy (F.file shelf.old) (option_map (λ name. name.now) from.entry) cuts b (option_map
-        (λ name. name.now) cert.entry) (F.file shelf.new) result.kept }
+        SavesBy (F.file shelf.old) (option_map (λ name. name.now) request.entry.from) request.entry.cuts b (option_map
+        (λ name. name.now) request.entry.cert) (F.file shelf.new) result.kept }
     ensures puts { PutsReport result.status (O.puts out.old) (O.puts out.new) }
     ensures failed { result.status ≡ 8 →
         FailsToWrite (IsTrue (F.tells shelf.old) →
-        LeavesBy (F.file shelf.old) (option_map (λ name. name.now) from.entry) leaf steps cuts
-        (option_map (λ name. name.now) cert.entry) (F.file shelf.new) b)
+        LeavesBy (F.file shelf.old) (option_map (λ name. name.now) request.entry.from) request.entry.leaf request.entry.steps request.entry.cuts
+        (option_map (λ name. name.now) request.entry.cert) (F.file shelf.new) b)
         (F.write_faults shelf.old) (F.write_faults shelf.new) (O.faults out.old) (O.faults out.new)
         (O.puts out.old) (O.puts out.new) (O.taken out.old) (O.taken out.new) }
     ensures causes { HasCauses result.status (F.read_faults shelf.old) (F.read_faults shelf.new)
@@ -150,31 +155,29 @@ fn solve_blocks<F: Shelf, O: Sink>(
     ensures kept { (result.kept ≡ None) ⊎
         ((result.status ≡ 0) ⊎ (result.status ≡ 4) ⊎ (result.status ≡ 5)) }
     ensures events { IsTrue (F.tells shelf.old) →
-        EventsBy (F.file shelf.old) (option_map (λ name. name.now) from.entry) steps crew cuts b
+        EventsBy (F.file shelf.old) (option_map (λ name. name.now) request.entry.from) request.entry.steps (ordered_crew request.entry.workers request.entry.order) request.entry.cuts b
         result.kept result.events.items }
     ensures no_events { result.kept ≡ None → result.events.items ≡ [] }
     ensures words { result.status ≢ 2 }
     ensures files { IsTrue (F.tells shelf.old) →
-        FilesStand (option_map (λ name. name.now) cert.entry) (F.file shelf.old)
+        FilesStand (option_map (λ name. name.now) request.entry.cert) (F.file shelf.old)
         (F.file shelf.new) }
     ensures untouched { IsTrue (F.tells shelf.old) → IsUntouched result.status →
         F.file shelf.new ≡ F.file shelf.old }
     ensures part { IsTrue (F.tells shelf.old) → result.status ≡ 9 →
-        AsBeforeOr (HoldsPartBy (F.file shelf.old) (option_map (λ name. name.now) from.entry) leaf
-        steps cuts b) (option_map (λ name. name.now) cert.entry) (F.file shelf.old)
+        AsBeforeOr (HoldsPartBy (F.file shelf.old) (option_map (λ name. name.now) request.entry.from) request.entry.leaf
+        request.entry.steps request.entry.cuts b) (option_map (λ name. name.now) request.entry.cert) (F.file shelf.old)
         (F.file shelf.new) }
     ensures silent { (result.status ≡ 7) ⊎ (result.status ≡ 9) ⊎ (result.status ≡ 11) →
         O.taken out.new ≡ O.taken out.old }
     ensures cut_off { IsTrue (F.tells shelf.old) →
-        CutsOff (λ kept. SolvesBy (F.file shelf.old) (option_map (λ name. name.now) from.entry) leaf
-        steps cuts kept b) result.status result.lost (O.tells out.old) (O.taken out.old) (O.taken out.new) }
+        CutsOff (λ kept. SolvesBy (F.file shelf.old) (option_map (λ name. name.now) request.entry.from) request.entry.leaf
+        request.entry.steps request.entry.cuts kept b) result.status result.lost (O.tells out.old) (O.taken out.old) (O.taken out.new) }
 {
     // For the proof alone: `b` is formed.
     let _ = b.blocks();
-    match begin(alloc, shelf, b, from, leaf, cuts) {
-        Ok(Start::Ready(c, from, below)) => {
-            answer(alloc, shelf, out, &c, from, below, steps, cert, crew)
-        }
+    match begin(alloc, shelf, b, request.from, request.leaf, request.cuts) {
+        Ok(Start::Ready(c, from, below)) => { answer(alloc, shelf, out, &c, from, below, request) }
         Ok(Start::Refused(reply)) => print(alloc, out, reply, None),
         Err(fault) => stopped_by(alloc, fault),
     }
@@ -189,24 +192,22 @@ fn answer<F: Shelf, O: Sink>(
     b: &Blocked,
     from: Option<Loaded>,
     below: Option<Items<Side>>,
-    steps: Option<u64>,
-    cert: Option<&str>,
-    crew: Option<CrewOrder>,
+    request: SolveRequest<'_>,
 ) -> Ended
     requires loaded { IfSome from (IsLoaded b.now) }
-    requires few { IfSome steps (λ n. n ≤ 2 ^ 60) }
-    requires some { IfSome crew (λ c. 1 ≤ c.workers) }
-    requires alone { IfSome below (λ _. crew ≡ None) }
-    ensures answered { AnswersBy (SolvesAt from below steps result.kept b.now) result.status
+    requires few { IfSome request.steps (λ n. n ≤ 2 ^ 60) }
+    requires some { IfSome request.workers (λ w. 1 ≤ w) }
+    requires alone { IfSome below (λ _. (request.workers ≡ None) × (request.order ≡ None)) }
+    ensures answered { AnswersBy (SolvesAt from below request.entry.steps result.kept b.now) result.status
         (O.tells out.old) (O.taken out.old) (O.taken out.new) }
-    ensures exact { IsOnly (SolvesAt from below steps result.kept b.now) result.status }
+    ensures exact { IsOnly (SolvesAt from below request.entry.steps result.kept b.now) result.status }
     ensures saved { IsTrue (F.tells shelf.old) →
-        SavesBlocked b.now (option_map (λ name. name.now) cert.entry) (F.file shelf.new)
+        SavesBlocked b.now (option_map (λ name. name.now) request.entry.cert) (F.file shelf.new)
         result.kept }
     ensures puts { PutsReport result.status (O.puts out.old) (O.puts out.new) }
     ensures failed { result.status ≡ 8 →
         FailsToWrite (IsTrue (F.tells shelf.old) →
-        LeavesAt from below steps (option_map (λ name. name.now) cert.entry) (F.file shelf.new)
+        LeavesAt from below request.entry.steps (option_map (λ name. name.now) request.entry.cert) (F.file shelf.new)
         b.now) (F.write_faults shelf.old) (F.write_faults shelf.new) (O.faults out.old)
         (O.faults out.new) (O.puts out.old) (O.puts out.new) (O.taken out.old) (O.taken out.new) }
     ensures causes { HasCauses result.status (F.read_faults shelf.old) (F.read_faults shelf.new)
@@ -214,20 +215,21 @@ fn answer<F: Shelf, O: Sink>(
         (O.faults out.new) }
     ensures kept { (result.kept ≡ None) ⊎
         ((result.status ≡ 0) ⊎ (result.status ≡ 4) ⊎ (result.status ≡ 5)) }
-    ensures events { HasEventsFrom b.now from steps crew result.kept result.events.items }
+    ensures events { HasEventsFrom b.now from request.entry.steps (ordered_crew request.entry.workers request.entry.order) result.kept result.events.items }
     ensures statuses { (result.status ≡ 0) ⊎ (result.status ≡ 4) ⊎ (result.status ≡ 5) ⊎
         (result.status ≡ 8) ⊎ (result.status ≡ 9) }
     ensures files { IsTrue (F.tells shelf.old) →
-        FilesStand (option_map (λ name. name.now) cert.entry) (F.file shelf.old)
+        FilesStand (option_map (λ name. name.now) request.entry.cert) (F.file shelf.old)
         (F.file shelf.new) }
     ensures part { IsTrue (F.tells shelf.old) → result.status ≡ 9 →
-        AsBeforeOr (HoldsPart (λ kept. SolvesAt from below steps kept b.now) b.now)
-        (option_map (λ name. name.now) cert.entry) (F.file shelf.old) (F.file shelf.new) }
+        AsBeforeOr (HoldsPart (λ kept. SolvesAt from below request.entry.steps kept b.now) b.now)
+        (option_map (λ name. name.now) request.entry.cert) (F.file shelf.old) (F.file shelf.new) }
     ensures silent { result.status ≡ 9 → O.taken out.new ≡ O.taken out.old }
-    ensures cut_off { CutsOff (λ kept. SolvesAt from below steps kept b.now) result.status result.lost (O.tells out.old) (O.taken out.old)
+    ensures cut_off { CutsOff (λ kept. SolvesAt from below request.entry.steps kept b.now) result.status result.lost (O.tells out.old) (O.taken out.old)
         (O.taken out.new) }
 {
-    let Ok(searched) = search_from(alloc, b, from, below, steps, crew) else {
+    let crew = crew_ordered(request.workers, request.order);
+    let Ok(searched) = search_from(alloc, b, from, below, request.steps, crew) else {
         return stopped(alloc, 9);
     };
     let Searched {
@@ -240,7 +242,7 @@ fn answer<F: Shelf, O: Sink>(
         kept,
         lost,
         ..
-    } = tell(alloc, shelf, out, b, outcome, told, cert);
+    } = tell(alloc, shelf, out, b, outcome, told, request.cert);
     let events = kept_events(alloc, &kept, events);
     Ended {
         status,

@@ -57,21 +57,21 @@ pub returns-in-Show-clause-answered : goal.returns-in-Show-clause-answered
 returns-in-Show-clause-answered g c = λ told.
     subst (λ (o : Order). AnswersBy (AnswersOrder o (g.F.Shelf.file c.args.shelf.now) c.show.result.kept) c.show.result.status (g.O.Sink.tells c.args.out.now) (g.O.Sink.taken c.args.out.now)
     (g.O.Sink.taken c.show.new.out)) (as_show c.args.order.now c.as_str-in-Show.result.now c.in-Show.lp (option_map (λ name. name.now) c.named-in-Show.result) c.in-Show.dec
-    c.in-Show.blocks c.in-Show.limits c.in-Show.is c.as_str-in-Show.ensures c.named-in-Show.ensures)
+    c.in-Show.blocks c.in-Show.classes c.in-Show.limits c.in-Show.is c.as_str-in-Show.ensures c.named-in-Show.ensures)
     (kept_answers c.show.result.kept
-    (AnswersShow c.in-Show.limits (g.F.Shelf.file c.args.shelf.now) c.as_str-in-Show.result.now (option_map (λ name. name.now) c.named-in-Show.result) c.in-Show.blocks)
+    (AnswersShow c.in-Show.limits (g.F.Shelf.file c.args.shelf.now) c.as_str-in-Show.result.now (option_map (λ name. name.now) c.named-in-Show.result) c.in-Show.blocks c.in-Show.classes)
     c.show.result.status _ _ _ c.show.ensures.kept (c.show.ensures.answered told))
 
 pub returns-in-Show-clause-exact : goal.returns-in-Show-clause-exact
 returns-in-Show-clause-exact g c = λ told.
     subst (λ (o : Order). IsOnly (AnswersOrder o (g.F.Shelf.file c.args.shelf.now) c.show.result.kept) c.show.result.status) (as_show c.args.order.now c.as_str-in-Show.result.now c.in-Show.lp (option_map (λ name. name.now) c.named-in-Show.result) c.in-Show.dec
-    c.in-Show.blocks c.in-Show.limits c.in-Show.is c.as_str-in-Show.ensures c.named-in-Show.ensures)
+    c.in-Show.blocks c.in-Show.classes c.in-Show.limits c.in-Show.is c.as_str-in-Show.ensures c.named-in-Show.ensures)
     (kept_only c.show.result.kept _ c.show.result.status (c.show.ensures.exact told))
 
 pub returns-in-Show-clause-cut_off : goal.returns-in-Show-clause-cut_off
 returns-in-Show-clause-cut_off g c = λ told.
     subst (λ (o : Order). CutsOff (AnswersOrder o (g.F.Shelf.file c.args.shelf.now)) c.show.result.status c.show.result.lost (g.O.Sink.tells c.args.out.now) (g.O.Sink.taken c.args.out.now) (g.O.Sink.taken c.show.new.out)) (as_show c.args.order.now c.as_str-in-Show.result.now c.in-Show.lp (option_map (λ name. name.now) c.named-in-Show.result) c.in-Show.dec
-    c.in-Show.blocks c.in-Show.limits c.in-Show.is c.as_str-in-Show.ensures c.named-in-Show.ensures)
+    c.in-Show.blocks c.in-Show.classes c.in-Show.limits c.in-Show.is c.as_str-in-Show.ensures c.named-in-Show.ensures)
     (kept_cut _ c.show.result.status _ _ _ _ (c.show.ensures.cut_off told))
 
 pub returns-in-Gen-clause-cut_off : goal.returns-in-Gen-clause-cut_off
@@ -200,7 +200,7 @@ returns-in-Check-clause-failed g c = λ is_fault. inr (unput_as
 pub returns-in-Show-clause-failed : goal.returns-in-Show-clause-failed
 returns-in-Show-clause-failed g c = λ is_fault. inr (unput_as
     (λ stands told. subst (λ (o : Order). HasPutLast o (g.F.Shelf.file c.args.shelf.now) (g.F.Shelf.file c.show.new.shelf))
-    (as_show c.args.order.now c.as_str-in-Show.result.now c.in-Show.lp (option_map (λ name. name.now) c.named-in-Show.result) c.in-Show.dec c.in-Show.blocks c.in-Show.limits c.in-Show.is c.as_str-in-Show.ensures c.named-in-Show.ensures) stands)
+    (as_show c.args.order.now c.as_str-in-Show.result.now c.in-Show.lp (option_map (λ name. name.now) c.named-in-Show.result) c.in-Show.dec c.in-Show.blocks c.in-Show.classes c.in-Show.limits c.in-Show.is c.as_str-in-Show.ensures c.named-in-Show.ensures) stands)
     (c.show.ensures.failed is_fault))
 
 pub returns-in-Demo-clause-failed : goal.returns-in-Demo-clause-failed
