@@ -14,6 +14,11 @@ ghost use Rattle.block_program.specs.Blocked.{BlockedProgram};
 ghost use Rattle.cert_stream.specs.Checks.{IsMadeFor, ChecksFor};
 ghost use Rattle.cmd_check.specs.Replies.{IsReplyTo, StandsForFile, StandsForFront, TellsJudged};
 
+mod feeding;
+mod pieces;
+
+use crate::feeding::feed_pieces;
+use crate::pieces::FilePieces;
 use block_program::Blocked;
 use bp_report::cert_text;
 use bp_shelf::{Shelf, ShelfFault, Sink};
@@ -25,9 +30,6 @@ use std::alloc::{AllocError, Global};
 
 // How many bytes a read asks for.
 const BUFFER: usize = 65536;
-
-// What the length of a file in bytes stays below.
-const FILE_LIMIT: u64 = 1 << 62;
 
 /// Checks the certificate of a file against the model of another, and prints what is accepted or rejected, or the line of the
 /// first leaf that asks for more visits than are left, where a number of visits is given. The certificate is judged as it is
@@ -144,6 +146,8 @@ fn feed_file<F: Shelf>(
 ) -> Result<(), ShelfFault>
     requires made_for { IsMadeFor b.now checker.old }
     requires fresh { checker.old.fed ≡ 0 }
+    requires faultless { checker.old.fault ≡ None }
+    requires begun { (visits : Option ℕ) × ChecksFor b.now visits checker.old [] }
     requires room { length buffer.old ≡ 65536 }
     ensures made_for { IsMadeFor b.now checker.new }
     ensures stands { OnOk result ((visits : Option ℕ) → ChecksFor b.now visits checker.old [] →
@@ -154,56 +158,12 @@ fn feed_file<F: Shelf>(
     ensures cause { CountsFailed (F.read_faults shelf.old) (F.read_faults shelf.new) result }
     ensures writes { F.write_faults shelf.new ≡ F.write_faults shelf.old }
 {
-    let mut at = 0;
-    'reads: while at < FILE_LIMIT {
-        let count = feed_more(alloc, shelf, b, cert, at, checker, buffer)?;
-        if count == 0 {
-            return Ok(());
-        }
-        at += count as u64;
-    }
-    Ok(())
-}
-
-// Reads once, from a place on, and feeds what comes; gives how many bytes go on a text without such a fault: none where the file
-// ends, or with the fault.
-fn feed_more<F: Shelf>(
-    alloc: Global,
-    shelf: &mut F,
-    b: &Blocked,
-    cert: &str,
-    at: u64,
-    checker: &mut Checker,
-    buffer: &mut [u8],
-) -> Result<usize, ShelfFault>
-    requires made_for { IsMadeFor b.now checker.old }
-    requires fed { checker.old.fed ≤ at }
-    requires within { at < file_limit }
-    requires room { length buffer.old ≡ 65536 }
-    ensures made_for { IsMadeFor b.now checker.new }
-    ensures fed { IfOk result (λ count. 0 < count → checker.new.fed ≤ at + count) }
-    ensures count { IfOk result (λ count. count ≤ 65536) }
-    ensures front { IfOk result (λ count. 0 < count → (visits : Option ℕ) →
-        StandsForFront (F.tells shelf.old) (F.file shelf.old cert.now) b.now visits checker.old at →
-        StandsForFront (F.tells shelf.old) (F.file shelf.old cert.now) b.now visits checker.new
-        (at + count)) }
-    ensures end { IfOk result (λ count. count ≡ 0 → (visits : Option ℕ) →
-        StandsForFront (F.tells shelf.old) (F.file shelf.old cert.now) b.now visits checker.old at →
-        StandsForFile (F.tells shelf.old) (F.file shelf.old cert.now) b.now visits checker.new) }
-    ensures found { IsTrue (F.tells shelf.old) → IsOk result → IsSome (F.file shelf.old cert.now) }
-    ensures missing { IsTrue (F.tells shelf.old) → IsErrOf result ShelfFault.Missing →
-        F.file shelf.old cert.now ≡ None }
-    ensures told { F.tells shelf.new ≡ F.tells shelf.old }
-    ensures files { F.file shelf.new ≡ F.file shelf.old }
-    ensures cause { CountsFailed (F.read_faults shelf.old) (F.read_faults shelf.new) result }
-    ensures writes { F.write_faults shelf.new ≡ F.write_faults shelf.old }
-{
-    let count = shelf.read_at(cert, at, buffer)?;
-    match checker.feed(alloc, b, &buffer[..count]) {
-        Err(FeedFault::At { .. }) => Ok(0),
-        Err(FeedFault::NoMemory) => Err(ShelfFault::NoMemory),
-        Ok(()) => Ok(count),
-    }
+    let mut pieces = FilePieces {
+        shelf,
+        name: cert,
+        at: 0,
+    };
+    feed_pieces(alloc, b, checker, &mut pieces, buffer)
 }
 
 // The reply to the certificate that a checker was fed.

@@ -1,12 +1,23 @@
-use Rattle.std.proofs.Common.{◌<◌, ◌≤◌, ◌^◌, arith}
-use Rattle.cmd_check.proofs.Fronts.{front_ends, short_front}
+use Rattle.std.proofs.Common.{rules}
+use Rattle.cmd_check.proofs.Fronts.{kept_along}
 use Rattle.cmd_check.proofs.feed_file.Goals as goal
 
-pub returns-clause-stands : goal.returns-clause-stands
-returns-clause-stands g c = λ visits h.
-    let files = g.F.Shelf.file c.args.shelf.now in
-    let far : 2 ^ 62 ≤ c.reads.at = omega (arith, c.reads-test.false) in
-    let some : 0 < c.reads.at = omega (arith, far) in
-    front_ends (g.F.Shelf.tells c.args.shelf.now) (files c.args.cert.now) c.args.b.now visits c.reads.checker c.reads.at
-    (λ told. c.reads.invariant.found some told) (λ told. short_front files c.args.cert.now c.reads.at (g.met.F.Shelf.short c.args.shelf.now told) far)
-    (c.reads.invariant.front visits h)
+pub returns-clause-files : goal.returns-clause-files
+returns-clause-files g c =
+    let asked = c.feed_pieces.ensures.fewest.asked in
+    let same = kept_along _ (λ p. p.shelf.ghost_name) (λ p piece q h. h.0) _ _ _ asked in
+    let files = kept_along _ (λ p. g.F.Shelf.file p.shelf.now) (λ p piece q h. h.1) _ _ _ asked in
+    search (rules, same, files)
+
+pub returns-clause-cause : goal.returns-clause-cause
+returns-clause-cause g c =
+    let same = kept_along _ (λ p. p.shelf.ghost_name) (λ p piece q h. h.0) _ _ _ c.feed_pieces.ensures.fewest.asked in
+    let cause = c.feed_pieces.ensures.cause in
+    search (rules, same, cause)
+
+pub returns-clause-writes : goal.returns-clause-writes
+returns-clause-writes g c =
+    let asked = c.feed_pieces.ensures.fewest.asked in
+    let same = kept_along _ (λ p. p.shelf.ghost_name) (λ p piece q h. h.0) _ _ _ asked in
+    let writes = kept_along _ (λ p. g.F.Shelf.write_faults p.shelf.now) (λ p piece q h. h.2) _ _ _ asked in
+    search (rules, same, writes)
