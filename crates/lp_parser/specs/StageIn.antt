@@ -56,9 +56,9 @@ row_stage_in text f (rows.Open label sum s signs) = parser.r_open f (label_in te
 row_stage_in text f (rows.Factor label sum s signs k) = parser.r_factor f (label_in text label) (term_sum_in text sum) s signs k
 row_stage_in text f (rows.Sum label sum) = parser.r_sum f (label_in text label) (term_sum_in text sum)
 row_stage_in text f (rows.Compared label sum c signs) = parser.r_compared f (label_in text label) (term_sum_in text sum) c signs
-row_stage_in text f (rows.NumberOpen label v c o) = parser.n_open f (label_in text label) v c (gap_in (term_in text) o)
-row_stage_in text f (rows.NumberFactor label v c o k) = parser.n_factor f (label_in text label) v c (gap_in (term_in text) o) k
-row_stage_in text f (rows.NumberSum label v c sum) = parser.n_sum f (label_in text label) v c (term_sum_in text sum)
+row_stage_in text f (rows.NumberOpen h o) = parser.n_open f (label_in text h.label) h.side h.comparison (gap_in (term_in text) o)
+row_stage_in text f (rows.NumberFactor h o k) = parser.n_factor f (label_in text h.label) h.side h.comparison (gap_in (term_in text) o) k
+row_stage_in text f (rows.NumberSum h sum) = parser.n_sum f (label_in text h.label) h.side h.comparison (term_sum_in text sum)
 row_stage_in text f (rows.NumberCompared label v d sum signs) = parser.n_compared f (label_in text label) v d (term_sum_in text sum) signs
 
 abbrev pub bound_stage_in : List ℕ → parser.Within → BoundStage → parser.Stage

@@ -20,7 +20,7 @@ use crate::stage::{Step, behind_part, let_tree_go};
 use bp_theory::Items;
 use lp_syntax::{Part, Site, Symbol, TextRange};
 pub use sign::add_sign;
-pub use stage::{BoundStage, Front, Gap, ObjectiveStage, RowStage, Stage, Within, let_go};
+pub use stage::{BoundStage, Front, Gap, ObjectiveStage, RowHead, RowStage, Stage, Within, let_go};
 use std::alloc::Global;
 
 /// The stage of a text behind its next symbol, with what the symbol does there; or nothing where no text goes on so.

@@ -5,7 +5,8 @@ ghost use Rattle.lp_parser.specs.StageIn.{step_in, front_in, term_sum_in, gap_in
 ghost use Rattle.lp_parser.specs.Parser.{step as specs_step, from_r_row, from_r_name, from_r_signs, from_r_number, from_r_open, from_r_factor, from_r_sum, from_r_compared, from_n_open, from_n_factor, from_n_sum, from_n_compared, direction_of as specs_direction_of};
 
 use crate::stage::{
-    Front, Gap, RowStage, Stage, Step, from_word, lone, longer, more_sign, put_term, with_row,
+    Front, Gap, RowHead, RowStage, Stage, Step, from_word, lone, longer, more_sign, put_term,
+    with_row,
 };
 use bp_theory::Items;
 use lp_syntax::{Comparison, Direction, Row, Sign, Signed, Site, Sum, Symbol, Term, TextRange};
@@ -34,15 +35,11 @@ pub fn from_row(alloc: Global, front: Front, stage: RowStage, symbol: Symbol) ->
         RowStage::Compared(label, sum, comparison, signs) => from_compared(
             front, label, sum, comparison, signs, symbol,
         ),
-        RowStage::NumberOpen(label, side, comparison, gap) => from_number_open(
-            alloc, front, label, side, comparison, gap, symbol,
+        RowStage::NumberOpen(head, gap) => from_number_open(alloc, front, head, gap, symbol),
+        RowStage::NumberFactor(head, gap, size) => from_number_factor(
+            alloc, front, head, gap, size, symbol,
         ),
-        RowStage::NumberFactor(label, side, comparison, gap, size) => from_number_factor(
-            alloc, front, label, side, comparison, gap, size, symbol,
-        ),
-        RowStage::NumberSum(label, side, comparison, sum) => from_number_sum(
-            alloc, front, label, side, comparison, sum, symbol,
-        ),
+        RowStage::NumberSum(head, sum) => from_number_sum(alloc, front, head, sum, symbol),
         RowStage::NumberCompared(label, side, direction, sum, signs) => from_number_compared(
             front, label, side, direction, sum, signs, symbol,
         ),
@@ -161,7 +158,12 @@ fn from_number(
                 before: None,
                 signs: Items::new(alloc),
             };
-            RowStage::NumberOpen(label, Signed { signs, size }, comparison, gap)
+            let head = RowHead {
+                label,
+                side: Signed { signs, size },
+                comparison,
+            };
+            RowStage::NumberOpen(head, gap)
         }
         _ => return Ok(None),
     };
@@ -293,25 +295,18 @@ fn from_compared(
 fn from_number_open(
     alloc: Global,
     front: Front,
-    label: Option<TextRange>,
-    side: Signed,
-    comparison: Comparison,
+    head: RowHead,
     gap: Gap<Term>,
     symbol: Symbol,
 ) -> Step
     ensures { (text : List ℕ) → IfOk result
-        (λ r. step_in text r ≡ from_n_open (front_in text front) (label_in text label) side
-        comparison (gap_in (term_in text) gap) (symbol_in text symbol)) }
+        (λ r. step_in text r ≡ from_n_open (front_in text front) (label_in text head.label)
+        head.side head.comparison (gap_in (term_in text) gap) (symbol_in text symbol)) }
 {
     let stage = match symbol {
-        Symbol::Sign(sign) => RowStage::NumberOpen(label, side, comparison, more_sign(gap, sign)?),
-        Symbol::Number(size) => RowStage::NumberFactor(label, side, comparison, gap, size),
-        Symbol::Name(name) => RowStage::NumberSum(
-            label,
-            side,
-            comparison,
-            put_term(alloc, gap, None, name)?,
-        ),
+        Symbol::Sign(sign) => RowStage::NumberOpen(head, more_sign(gap, sign)?),
+        Symbol::Number(size) => RowStage::NumberFactor(head, gap, size),
+        Symbol::Name(name) => RowStage::NumberSum(head, put_term(alloc, gap, None, name)?),
         _ => return Ok(None),
     };
     Ok(Some((Site::RowMore, Stage::Row(front, stage))))
@@ -321,23 +316,21 @@ fn from_number_open(
 fn from_number_factor(
     alloc: Global,
     front: Front,
-    label: Option<TextRange>,
-    side: Signed,
-    comparison: Comparison,
+    head: RowHead,
     gap: Gap<Term>,
     size: u64,
     symbol: Symbol,
 ) -> Step
     ensures { (text : List ℕ) → IfOk result
-        (λ r. step_in text r ≡ from_n_factor (front_in text front) (label_in text label) side
-        comparison (gap_in (term_in text) gap) size (symbol_in text symbol)) }
+        (λ r. step_in text r ≡ from_n_factor (front_in text front) (label_in text head.label)
+        head.side head.comparison (gap_in (term_in text) gap) size (symbol_in text symbol)) }
 {
     match symbol {
         Symbol::Name(name) => {
             let sum = put_term(alloc, gap, Some(size), name)?;
             Ok(Some((
                 Site::RowMore,
-                Stage::Row(front, RowStage::NumberSum(label, side, comparison, sum)),
+                Stage::Row(front, RowStage::NumberSum(head, sum)),
             )))
         }
         _ => Ok(None),
@@ -359,15 +352,13 @@ pub fn direction_of(first: Comparison, second: Comparison) -> Option<Direction>
 fn from_number_sum(
     alloc: Global,
     front: Front,
-    label: Option<TextRange>,
-    side: Signed,
-    comparison: Comparison,
+    head: RowHead,
     sum: Sum<Term>,
     symbol: Symbol,
 ) -> Step
     ensures { (text : List ℕ) → IfOk result
-        (λ r. step_in text r ≡ from_n_sum (front_in text front) (label_in text label) side
-        comparison (term_sum_in text sum) (symbol_in text symbol)) }
+        (λ r. step_in text r ≡ from_n_sum (front_in text front) (label_in text head.label)
+        head.side head.comparison (term_sum_in text sum) (symbol_in text symbol)) }
 {
     match symbol {
         Symbol::Sign(sign) => {
@@ -377,11 +368,16 @@ fn from_number_sum(
             };
             Ok(Some((
                 Site::RowMore,
-                Stage::Row(front, RowStage::NumberOpen(label, side, comparison, gap)),
+                Stage::Row(front, RowStage::NumberOpen(head, gap)),
             )))
         }
-        Symbol::Comparison(second) => match direction_of(comparison, second) {
+        Symbol::Comparison(second) => match direction_of(head.comparison, second) {
             Some(direction) => {
+                let RowHead {
+                    label,
+                    side,
+                    comparison: _,
+                } = head;
                 let signs = Items::new(alloc);
                 let stage = RowStage::NumberCompared(label, side, direction, sum, signs);
                 Ok(Some((Site::RowMore, Stage::Row(front, stage))))
@@ -389,6 +385,11 @@ fn from_number_sum(
             None => Ok(None),
         },
         _ => {
+            let RowHead {
+                label,
+                side,
+                comparison,
+            } = head;
             let front = with_row(front, Row::NumberFirst(label, side, comparison, sum))?;
             from_start(alloc, front, symbol)
         }

@@ -56,7 +56,7 @@ fn add_row_sign(stage: &mut RowStage, sign: Sign) -> Result<Option<Site>, AllocE
         RowStage::Signs(_, signs) => signs.push(sign)?,
         RowStage::Open(_, _, _, signs) => signs.push(sign)?,
         RowStage::Compared(_, _, _, signs) => signs.push(sign)?,
-        RowStage::NumberOpen(_, _, _, gap) => gap.signs.push(sign)?,
+        RowStage::NumberOpen(_, gap) => gap.signs.push(sign)?,
         RowStage::NumberCompared(_, _, _, _, signs) => signs.push(sign)?,
         _ => return Ok(None),
     }

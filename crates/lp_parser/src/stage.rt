@@ -14,7 +14,9 @@ use std::alloc::{AllocError, Global};
 
 /// A place for a summand: what stands before it, and its signs so far. With nothing before it, it is the first.
 pub struct Gap<A> {
+    /// The summands so far and the sign behind them; none at the first summand.
     pub before: Option<(Sum<A>, Sign)>,
+    /// The summand's own signs so far.
     pub signs: Items<Sign>,
 }
 
@@ -40,9 +42,13 @@ impl<A: Drop> Gap<A> {
 
 /// An objective and the rows so far.
 pub struct Front {
+    /// Whether the objective is maximised; else it is minimised.
     pub maximises: bool,
+    /// The objective's name, where one stands before a colon.
     pub label: Option<TextRange>,
+    /// What the objective adds up; none where nothing is written.
     pub objective: Option<Sum<Item>>,
+    /// The rows so far, in order.
     pub rows: Items<Row>,
 }
 
@@ -87,8 +93,11 @@ impl Front {
 
 /// Inside a bounds section: what stands before it, and its statements so far.
 pub struct Within {
+    /// The objective and all rows.
     pub front: Front,
+    /// The sections before this one, in order.
     pub parts: Items<Part>,
+    /// The statements of this section so far, in order.
     pub so_far: Items<Bound>,
 }
 
@@ -117,6 +126,17 @@ impl Within {
     }
 }
 
+/// What stands before the terms of a row that begins with its number.
+#[derive(Drop)]
+pub struct RowHead {
+    /// The row's name, where one stands before a colon.
+    pub label: Option<TextRange>,
+    /// The number, with its signs.
+    pub side: Signed,
+    /// The comparison behind the number.
+    pub comparison: Comparison,
+}
+
 /// Inside an objective.
 #[derive(Drop)]
 pub enum ObjectiveStage {
@@ -138,9 +158,9 @@ pub enum RowStage {
     Factor(Option<TextRange>, Sum<Term>, Sign, Items<Sign>, u64),
     Sum(Option<TextRange>, Sum<Term>),
     Compared(Option<TextRange>, Sum<Term>, Comparison, Items<Sign>),
-    NumberOpen(Option<TextRange>, Signed, Comparison, Gap<Term>),
-    NumberFactor(Option<TextRange>, Signed, Comparison, Gap<Term>, u64),
-    NumberSum(Option<TextRange>, Signed, Comparison, Sum<Term>),
+    NumberOpen(RowHead, Gap<Term>),
+    NumberFactor(RowHead, Gap<Term>, u64),
+    NumberSum(RowHead, Sum<Term>),
     NumberCompared(Option<TextRange>, Signed, Direction, Sum<Term>, Items<Sign>),
 }
 

@@ -65,7 +65,7 @@ stuck_at limits text all n state symbol next o e h g =
 
 -- the tokens with one more
 one_seen : (limits : Limits) (text : List ℕ) (all : List Symbol) (n : ℕ) (state : State) (symbol : rust.Symbol.Symbol) (next : Option rust.Symbol.Symbol) (site : Site) (ws : List Written) → IsReadBy limits text all n state ws → IsNext text all n symbol next
-    → seen (map (λ w. w.site) (ws ++ record { symbol = symbol_in text symbol; site = site } ∷ [])) all ≡ seen (map (λ w. w.site) ws) all ++ seen_in text site symbol next ∷ []
+    → seen (map (λ w. w.site) (ws ++ record { symbol = symbol_in text symbol; site = site } ∷ [])) all ≡ seen (map (λ w. w.site) ws) all ++ seen_in text (record { site = site; symbol = symbol; next = next }) ∷ []
 one_seen limits text all n state symbol next site ws h g =
     let l : n < length all = within text all n symbol next g in
     let count : length (map (λ w. w.site) ws) ≡ n = site_count all n (stage_in text state.stage) ws h.read (omega arith) in
@@ -84,26 +84,26 @@ noted_count limits text all n state ws h l =
 -- one symbol more is read
 pub read_on : (limits : Limits) (text : List ℕ) (all : List Symbol) (n : ℕ) (state more : State) (symbol : rust.Symbol.Symbol) (next : Option rust.Symbol.Symbol) (site : Site)
     → step (stage_in text state.stage) (symbol_in text symbol) ≡ Some (site, stage_in text more.stage)
-    → more.notes ≡ noted state.notes n (seen_in text site symbol next) → is_repeated_in state.notes (seen_in text site symbol next) ≡ false → are_too_many more.notes ≡ false
+    → more.notes ≡ noted state.notes n (seen_in text (record { site = site; symbol = symbol; next = next })) → is_repeated_in state.notes (seen_in text (record { site = site; symbol = symbol; next = next })) ≡ false → are_too_many more.notes ≡ false
     → IsRead limits text all n state → IsNext text all n symbol next → IsRead limits text all (n + 1) more
 read_on limits text all n state more symbol next site e f a b h g =
     let l : n < length all = within text all n symbol next g in
     let tokens : List Seen = seen (map (λ w. w.site) h.0) all in
     let count : length (seen (map (λ w. w.site) h.0) all) ≡ n = noted_count limits text all n state h.0 h.1 (omega arith) in
     let w : Written = record { symbol = symbol_in text symbol; site = site } in
-    let whole : seen (map (λ w. w.site) (h.0 ++ w ∷ [])) all ≡ tokens ++ seen_in text site symbol next ∷ [] = one_seen limits text all n state symbol next site h.0 h.1 g in
-    let same : more.notes ≡ noted state.notes (length tokens) (seen_in text site symbol next) = f ∙ ap (λ k. noted state.notes k (seen_in text site symbol next)) (sym count) in (
+    let whole : seen (map (λ w. w.site) (h.0 ++ w ∷ [])) all ≡ tokens ++ seen_in text (record { site = site; symbol = symbol; next = next }) ∷ [] = one_seen limits text all n state symbol next site h.0 h.1 g in
+    let same : more.notes ≡ noted state.notes (length tokens) (seen_in text (record { site = site; symbol = symbol; next = next })) = f ∙ ap (λ k. noted state.notes k (seen_in text (record { site = site; symbol = symbol; next = next }))) (sym count) in (
       h.0 ++ w ∷ [],
       record {
         read = reads_more all n (stage_in text state.stage) (stage_in text more.stage) h.0 (symbol_in text symbol) site h.1.read g.here e;
-        notes = subst (λ (x : List Seen). AreNoted limits x more.notes) (sym whole) (subst (λ (r : Notes). AreNoted limits (tokens ++ seen_in text site symbol next ∷ []) r) (sym same) (notes_more limits tokens state.notes (seen_in text site symbol next) h.1.notes));
-        sound = ap (role_fault limits) whole ∙ sound_more limits tokens state.notes (seen_in text site symbol next) h.1.notes h.1.sound a (ap are_too_many (sym same) ∙ b);
+        notes = subst (λ (x : List Seen). AreNoted limits x more.notes) (sym whole) (subst (λ (r : Notes). AreNoted limits (tokens ++ seen_in text (record { site = site; symbol = symbol; next = next }) ∷ []) r) (sym same) (notes_more limits tokens state.notes (seen_in text (record { site = site; symbol = symbol; next = next })) h.1.notes));
+        sound = ap (role_fault limits) whole ∙ sound_more limits tokens state.notes (seen_in text (record { site = site; symbol = symbol; next = next })) h.1.notes h.1.sound a (ap are_too_many (sym same) ∙ b);
       },
     )
 
 -- a fault by names and counts
 pub role_at : (limits : Limits) (text : List ℕ) (all : List Symbol) (n : ℕ) (state : State) (y : stages.Stage) (symbol : rust.Symbol.Symbol) (next : Option rust.Symbol.Symbol) (site : Site) (f : ParseFault) → own_fault (symbol_in text symbol) ≡ None
-    → step (stage_in text state.stage) (symbol_in text symbol) ≡ Some (site, stage_in text y) → IsRoleFault state.notes n (seen_in text site symbol next) f
+    → step (stage_in text state.stage) (symbol_in text symbol) ≡ Some (site, stage_in text y) → IsRoleFault state.notes n (seen_in text (record { site = site; symbol = symbol; next = next })) f
     → IsRead limits text all n state → IsNext text all n symbol next → IsParseFault limits all f
 role_at limits text all n state y symbol next site NoMemory o e r h g = tt
 role_at limits text all n state y symbol next site NoEnd o e r h g = absurd r
@@ -122,12 +122,12 @@ role_at limits text all n state y symbol next site (At i kind) o e r h g =
     count : n < length all → length (seen (map (λ w. w.site) h.0) all) ≡ n
     count l = noted_count limits text all n state h.0 h.1 (omega arith)
 
-    fault : ((kind ≡ RowTwice) × (is_repeated_in state.notes (seen_in text site symbol next) ≡ true)) ⊎ ((kind ≡ Limit) × (is_repeated_in state.notes (seen_in text site symbol next) ≡ false) × (are_too_many (noted state.notes n (seen_in text site symbol next)) ≡ true))
-        → role_fault limits (seen (map (λ w. w.site) h.0) all ++ seen_in text site symbol next ∷ []) ≡ Some kind
-    fault (inl a) = twice_more limits (seen (map (λ w. w.site) h.0) all) state.notes (seen_in text site symbol next) h.1.notes a.1 ∙ ap Some (sym a.0)
+    fault : ((kind ≡ RowTwice) × (is_repeated_in state.notes (seen_in text (record { site = site; symbol = symbol; next = next })) ≡ true)) ⊎ ((kind ≡ Limit) × (is_repeated_in state.notes (seen_in text (record { site = site; symbol = symbol; next = next })) ≡ false) × (are_too_many (noted state.notes n (seen_in text (record { site = site; symbol = symbol; next = next }))) ≡ true))
+        → role_fault limits (seen (map (λ w. w.site) h.0) all ++ seen_in text (record { site = site; symbol = symbol; next = next }) ∷ []) ≡ Some kind
+    fault (inl a) = twice_more limits (seen (map (λ w. w.site) h.0) all) state.notes (seen_in text (record { site = site; symbol = symbol; next = next })) h.1.notes a.1 ∙ ap Some (sym a.0)
     fault (inr a) =
-        limit_more limits (seen (map (λ w. w.site) h.0) all) state.notes (seen_in text site symbol next) h.1.notes h.1.sound a.1
-        (ap (λ k. are_too_many (noted state.notes k (seen_in text site symbol next))) (count (within text all n symbol next g)) ∙ a.2) ∙ ap Some (sym a.0)
+        limit_more limits (seen (map (λ w. w.site) h.0) all) state.notes (seen_in text (record { site = site; symbol = symbol; next = next })) h.1.notes h.1.sound a.1
+        (ap (λ k. are_too_many (noted state.notes k (seen_in text (record { site = site; symbol = symbol; next = next })))) (count (within text all n symbol next g)) ∙ a.2) ∙ ap Some (sym a.0)
 
 -- nothing is read yet
 pub read_none : (limits : Limits) (text : List ℕ) (all : List Symbol) (state : State) → state.stage ≡ variants.Start → AreNoted limits [] state.notes → IsRead limits text all 0 state
@@ -178,9 +178,9 @@ not_done text (variants.Row f (rows.Open label sum s signs)) t h e = cc
 not_done text (variants.Row f (rows.Factor label sum s signs k)) t h e = cc
 not_done text (variants.Row f (rows.Sum label sum)) t h e = cc
 not_done text (variants.Row f (rows.Compared label sum c signs)) t h e = cc
-not_done text (variants.Row f (rows.NumberOpen label v c gap)) t h e = cc
-not_done text (variants.Row f (rows.NumberFactor label v c gap k)) t h e = cc
-not_done text (variants.Row f (rows.NumberSum label v c sum)) t h e = cc
+not_done text (variants.Row f (rows.NumberOpen r gap)) t h e = cc
+not_done text (variants.Row f (rows.NumberFactor r gap k)) t h e = cc
+not_done text (variants.Row f (rows.NumberSum r sum)) t h e = cc
 not_done text (variants.Row f (rows.NumberCompared label v d sum signs)) t h e = cc
 not_done text (variants.Generals f parts names) t h e = cc
 not_done text (variants.Binaries f parts names) t h e = cc
@@ -210,7 +210,7 @@ read_unended limits text all n state l m h e =
 -- the same, whatever the symbols are
 pub reads_on : (text : List ℕ) (n : ℕ) (state more : State) (symbol : rust.Symbol.Symbol) (next : Option rust.Symbol.Symbol) (site : Site)
     → step (stage_in text state.stage) (symbol_in text symbol) ≡ Some (site, stage_in text more.stage)
-    → more.notes ≡ noted state.notes n (seen_in text site symbol next) → is_repeated_in state.notes (seen_in text site symbol next) ≡ false → are_too_many more.notes ≡ false
+    → more.notes ≡ noted state.notes n (seen_in text (record { site = site; symbol = symbol; next = next })) → is_repeated_in state.notes (seen_in text (record { site = site; symbol = symbol; next = next })) ≡ false → are_too_many more.notes ≡ false
     → ReadsOn text n symbol next state more
 unfolding ReadsOn
 reads_on text n state more symbol next site e f a b = λ limits all h g. read_on limits text all n state more symbol next site e f a b h g
@@ -224,7 +224,7 @@ unfolding StopsAt
 stops_stuck text n state symbol next o e = λ limits all h g. stuck_at limits text all n state symbol next o e h g
 
 pub stops_role : (text : List ℕ) (n : ℕ) (state : State) (y : stages.Stage) (symbol : rust.Symbol.Symbol) (next : Option rust.Symbol.Symbol) (site : Site) (f : ParseFault) → own_fault (symbol_in text symbol) ≡ None
-    → step (stage_in text state.stage) (symbol_in text symbol) ≡ Some (site, stage_in text y) → IsRoleFault state.notes n (seen_in text site symbol next) f → StopsAt text n symbol next state f
+    → step (stage_in text state.stage) (symbol_in text symbol) ≡ Some (site, stage_in text y) → IsRoleFault state.notes n (seen_in text (record { site = site; symbol = symbol; next = next })) f → StopsAt text n symbol next state f
 unfolding StopsAt
 stops_role text n state y symbol next site f o e r = λ limits all h g. role_at limits text all n state y symbol next site f o e r h g
 
@@ -235,13 +235,13 @@ stops_memory text n state symbol next = λ limits all h g. tt
 -- what advancing gives
 pub advanced : (text : List ℕ) (n : ℕ) (state : State) (y : stages.Stage) (symbol : rust.Symbol.Symbol) (next : Option rust.Symbol.Symbol) (site : Site) (r : Result State ParseFault)
     → step (stage_in text state.stage) (symbol_in text symbol) ≡ Some (site, stage_in text y)
-    → IfOk r (λ more. more.stage ≡ y) → IfOk r (λ more. more.notes ≡ noted state.notes n (seen_in text site symbol next))
-    → IfOk r (λ more. (is_repeated_in state.notes (seen_in text site symbol next) ≡ false) × (are_too_many more.notes ≡ false))
+    → IfOk r (λ more. more.stage ≡ y) → IfOk r (λ more. more.notes ≡ noted state.notes n (seen_in text (record { site = site; symbol = symbol; next = next })))
+    → IfOk r (λ more. (is_repeated_in state.notes (seen_in text (record { site = site; symbol = symbol; next = next })) ≡ false) × (are_too_many more.notes ≡ false))
     → IfOk r (λ more. ReadsOn text n symbol next state more)
 advanced text n state y symbol next site (Ok more) e a b s = reads_on text n state more symbol next site (e ∙ ap (λ (x : stages.Stage). Some (site, stage_in text x)) (sym a)) b s.0 s.1
 advanced text n state y symbol next site (Err f) e a b s = tt
 
 pub stopped : (text : List ℕ) (n : ℕ) (state : State) (y : stages.Stage) (symbol : rust.Symbol.Symbol) (next : Option rust.Symbol.Symbol) (site : Site) (r : Result State ParseFault) → own_fault (symbol_in text symbol) ≡ None
-    → step (stage_in text state.stage) (symbol_in text symbol) ≡ Some (site, stage_in text y) → IfErr r (IsRoleFault state.notes n (seen_in text site symbol next)) → IfErr r (λ f. StopsAt text n symbol next state f)
+    → step (stage_in text state.stage) (symbol_in text symbol) ≡ Some (site, stage_in text y) → IfErr r (IsRoleFault state.notes n (seen_in text (record { site = site; symbol = symbol; next = next }))) → IfErr r (λ f. StopsAt text n symbol next state f)
 stopped text n state y symbol next site (Ok more) o e h = tt
 stopped text n state y symbol next site (Err f) o e h = stops_role text n state y symbol next site f o e h

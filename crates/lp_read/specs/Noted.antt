@@ -4,19 +4,18 @@ use Rattle.bp_theory.specs.declared.Limits.{Limits}
 use Rattle.bp_theory.specs.Limits.{most_rows, most_terms, most_variables}
 use Rattle.lp_token.specs.declared.LpKind.TheVariants.{RowTwice, Limit}
 use Rattle.lp_read.specs.declared.notes.Notes.{Notes}
+use Rattle.lp_read.specs.declared.notes.Seen as symbols
 use Rattle.lp_read.specs.declared.notes.ParseFault.{ParseFault}
 use Rattle.lp_read.specs.declared.notes.ParseFault.TheVariants.{At, NoEnd, NoMemory}
-use Rattle.lp_syntax.specs.declared.symbol.Symbol.{Symbol}
 use Rattle.lp_syntax.specs.Tree.{Name}
-use Rattle.lp_syntax.specs.declared.tree.Site.{Site}
 use Rattle.lp_syntax.specs.TreeIn.{symbol_in, next_in}
 use Rattle.lp_syntax.specs.Roles.{Seen, variable_of, counts_as_term, row_of, variables, row_names, term_count}
 use Rattle.lp_semantics.specs.Meaning.{has_name}
 use Rattle.lp_semantics.specs.Reading.{place_of, row_places}
 
 -- a symbol of the text in its site, with the one behind it
-abbrev pub seen_in : List ℕ → Site → Symbol → Option Symbol → Seen
-seen_in text site symbol next = record { site = site; symbol = symbol_in text symbol; next = next_in text next }
+abbrev pub seen_in : List ℕ → symbols.Seen → Seen
+seen_in text seen = record { site = seen.site; symbol = symbol_in text seen.symbol; next = next_in text seen.next }
 
 -- names with one more, if it is new, and the tokens where they first stand
 abbrev pub with_name : List Name → Name → List Name

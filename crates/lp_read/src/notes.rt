@@ -43,12 +43,29 @@ impl From<AllocError> for ParseFault {
 /// that all of them keep.
 #[derive(Drop)]
 pub struct Notes {
+    /// The variables, numbered from 0 in the order in which they first stand.
     pub names: NameTable,
+    /// By number of the variable: the number of the token where it first stands, from 0.
     pub first_tokens: Items<usize>,
+    /// The rows' names, numbered from 0 in order; the k-th one, from 1, is `ck` where it has no label.
     pub row_names: NameTable,
+    /// By number of the row: the number of its first token, from 0.
     pub row_tokens: Items<usize>,
+    /// How many variables in sums and constants of the objective there are, each as often as it is written.
     pub terms: u32,
+    /// The limits that the numbers of variables, rows and terms keep.
     pub limits: Limits,
+}
+
+/// A symbol in its site.
+#[derive(Clone, Copy)]
+pub struct Seen {
+    /// What the symbol is doing in the text.
+    pub site: Site,
+    /// The symbol.
+    pub symbol: Symbol,
+    /// The symbol behind it, if one stands there.
+    pub next: Option<Symbol>,
 }
 
 /// Nothing yet.
@@ -226,20 +243,17 @@ fn note_row(
     bytes: &[u8],
     notes: Notes,
     at: usize,
-    site: Site,
-    symbol: Symbol,
-    next: Option<Symbol>,
+    seen: Seen,
 ) -> Result<Notes, ParseFault>
     requires room { HaveRoom notes }
-    requires named { IsNamed bytes.now symbol }
-    ensures added { IfOk result (λ r. r ≡ with_rows notes at (seen_in bytes.now site symbol next)) }
-    ensures new { IfOk result (λ r.
-        is_repeated_in notes (seen_in bytes.now site symbol next) ≡ false) }
-    ensures fault { IfErr result (IsRowFault notes at (seen_in bytes.now site symbol next)) }
+    requires named { IsNamed bytes.now seen.symbol }
+    ensures added { IfOk result (λ r. r ≡ with_rows notes at (seen_in bytes.now seen)) }
+    ensures new { IfOk result (λ r. is_repeated_in notes (seen_in bytes.now seen) ≡ false) }
+    ensures fault { IfErr result (IsRowFault notes at (seen_in bytes.now seen)) }
 {
-    match site {
+    match seen.site {
         Site::RowFirst => {
-            let label = row_label(symbol, next);
+            let label = row_label(seen.symbol, seen.next);
             add_labelled_row(alloc, bytes, notes, at, label)
         }
         _ => Ok(notes),
@@ -272,15 +286,13 @@ fn note_variable(
     bytes: &[u8],
     notes: Notes,
     at: usize,
-    site: Site,
-    symbol: Symbol,
-    next: Option<Symbol>,
+    seen: Seen,
 ) -> Result<Notes, AllocError>
     requires room { HaveRoomForVariables notes }
-    requires named { IsNamed bytes.now symbol }
-    ensures { IfOk result (λ r. r ≡ with_variables notes at (seen_in bytes.now site symbol next)) }
+    requires named { IsNamed bytes.now seen.symbol }
+    ensures { IfOk result (λ r. r ≡ with_variables notes at (seen_in bytes.now seen)) }
 {
-    match variable_of(site, symbol, next) {
+    match variable_of(seen.site, seen.symbol, seen.next) {
         None => Ok(notes),
         Some(place) => add_variable(alloc, notes, at, name_at(bytes, place)),
     }
@@ -332,21 +344,18 @@ pub fn note(
     bytes: &[u8],
     notes: Notes,
     at: usize,
-    site: Site,
-    symbol: Symbol,
-    next: Option<Symbol>,
+    seen: Seen,
 ) -> Result<Notes, ParseFault>
     requires room { HaveRoom notes }
-    requires named { IsNamed bytes.now symbol }
-    ensures added { IfOk result (λ r. r ≡ noted notes at (seen_in bytes.now site symbol next)) }
+    requires named { IsNamed bytes.now seen.symbol }
+    ensures added { IfOk result (λ r. r ≡ noted notes at (seen_in bytes.now seen)) }
     ensures sound { IfOk result (λ r.
-        (is_repeated_in notes (seen_in bytes.now site symbol next) ≡ false) ×
-        (are_too_many r ≡ false)) }
+        (is_repeated_in notes (seen_in bytes.now seen) ≡ false) × (are_too_many r ≡ false)) }
     ensures room { IfOk result HaveRoom }
-    ensures fault { IfErr result (IsRoleFault notes at (seen_in bytes.now site symbol next)) }
+    ensures fault { IfErr result (IsRoleFault notes at (seen_in bytes.now seen)) }
 {
-    let notes = note_row(alloc, bytes, notes, at, site, symbol, next)?;
-    let notes = note_variable(alloc, bytes, notes, at, site, symbol, next)?;
-    let notes = note_term(notes, counts_as_term(site, symbol, next));
+    let notes = note_row(alloc, bytes, notes, at, seen)?;
+    let notes = note_variable(alloc, bytes, notes, at, seen)?;
+    let notes = note_term(notes, counts_as_term(seen.site, seen.symbol, seen.next));
     within_limits(notes, at)
 }

@@ -12,24 +12,28 @@ ghost use Rattle.lp_read.specs.Parsing.{ReadsOn, StopsAt, IsParseFault, IsParsed
 ghost use Rattle.lp_parser.specs.declared.stage.Stage.TheVariants as stages;
 ghost use Rattle.lp_read.specs.declared.notes.ParseFault.TheVariants as faults;
 
-use crate::notes::{Notes, ParseFault, let_notes_go, no_notes, note};
+use crate::notes::{Notes, ParseFault, Seen, let_notes_go, no_notes, note};
 use bp_theory::Limits;
 use lp_parser::{Stage, add_sign, let_go, step};
-use lp_syntax::{Site, Symbol, Tree, first_cursor, next_symbol};
+use lp_syntax::{Symbol, Tree, first_cursor, next_symbol};
 use lp_token::LpKind;
 use std::alloc::Global;
 
 /// What is read so far, and what is noted of it.
 #[derive(Drop)]
 pub struct State {
+    /// What is read so far.
     pub stage: Stage,
+    /// What is noted of it.
     pub notes: Notes,
 }
 
 /// The tree of a text, and what is noted of its tokens.
 #[derive(Drop)]
 pub struct Parsed {
+    /// The tree of the whole text.
     pub tree: Tree,
+    /// What is noted of its tokens.
     pub notes: Notes,
 }
 
@@ -50,22 +54,18 @@ fn advance(
     stage: Stage,
     notes: Notes,
     at: usize,
-    site: Site,
-    symbol: Symbol,
-    next: Option<Symbol>,
+    seen: Seen,
 ) -> Result<State, ParseFault>
     requires room { HaveRoom notes }
-    requires named { IsNamed bytes.now symbol }
+    requires named { IsNamed bytes.now seen.symbol }
     ensures stage { IfOk result (λ r. r.stage ≡ stage) }
-    ensures notes { IfOk result (λ r.
-        r.notes ≡ noted notes at (seen_in bytes.now site symbol next)) }
+    ensures notes { IfOk result (λ r. r.notes ≡ noted notes at (seen_in bytes.now seen)) }
     ensures sound { IfOk result (λ r.
-        (is_repeated_in notes (seen_in bytes.now site symbol next) ≡ false) ×
-        (are_too_many r.notes ≡ false)) }
+        (is_repeated_in notes (seen_in bytes.now seen) ≡ false) × (are_too_many r.notes ≡ false)) }
     ensures room { IfOk result (λ r. HaveRoom r.notes) }
-    ensures fault { IfErr result (IsRoleFault notes at (seen_in bytes.now site symbol next)) }
+    ensures fault { IfErr result (IsRoleFault notes at (seen_in bytes.now seen)) }
 {
-    match note(alloc, bytes, notes, at, site, symbol, next) {
+    match note(alloc, bytes, notes, at, seen) {
         Ok(notes) => Ok(State { stage, notes }),
         Err(fault) => {
             let_go(stage);
@@ -99,7 +99,10 @@ fn read_fit(
             token: at,
             kind: LpKind::Syntax,
         }),
-        Ok(Some((site, reached))) => advance(alloc, bytes, reached, notes, at, site, symbol, next),
+        Ok(Some((site, reached))) => {
+            let seen = Seen { site, symbol, next };
+            advance(alloc, bytes, reached, notes, at, seen)
+        }
     }
 }
 
