@@ -9,8 +9,11 @@ use std::alloc::{AllocError, Global};
 /// variables, in order of equal costs, spans and master coefficients, and with equal rows. Classes are numbered from 0
 /// by their first blocks.
 pub struct Classes {
+    // By number of the block: the number of its class.
     classes: Items<u32>,
+    // By number of the class: its first block.
     firsts: Items<u32>,
+    // By number of the class: its blocks, ascending.
     members: Items<Items<u32>>,
 }
 

@@ -7,6 +7,7 @@ use std::marker::Model;
 
 /// Signatures, each once, numbered from 0 in the order in which they came. Contracts see the list of their numbers.
 pub struct Signatures {
+    // The signatures by their numbers.
     table: IndexSet<Vec<i64>>,
 }
 

@@ -34,6 +34,7 @@ pub trait Disk {
 /// The files of a runtime, by their paths. No account is kept.
 #[derive(Drop)]
 pub struct HostDisk<'a, R> {
+    // The runtime.
     rt: &'a R,
 }
 

@@ -17,9 +17,13 @@ const LIMIT: u64 = 1 << 62;
 /// it is called with, and answers as the disk does; what is past the limit of files isn't asked for.
 #[derive(Drop)]
 pub struct FileShelf<D> {
+    // What reads and writes files.
     disk: D,
+    // How many reads failed; a missing file is no fault.
     reads: u64,
+    // How many writes failed.
     writes: u64,
+    // Whether the last write that failed did so for want of space.
     is_full: bool,
 }
 

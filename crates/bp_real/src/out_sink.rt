@@ -12,9 +12,13 @@ use std::io::{Printer, Write};
 /// `2^64 - 1`. A put that succeeds has handed just its bytes to the writer.
 #[derive(Drop)]
 pub struct OutSink<W> {
+    // The writer.
     to: W,
+    // How many puts were asked for, those that failed included.
     puts: u64,
+    // How many puts failed.
     faults: u64,
+    // Whether the last put that failed did so for want of space.
     is_full: bool,
 }
 

@@ -45,6 +45,7 @@ pub trait Survey {
 /// The files of a runtime, by their paths.
 #[derive(Drop)]
 pub struct HostSurvey<'a, R> {
+    // The runtime.
     rt: &'a R,
 }
 

@@ -8,11 +8,17 @@ use std::alloc::{AllocError, Global};
 /// What is kept of the files of a run: names, and why the last call failed.
 #[derive(Drop)]
 pub struct Files {
+    // What names are stored by.
     alloc: Global,
+    // The name of the file that was read first, where another was read behind it.
     first: Option<String>,
+    // The name of the file that was read last.
     last: Option<String>,
+    // The name of the file that could not be read or written, of the last such call.
     failed: Option<String>,
+    // Whether that call was a write.
     written: bool,
+    // Whether what failed did so for want of space.
     full: bool,
 }
 
@@ -92,7 +98,9 @@ fn name_in(kept: &Option<String>) -> Option<&str> {
 /// however many there are.
 #[derive(Drop)]
 pub struct Watched<F> {
+    // The shelf that each call is handed on to.
     inside: F,
+    // What is kept of the files.
     files: Files,
 }
 
@@ -163,7 +171,9 @@ impl<F: Shelf> Shelf for Watched<F> {
 /// A sink that hands every put on to the sink inside, and keeps the bytes that were to be put, as far as memory serves.
 #[derive(Drop)]
 pub struct WatchedSink<O> {
+    // The sink that each put is handed on to.
     inside: O,
+    // The bytes of all puts, as far as memory serves.
     told: Vec<u8>,
 }
 

@@ -12,12 +12,17 @@ use std::alloc::{AllocError, Global};
 /// A certificate: a claim, the point of its value, rounding cuts, and a tree with the proofs of its leaves.
 #[derive(Drop)]
 pub struct Cert {
+    /// What is claimed.
     pub claim: Claim,
+    /// By number of the variable: the point of the claimed value; it has no meaning where the claim has none.
     pub point: Items<i64>,
+    /// The cuts, in order: proofs and later cuts name them by numbers behind those of link rows.
     pub cuts: Items<Cut>,
+    /// The branch tree, with the proofs of its leaves.
     pub tree: Sketch,
     // How many nodes the tree has, or the greatest number of a u64.
     size: u64,
+    // The size is that of the tree.
     ghost counted: { size ≡ min (nodes (written_tree (tree_of tree))) (2 ^ 64 - 1) },
 }
 

@@ -16,7 +16,10 @@ pub struct Frame {
     pub blocks: u32,
     /// The limits that the model keeps.
     pub limits: Limits,
+    // All rows but cuts are at most 2^31.
     ghost few_rows: { length masters + links ≤ 2 ^ 31 },
+    // A number of 32 bits counts the variables.
     ghost few_variables: { variables < 2 ^ 32 },
+    // A number of 32 bits counts the blocks.
     ghost few_blocks: { blocks < 2 ^ 32 },
 }

@@ -42,6 +42,7 @@ pub trait NodeLines {
 /// The lines of a certificate's tree as it was read. It keeps no more than one node for each level of the tree.
 #[derive(Drop)]
 pub struct SketchLines<'a> {
+    // The node of the line at hand; none behind the last one.
     here: Option<&'a Sketch>,
     // The high parts that are still to come, the next one last.
     ahead: Vec<&'a Sketch>,

@@ -12,9 +12,13 @@ pub enum Sketch {
     Leaf(Proof),
     Open(Proof),
     Fork {
+        /// The number of the variable that is split.
         var: u32,
+        /// The greatest number of the low part; the high part begins at the next one.
         at: i64,
+        /// The tree of the low part.
         low: Box<Sketch>,
+        /// The tree of the high part.
         high: Box<Sketch>,
     },
 }

@@ -12,8 +12,11 @@ use std::alloc::AllocError;
 /// before.
 #[derive(Drop)]
 pub enum Ahead<'a> {
+    /// A node with all below it.
     Node(&'a Sketch),
+    /// The turn to the high part: the number of the split's variable, the greatest number of the low part, and the span.
     High { var: u32, at: i64, span: Span },
+    /// The way back: the number of the split's variable, and the span.
     Back { var: u32, span: Span },
 }
 

@@ -23,7 +23,9 @@ use std::alloc::{AllocError, Global};
 // The proof of a leaf's line, and whether the leaf is open.
 #[derive(Clone, Copy)]
 struct LeafLine<'a> {
+    // The proof.
     proof: &'a Proof,
+    // Whether the leaf is open.
     is_open: bool,
 }
 

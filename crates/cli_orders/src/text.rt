@@ -7,6 +7,7 @@ use std::marker::Model;
 /// A text. Contracts see the list of its bytes.
 #[derive(Drop)]
 pub struct Text {
+    // The text in UTF-8.
     inside: String,
 }
 

@@ -28,8 +28,11 @@ use std::alloc::{AllocError, Global};
 // A certificate that was read for a program in blocks, and the report on it.
 #[derive(Drop)]
 struct Migrated {
+    // The program in blocks that the certificate was read for.
     b: Blocked,
+    // The certificate.
     cert: Cert,
+    // The report and its status, where the writing goes well.
     reply: Reply,
 }
 

@@ -50,7 +50,9 @@ impl From<ShelfFault> for Stop {
 /// A certificate to merge: the program with its cuts, and the tree with the point that is loaded of it.
 #[derive(Drop)]
 pub struct Opened {
+    /// The program with the certificate's cuts.
     pub program: Blocked,
+    /// The tree, and the point of its value.
     pub from: Loaded,
 }
 

@@ -11,7 +11,9 @@ use std::alloc::{AllocError, Global};
 /// The columns of blocks that are the same: points of the one that owns them.
 #[derive(Drop)]
 pub struct Store {
+    /// The number of the block that owns the columns.
     pub owner: u32,
+    /// The columns.
     pub pool: Pool,
 }
 

@@ -10,10 +10,13 @@ use bp_theory::Span;
 /// Gives the numbers of the columns of a pool that lie inside a zone, ascending.
 #[derive(Drop)]
 pub struct Within<'a> {
-    // The columns that are left, the zone, and the number of the first that is left.
+    // The columns that are left.
     pub(crate) left: &'a [Column],
+    // By place of the variable: the span that a column's number has to lie in.
     pub(crate) zone: &'a [Span],
+    // The number of the first column that is left.
     pub(crate) place: u32,
+    // A pool has 65,536 columns at most.
     ghost few: { place + length left.now ≤ 65536 },
 }
 

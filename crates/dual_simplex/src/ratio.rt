@@ -32,8 +32,11 @@ pub struct Candidate {
 pub enum Entering {
     /// A variable with its number in the pivot row, behind so many candidates that go to the other ends of their ranges.
     Found {
+        /// Its number.
         variable: u32,
+        /// Its number in the pivot row; never 0.
         alpha: f64,
+        /// How many candidates go to the other ends of their ranges: the first in the list.
         flips: usize,
     },
     /// None: no step stops the rise.

@@ -9,7 +9,9 @@ use std::alloc::{AllocError, Global};
 /// A term of a variable: its row's number and its coefficient.
 #[derive(Clone, Copy)]
 pub struct Entry {
+    /// The number of the row, from 0.
     pub row: u32,
+    /// The variable's coefficient there.
     pub coef: i128,
 }
 

@@ -16,14 +16,23 @@ const FEW_TERMS: usize = 3;
 /// Rows and root spans, and the rows by variables.
 #[derive(Drop)]
 pub struct Form {
+    /// The rows; a term's variable is a place among the spans.
     pub rows: Vec<Row>,
+    /// By place of the variable: its span at the root.
     pub spans: Vec<Span>,
+    /// By place of the variable: its terms, by ascending row.
     pub columns: Vec<Items<Entry>>,
+    // Whether rows have three terms at most in the mean.
     short: bool,
+    // Whether the two sides of a row lie between neighbouring multiples of a common divisor of its coefficients.
     missed: bool,
+    // Terms name places that are there, and sums of rows stay below 2^62 in size.
     pub ghost kept: { IsForm rows.items spans.items },
+    // Each variable has a column.
     pub ghost wide: { vec_len columns ≡ vec_len spans },
+    // The columns have the terms of the rows.
     pub ghost by_variables: { AreColumns rows.items columns.items },
+    // `missed` is true exactly where there is such a row.
     pub ghost divided: { IsTrue missed ↔ LackMultiples rows.items },
 }
 

@@ -15,9 +15,13 @@ use std::alloc::{AllocError, Global};
 /// What the text says of a variable.
 #[derive(Clone, Copy, Debug, PartialEq, Eq)]
 pub struct Stated {
+    /// The lower bound that is stated last, 0 where none is.
     pub lo: Extended,
+    /// The upper bound that is stated last, infinite where none is.
     pub hi: Extended,
+    /// Whether a section of generals lists it.
     pub general: bool,
+    /// Whether a section of binaries lists it.
     pub binary: bool,
 }
 

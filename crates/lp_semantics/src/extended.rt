@@ -13,7 +13,9 @@ pub enum Extended {
 /// A span's ends, which may be infinite or crossed.
 #[derive(Clone, Copy, Debug, PartialEq, Eq)]
 pub struct Ends {
+    /// The lower end.
     pub lo: Extended,
+    /// The upper end, included; it may be below the lower one.
     pub hi: Extended,
 }
 

@@ -14,7 +14,9 @@ use std::alloc::{AllocError, Global};
 /// The costs with their terms as they are written, and the constant, both in minimised form.
 #[derive(Drop)]
 pub struct Objective {
+    /// In the order of the text, with zeros, and a variable as often as it is written.
     pub costs: Items<bp_theory::Term>,
+    /// The sum of the constants.
     pub constant: i128,
 }
 

@@ -8,7 +8,9 @@ use bp_theory::Items;
 /// A slice of the text.
 #[derive(Clone, Copy, Debug, PartialEq, Eq)]
 pub struct TextRange {
+    /// The place of its first byte, from 0.
     pub from: usize,
+    /// The place behind its last byte.
     pub to: usize,
 }
 
@@ -37,15 +39,20 @@ pub enum Direction {
 /// Signs and a number.
 #[derive(Drop)]
 pub struct Signed {
+    /// The signs in front, in order: an odd number of minuses negates.
     pub signs: Items<Sign>,
+    /// The number without its signs.
     pub size: u64,
 }
 
 /// Signs, perhaps a number, and a variable's name.
 #[derive(Drop)]
 pub struct Term {
+    /// The signs in front, in order; the one that parts it from a summand before is not among them.
     pub signs: Items<Sign>,
+    /// The number before the name; 1 is meant where there is none.
     pub factor: Option<u64>,
+    /// The place of the variable's name.
     pub variable: TextRange,
 }
 
@@ -59,7 +66,9 @@ pub enum Item {
 /// A first summand, and further ones with a sign before each.
 #[derive(Drop)]
 pub struct Sum<A> {
+    /// The first summand.
     pub first: A,
+    /// The further ones in order, each with the sign that parts it from the one before.
     pub more: Items<(Sign, A)>,
 }
 
@@ -98,10 +107,15 @@ pub enum Part {
 /// A text.
 #[derive(Drop)]
 pub struct Tree {
+    /// Whether the objective is maximised; else it is minimised.
     pub maximises: bool,
+    /// The objective's name, where one stands before a colon.
     pub label: Option<TextRange>,
+    /// What the objective adds up; none where nothing is written.
     pub objective: Option<Sum<Item>>,
+    /// The rows, in order.
     pub rows: Items<Row>,
+    /// The sections behind the rows, in order.
     pub parts: Items<Part>,
 }
 

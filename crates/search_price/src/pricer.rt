@@ -16,17 +16,29 @@ use std::alloc::{AllocError, Global};
 /// there is no point, and it answers so without a search. It takes all memory that it needs when it is made.
 #[derive(Drop)]
 pub struct SearchPricer {
+    // The block: its rows, spans and columns.
     form: Form,
+    // Where a search stands, with the cheapest point so far.
     dive: Dive,
+    // The costs of a price with multiples of rows added.
     relaxed: Relaxed,
+    // How those multiples are found.
     multipliers: Multipliers,
+    // The places of the variables, in the order in which a search takes them.
     order: Vec<usize>,
+    // By level of that order: what a search keeps of it while it stands below.
     frames: Vec<Frame>,
+    // By place of the variable: what it is ordered by.
     keys: Vec<Key>,
+    // Each variable has an adjusted cost.
     ghost adjusted: { vec_len relaxed.costs ≡ vec_len form.spans },
+    // The search has a place for each variable and each row.
     ghost places: { HasPlaces form dive },
+    // Each variable has a place in the order.
     ghost long: { vec_len order ≡ vec_len form.spans },
+    // Each level has a frame.
     ghost framed: { vec_len frames ≡ vec_len form.spans },
+    // Each variable has a key.
     ghost wide: { vec_len keys ≡ vec_len form.spans },
 }
 

@@ -15,8 +15,11 @@ const FAR: i64 = 1 << 62;
 // A way through an arc: its cost, and the arc's layer and place there.
 #[derive(Clone, Copy)]
 struct Choice {
+    // The cost of the way; `FAR` or more where there is none.
     cost: i64,
+    // The number of the arc's layer.
     layer: usize,
+    // The arc's place among the arcs of its layer.
     place: u32,
 }
 
@@ -26,12 +29,19 @@ struct Choice {
 /// or fewer, some 150 bytes more for each further one.
 #[derive(Drop)]
 pub struct Margins {
+    // By layer, one behind the last included, and node: the least cost from there to the end, `FAR` for no way.
     rests: Vec<Vec<i64>>,
+    // By layer and node: the place of the arc by which it is left cheapest.
     onward: Vec<Vec<u32>>,
+    // By layer and node of the next: the place of the layer's arc by which that is reached cheapest.
     back: Vec<Vec<u32>>,
+    // By node of the layer at hand: the least cost from the root to it.
     now: Vec<i64>,
+    // By node of the next layer: the least cost from the root to it.
     next: Vec<i64>,
+    // A choice of each layer, the cheapest first once they are ranked.
     choices: Vec<Choice>,
+    // By layer: the place of the arc that the way of the rank at hand takes.
     places: Vec<u32>,
 }
 

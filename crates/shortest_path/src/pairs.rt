@@ -13,7 +13,9 @@ use std::alloc::{AllocError, Global};
 /// above that of each other node.
 #[derive(Clone, Copy)]
 pub struct Pair {
+    /// The node that 0 leads to.
     pub zero: u32,
+    /// The node that 1 leads to.
     pub one: u32,
 }
 

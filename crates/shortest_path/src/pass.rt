@@ -21,11 +21,17 @@ pub const NO_WAY: i128 = i128::MAX;
 /// reach them, and a point.
 #[derive(Drop)]
 pub struct Work {
+    /// By node of the layer at hand: the least cost from there to the end, `NO_WAY` where there is no way.
     pub now: Vec<i128>,
+    /// The same of the next layer.
     pub next: Vec<i128>,
+    /// By node of the layer at hand, the dead node last: that cost in 64 bits, `FAR` where there is no way.
     pub short_now: Vec<i64>,
+    /// The same of the next layer.
     pub short_next: Vec<i64>,
+    /// By layer and node: the number of the arc by which the node is left cheapest.
     pub picks: Vec<Picks>,
+    /// By layer: the number that the cheapest way takes.
     pub point: Vec<i64>,
 }
 

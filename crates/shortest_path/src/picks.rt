@@ -8,6 +8,7 @@ use std::marker::Model;
 /// For each node of a layer the number of an arc. Contracts see the list.
 #[derive(Drop)]
 pub struct Picks {
+    // By node: the number of the arc.
     arcs: Vec<u32>,
 }
 

@@ -30,7 +30,9 @@ const MOST_NUMBERS: u64 = 4096;
 /// The layers of a block, and for each row the least and the greatest that all variables can add up to.
 #[derive(Drop)]
 pub struct Layers {
+    /// The layers, by variable in order.
     pub layers: Vec<Layer>,
+    /// By number of the row: the least and the greatest that all variables can add up to.
     pub hulls: Items<Span>,
 }
 

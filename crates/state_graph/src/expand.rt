@@ -22,7 +22,9 @@ pub const MOST_STATES: usize = 1 << 20;
 /// The arcs so far from a layer, and the states of the next that they lead to.
 #[derive(Drop)]
 pub struct Frontier {
+    /// The arcs so far from the layer's states.
     pub arcs: Items<Arc>,
+    /// The states of the next layer that they lead to.
     pub states: States,
 }
 

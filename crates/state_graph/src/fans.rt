@@ -20,7 +20,9 @@ const FEWEST_PLACES: usize = 16;
 /// The places of a node's arcs: from the first on, before the end.
 #[derive(Clone, Copy)]
 pub struct Fan {
+    /// The place of its first arc.
     pub first: usize,
+    /// The place behind its last arc.
     pub end: usize,
 }
 
@@ -28,11 +30,17 @@ pub struct Fan {
 /// than a node's number, or 0. The table is a hint: the arcs of each node that it names are compared.
 #[derive(Drop)]
 pub struct Fans {
+    /// The arcs of all nodes, one node's behind another's, and then those of the open node.
     pub arcs: Vec<Arc>,
+    /// By number of the node: the places of its arcs.
     pub list: Vec<Fan>,
+    /// The place of the open node's first arc.
     pub start: usize,
+    // The table: by place one more than a number, or 0.
     places: Vec<usize>,
+    // The table has a place.
     ghost room: { 0 < vec_len places },
+    // The arcs of a node start at it, and stand at its places.
     ghost parted: { AreParted list.items start arcs.items },
 }
 

@@ -12,7 +12,9 @@ use std::alloc::{AllocError, Global};
 /// A layer's arcs as they are merged, and what each of its nodes has become.
 #[derive(Drop)]
 pub struct Merged {
+    /// The arcs between nodes as they are merged.
     pub arcs: Items<Arc>,
+    /// By number of the node before: its number now, `GONE` where it has no way to the end.
     pub nodes: Vec<u32>,
 }
 

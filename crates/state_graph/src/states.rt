@@ -15,8 +15,11 @@ const FIRST_PLACES: usize = 64;
 /// names is compared.
 #[derive(Drop)]
 pub struct States {
+    /// By number of the state: its windows, by row; a window holds what the variables behind may add up to.
     pub list: Vec<Items<Span>>,
+    // The table: by place one more than a number, or 0.
     places: Vec<usize>,
+    // The table has a place.
     ghost room: { 0 < vec_len places },
 }
 

@@ -8,12 +8,19 @@ use variable_order::{Order, arrange_costs, arrange_spans, put_back};
 /// An order of a block's variables, with room for a zone and costs in that order, and for a point in the block's.
 #[derive(Drop)]
 pub struct Arranged {
+    /// The order.
     pub order: Order,
+    /// By place in the order: the variable's span in the zone that is priced.
     pub zone: Vec<Span>,
+    /// By place in the order: the variable's cost.
     pub costs: Vec<i128>,
+    /// By number of the variable in the block: its number in the point.
     pub point: Vec<i64>,
+    // Each variable has a span.
     ghost zone_room: { vec_len zone ≡ vec_len order.vars },
+    // Each variable has a cost.
     ghost costs_room: { vec_len costs ≡ vec_len order.vars },
+    // Each variable has a number.
     ghost point_room: { vec_len point ≡ vec_len order.vars },
 }
 

@@ -27,21 +27,35 @@ use variable_order::{Order, arrange_spans, other_order, renamed_rows};
 /// takes the block's variables in another order, zone and costs are written in that order, and the point is written back.
 #[derive(Drop)]
 pub struct StatePricer {
+    // The block's rows.
     rows: Vec<Row>,
+    // The block's spans at the root.
     spans: Vec<Span>,
+    // The graph; the k-th layer is of the k-th variable in the order that it takes.
     graph: Graph,
+    // By layer: its pairs, none where its numbers aren't 0 and 1 alone; the list may end before the last layer.
     pairs: Vec<Items<Pair>>,
+    // What a price is found with.
     work: Work,
+    // The order of the graph, where it isn't the block's own.
     arranged: Option<Arranged>,
+    // What points are ranked with; none before the first call for ranks.
     margins: Option<Margins>,
+    // The ways from the root are the points of the block's rows within its spans.
     ghost ways: { IsFaithful (graph_rows arranged rows.items) (graph_spans arranged spans.items)
         graph.steps.items },
+    // So are the ways by pairs, where there are some, and else by arcs.
     ghost paired: { IsFaithful (graph_rows arranged rows.items) (graph_spans arranged spans.items)
         (steps_with graph.wide graph.steps.items pairs.items) },
+    // What a layer leads to has a cell of the next.
     ghost linked: { AreLinked graph.wide graph.steps.items pairs.items },
+    // The order has as many variables as the block.
     ghost whole: { length (graph_spans arranged spans.items) ≡ length spans.items },
+    // Each variable has a layer.
     ghost many: { length graph.steps.items ≡ length spans.items },
+    // The work has room for the graph.
     ghost room: { HasRoom graph work },
+    // The graph took no more arcs than assignments have beginnings.
     ghost few: { graph.made ≤ beginnings spans.items },
 }
 

@@ -16,9 +16,13 @@ use branch_tree::Tree;
 /// was too deep, where there was one.
 #[derive(Drop)]
 pub struct Walk {
+    /// The zone of the node.
     pub zone: Zone,
+    /// How many splits are above the node.
     pub depth: u32,
+    /// The number of the node's line, from 1.
     pub line: u64,
+    /// The number of the line of the first live leaf that was too deep, from 1; none where there was none.
     pub deep: Option<u64>,
 }
 

@@ -11,8 +11,11 @@ use std::alloc::{AllocError, Global};
 /// The variables of a block in an order, each once, and the place of each.
 #[derive(Drop)]
 pub struct Order {
+    /// By place: the variable that stands there, by its number in the block.
     pub vars: Vec<usize>,
+    /// By number of the variable: its place.
     pub places: Vec<usize>,
+    // Each variable stands once, at its place.
     pub ghost order: { IsOrder (length vars.items) vars.items places.items },
 }
 
