@@ -208,6 +208,22 @@ def median(draw, sites):
     return text
 
 
+def capacitated_median(draw, sites):
+    """So many sites with a demand of 1 to 20 each, a tenth of them opened with a capacity of 120, so that each site's way to its open one is short in all."""
+    at, every, text = places(draw, sites), range(sites), Text()
+    demand = [draw.randint(1, 20) for _ in every]
+    for k in every:
+        text.integer(f"y{k}", 1)
+        for i in every:
+            text.cost(far(at[i], at[k]), f"x{i}_{k}")
+            text.integer(f"x{i}_{k}", 1)
+        text.row(f"cap{k}", [*((demand[i], f"x{i}_{k}") for i in every), (-120, f"y{k}")], "<=", 0, k)
+    for i in every:
+        text.row(f"a{i}", [(1, f"x{i}_{k}") for k in every], "=", 1)
+    text.row("open", [(1, f"y{k}") for k in every], "=", sites // 10)
+    return text
+
+
 def facility(draw, sites, clients):
     """Facility location: open sites serve each client whole within their capacities, for a cost of opening and of ways."""
     site, client = range(sites), range(clients)
@@ -423,6 +439,7 @@ MAKERS = {
     "rolls-small": lambda draw, seed, kinds: small_rolls(draw, kinds),
     "rolls": lambda draw, seed, kinds: rolls(draw, kinds),
     "median": lambda draw, seed, sites: median(draw, sites),
+    "median-capacity": lambda draw, seed, sites: capacitated_median(draw, sites),
     "facility": lambda draw, seed, sites, clients: facility(draw, sites, clients),
     "colouring": lambda draw, seed, nodes, percent: colouring(draw, nodes, percent),
     "general": lambda draw, seed, plants, goods: general(draw, plants, goods),
@@ -472,6 +489,7 @@ LARGE_SIZES = [
     "rolls-100", "rolls-200",
     "roster-80-28", "roster-200-28", "roster-500-28",
     "median-80", "median-150", "median-250", "median-400",
+    "median-capacity-100", "median-capacity-200",
     "assignment-C-20-400", "assignment-C-40-400", "assignment-D-20-400", "assignment-E-20-400",
     "facility-40-160", "facility-60-240",
     "colouring-80-50", "colouring-125-50",
