@@ -1,5 +1,4 @@
-"""Small stacks: what each command answers on inputs that are long or deep, within 256 KiB of stack; commands that keep a certificate's tree in memory take
-up to 690 bytes a level of it, so that chains of splits have the usual 8 MiB there."""
+"""Small stacks: what each command answers on inputs that are long or deep, within 256 KiB of stack."""
 import functools
 import resource
 
@@ -8,7 +7,6 @@ import pytest
 from conftest import knows, run
 
 STACK = 256 << 10
-USUAL = 8 << 20
 MODEL = b"Minimize\n obj: x\nSubject To\n c: x >= 0\nBounds\n x <= 1000000000\nGenerals\n x\nEnd\n"
 LEAF = b"open 1 change 0 priced 0\n"
 
@@ -18,9 +16,9 @@ def shrink(stack):
     resource.setrlimit(resource.RLIMIT_STACK, (stack, stack))
 
 
-def within(room, *words, stack=STACK):
+def within(room, *words):
     """What the program prints in this folder within a small stack, and its status; below 0 it is the signal that ended it."""
-    return run(*words, cwd=room, preexec_fn=functools.partial(shrink, stack))
+    return run(*words, cwd=room, preexec_fn=functools.partial(shrink, STACK))
 
 
 def chain(splits, high):
@@ -64,10 +62,18 @@ def test_walks_over_chains(room, name, splits, high):
     if not knows(*words):
         pytest.skip(f"the program has no `{words[0]}`")
     (room / "cert").write_bytes(chain(splits, high))
-    assert within(room, *words, stack=USUAL) == answer(splits)
+    assert within(room, *words) == answer(splits)
     if "new" in words:
         told, status = within(room, "check", "lp", "new")
         assert status == 0 and told.startswith("accepted bound 0")
+
+
+@pytest.mark.parametrize("name", WALKS)
+@pytest.mark.parametrize("high", (False, True))
+def test_walks_over_chains_of_a_large_model(room, name, high):
+    words, answer = WALKS[name]
+    (room / "cert").write_bytes(chain(100_000, high))
+    assert within(room, *words, "--large") == answer(100_000)
 
 
 @pytest.mark.parametrize("high", (False, True))
@@ -76,8 +82,8 @@ def test_walks_over_the_deepest_chain(room, high):
     line = 3 + (2 * 8256 if high else 8256)
     for words, _ in WALKS.values():
         if words[0] != "migrate" and knows(*words):
-            assert within(room, *words, stack=USUAL) == (f"refused from {line} depth\n", 3)
-    assert not knows("migrate") or within(room, "migrate", "lp", "cert", "new", stack=USUAL) == ("migrated 16513\n", 0)
+            assert within(room, *words) == (f"refused from {line} depth\n", 3)
+    assert not knows("migrate") or within(room, "migrate", "lp", "cert", "new") == ("migrated 16513\n", 0)
 
 
 @pytest.mark.parametrize("words", (["check", "lp", "cert"], ["solve", "lp", "--from", "cert"], ["merge", "lp", "cert", "cert", "new"], ["migrate", "lp", "cert", "new"]))
