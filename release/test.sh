@@ -183,7 +183,7 @@ expect 'words behind two dashes' 2 'refused words' 2 'is one word too many for s
 # Words that ask for help: the program refuses them as others, and tells its usage on standard error.
 for it in '' -h --help help; do
     bare "$clone/bprice" $it
-    expect "help: '$it'" 2 'refused words' 25 'usage: bprice COMMAND'
+    expect "help: '$it'" 2 'refused words' 24 'usage: bprice COMMAND'
 done
 bare "$clone/bprice" help demo
 expect 'help of a command' 2 'refused words' 2 'usage: bprice demo SEED SIZE'

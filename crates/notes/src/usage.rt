@@ -171,7 +171,6 @@ const NUMBERS: [(&str, u64, u64); 7] = [
 ];
 
 const STATUSES: &str = "\
-LP is a model as CPLEX LP text; `--` ends the options; `help COMMAND` tells of one.
 status: 0 done, 2 no command line, 3 text refused, 4 infeasible, 5 out of steps,
   6 rejected, 7 unreadable, 8 unwritable, 9 no memory, 10 out of visits, 11 no such file
 ";
@@ -260,7 +259,7 @@ fn put_unknown(note: &mut Note, word: &str) {
 
 // All commands, options and statuses.
 fn put_usage(note: &mut Note) {
-    note.put("usage: bprice COMMAND ..\n");
+    note.put("usage: bprice COMMAND .., and `help COMMAND` tells of one; `--` ends the options\n");
     for command in COMMANDS.as_slice() {
         put_short(note, command);
     }

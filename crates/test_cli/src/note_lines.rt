@@ -15,8 +15,8 @@ const LIMIT: usize = 1 << 40;
 /// was read first, and the one behind it, or dashes, which under 8 is one that could not be written for want of space; the
 /// note. Bars end the lines of texts and notes; a star stands for the rest of a note.
 const CASES: &str = "\
-- @ 2 refused words @ - @ - @ usage: bprice COMMAND ..|  solve LP [..]             a best point, and a certificate of it|  check LP CERT [..]        whether*
---help @ 2 refused words @ - @ - @ usage: bprice COMMAND ..|*
+- @ 2 refused words @ - @ - @ usage: bprice COMMAND .., and `help COMMAND` tells of one; `--` ends the options|  solve LP [..]             a best point, and a certificate of it|  check LP CERT [..]        whether*
+--help @ 2 refused words @ - @ - @ usage: bprice COMMAND .., and `help COMMAND` tells of one; `--` ends the options|*
 help demo @ 2 refused words @ - @ - @ usage: bprice demo SEED SIZE|  makes one in memory, solves it, checks that|
 help show @ 2 refused words @ - @ - @ usage: bprice show LP [--dec DEC] [--blocks] [--classes] [--large]|  the blocks, and which are identical|  --dec DEC      the decomposition of the model, as GCG DEC text|  --blocks       tell the rows and variables of each block|  --classes      tell them of the first block of each class|  --large        read models of up to 524288 variables, not 4096|
 check -h @ 2 refused words @ - @ - @ usage: bprice check LP CERT [--dec DEC] [--visits M] [--large]|  whether a certificate is valid|*
