@@ -103,7 +103,7 @@ def line(room, name):
         again, took, most = run([*words, "--steps", str(steps)])
         told = again or told
     judged, judging, _ = run([BPRICE, "check", lp, cert, "--dec", dec, "--large"])
-    checked = f"{judging:.2f}" if judged and judged.startswith("accepted") else "not accepted"
+    checked = "" if root is None else f"{judging:.2f}" if judged and judged.startswith("accepted") else "not accepted"
     print("|", " | ".join(map(str, [name, len(made.binary) + len(made.general), answer(root), f"{first:.2f}", answer(told), steps, f"{took:.2f}", f"{most:.0f}",
                                     checked, *peers(lp, name)])), "|", flush=True)
 
