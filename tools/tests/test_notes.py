@@ -33,16 +33,17 @@ TEXTS = [
     ("obj", "ob\u00e9", "2 bad-byte", ":2:4: bad-byte: '\\xc3' begins no number, name or mark; "),
 ]
 
+USAGE = "usage: bprice COMMAND .., and `help COMMAND` tells of one; `--` ends the options\n"
 WORDS = [
-    ([], "usage: bprice COMMAND .."),
-    (["--help"], "usage: bprice COMMAND .."),
+    ([], USAGE),
+    (["--help"], USAGE),
     (["help", "detect"], "usage: bprice detect LP ROWS DEC [--large]\n"),
     (["--version"], "bprice, proved with rattle-kit-"),
     (["prove"], "bprice: 'prove' is no command; the first word is one of solve check show "),
     (["check", "m.lp"], "bprice: check wants a further word: CERT\nusage: bprice check LP CERT [--dec DEC] [--visits M] [--large]\n"),
     (["solve", "m.lp", "--cert"], "bprice: --cert wants a value behind it: CERT\nusage: bprice solve LP "),
     (["gen", "1", "0", "a", "b"], "bprice: SIZE is a whole number from 1 to 1024, and not '0'\nusage: bprice gen SEED SIZE LP DEC\n"),
-    ([b"solve", b"\xff"], "bprice: the words are no text in UTF-8\nusage: bprice COMMAND .."),
+    ([b"solve", b"\xff"], "bprice: the words are no text in UTF-8\n" + USAGE),
 ]
 
 
