@@ -29,6 +29,7 @@ pub fn grow(
 {
     match next {
         Next::Shut(proof) => {
+            let proof = grove.shared(alloc, proof)?;
             grove.shut(b, turn, proof);
             Ok(())
         }

@@ -2,8 +2,8 @@
 use block_program::{Blocked, Zone};
 use bp_theory::Proof;
 use open_nodes::{
-    Fork, LeafQueue, SharedPath, Tree, Turn, bound_of, depth_in, filled_queue, fork_leaf, key_at,
-    plain_bound, plain_proof, put, steps_in, turn_at,
+    Bases, Fork, LeafQueue, SharedPath, SharedProof, Tree, Turn, bound_of, depth_in, filled_queue,
+    fork_leaf, key_at, plain_bound, put, steps_in, turn_at,
 };
 use search_laws::Side;
 use std::alloc::{AllocError, Global};
@@ -14,6 +14,7 @@ pub struct Grove {
     tree: Tree,
     root: Zone,
     queue: LeafQueue,
+    bases: Bases,
     live: u64,
     count: u64,
     depth: u32,
@@ -26,6 +27,7 @@ impl Drop for Grove {
             tree: _,
             root: _,
             queue: _,
+            bases: _,
             live: _,
             count: _,
             depth: _,
@@ -74,9 +76,10 @@ impl Grove {
         let mut queue = LeafQueue::new(alloc);
         queue.add(key_at(&bound, 0), SharedPath::root())?;
         Ok(Grove {
-            tree: Tree::Live(plain_proof(alloc), bound),
+            tree: Tree::Live(SharedProof::plain(), bound),
             root,
             queue,
+            bases: Bases::new(alloc),
             live: 1,
             count: 0,
             depth: 0,
@@ -101,6 +104,7 @@ impl Grove {
             tree,
             root,
             queue,
+            bases: Bases::new(alloc),
             live,
             count,
             depth,
@@ -161,8 +165,16 @@ impl Grove {
         Ok(Some(leaf))
     }
 
+    /// A proof in memory that it shares with those of the tree.
+    pub fn shared(&mut self, alloc: Global, proof: Proof) -> Result<SharedProof, AllocError>
+        ensures shared { IfOk result (λ shared. shared ≡ proof) }
+        ensures same { self.new ≡ self.old }
+    {
+        self.bases.keep(alloc, proof)
+    }
+
     /// Shuts a live leaf with a proof. It takes no memory.
-    pub fn shut(&mut self, b: &Blocked, turn: &Turn, proof: Proof)
+    pub fn shut(&mut self, b: &Blocked, turn: &Turn, proof: SharedProof)
         requires kept { IsGroveOf b.now self.old }
         requires turn { IsLiveTurn self.old turn.now }
         requires sound { IsSoundProof b.now.blocking proof }
@@ -210,7 +222,15 @@ impl Grove {
         // For the proof alone: `b` stands in the contract.
         let _ = b;
         let number = self.live + self.count;
-        fork_leaf(alloc, &mut self.tree, &mut self.queue, turn, number, fork)?;
+        fork_leaf(
+            alloc,
+            &mut self.tree,
+            &mut self.queue,
+            &mut self.bases,
+            turn,
+            number,
+            fork,
+        )?;
         self.live += 1;
         self.count += 1;
         self.depth = self.depth.max(turn.depth + 1);

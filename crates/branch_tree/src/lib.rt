@@ -9,5 +9,5 @@ mod outcome;
 pub use crate::grove::Grove;
 pub use crate::loaded::Loaded;
 pub use crate::outcome::Outcome;
-pub use open_nodes::{Fork, GrowingNode, Tree, Turn, grown, proof_copy};
+pub use open_nodes::{Bases, Fork, GrowingNode, SharedProof, Tree, Turn, grown, proof_copy};
 pub use search_laws::{Next, Side, Verdict};

@@ -37,6 +37,10 @@ pub head_failed : (Spells : List ℕ → Type 0) (name text : List ℕ) (before 
 head_failed Spells name text before now Failed h = record { holds = tt; others = h.others }
 head_failed Spells name text before now NoMemory h = record { holds = inl h.holds; others = h.others }
 
+-- nothing was written for want of memory
+pub nothing_put : (Spells : List ℕ → Type 0) (name : List ℕ) (before : Files) → StreamsText Spells name before before (Err NoMemory)
+nothing_put Spells name before = record { holds = inl refl; others = λ other apart. refl }
+
 -- the lines behind the head
 pub whole_put : (Spells : List ℕ → Type 0) (name head text all : List ℕ) (before mid now : Files) (result : Result (Unit {0}) StreamStop) → Heads name head before mid (Ok tt)
     → Appends name text mid now result → Spells all → all ≡ head ++ text → StreamsText Spells name before now result

@@ -29,12 +29,15 @@ pub fn write_stream<F: Shelf>(
     ensures cause { CountsStop (F.write_faults shelf.old) (F.write_faults shelf.new) result }
     ensures reads { F.read_faults shelf.new ≡ F.read_faults shelf.old }
 {
+    let mut lines = match TreeLines::new(alloc, outcome_grove(outcome).tree()) {
+        Err(_) => return Err(StreamStop::NoMemory),
+        Ok(lines) => lines,
+    };
     let claim = outcome_claim(b.model().maximises(), outcome);
     match put_heads(alloc, shelf, name, &claim, outcome_point(outcome), b.cuts()) {
         Err(stop) => return Err(stop),
         Ok(()) => {}
     }
-    let mut lines = TreeLines::new(alloc, outcome_grove(outcome).tree());
     let mut had = Vec::new(alloc);
     match put_nodes(alloc, shelf, name, &mut lines, &mut had) {
         Err(stop) => return Err(stop),

@@ -58,7 +58,7 @@ fn put_outcome(
 {
     put_head(out, claim, point, cuts)?;
     let mut had = Vec::new(alloc);
-    put_changed_lines(out, alloc, &mut TreeLines::new(alloc, tree), &mut had)?;
+    put_changed_lines(out, alloc, &mut TreeLines::new(alloc, tree)?, &mut had)?;
     out.extend_from_slice(b"end\n")
 }
 

@@ -8,3 +8,5 @@ pub mod PlainBound
 pub mod Built
 pub mod Ahead
 pub mod Paths
+pub mod Script
+pub mod Turned

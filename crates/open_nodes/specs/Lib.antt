@@ -5,3 +5,6 @@ pub mod Queues
 pub mod Filled
 pub mod Bounds
 pub mod Paths
+pub mod Changes
+pub mod Shared
+pub mod Turned

@@ -19,7 +19,7 @@ pub fn proof_copy(alloc: Global, proof: &Proof) -> Result<Proof, AllocError>
 }
 
 // Picked blocks once more.
-fn picked_copy(alloc: Global, picked: &Picked) -> Result<Picked, AllocError>
+pub(crate) fn picked_copy(alloc: Global, picked: &Picked) -> Result<Picked, AllocError>
     ensures { IfOk result (λ copy. copy ≡ picked.now) }
 {
     match picked {
@@ -31,8 +31,8 @@ fn picked_copy(alloc: Global, picked: &Picked) -> Result<Picked, AllocError>
     }
 }
 
-/// The proof of scale 1 that names no row and picks no block.
-pub fn plain_proof(alloc: Global) -> Proof
+// The proof of scale 1 that names no row and picks no block.
+pub(crate) fn plain_proof(alloc: Global) -> Proof
     ensures { result ≡ plain_proof }
 {
     Proof {

@@ -4,9 +4,10 @@ ghost use Rattle.search_laws.specs.Grove.{fork_at};
 ghost use Rattle.open_nodes.specs.Trees.{tree_of};
 ghost use Rattle.open_nodes.specs.Queues.{queue_of, IsParted};
 
-use crate::copies::proof_copy;
+use crate::place::put;
 use crate::queue::{LeafQueue, key_at};
-use crate::tree::{Tree, forked, put};
+use crate::shared::Bases;
+use crate::tree::{Tree, forked};
 use crate::turn::Turn;
 use bp_theory::Proof;
 use std::alloc::{AllocError, Global};
@@ -30,6 +31,7 @@ pub fn fork_leaf(
     alloc: Global,
     tree: &mut Tree,
     queue: &mut LeafQueue,
+    bases: &mut Bases,
     turn: &Turn,
     number: u64,
     fork: Fork,
@@ -54,8 +56,9 @@ pub fn fork_leaf(
     let path = turn.path.as_slice();
     let key = queue.key_of(&turn.bound, path);
     let (low, high) = queue.path_at(&key).parts(alloc)?;
-    let second = proof_copy(alloc, &proof)?;
-    let node = forked(alloc, var, &at, (proof, second), &bound)?;
+    let first = bases.keep(alloc, proof)?;
+    let second = first.share()?;
+    let node = forked(alloc, var, &at, (first, second), &bound)?;
     queue.divide(&key, key_at(&bound, number), low, high)?;
     put(tree, path, node);
     Ok(())

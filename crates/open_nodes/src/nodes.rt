@@ -5,6 +5,7 @@ ghost use Rattle.open_nodes.specs.Trees.{tree_of};
 ghost use Rattle.open_nodes.specs.Nodes.{growing_nodes, built, last_first, CanTake};
 ghost use Rattle.open_nodes.specs.declared.nodes.GrowingNode.{GrowingNode};
 
+use crate::shared::Bases;
 use crate::tree::Tree;
 use bp_theory::Proof;
 use std::alloc::{AllocError, Global};
@@ -32,8 +33,9 @@ pub fn grown(alloc: Global, nodes: Vec<GrowingNode>) -> Result<Tree, AllocError>
 {
     let mut left = nodes;
     let mut made: Vec<Tree> = Vec::new(alloc);
+    let mut bases = Bases::new(alloc);
     while let Some(node) = left.pop() {
-        take_node(alloc, &mut made, node)?;
+        take_node(alloc, &mut made, &mut bases, node)?;
     }
     match made.pop() {
         Some(tree) => Ok(tree),
@@ -42,15 +44,26 @@ pub fn grown(alloc: Global, nodes: Vec<GrowingNode>) -> Result<Tree, AllocError>
 }
 
 // Takes the node in front of those that the last of these trees were made of.
-fn take_node(alloc: Global, made: &mut Vec<Tree>, node: GrowingNode) -> Result<(), AllocError>
+fn take_node(
+    alloc: Global,
+    made: &mut Vec<Tree>,
+    bases: &mut Bases,
+    node: GrowingNode,
+) -> Result<(), AllocError>
     requires { CanTake node (last_first made.old.items) }
     ensures { OnOk result ((nodes : List GrowingNode) →
         built (node ∷ nodes) (last_first made.old.items) ≡
         built nodes (last_first made.new.items)) }
 {
     match node {
-        GrowingNode::Live(proof, bound) => made.push(Tree::Live(proof, bound))?,
-        GrowingNode::Shut(proof) => made.push(Tree::Shut(proof))?,
+        GrowingNode::Live(proof, bound) => {
+            let shared = bases.keep(alloc, proof)?;
+            made.push(Tree::Live(shared, bound))?;
+        }
+        GrowingNode::Shut(proof) => {
+            let shared = bases.keep(alloc, proof)?;
+            made.push(Tree::Shut(shared))?;
+        }
         GrowingNode::Split { var, at } => {
             let Some(low) = made.pop() else {
                 unreachable!()

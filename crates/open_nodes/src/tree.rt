@@ -1,9 +1,10 @@
 // The tree of a search, and what is done with its leaves.
 ghost use Rattle.std.specs.Prelude.{◌≡◌, ◌<◌, Some, IfOk, IsTrue, IsFalse, pos};
 ghost use Rattle.bp_theory.specs.Trees.{HasSoundSplits};
-ghost use Rattle.search_laws.specs.Grove.{put_at, zone_at, live_at, certificate_tree, LiveLeaf, live, fork};
+ghost use Rattle.search_laws.specs.Grove.{zone_at, live_at, certificate_tree, LiveLeaf, live, fork};
 ghost use Rattle.open_nodes.specs.Trees.{tree_of, weight, IsLeaf};
 
+use crate::shared::SharedProof;
 use block_program::Zone;
 use bp_theory::Proof;
 use search_laws::Side;
@@ -13,8 +14,8 @@ use std::mem;
 /// The tree of a search: live leaves with a proof and the bound that it shows in the leaf's zone, shut leaves with a proof,
 /// and forks of a variable's span behind a number.
 pub enum Tree {
-    Live(Proof, i64),
-    Shut(Proof),
+    Live(SharedProof, i64),
+    Shut(SharedProof),
     Fork {
         var: u32,
         at: i64,
@@ -92,7 +93,7 @@ pub(crate) fn forked(
     alloc: Global,
     var: u32,
     at: &i64,
-    proofs: (Proof, Proof),
+    proofs: (SharedProof, SharedProof),
     bound: &i64,
 ) -> Result<Tree, AllocError>
     requires { proofs.0 ≡ proofs.1 }
@@ -108,25 +109,6 @@ pub(crate) fn forked(
         low,
         high,
     })
-}
-
-/// Puts a tree in place of the node at a path. The recursion is in tail position, and no deeper than the path is long.
-pub fn put(tree: &mut Tree, path: &[Side], new: Tree)
-    ensures { tree_of tree.new ≡ put_at (tree_of tree.old) path.now (tree_of new) }
-{
-    match path {
-        [] => *tree = new,
-        [Side::Low, rest @ ..] => {
-            if let Tree::Fork { low, .. } = tree {
-                put(low, rest, new)
-            }
-        }
-        [Side::High, rest @ ..] => {
-            if let Tree::Fork { high, .. } = tree {
-                put(high, rest, new)
-            }
-        }
-    }
 }
 
 // The node at a path, or the leaf where a longer path ends, and the zone there.

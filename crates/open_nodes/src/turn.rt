@@ -4,7 +4,6 @@ ghost use Rattle.bp_theory.specs.Trees.{HasSoundSplits};
 ghost use Rattle.search_laws.specs.Grove.{LiveLeaf, live_at, zone_at, certificate_tree};
 ghost use Rattle.open_nodes.specs.Trees.{tree_of};
 
-use crate::copies::proof_copy;
 use crate::path::SharedPath;
 use crate::tree::{Tree, walk};
 use block_program::Zone;
@@ -58,7 +57,7 @@ fn turn_in(alloc: Global, tree: &Tree, path: Items<Side>, root: Zone) -> Result<
     let (node, zone) = walk(tree, path.as_slice(), root);
     match node {
         Tree::Live(proof, bound) => {
-            let proof = proof_copy(alloc, proof)?;
+            let proof = proof.to_proof(alloc)?;
             Ok(Turn {
                 zone,
                 depth: path.len() as u32,

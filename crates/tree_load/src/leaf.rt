@@ -9,7 +9,7 @@ ghost use Rattle.tree_load.specs.Rooms.{CanLoadLeaf, SettlesBy};
 
 use block_program::{Blocked, Zone};
 use bp_theory::Proof;
-use branch_tree::{Tree, proof_copy};
+use branch_tree::{Bases, Tree, proof_copy};
 use cert_line_check::bound_in;
 use lagr_bound::{Work, round};
 use std::alloc::{AllocError, Global};
@@ -32,7 +32,8 @@ pub fn load_leaf(
     ensures made_for { IfSome work.new (λ made. forms_of made ≡ forms_in b.now) }
 {
     let bound = bound_in(alloc, b, work, zone, proof)?;
-    let copy = proof_copy(alloc, proof)?;
+    let own = proof_copy(alloc, proof)?;
+    let copy = Bases::new(alloc).keep(alloc, own)?;
     match bound {
         None => Ok(Tree::Shut(copy)),
         Some(bound) => {

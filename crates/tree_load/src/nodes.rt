@@ -16,7 +16,7 @@ use crate::leaf::load_leaf;
 use crate::walk::{Walk, back, pass, to_high, to_low};
 use block_program::Blocked;
 use bp_theory::Proof;
-use branch_tree::{GrowingNode, Tree, grown, proof_copy};
+use branch_tree::{GrowingNode, Tree, grown};
 use cert_format::Sketch;
 use cert_line_check::{Ahead, push_parts};
 use lagr_bound::Work;
@@ -125,11 +125,11 @@ fn leaf_node(alloc: Global, leaf: &Tree) -> Result<GrowingNode, AllocError>
 {
     match leaf {
         Tree::Live(proof, bound) => {
-            let own = proof_copy(alloc, proof)?;
+            let own = proof.to_proof(alloc)?;
             Ok(GrowingNode::Live(own, *bound))
         }
         Tree::Shut(proof) => {
-            let own = proof_copy(alloc, proof)?;
+            let own = proof.to_proof(alloc)?;
             Ok(GrowingNode::Shut(own))
         }
         Tree::Fork { .. } => unreachable!(),

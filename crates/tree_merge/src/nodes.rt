@@ -10,7 +10,7 @@ ghost use Rattle.tree_merge.specs.Merging.{same_split, raised, least_live, is_be
 ghost use Rattle.tree_merge.specs.Coming.{coming, opened_tree, nodes_coming};
 
 use bp_theory::Proof;
-use branch_tree::{GrowingNode, Tree, grown, proof_copy};
+use branch_tree::{GrowingNode, SharedProof, Tree, grown};
 use std::alloc::{AllocError, Global};
 
 // A node of the merged tree that is still to come, with all below it.
@@ -19,7 +19,7 @@ enum Ahead<'a> {
     // What two trees have at one node.
     Both(&'a Tree, &'a Tree),
     // A tree in place of a live leaf of this proof and bound.
-    Raised(&'a Tree, &'a Proof, i64),
+    Raised(&'a Tree, &'a SharedProof, i64),
     // A tree as it is.
     Whole(&'a Tree),
 }
@@ -27,8 +27,8 @@ enum Ahead<'a> {
 // A node of the merged tree: a live leaf, a shut one, or a split, whose parts are still to come.
 #[derive(Drop)]
 enum Opened<'a> {
-    Live(&'a Proof, i64),
-    Shut(&'a Proof),
+    Live(&'a SharedProof, i64),
+    Shut(&'a SharedProof),
     Split {
         var: u32,
         at: i64,
@@ -122,7 +122,7 @@ fn both<'a>(alloc: Global, first: &'a Tree, second: &'a Tree) -> Result<Opened<'
 }
 
 // The first node of what stands where one tree has a live leaf of this proof and bound, and the other this tree.
-fn give_way<'a>(proof: &'a Proof, bound: &i64, second: &'a Tree) -> Opened<'a>
+fn give_way<'a>(proof: &'a SharedProof, bound: &i64, second: &'a Tree) -> Opened<'a>
     ensures { opened_tree result ≡ merged (live proof.now bound.now) (tree_of second.now) }
 {
     match second {
@@ -139,7 +139,7 @@ fn give_way<'a>(proof: &'a Proof, bound: &i64, second: &'a Tree) -> Opened<'a>
 }
 
 // The first node of a tree in place of a live leaf of this proof and bound.
-fn raise<'a>(tree: &'a Tree, proof: &'a Proof, bound: &i64) -> Opened<'a>
+fn raise<'a>(tree: &'a Tree, proof: &'a SharedProof, bound: &i64) -> Opened<'a>
     ensures { opened_tree result ≡ raised (tree_of tree.now) proof.now bound.now }
 {
     match tree {
@@ -180,13 +180,13 @@ fn whole<'a>(tree: &'a Tree) -> Opened<'a>
 fn live_leaf(
     alloc: Global,
     cost: &Option<i64>,
-    proof: &Proof,
+    proof: &SharedProof,
     bound: &i64,
 ) -> Result<GrowingNode, AllocError>
     ensures { IfOk result (λ node. node ∷ [] ≡
         growing_nodes (shut_by cost.now (live proof.now bound.now))) }
 {
-    let own = proof_copy(alloc, proof)?;
+    let own = proof.to_proof(alloc)?;
     Ok(leaf_of(cost, own, bound))
 }
 
@@ -212,10 +212,10 @@ fn is_below(bound: &i64, cost: &Option<i64>) -> bool
 }
 
 // A shut leaf with a proof.
-fn shut_leaf(alloc: Global, proof: &Proof) -> Result<GrowingNode, AllocError>
+fn shut_leaf(alloc: Global, proof: &SharedProof) -> Result<GrowingNode, AllocError>
     ensures { IfOk result (λ node. node ∷ [] ≡ growing_nodes (shut proof.now)) }
 {
-    let own = proof_copy(alloc, proof)?;
+    let own = proof.to_proof(alloc)?;
     Ok(GrowingNode::Shut(own))
 }
 

@@ -28,7 +28,7 @@ pub returns-then-settles-clause-loads : goal.returns-then-settles-clause-loads
 returns-then-settles-clause-loads c =
     let whole : to_z w128 (of_z w128 c.in-Some.bound) ≡ c.in-Some.bound = search rules in
     let found : IsBound c.args.b.now.blocking c.args.zone.now c.args.proof.now c.in-Some.bound = rw c.in-Some.is at c.in_ok-bound.ensures.bound in (
-      c.in_ok-copy.ensures,
+      c.in_ok-copy.ensures ∙ c.in_ok-own.ensures,
       (settles_by c.args.b.now.blocking c.args.best.now c.args.zone.now c.args.proof.now c.in-Some.bound found).0 (yes_by c.settles.result (subst (λ (z : ℤ). IsTrue c.settles.result ↔ SettlesBy c.args.best.now c.args.proof.now.scale z) whole c.settles.ensures) c.if-settles.true),
     )
 
@@ -38,7 +38,7 @@ returns-else-settles-clause-loads c =
     let whole : to_z w128 (of_z w128 c.in-Some.bound) ≡ c.in-Some.bound = search rules in
     let not = not_by c.settles.result (subst (λ (z : ℤ). IsTrue c.settles.result ↔ SettlesBy c.args.best.now c.args.proof.now.scale z) whole c.settles.ensures) c.if-settles.false in
     let back : to_z w64 (of_z w64 c.round.result) ≡ c.round.result = search rules in (
-      c.in_ok-copy.ensures,
+      c.in_ok-copy.ensures ∙ c.in_ok-own.ensures,
       (λ settled. not ((settles_by c.args.b.now.blocking c.args.best.now c.args.zone.now c.args.proof.now c.in-Some.bound found).1 settled)),
       (
         c.in-Some.bound,
