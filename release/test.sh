@@ -139,7 +139,7 @@ bare ../'a clone'/bprice solve own.lp --cert own.cert
 expect 'relative names' 0 "$report" 0
 bare ../'a clone'/bprice check own.lp own.cert
 expect 'the certificate that was written' 0 'accepted optimal 8' 0
-# A chain of more splits than a tree may have in 8 MiB of stack: with --large the launcher gives what the machine allows.
+# A chain of more splits than a tree may have without --large.
 printf '%s\n' Minimize ' obj: x' 'Subject To' ' c: x >= 0' Bounds ' x <= 1000000000' Generals ' x' End >"$room/user/deep.lp"
 {
     printf '%s\n' 'bpcert 2' 'claim bound 0'

@@ -1,6 +1,4 @@
-"""Small stacks: what each command answers on inputs that are long or deep, within 256 KiB of stack; a search takes some 500 bytes for each level above
-a leaf that it works on, so that it has the usual 8 MiB on chains of splits."""
-import functools
+"""Small stacks: what each command answers on inputs that are long or deep, within 256 KiB of stack."""
 import resource
 
 import pytest
@@ -8,19 +6,18 @@ import pytest
 from conftest import knows, run
 
 STACK = 256 << 10
-USUAL = 8 << 20
 MODEL = b"Minimize\n obj: x\nSubject To\n c: x >= 0\nBounds\n x <= 1000000000\nGenerals\n x\nEnd\n"
 LEAF = b"open 1 change 0 priced 0\n"
 
 
-def shrink(stack):
-    """Gives the process that is about to start a stack of so many bytes."""
-    resource.setrlimit(resource.RLIMIT_STACK, (stack, stack))
+def shrink():
+    """Gives the process that is about to start a small stack."""
+    resource.setrlimit(resource.RLIMIT_STACK, (STACK, STACK))
 
 
-def within(room, *words, stack=STACK):
+def within(room, *words):
     """What the program prints in this folder within a small stack, and its status; below 0 it is the signal that ended it."""
-    return run(*words, cwd=room, preexec_fn=functools.partial(shrink, stack))
+    return run(*words, cwd=room, preexec_fn=shrink)
 
 
 def chain(splits, high):
@@ -64,13 +61,13 @@ def test_walks_over_chains(room, name, splits, high):
     if not knows(*words):
         pytest.skip(f"the program has no `{words[0]}`")
     (room / "cert").write_bytes(chain(splits, high))
-    assert within(room, *words, stack=USUAL if words[0] == "solve" else STACK) == answer(splits)
+    assert within(room, *words) == answer(splits)
     if "new" in words:
         told, status = within(room, "check", "lp", "new")
         assert status == 0 and told.startswith("accepted bound 0")
 
 
-@pytest.mark.parametrize("name", ("merging", "migrating"))
+@pytest.mark.parametrize("name", ("going on", "merging", "migrating"))
 @pytest.mark.parametrize("high", (False, True))
 def test_walks_over_chains_of_a_large_model(room, name, high):
     words, answer = WALKS[name]
