@@ -1,5 +1,5 @@
-"""LP texts of 1 MiB that are one long run: of signs, digits, a name, blanks, line feeds, comparisons. What is kept of them is their
-syntax tree, and no list of their tokens."""
+"""LP texts of 1 MiB that are one long run: of signs, digits, a name, blanks, line feeds, comparisons; and one of signs that is as
+long as a text may be. What is kept of them is their syntax tree, and no list of their tokens."""
 import resource
 
 import pytest
@@ -42,3 +42,21 @@ def test_a_long_run(tmp_path, kind):
     text, printed, status = TEXTS[kind]
     (tmp_path / "own.lp").write_text(text)
     assert run("solve", "own.lp", cwd=tmp_path, preexec_fn=limit) == (printed, status)
+
+
+# How long a text may be without --large, and what a run on it is given: address space in bytes, seconds of the processor.
+LONGEST, AMPLE, SECONDS = 1 << 24, 100 << 20, 5
+
+
+def limit_both():
+    """Gives the process that is about to start this memory and time."""
+    resource.setrlimit(resource.RLIMIT_AS, (AMPLE, AMPLE))
+    resource.setrlimit(resource.RLIMIT_CPU, (SECONDS, SECONDS))
+
+
+@pytest.mark.parametrize("more, answer", [(0, (LEAST, 0)), (1, ("refused lp 0 limit\n", 3))])
+def test_the_longest_run_of_signs(tmp_path, more, answer):
+    text = model(sign="+" * (LONGEST - len(model()) + more))
+    assert len(text) == LONGEST + more
+    (tmp_path / "own.lp").write_text(text)
+    assert run("solve", "own.lp", cwd=tmp_path, preexec_fn=limit_both) == answer
