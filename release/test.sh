@@ -171,6 +171,8 @@ for it in 'solve own.lp --cert own.lp' 'solve --cert=./own.lp own.lp' 'solve lin
     expect "a file that is read and written: $it" 125 '' 1 'would be written'
 done
 holds 'a file that is read and written stands' cmp -s "$room/user/own.lp" "$room/user/kept.lp"
+bare "$clone/bprice" solve own.lp --cert no/own.cert
+expect 'a certificate without its folder' 125 '' 1 'no/own.cert could not be written: its folder is not there: nothing was started'
 bare "$clone/bprice" solve own.lp --from own.cert --cert own.cert
 expect 'one certificate to go on from and to write' 0 "$report" 0
 bare "$clone/bprice" migrate own.lp own.cert own.cert
