@@ -550,6 +550,42 @@ impl Reading {
         lone
     }
 
+    /// Where the row or the objective ends that a token begins: one place behind its last token.
+    pub fn sum_end(&self, at: usize) -> usize {
+        let first = at.saturating_add(1);
+        for place in first..self.tokens.len() {
+            if self.tokens[place].kind == TokKind::Word || self.begins_at(place) {
+                return place;
+            }
+        }
+        self.tokens.len()
+    }
+
+    // Whether a row begins with this token.
+    fn begins_at(&self, token: usize) -> bool {
+        let at = self.rows.partition_point(|row| row.token < token);
+        match self.rows.get(at) {
+            Some(row) => row.token == token,
+            None => false,
+        }
+    }
+
+    /// The number of the variable that has the name.
+    pub fn place(&self, name: &[u8]) -> Option<usize> {
+        self.places.get(name).copied()
+    }
+
+    /// The greatest magnitude of a variable's values within its bounds, at least 1.
+    pub fn reach(&self, place: usize) -> u64 {
+        match self.variables.get(place) {
+            Some(variable) => {
+                let (lower, upper) = span_of(variable);
+                lower.unsigned_abs().max(upper.unsigned_abs()).max(1)
+            }
+            None => 1,
+        }
+    }
+
     // Whether a token stands on a line.
     fn is_on(&self, at: usize, line: u64) -> bool {
         match self.token(at) {
