@@ -550,19 +550,8 @@ impl Reading {
         lone
     }
 
-    /// Where the row or the objective ends that a token begins: one place behind its last token.
-    pub fn sum_end(&self, at: usize) -> usize {
-        let first = at.saturating_add(1);
-        for place in first..self.tokens.len() {
-            if self.tokens[place].kind == TokKind::Word || self.begins_at(place) {
-                return place;
-            }
-        }
-        self.tokens.len()
-    }
-
-    // Whether a row begins with this token.
-    fn begins_at(&self, token: usize) -> bool {
+    /// Whether a row begins with this token.
+    pub fn begins_at(&self, token: usize) -> bool {
         let at = self.rows.partition_point(|row| row.token < token);
         match self.rows.get(at) {
             Some(row) => row.token == token,

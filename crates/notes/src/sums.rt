@@ -2,6 +2,7 @@
 use crate::grammar::Symbol;
 use crate::number::{Number, number_of};
 use crate::reading::Reading;
+use lp_token::TokKind;
 use std::alloc::{AllocError, Global};
 use std::collections::BTreeMap;
 
@@ -50,7 +51,7 @@ pub fn excess_of(
         number: None,
         negative: false,
     };
-    for token in at..reading.sum_end(at) {
+    for token in at..sum_end(reading, at) {
         sum.take(text, reading, token)?;
     }
     sum.close();
@@ -58,6 +59,17 @@ pub fn excess_of(
         Some(size) => excess_in(size),
         None => None,
     })
+}
+
+// Where the row or the objective ends that a token begins: one place behind its last token.
+fn sum_end(reading: &Reading, at: usize) -> usize {
+    for place in at.saturating_add(1)..usize::MAX {
+        match reading.token(place) {
+            Some(token) if token.kind != TokKind::Word && !reading.begins_at(place) => {}
+            _ => return place,
+        }
+    }
+    usize::MAX
 }
 
 impl Sum {
