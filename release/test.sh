@@ -182,17 +182,31 @@ expect 'two files to write' 0 'made variables 8 rows 6' 0
 bare "$clone/bprice" solve -- own.lp --cert own.lp
 expect 'words behind two dashes' 2 'refused words' 2 'is one word too many for solve'
 
-# Words that ask for help: the program refuses them as others, and tells its usage on standard error.
-for it in '' -h --help help; do
+# Words that ask for help with two dashes: the program refuses them as others, and tells its usage on standard error.
+for it in '' -h --help; do
     bare "$clone/bprice" $it
     expect "help: '$it'" 2 'refused words' 24 'usage: bprice COMMAND'
 done
+bare "$clone/bprice" --help
+mv "$room/told" "$room/usage"
+bare "$clone/bprice" help
+expect 'the page of help' 0 "$(cat "$room/usage")" 0
 bare "$clone/bprice" help demo
-expect 'help of a command' 2 'refused words' 2 'usage: bprice demo SEED SIZE'
+expect 'help of a command' 0 $'usage: bprice demo SEED SIZE\n  makes one in memory, solves it, checks that' 0
+bare "$clone/bprice" help nothing
+expect 'help of no command' 2 'refused words' 2 "'nothing' is no command"
+bare "$clone/bprice" help demo 1
+expect 'help with a word too many' 2 'refused words' 2 'usage: bprice demo SEED SIZE'
 bare "$clone/bprice" --version
 expect 'the version' 2 'refused words' 6 "version $(cat "$here/release/VERSION")"
 expect 'the version, the kit' 2 'refused words' 6 'kit of the test'
 expect 'the version, the checksum' 2 'refused words' 6 "here $(. "$clone/release/common.sh" && sum_of_sources)"
+cp "$room/told" "$room/version"
+bare "$clone/bprice" version
+expect 'the page of the version' 0 "$(sed '$d' "$room/version")"$'\n'"$("$program" version)" 0
+holds 'the program has another version than release/VERSION' [ "$("$program" version | cut -d , -f 1)" = "bprice $(cat "$here/release/VERSION")" ]
+bare "$clone/bprice" version more
+expect 'version with a word too many' 2 'refused words' 2 "'version' is no command"
 
 # Two runs at once.
 fresh 'two at once'
@@ -666,6 +680,9 @@ complete_words() {
     bash --norc -c '. "$0/completion/bprice"; COMP_WORDS=(bprice "$@"); COMP_CWORD=$#; _bprice; printf "%s " "${COMPREPLY[@]}"' "$here" "$@"
 }
 holds 'commands are not completed' [ "$(complete_words s)" = 'solve show ' ]
+holds 'help and version are not completed' [ "$(complete_words h)$(complete_words v)" = 'help version ' ]
+holds 'the commands behind help are not completed' [ "$(complete_words help m)" = 'merge migrate ' ]
+holds 'words behind the command of help are completed' [ "$(complete_words help solve '')" = ' ' ]
 holds 'words of solve are not completed' [ "$(complete_words solve a.lp --s)" = '--steps ' ]
 holds 'a word that was given is offered again' [ "$(complete_words solve a.lp --dec b.dec --d)" = ' ' ]
 holds 'a number is completed' [ "$(complete_words solve a.lp --steps '')" = ' ' ]

@@ -54,16 +54,25 @@ stop_on_shared_files() { # WORDS..
     done
 }
 
-# Prints the checksum over the sources at hand: the one that is remembered, or computed anew where the words ask for the version.
-sum_for() { # WORDS..
-    if [ "${1-}" = --version ]; then sum_of_sources; else sum_at_hand; fi
+# Returns whether words ask for the version: `version` alone, or `--version` first.
+asks_version() { # WORDS..
+    [ "${1-}" = --version ] || { [ "${1-}" = version ] && [ $# -eq 1 ]; }
 }
 
-# Tells on standard error the version, what the record beside the program says of it, and the checksum over the sources at hand,
-# where the words ask for the version; the program refuses them, and tells its usage and what is wrong with words by itself.
+# Prints the checksum over the sources at hand: the one that is remembered, or computed anew where the words ask for the version.
+sum_for() { # WORDS..
+    if asks_version "$@"; then sum_of_sources; else sum_at_hand; fi
+}
+
+# Tells the version, what the record beside the program says of it, and the checksum over the sources at hand, where the words
+# ask for the version: on the standard output for `version`, whose page the program prints there; on standard error for
+# `--version`, which the program refuses, with its usage and what is wrong with words by itself.
 tell_version() { # SUM WORDS..
-    local version
-    [ "${2-}" = --version ] || return 0
-    { read -r version; } 2>/dev/null <"$top/release/VERSION" && echo "version $version" >&2
-    { cat "${program%/*}/SOURCES" 2>/dev/null && echo "here $1"; } >&2
+    local version sum=$1
+    shift
+    asks_version "$@" || return 0
+    {
+        { read -r version; } 2>/dev/null <"$top/release/VERSION" && echo "version $version"
+        cat "${program%/*}/SOURCES" 2>/dev/null && echo "here $sum"
+    } >&"$([ "$1" = version ] && echo 1 || echo 2)"
 }

@@ -37,13 +37,44 @@ USAGE = "usage: bprice COMMAND .., and `help COMMAND` tells of one; `--` ends th
 WORDS = [
     ([], USAGE),
     (["--help"], USAGE),
-    (["help", "detect"], "usage: bprice detect LP ROWS DEC [--large]\n"),
+    (["help", "prove"], "bprice: 'prove' is no command; the first word is one of solve check show "),
+    (["help", "detect", "m.lp"], "usage: bprice detect LP ROWS DEC [--large]\n"),
+    (["version", "1"], "bprice: 'version' is no command; the first word is one of solve check show "),
+    (["Help"], "bprice: 'Help' is no command; the first word is one of solve check show "),
     (["--version"], "bprice, proved with rattle-kit-"),
     (["prove"], "bprice: 'prove' is no command; the first word is one of solve check show "),
     (["check", "m.lp"], "bprice: check wants a further word: CERT\nusage: bprice check LP CERT [--dec DEC] [--visits M] [--large]\n"),
     (["solve", "m.lp", "--cert"], "bprice: --cert wants a value behind it: CERT\nusage: bprice solve LP "),
     (["gen", "1", "0", "a", "b"], "bprice: SIZE is a whole number from 1 to 1024, and not '0'\nusage: bprice gen SEED SIZE LP DEC\n"),
     ([b"solve", b"\xff"], "bprice: the words are no text in UTF-8\n" + USAGE),
+]
+
+
+COMMANDS = ["solve", "check", "show", "propose", "detect", "merge", "migrate", "gen", "demo"]
+
+MPS = """* a plan
+
+NAME          PLAN
+ROWS
+ N  COST
+ L  LIM
+COLUMNS
+    X         COST         1.0   LIM          1.0
+RHS
+    RHS       LIM          4.0
+BOUNDS
+ UP BND       X            4.0
+ENDATA
+"""
+IS_MPS = "this is MPS: `glpsol --freemps model.mps --wlp model.lp`, or PuLP, writes LP\n"
+
+# A change of the first model, the line of the refusal, how many digits the sums come to, and the exponent of the power of ten.
+SUMS = [
+    ("2 x + y <= 5", "2 x + 3000000000000000000 y <= 5", "4", 19, 1),  # 9000000000000000011
+    ("2 x + y <= 5", "2 x - 4000000000000000000 y >= -5", "4", 20, 1),  # 12000000000000000011
+    ("<= 5\n", "<= 4611686018427387903\n", "4", 19, 1),  # 4611686018427387912
+    ("3 x + 2 y", "4000000000000000000 x + 4000000000000000000 y", "1", 20, 1),  # 24000000000000000000
+    ("<= 5\nBounds\n x <= 3", "<= 5\nBounds\n -4000000000000000000 <= x <= 3", "1", 20, 1),  # 12000000000000000006 in the objective
 ]
 
 
@@ -72,6 +103,64 @@ def test_words(room, words, note):
     status, out, err = told(*words, room=room)
     assert (status, out) == (2, "refused words\n")
     assert err.startswith(note)
+
+
+def test_pages(room):
+    status, out, err = told("help", room=room)
+    assert (status, err) == (0, "") and out == told("--help", room=room)[2] and out.startswith(USAGE)
+    for command in COMMANDS:
+        status, out, err = told("help", command, room=room)
+        assert (status, err) == (0, "") and out == told(command, "--help", room=room)[2]
+        assert out.startswith(f"usage: bprice {command} ")
+    version = (Path(__file__).parents[2] / "release/VERSION").read_text().strip()
+    status, out, err = told("version", room=room)
+    assert (status, err) == (0, "") and out.startswith(f"bprice {version}, proved with rattle-kit-")
+    assert out.split(", ", 1)[1] == told("--version", room=room)[2].split(", ", 1)[1]
+
+
+def test_pages_that_cannot_be_written(room):
+    with open("/dev/full", "wb") as full:
+        for words in (["help"], ["help", "solve"], ["version"]):
+            assert told(*words, room=room, out=full) == (8, "", "bprice: the standard output could not be written; no space left\n")
+
+
+def test_a_model_in_mps(room):
+    (room / "m.lp").write_text(MPS)
+    status, out, err = told("solve", "m.lp", room=room)
+    assert (status, out[:11]) == (3, "refused lp ") and err.startswith("m.lp:") and err.endswith(": " + IS_MPS)
+    (room / "m.lp").write_text(MPS.split("NAME")[0] + MPS[MPS.index("ROWS"):])
+    assert told("show", "m.lp", room=room)[2].endswith(": " + IS_MPS)
+    (room / "m.lp").write_text(MPS[MPS.index("NAME"):])
+    assert told("solve", "m.lp", room=room)[1:] == ("refused lp 1 syntax\n", "m.lp:1: syntax: " + IS_MPS)
+    (room / "m.lp").write_text(FIRST.replace("Maximize", "Names"))
+    assert "MPS" not in told("solve", "m.lp", room=room)[2]
+
+
+def test_a_continuous_variable_in_tenths(room):
+    (room / "m.lp").write_text(FIRST.replace(" x y\n", " x\n"))
+    err = told("solve", "m.lp", room=room)[2]
+    assert "count it in tenths: divide its coefficients in rows and costs by ten, multiply its bounds by ten, and list it under Generals" in err
+    # y in tenths: what the note says to change, in rows and costs multiplied by ten.
+    tenths = FIRST.replace("3 x + 2 y", "30 x + 2 y").replace("2 x + y <= 5", "20 x + y <= 50").replace(" y <= 3", " y <= 30")
+    (room / "m.lp").write_text(tenths)
+    assert told("solve", "m.lp", room=room) == (0, "optimal 90\nx 1\ny 30\n", "")
+
+
+@pytest.mark.parametrize("old, new, line, digits, scale", SUMS)
+def test_sums(room, old, new, line, digits, scale):
+    assert FIRST.count(old) == 1
+    (room / "m.lp").write_text(FIRST.replace(old, new))
+    status, out, err = told("solve", "m.lp", room=room)
+    assert (status, out) == (3, f"refused lp {line} activity\n")
+    assert f" sum to {digits} digits, and 18 are always allowed: scale by 10^{scale}, " in err
+
+
+def test_limits_name_large(room):
+    names = " ".join(f"+ x{at}" for at in range(4097))
+    (room / "m.lp").write_text(f"Maximize\n obj: {names}\nSubject To\nBinaries\n {names.replace('+ ', '')}\nEnd\n")
+    status, out, err = told("show", "m.lp", room=room)
+    assert (status, out) == (3, "refused lp 2 limit\n") and "read the model with --large, which takes 524288" in err
+    assert told("show", "m.lp", "--large", room=room)[0] == 0
 
 
 def test_usage_fits_a_screen(room):

@@ -1,5 +1,6 @@
 //! The program: the top call over the system's files and the standard output, unless its files stand in its way; a note on how
-//! it ended goes to the standard error, and nothing rests on that.
+//! it ended goes to the standard error, and nothing rests on that. The words `help` and `version` ask for pages of its own on
+//! the standard output.
 #![tactic(auto)]
 
 mod named;
@@ -8,9 +9,10 @@ use bp_cli::run;
 use bp_real::{
     FileShelf, Files, HostDisk, HostSurvey, Obstacle, OutSink, Watched, WatchedSink, find_obstacle,
 };
+use bp_shelf::Sink;
 use bp_words::{Order, WordFault, read_words};
 use named::files_of;
-use notes::{explain, explain_obstacle};
+use notes::{Page, explain, explain_obstacle, page_for, page_text};
 use std::io::{ErrorKind, Write};
 use std::process::ExitCode;
 use std::rt::Env;
@@ -19,8 +21,11 @@ use std::{env, io};
 // The status of a run that is not begun.
 const NOT_BEGUN: u8 = 125;
 
-// The status where there was no memory to read the words.
+// The status where there was no memory to read the words, or for a page.
 const NO_MEMORY: u8 = 9;
+
+// The status where the standard output could not be written.
+const NOT_WRITTEN: u8 = 8;
 
 // The words that the program was called with, its own name first.
 fn words_of<R: Env + AllocGlobal>(rt: &R) -> io::Result<Vec<String>> {
@@ -75,8 +80,29 @@ fn is_stopped(rt: &HostRuntime, order: &Order) -> bool {
     }
 }
 
-// Runs on these words, unless files stand in the way. Words that are no command line name none.
+// Puts a page on the standard output, and gives the status.
+fn show_page(rt: &HostRuntime, words: &[String], page: Page) -> u8 {
+    let Ok(text) = page_text(rt.alloc(), page) else {
+        return NO_MEMORY;
+    };
+    let mut out = OutSink::new(rt);
+    if out.put(&text).is_ok() {
+        return 0;
+    }
+    let mut files = Files::new(rt.alloc());
+    if out.is_full() {
+        files.fill();
+    }
+    put_note(rt, words, NOT_WRITTEN, &[], &files, &mut FileShelf::new(rt));
+    NOT_WRITTEN
+}
+
+// Answers these words by a page of the program's own where they ask for one. Else runs on them, unless files stand in the way;
+// words that are no command line name none.
 fn start(rt: &HostRuntime, words: &[String]) -> u8 {
+    if let Some(page) = page_for(words) {
+        return show_page(rt, words, page);
+    }
     match read_words(rt.alloc(), words) {
         Ok(order) => {
             if is_stopped(rt, &order) {

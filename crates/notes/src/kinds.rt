@@ -24,7 +24,7 @@ unbounded @ a variable % without an upper or lower bound; add both under Bounds,
 unbounded-above @ % has no upper bound; add one under Bounds, as in x <= 100
 unbounded-below @ % has no lower bound; add one under Bounds, as in x >= -100
 unbounded-both @ % has no bounds; add both under Bounds, as in -100 <= x <= 100
-continuous @ % is under neither Generals nor Binaries, and only whole variables can be solved for; list it under one of them
+continuous @ % is under neither Generals nor Binaries, and only whole variables can be solved for; list it under one of them, or count it in tenths: divide its coefficients in rows and costs by ten, multiply its bounds by ten, and list it under Generals; multiply a row or objective by ten whose numbers are then not whole
 activity @ the sums of the row or objective % here may pass 4611686018427387903 (2^62 - 1) within the bounds; write smaller numbers, or narrower bounds
 ",
     large: "\
@@ -65,7 +65,7 @@ bad-byte @ % has a byte that is not printable ASCII; write the name of a row as 
 unknown-row @ no row of the model has the name % here; an unnamed row is called c and its place, as c3
 row-twice @ the row % is listed a second time; keep one of the two places
 limit @ the list has more than 16777216 bytes, the most that is read; read it with --large, which takes 268435456
-blocks @ the rows beside these fall into more than 4096 blocks, the most; list fewer master rows
+blocks @ the rows beside these fall into more than 4096 blocks, the most; read the model with --large, which takes 131072, or list fewer master rows
 ",
     large: "\
 limit @ the list has more than 268435456 bytes, the most that is read
@@ -81,7 +81,7 @@ syntax-end @ the line is empty, or the text ends before the line `end`; was the 
 too-large @ a number in % is past its limit: 1048576 for a scale and in the line of a cut, 1099511627776 for a multiplier of a leaf, 4611686018427387903 for the others; write smaller ones in the same proportion
 number @ in % a variable, row or block is not there, or a row is no master row, or they do not ascend, or a divisor or multiplier is 0; was it written for this model and decomposition?
 length @ the point has more or fewer numbers than the model has variables; was it written for this model?
-depth @ a node lies under more than 8256 splits, the most
+depth @ a node lies under more than 8256 splits, the most; read it with --large, which takes 1048640
 limit @ there are more than 256 cuts, the most
 ",
     large: "\
@@ -108,7 +108,7 @@ pub const AFTER_REJECTED: &str =
 /// Certificates to go on from, or to merge.
 pub const FROM: Sentences = Sentences {
     usual: "\
-depth @ the certificate is valid, but this leaf lies too deep to be split on (its splits and its zone's binary digits pass 8256); begin anew, or from another certificate
+depth @ the certificate is valid, but this leaf lies too deep to be split on (its splits and its zone's binary digits pass 8256); read it with --large, which takes 1048640, begin anew, or from another certificate
 cuts @ the certificate is valid, but on this line it has another cut than the one that it is merged with; merge certificates of one search, or of searches without cuts
 ",
     large: "\

@@ -6,13 +6,18 @@ mod again;
 mod blocks;
 mod grammar;
 mod kinds;
+mod mps;
 mod note;
 mod number;
 mod obstacle;
+mod page;
 mod place;
 mod reading;
+mod sums;
 mod text;
 mod usage;
 
 pub use note::explain;
 pub use obstacle::explain_obstacle;
+pub use page::{Page, page_for, page_text};
+pub use usage::VERSION;

@@ -3,7 +3,9 @@ ghost use Rattle.std.specs.Prelude.{◌≡◌};
 
 use crate::again::{line_of, text_of};
 use crate::kinds::{AFTER_REJECTED, CERT, DEC, FROM, LP, REJECTED, ROWS};
+use crate::mps::{MPS, is_mps};
 use crate::place::{Spot, lp_spot, names_spot};
+use crate::sums::{Excess, SAFE_DIGITS};
 use crate::text::{MOST_QUOTED, Note, Sentences, sentence_of, word_at};
 use crate::usage::{limits_of, put_words_note};
 use bp_real::Files;
@@ -212,6 +214,12 @@ fn put_model<F: Shelf>(alloc: Global, note: &mut Note, shelf: &mut F, refusal: &
 {
     let text = note.known(text_of(alloc, shelf, refusal.name, refusal.limits.bytes()));
     let text = bytes_of(&text);
+    if is_mps(text) {
+        put_head(note, refusal, None);
+        note.put(MPS);
+        note.put("\n");
+        return;
+    }
     let spot = note.known(lp_spot(alloc, text, refusal.limits, refusal.line, refusal.kind));
     put_spot(note, refusal, &LP, text, spot);
 }
@@ -315,6 +323,20 @@ fn put_place(note: &mut Note, refusal: &Refusal, table: &Sentences, text: &[u8],
         note.put(": ");
         note.put(spot.expected);
     }
+    if let Some(excess) = spot.excess {
+        put_excess(note, excess);
+    }
+}
+
+// How many digits the sums come to, how many are allowed, and the power of ten to scale by.
+fn put_excess(note: &mut Note, excess: Excess) {
+    note.put("; its coefficients times bounds, in size, and its side sum to ");
+    note.put_number(excess.digits);
+    note.put(" digits, and ");
+    note.put_number(SAFE_DIGITS);
+    note.put(" are always allowed: scale by 10^");
+    note.put_number(excess.scale);
+    note.put(", as by larger units");
 }
 
 // The key of a kind's sentence where no token is known.
@@ -377,7 +399,7 @@ fn put_blocks(note: &mut Note, line: &str, refusal: &Refusal) {
     };
     put_head(note, &place, None);
     if place.kind == "links" {
-        put_links(note, u64::from(place.limits.lines()));
+        put_links(note, place.limits);
         return;
     }
     note.put("the variable ");
@@ -388,12 +410,17 @@ fn put_blocks(note: &mut Note, line: &str, refusal: &Refusal) {
 }
 
 // The sentence on a decomposition whose links are too many, or too large; rows and links together may be so many.
-fn put_links(note: &mut Note, most: u64) {
+fn put_links(note: &mut Note, limits: Limits) {
     note.put(
         "a variable in rows of several blocks is linked by a row for each block but the first; these and the model's rows are more than ",
     );
-    note.put_number(most);
+    note.put_number(u64::from(limits.lines()));
     note.put(
-        ", or such a variable has a bound past 2305843009213693951; put rows of such variables under MASTERCONSS\n",
+        ", or such a variable has a bound past 2305843009213693951; put rows of such variables under MASTERCONSS",
     );
+    if limits == Limits::Usual {
+        note.put(", or where the rows are too many read the model with --large, which takes ");
+        note.put_number(u64::from(Limits::Large.lines()));
+    }
+    note.put("\n");
 }

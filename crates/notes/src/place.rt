@@ -1,8 +1,10 @@
 // Where in a text the fault of a refusal stands.
 use crate::blocks::{Wrong, first_wrong};
 use crate::grammar::expected;
-use crate::reading::{Reading, read, uncut};
+use crate::reading::{Found, Reading, read, uncut};
+use crate::sums::{Excess, excess_of};
 use bp_theory::Limits;
+use lp_token::Tok;
 use std::alloc::{AllocError, Global};
 
 /// The place of a fault: its column, from 1, in bytes; the slice of its token; the key of its sentence; and what is
@@ -19,6 +21,8 @@ pub struct Spot {
     pub key: &'static str,
     /// What is expected in the token's place; empty but at the key `syntax`.
     pub expected: &'static str,
+    /// How far the sums go past the most; none but at the key `activity`.
+    pub excess: Option<Excess>,
 }
 
 // The line and the column of a place in a text, both from 1.
@@ -72,6 +76,7 @@ fn spot_at(
         to,
         key,
         expected,
+        excess: None,
     })
 }
 
@@ -110,18 +115,24 @@ fn read_spot(
     kind: &str,
 ) -> Result<Option<Spot>, AllocError> {
     match read(alloc, text, limits) {
-        Ok(Some(reading)) => Ok(found_spot(text, number, kind, &reading)),
+        Ok(Some(reading)) => match reading.found() {
+            Some(found) => Ok(found_spot(text, number, kind, &reading, found)),
+            None => sums_spot(alloc, text, number, kind, &reading),
+        },
         Ok(None) => Ok(None),
         Err(fault) => Err(fault),
     }
 }
 
 // The spot of the fault that was found, where it is of this kind and on this line.
-fn found_spot(text: &[u8], number: u64, kind: &str, reading: &Reading) -> Option<Spot> {
-    match reading.found() {
-        Some(found) => token_spot(text, number, kind, reading, found.key, found.token?),
-        None => sums_spot(text, number, kind, reading),
-    }
+fn found_spot(
+    text: &[u8],
+    number: u64,
+    kind: &str,
+    reading: &Reading,
+    found: Found,
+) -> Option<Spot> {
+    token_spot(text, number, kind, reading, found.key, found.token?)
 }
 
 // The spot of a fault of a token, where it is of this kind and on this line.
@@ -153,13 +164,29 @@ fn is_of(key: &str, kind: &str) -> bool {
 }
 
 // The spot of sums that are too large: those of the objective, or of the only row, that the line begins.
-fn sums_spot(text: &[u8], number: u64, kind: &str, reading: &Reading) -> Option<Spot> {
+fn sums_spot(
+    alloc: Global,
+    text: &[u8],
+    number: u64,
+    kind: &str,
+    reading: &Reading,
+) -> Result<Option<Spot>, AllocError> {
     if kind != "activity" {
-        return None;
+        return Ok(None);
     }
-    let at = reading.lone_sum(number)?;
-    let token = reading.token(at)?;
-    spot_at(text, number, (token.from, token.to), "activity", "")
+    let Some(at) = reading.lone_sum(number) else {
+        return Ok(None);
+    };
+    let excess = excess_of(alloc, text, reading, at)?;
+    Ok(lone_spot(text, number, reading.token(at), excess))
+}
+
+// The spot of the token that begins such sums.
+fn lone_spot(text: &[u8], number: u64, token: Option<Tok>, excess: Option<Excess>) -> Option<Spot> {
+    let token = token?;
+    let mut spot = spot_at(text, number, (token.from, token.to), "activity", "")?;
+    spot.excess = excess;
+    Some(spot)
 }
 
 /// The spot of the fault of a decomposition, or of a list of rows, beside the text of a model that these limits are for, where

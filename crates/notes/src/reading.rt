@@ -550,6 +550,31 @@ impl Reading {
         lone
     }
 
+    /// Whether a row begins with this token.
+    pub fn begins_at(&self, token: usize) -> bool {
+        let at = self.rows.partition_point(|row| row.token < token);
+        match self.rows.get(at) {
+            Some(row) => row.token == token,
+            None => false,
+        }
+    }
+
+    /// The number of the variable that has the name.
+    pub fn place(&self, name: &[u8]) -> Option<usize> {
+        self.places.get(name).copied()
+    }
+
+    /// The greatest magnitude of a variable's values within its bounds, at least 1.
+    pub fn reach(&self, place: usize) -> u64 {
+        match self.variables.get(place) {
+            Some(variable) => {
+                let (lower, upper) = span_of(variable);
+                lower.unsigned_abs().max(upper.unsigned_abs()).max(1)
+            }
+            None => 1,
+        }
+    }
+
     // Whether a token stands on a line.
     fn is_on(&self, at: usize, line: u64) -> bool {
         match self.token(at) {

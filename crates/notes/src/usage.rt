@@ -2,6 +2,9 @@
 use crate::text::{Note, word_at};
 use bp_theory::Limits;
 
+/// The version of the program.
+pub const VERSION: &str = "0.6.0";
+
 // The kit that the program is proved with.
 const KIT: &str = "rattle-kit-13f, logic dac8208d650f15bf";
 
@@ -257,8 +260,24 @@ fn put_unknown(note: &mut Note, word: &str) {
     note.put("\nusage: bprice COMMAND .., and bprice --help tells more\n");
 }
 
-// All commands, options and statuses.
-fn put_usage(note: &mut Note) {
+/// The version, and the kit that the program is proved with.
+pub fn put_version(note: &mut Note) {
+    note.put("bprice ");
+    note.put(VERSION);
+    note.put(", proved with ");
+    note.put(KIT);
+    note.put("\n");
+}
+
+/// The usage of the command of that name; nothing where there is none.
+pub fn put_command_page(note: &mut Note, name: &str) {
+    if let Some(command) = command_of(name) {
+        put_command(note, &command);
+    }
+}
+
+/// All commands, options and statuses.
+pub fn put_usage(note: &mut Note) {
     note.put("usage: bprice COMMAND .., and `help COMMAND` tells of one; `--` ends the options\n");
     for command in COMMANDS.as_slice() {
         put_short(note, command);

@@ -3,7 +3,7 @@ use crate::lines::words_of;
 use crate::tables::{Table, check, told};
 use bp_real::Files;
 use bp_shelf::MemShelf;
-use notes::explain;
+use notes::{explain, page_for, page_text};
 use std::alloc::{AllocError, Global};
 use std::fmt::Write;
 use std::test::Fail;
@@ -11,14 +11,33 @@ use std::test::Fail;
 /// What the length of a file stays below.
 const LIMIT: usize = 1 << 40;
 
-/// Cases: the words behind the program's name, or a dash; the status and the first line of the report; the text that
+/// Cases: the words behind the program's name, or a dash; the status and the first line of the report, or `page` for the page
+/// that the words ask for; the text that
 /// was read first, and the one behind it, or dashes, which under 8 is one that could not be written for want of space; the
 /// note. Bars end the lines of texts and notes; a star stands for the rest of a note.
 const CASES: &str = "\
 - @ 2 refused words @ - @ - @ usage: bprice COMMAND .., and `help COMMAND` tells of one; `--` ends the options|  solve LP [..]             a best point, and a certificate of it|  check LP CERT [..]        whether*
 --help @ 2 refused words @ - @ - @ usage: bprice COMMAND .., and `help COMMAND` tells of one; `--` ends the options|*
-help demo @ 2 refused words @ - @ - @ usage: bprice demo SEED SIZE|  makes one in memory, solves it, checks that|
-help show @ 2 refused words @ - @ - @ usage: bprice show LP [--dec DEC] [--blocks] [--classes] [--large]|  the blocks, and which are identical|  --dec DEC      the decomposition of the model, as GCG DEC text|  --blocks       tell the rows and variables of each block|  --classes      tell them of the first block of each class|  --large        read models of up to 524288 variables, not 4096|
+help @ page @ - @ - @ usage: bprice COMMAND .., and `help COMMAND` tells of one; `--` ends the options|  solve LP [..]             a best point, and a certificate of it|*
+version @ page @ - @ - @ bprice 0.6.0, proved with rattle-kit-13f, logic dac8208d650f15bf|
+help demo @ page @ - @ - @ usage: bprice demo SEED SIZE|  makes one in memory, solves it, checks that|
+help solve @ page @ - @ - @ usage: bprice solve LP [--dec DEC] [--steps N] [--cert CERT] [--from FILE] [--leaf K] [--workers W] [--order SEED] [--cuts C] [--large]|  a best point, and a certificate of it|*
+help check @ page @ - @ - @ usage: bprice check LP CERT [--dec DEC] [--visits M] [--large]|*
+help propose @ page @ - @ - @ usage: bprice propose LP DEC [--large]|*
+help detect @ page @ - @ - @ usage: bprice detect LP ROWS DEC [--large]|*
+help merge @ page @ - @ - @ usage: bprice merge LP A B NEW [--dec DEC] [--large]|*
+help migrate @ page @ - @ - @ usage: bprice migrate LP CERT NEW [--dec DEC] [--large]|*
+help gen @ page @ - @ - @ usage: bprice gen SEED SIZE LP DEC|  writes an assignment problem and its blocks|
+- @ page @ - @ - @ no page
+--help @ page @ - @ - @ no page
+--version @ page @ - @ - @ no page
+solve help @ page @ - @ - @ no page
+version help @ page @ - @ - @ no page
+help help @ page @ - @ - @ no page
+help Demo @ page @ - @ - @ no page
+help demo 1 @ page @ - @ - @ no page
+help prove @ 2 refused words @ - @ - @ bprice: 'prove' is no command; the first word is one of solve check *
+help show @ page @ - @ - @ usage: bprice show LP [--dec DEC] [--blocks] [--classes] [--large]|  the blocks, and which are identical|  --dec DEC      the decomposition of the model, as GCG DEC text|  --blocks       tell the rows and variables of each block|  --classes      tell them of the first block of each class|  --large        read models of up to 524288 variables, not 4096|
 check -h @ 2 refused words @ - @ - @ usage: bprice check LP CERT [--dec DEC] [--visits M] [--large]|  whether a certificate is valid|*
 --version @ 2 refused words @ - @ - @ bprice, proved with rattle-kit-13f, logic dac8208d650f15bf|
 prove m.lp @ 2 refused words @ - @ - @ bprice: 'prove' is no command; the first word is one of solve check show propose detect merge migrate gen demo|usage: bprice COMMAND .., and bprice --help tells more|
@@ -63,12 +82,20 @@ solve -- --large @ 3 refused lp 7 limit @ Max @ - @ m.lp:7: limit: the model is 
 solve m.lp @ 3 refused lp 2 unbounded @ Max| x + z|st| x + z <= 3|Bounds| x <= 3|Generals| x z|End @ - @ m.lp:2:6: unbounded: 'z' has no upper bound; add one under Bounds, as in x <= 100|
 solve m.lp @ 3 refused lp 2 unbounded @ Max| x + z|st|Bounds| x <= 3| z <= 4| -inf <= z|Generals| x z|End @ - @ m.lp:2:6: unbounded: 'z' has no lower bound; add one under Bounds, as in x >= -100|
 solve m.lp @ 3 refused lp 2 crossed @ Max| x + z|st|Bounds| x <= 3| z <= -1|Generals| x z|End @ - @ m.lp:2:6: crossed: the lower bound of 'z' is above its upper bound; write both, as in -5 <= x <= -1 (one that is not written is 0)|
-solve m.lp @ 3 refused lp 2 continuous @ Max| x + z|st|Bounds| x <= 3| z <= 4|Generals| x|End @ - @ m.lp:2:6: continuous: 'z' is under neither*
-solve m.lp @ 3 refused lp 4 activity @ Max| x|st| c7: 2305843009213693951 x <= 2305843009213693953|Binaries| x|End @ - @ m.lp:4:2: activity: the sums of the row or objective 'c7' here may pass*
+solve m.lp @ 3 refused lp 2 continuous @ Max| x + z|st|Bounds| x <= 3| z <= 4|Generals| x|End @ - @ m.lp:2:6: continuous: 'z' is under neither Generals nor Binaries, and only whole variables can be solved for; list it under one of them, or count it in tenths: divide its coefficients in rows and costs by ten, multiply its bounds by ten, and list it under Generals; multiply a row or objective by ten whose numbers are then not whole|
+solve m.lp @ 3 refused lp 4 activity @ Max| x|st| c7: 2305843009213693951 x <= 2305843009213693953|Binaries| x|End @ - @ m.lp:4:2: activity: the sums of the row or objective 'c7' here may pass 4611686018427387903 (2^62 - 1) within the bounds; write smaller numbers, or narrower bounds; its coefficients times bounds, in size, and its side sum to 19 digits, and 18 are always allowed: scale by 10^1, as by larger units|
+solve m.lp @ 3 refused lp 4 activity @ Max| x|st| c7: 3000000000 x - 2 y + 3000000000 x <= 5|Bounds| -2000000000000 <= x <= 1| y <= 7|Generals| x y|End @ - @ m.lp:4:2: activity: the sums of the row or objective 'c7' here may pass 4611686018427387903 (2^62 - 1) within the bounds; write smaller numbers, or narrower bounds; its coefficients times bounds, in size, and its side sum to 23 digits, and 18 are always allowed: scale by 10^4, as by larger units|
+solve m.lp @ 3 refused lp 1 activity @ Max| 3000000000 x + 2 y - 7|st|Bounds| x <= 2000000000000| y <= 7|Generals| x y|End @ - @ m.lp:1:1: activity: the sums of the row or objective 'Max' here may pass 4611686018427387903 (2^62 - 1) within the bounds; write smaller numbers, or narrower bounds; its coefficients times bounds, in size, and its side sum to 22 digits, and 18 are always allowed: scale by 10^4, as by larger units|
+solve m.lp @ 3 refused lp 2 syntax @ NAME          PLAN|ROWS| N  COST|COLUMNS|ENDATA @ - @ m.lp:2: syntax: this is MPS: `glpsol --freemps model.mps --wlp model.lp`, or PuLP, writes LP|
+solve m.lp @ 3 refused lp 1 feature @ * a plan||  ROWS| N  COST|COLUMNS|ENDATA @ - @ m.lp:1: feature: this is MPS: `glpsol --freemps model.mps --wlp model.lp`, or PuLP, writes LP|
+solve m.lp @ 3 refused lp 1 syntax @ NAMES| x|End @ - @ m.lp:1:1: syntax: 'NAMES' can't stand here: a text begins with *
 solve m.lp --dec o @ 3 refused dec 1 syntax @ Max| x|st| cap1: x <= 3|End @ NBLOCKS two @ o:1:9: syntax: 'two' can't stand here: a number stands behind this keyword|
 solve m.lp --dec o @ 3 refused dec 3 unknown-row @ Max| x|st| cap1: x <= 3|End @ NBLOCKS 1|BLOCK 1| cap1 cap9 @ o:3:7: unknown-row: no row of the model has the name 'cap9' here; an unnamed row is called c and its place, as c3|
 solve m.lp --dec o @ 3 refused dec 4 row-twice @ Max| x|st| cap1: x <= 3|End @ NBLOCKS 1|BLOCK 1| cap1|MASTERCONSS cap1 @ o:4:13: row-twice: the row 'cap1' is listed a second time; keep one of the two places|
-solve m.lp --dec o @ 3 refused blocks links @ Max @ NBLOCKS 2 @ o: links: a variable in rows of several blocks is linked by a row for each block but the first; these and the model's rows are more than 8192*
+solve m.lp --dec o @ 3 refused blocks links @ Max @ NBLOCKS 2 @ o: links: a variable in rows of several blocks is linked by a row for each block but the first; these and the model's rows are more than 8192, or such a variable has a bound past 2305843009213693951; put rows of such variables under MASTERCONSS, or where the rows are too many read the model with --large, which takes 1048576|
+detect m.lp o d @ 3 refused rows 1 blocks @ Max @ c1 @ o:1: blocks: the rows beside these fall into more than 4096 blocks, the most; read the model with --large, which takes 131072, or list fewer master rows|
+check m.lp o @ 3 refused cert 9 depth @ Max @ bpcert 2 @ o:9: depth: a node lies under more than 8256 splits, the most; read it with --large, which takes 1048640|
+solve m.lp --from o @ 3 refused from 9 depth @ Max @ bpcert 1| @ o:9: depth: the certificate is valid, but this leaf lies too deep to be split on (its splits and its zone's binary digits pass 8256); read it with --large, which takes 1048640, begin anew, or from another certificate|
 show m.lp --large --dec o @ 3 refused blocks links @ Max @ NBLOCKS 2 @ o: links: a variable in rows of several blocks is linked by a row for each block but the first; these and the model's rows are more than 1048576, or such*
 solve m.lp --dec o @ 3 refused dec 1 limit @ Max| x|st| cap1: x <= 3|End @ NBLOCKS 4097 @ o:1:9: limit: '4097' blocks are too many: 4096 are the most; read the model with --large, which takes 131072, or put more rows together|
 solve m.lp --dec o --large @ 3 refused dec 1 limit @ Max| x|st| cap1: x <= 3|End @ NBLOCKS 131073 @ o:1:9: limit: '131073' blocks are too many: 131072 are the most; put more rows together|
@@ -92,7 +119,7 @@ solve m.lp --from o @ 3 refused from 9 depth @ Max @ bpcert 1| @ o:9: depth: the
 struct Case<'a> {
     // The words behind the program's name, with spaces between them; a dash where there are none.
     words: &'a str,
-    // The status, and behind a space the first line of the report.
+    // The status, and behind a space the first line of the report; `page` where the words' page is the note.
     ended: &'a str,
     // The text of `m.lp`, with a bar for each line feed; a dash where it can't be read.
     first: &'a str,
@@ -189,9 +216,20 @@ fn noted(
     explain(alloc, words, status, report, files, shelf)
 }
 
+// The page that words ask for.
+fn asked_page(alloc: Global, words: &[String]) -> Result<Vec<u8>, AllocError> {
+    match page_for(words) {
+        Some(page) => page_text(alloc, page),
+        None => b"no page".to_vec(alloc),
+    }
+}
+
 // The note of a case.
 fn note_of(alloc: Global, case: &Case<'_>) -> Result<Vec<u8>, AllocError> {
     let words = words_of(alloc, case.words)?;
+    if case.ended == "page" {
+        return asked_page(alloc, words.as_slice());
+    }
     let mut shelf = MemShelf::slow(alloc, &[], 7)?;
     let mut files = Files::new(alloc);
     noted(alloc, words.as_slice(), &mut files, &mut shelf, case)
@@ -233,5 +271,5 @@ pub fn add_wrong(alloc: Global, all: &mut String, line: &str) -> Result<bool, Al
 
 #[test]
 fn notes_are_as_written(rt: HostRuntime) -> Result<(), Fail> {
-    check(&rt, told(rt.alloc(), Table::Notes, CASES), "70 lines")
+    check(&rt, told(rt.alloc(), Table::Notes, CASES), "96 lines")
 }

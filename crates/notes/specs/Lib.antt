@@ -1,0 +1,2 @@
+-- Words of contracts here alone.
+pub mod Pages
