@@ -67,7 +67,7 @@ def is_as_by_steps(room, words, report):
 
 
 def gap_of(report):
-    bound, value = (int(re.search(rf"^{word} (-?\d+)$", report, re.M)[1]) for word in ("bound", "known"))
+    bound, value = (int(re.search(rf"^{word} (-?\d+)$", report, re.M)[1]) for word in ("bound", "value"))
     return 100 * abs(value - bound) / abs(value)
 
 
