@@ -384,7 +384,7 @@ pub fn add_wrong(alloc: Global, all: &mut String, line: &str) -> Result<bool, Al
 
 #[test]
 fn each_line_gives_its_order_or_is_refused(rt: HostRuntime) -> Result<(), Fail> {
-    check(&rt, told(rt.alloc(), Table::Lines, LINES), "141 lines")
+    check(&rt, told(rt.alloc(), Table::Lines, LINES), "169 lines")
 }
 
 #[test]
