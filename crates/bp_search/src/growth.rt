@@ -27,6 +27,8 @@ pub fn grow(
     ensures standing { IsStanding grove.new }
     ensures same { OnErr result (grove.new ≡ grove.old) }
 {
+    // For the proof alone: the grove stands.
+    let _ = grove.count();
     match next {
         Next::Shut(proof) => {
             let proof = grove.shared(alloc, proof)?;

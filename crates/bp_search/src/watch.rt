@@ -1,11 +1,11 @@
 // A search that is watched: between two steps it is asked whether the search goes on.
-ghost use Rattle.std.specs.Prelude.{◌≡◌, ◌+◌, ◌-◌, ◌<◌, ◌≤◌, ◌^◌, IfOk, IfSome, OnOk};
+ghost use Rattle.std.specs.Prelude.{◌≡◌, ◌+◌, ◌-◌, ◌<◌, ◌≤◌, ◌^◌, IfOk, IfSome, OnOk, Some};
 ghost use Rattle.bp_theory.specs.Trees.{steps};
 ghost use Rattle.search_laws.specs.Grove.{certificate_tree};
 ghost use Rattle.search_laws.specs.GroveFacts.{IsNoDearer};
 ghost use Rattle.branch_tree.specs.Loads.{IsLoaded};
 ghost use Rattle.cert_text.specs.Outcomes.{IsWritable};
-ghost use Rattle.bp_search.specs.Ends.{EndsWithin, given_steps};
+ghost use Rattle.bp_search.specs.Ends.{EndsWithin, given_steps, last_step};
 ghost use Rattle.bp_search.specs.Searches.{IsRunning, kept_cost};
 ghost use Rattle.bp_search.specs.Resumed.{Extends, GoesOn};
 
@@ -86,8 +86,7 @@ pub fn resume_watched<W: Watch>(
 ) -> Result<Stopped, AllocError>
     requires loaded { IsLoaded b.now from }
     requires few { IfSome steps (λ n. n ≤ 2 ^ 60) }
-    ensures ends { IfOk result (λ s. EndsWithin b.now (steps (certificate_tree from.grove.tree) + s.taken)
-        s.outcome) }
+    ensures ends { IfOk result (λ s. EndsWithin b.now (last_step from.grove (Some s.taken)) s.outcome) }
     ensures few { IfOk result (λ s. s.taken ≤ given_steps steps) }
     ensures goes_on { IfOk result (λ s. GoesOn b.now from.grove from.best s.outcome) }
     ensures writable { IfOk result (λ s. IsWritable b.now s.outcome) }
