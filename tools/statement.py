@@ -21,7 +21,7 @@ PAGE = TOP / "docs/STATEMENT.md"
 REST = TOP / "docs/STATEMENT-REST.md"
 PROGRAM = "bprice"
 TOP_CALL = "run"
-HEADLINE = ("solved_truly", "solves_accepted", "checked_truly", "steps")
+HEADLINE = ("solved_truly", "solves_accepted", "checked_truly")
 WHOLE = "answered"
 # What each command answers begins the second page.
 REST_BEGINS = "AnswersOrder"
