@@ -12,29 +12,29 @@ use Rattle.frontend.specs.Answers.{AnswersBy, FilesStand, IsStatus}
 use Rattle.cmd_check.specs.Checks.{AnswersCheck}
 use Rattle.cmd_solve.specs.Solves.{AnswersSolve}
 use Rattle.cmd_solve.specs.Saves.{HasCertificate}
-use Rattle.bp_cli.specs.Running.{Answers, refused, ordered, AnswersOrder, OfOrder, HasWritten}
+use Rattle.bp_cli.specs.Running.{Answers, refused, ordered, AnswersOrder, OfOrder, HasWritten, stopped_at}
 use Rattle.bp_cli.specs.Headline.{SolvesTruly, SolvesAccepted, ChecksTruly, IsOutcomeStatus}
 use Rattle.bp_cli.specs.Promises.{SolvesDecomposed, WritesCertificate}
 use Rattle.bp_cli.proofs.OneOrder.{one_order, not_both}
 use Rattle.bp_cli.proofs.Truth.{solves_truly, solves_accepted, solves_decomposed, writes_certificate, checks_truly}
 
 -- what words are answered is what their order is answered
-of_words : (words : List (List ℕ)) (order : Order) (files : Files) (kept : Option Outcome) (status : ℕ) (tells : Bool) (before now : List ℕ) → IsOrderOf words order
-    → AnswersBy (Answers words files kept) status tells before now → AnswersBy (AnswersOrder order files kept) status tells before now
-of_words words order files kept status tells before now is answers = λ no_read no_write no_want.
+of_words : (words : List (List ℕ)) (order : Order) (steps : Option ℕ) (files : Files) (kept : Option Outcome) (status : ℕ) (tells : Bool) (before now : List ℕ) → IsOrderOf words order
+    → AnswersBy (Answers words steps files kept) status tells before now → AnswersBy (AnswersOrder (stopped_at order steps) files kept) status tells before now
+of_words words order steps files kept status tells before now is answers = λ no_read no_write no_want.
     let answer = answers no_read no_write no_want in
     (answer.0, by answer.0 answer.1, answer.2)
   where
-    by : (report : List ℕ) → Answers words files kept status report → AnswersOrder order files kept status report
+    by : (report : List ℕ) → Answers words steps files kept status report → AnswersOrder (stopped_at order steps) files kept status report
     by report (refused fault none two printed) = absurd (not_both words order fault is)
-    by report (ordered other other_is right) = subst (λ (o : Order). AnswersOrder o files kept status report) (one_order words other order other_is is) right
+    by report (ordered other other_is right) = subst (λ (o : Order). AnswersOrder (stopped_at o steps) files kept status report) (one_order words other order other_is is) right
 
-pub solved : (words : List (List ℕ)) (files : Files) (kept : Option Outcome) (status : ℕ) (tells : Bool) (before now : List ℕ)
-    → AnswersBy (Answers words files kept) status tells before now → IsTrue tells → OfOrder words (λ order. SolvesTruly order files kept status before now)
-solved words files kept status tells before now answers heard = λ order is. by order (of_words words order files kept status tells before now is answers)
+pub solved : (words : List (List ℕ)) (steps : Option ℕ) (files : Files) (kept : Option Outcome) (status : ℕ) (tells : Bool) (before now : List ℕ)
+    → AnswersBy (Answers words steps files kept) status tells before now → IsTrue tells → OfOrder words (λ order. SolvesTruly (stopped_at order steps) files kept status before now)
+solved words steps files kept status tells before now answers heard = λ order is. by order (of_words words order steps files kept status tells before now is answers)
   where
-    by : (order : Order) → AnswersBy (AnswersOrder order files kept) status tells before now → SolvesTruly order files kept status before now
-    by (Solve given) right = solves_truly given.limits files given.lp given.dec given.steps given.from given.leaf given.cuts kept status tells before now right heard
+    by : (order : Order) → AnswersBy (AnswersOrder (stopped_at order steps) files kept) status tells before now → SolvesTruly (stopped_at order steps) files kept status before now
+    by (Solve given) right = solves_truly given.limits files given.lp given.dec steps given.from given.leaf given.cuts kept status tells before now right heard
     by (Check given) right = tt
     by (Show lp dec blocks classes limits) right = tt
     by (Gen seed size lp dec) right = tt
@@ -44,14 +44,14 @@ solved words files kept status tells before now answers heard = λ order is. by 
     by (Merge given) right = tt
     by (Migrate lp cert new dec limits) right = tt
 
-pub accepts : (words : List (List ℕ)) (files : Files) (kept : Option Outcome) (status : ℕ) (tells : Bool) (before now : List ℕ) → IsStatus status
-    → AnswersBy (Answers words files kept) status tells before now → OfOrder words (λ order. SolvesAccepted order files status)
-accepts words files kept status tells before now known answers = λ order is. by order (of_words words order files kept status tells before now is answers)
+pub accepts : (words : List (List ℕ)) (steps : Option ℕ) (files : Files) (kept : Option Outcome) (status : ℕ) (tells : Bool) (before now : List ℕ) → IsStatus status
+    → AnswersBy (Answers words steps files kept) status tells before now → OfOrder words (λ order. SolvesAccepted order files status)
+accepts words steps files kept status tells before now known answers = λ order is. by order (of_words words order steps files kept status tells before now is answers)
   where
-    by : (order : Order) → AnswersBy (AnswersOrder order files kept) status tells before now → SolvesAccepted order files status
-    by (Solve given) right = λ plain anew. solves_accepted given.limits files given.lp given.steps given.leaf given.cuts kept status tells before now known
-        (subst (λ (from : Option (List ℕ)). AnswersBy (AnswersSolve given.limits files given.lp None given.steps from given.leaf given.cuts kept) status tells before now) anew
-        (subst (λ (dec : Option (List ℕ)). AnswersBy (AnswersSolve given.limits files given.lp dec given.steps given.from given.leaf given.cuts kept) status tells before now) plain right))
+    by : (order : Order) → AnswersBy (AnswersOrder (stopped_at order steps) files kept) status tells before now → SolvesAccepted order files status
+    by (Solve given) right = λ plain anew. solves_accepted given.limits files given.lp steps given.leaf given.cuts kept status tells before now known
+        (subst (λ (from : Option (List ℕ)). AnswersBy (AnswersSolve given.limits files given.lp None steps from given.leaf given.cuts kept) status tells before now) anew
+        (subst (λ (dec : Option (List ℕ)). AnswersBy (AnswersSolve given.limits files given.lp dec steps given.from given.leaf given.cuts kept) status tells before now) plain right))
     by (Check given) right = tt
     by (Show lp dec blocks classes limits) right = tt
     by (Gen seed size lp dec) right = tt
@@ -61,13 +61,13 @@ accepts words files kept status tells before now known answers = λ order is. by
     by (Merge given) right = tt
     by (Migrate lp cert new dec limits) right = tt
 
-pub decomposes : (words : List (List ℕ)) (files : Files) (kept : Option Outcome) (status : ℕ) (tells : Bool) (before now : List ℕ) → IsStatus status
-    → AnswersBy (Answers words files kept) status tells before now → OfOrder words (λ order. SolvesDecomposed order files status)
-decomposes words files kept status tells before now known answers = λ order is. by order (of_words words order files kept status tells before now is answers)
+pub decomposes : (words : List (List ℕ)) (steps : Option ℕ) (files : Files) (kept : Option Outcome) (status : ℕ) (tells : Bool) (before now : List ℕ) → IsStatus status
+    → AnswersBy (Answers words steps files kept) status tells before now → OfOrder words (λ order. SolvesDecomposed order files status)
+decomposes words steps files kept status tells before now known answers = λ order is. by order (of_words words order steps files kept status tells before now is answers)
   where
-    by : (order : Order) → AnswersBy (AnswersOrder order files kept) status tells before now → SolvesDecomposed order files status
-    by (Solve given) right = λ anew. solves_decomposed given.limits files given.lp given.dec given.steps given.leaf given.cuts kept status tells before now known
-        (subst (λ (from : Option (List ℕ)). AnswersBy (AnswersSolve given.limits files given.lp given.dec given.steps from given.leaf given.cuts kept) status tells before now) anew right)
+    by : (order : Order) → AnswersBy (AnswersOrder (stopped_at order steps) files kept) status tells before now → SolvesDecomposed order files status
+    by (Solve given) right = λ anew. solves_decomposed given.limits files given.lp given.dec steps given.leaf given.cuts kept status tells before now known
+        (subst (λ (from : Option (List ℕ)). AnswersBy (AnswersSolve given.limits files given.lp given.dec steps from given.leaf given.cuts kept) status tells before now) anew right)
     by (Check given) right = tt
     by (Show lp dec blocks classes limits) right = tt
     by (Gen seed size lp dec) right = tt
@@ -77,9 +77,9 @@ decomposes words files kept status tells before now known answers = λ order is.
     by (Merge given) right = tt
     by (Migrate lp cert new dec limits) right = tt
 
-pub certifies : (words : List (List ℕ)) (files left : Files) (kept : Option Outcome) (status : ℕ) → OfOrder words (λ order. HasWritten order files left kept status)
+pub certifies : (words : List (List ℕ)) (steps : Option ℕ) (files left : Files) (kept : Option Outcome) (status : ℕ) → OfOrder words (λ order. HasWritten (stopped_at order steps) files left kept status)
     → OfOrder words (λ order. WritesCertificate order left kept)
-certifies words files left kept status written = λ order is. by order kept (written order is)
+certifies words steps files left kept status written = λ order is. by order kept (written order is)
   where
     saved : (given : SolveOrder) (cert : Option (List ℕ)) (k : Option Outcome) → HasCertificate given.limits files given.lp given.dec cert given.from given.cuts left k → FilesStand cert files left
         → IfSome cert (λ name. IfSome k (λ outcome.
@@ -88,7 +88,7 @@ certifies words files left kept status written = λ order is. by order kept (wri
     saved given (Some cert) None has stands = tt
     saved given None k has stands = tt
 
-    by : (order : Order) (k : Option Outcome) → HasWritten order files left k status → WritesCertificate order left k
+    by : (order : Order) (k : Option Outcome) → HasWritten (stopped_at order steps) files left k status → WritesCertificate order left k
     by (Solve given) k has = saved given given.cert k has.0 has.1
     by (Check given) k has = tt
     by (Show lp dec blocks classes limits) k has = tt
@@ -99,11 +99,11 @@ certifies words files left kept status written = λ order is. by order kept (wri
     by (Merge given) k has = tt
     by (Migrate lp cert new dec limits) k has = tt
 
-pub checked : (words : List (List ℕ)) (files : Files) (kept : Option Outcome) (status : ℕ) (tells : Bool) (before now : List ℕ)
-    → AnswersBy (Answers words files kept) status tells before now → IsTrue tells → OfOrder words (λ order. ChecksTruly order files status before now)
-checked words files kept status tells before now answers heard = λ order is. by order (of_words words order files kept status tells before now is answers)
+pub checked : (words : List (List ℕ)) (steps : Option ℕ) (files : Files) (kept : Option Outcome) (status : ℕ) (tells : Bool) (before now : List ℕ)
+    → AnswersBy (Answers words steps files kept) status tells before now → IsTrue tells → OfOrder words (λ order. ChecksTruly order files status before now)
+checked words steps files kept status tells before now answers heard = λ order is. by order (of_words words order steps files kept status tells before now is answers)
   where
-    by : (order : Order) → AnswersBy (AnswersOrder order files kept) status tells before now → ChecksTruly order files status before now
+    by : (order : Order) → AnswersBy (AnswersOrder (stopped_at order steps) files kept) status tells before now → ChecksTruly order files status before now
     by (Solve given) right = tt
     by (Check given) right = λ zero. checks_truly given.limits files given.lp given.cert given.dec given.visits status tells before now (λ a b c. let answer = right a b c in (answer.0, answer.1.1, answer.2)) heard zero
     by (Show lp dec blocks classes limits) right = tt

@@ -6,10 +6,11 @@ use Rattle.std.specs.Str.Parse.{digits_value, without_leading_plus}
 use Rattle.clap.specs.Words.{Row, Text, first_of}
 use Rattle.bp_theory.specs.declared.Limits.{Limits}
 use Rattle.cli_orders.specs.CommandLine.{most_steps, most_leaf, most_visits, most_seed, most_size, most_workers, most_cuts}
-use Rattle.cli_orders.specs.Orders.{HasNumber, MayHaveNumber, HasCount, IsLeafPlaced, HasValues, IsOrderOf, AreRefused}
+use Rattle.cli_orders.specs.Orders.{HasNumber, MayHaveNumber, HasCount, ArePlaced, HasValues, IsOrderOf, AreRefused}
 use Rattle.cli_orders.specs.declared.order.Order.{Order}
 use Rattle.cli_orders.specs.declared.order.SolveOrder.{SolveOrder}
 use Rattle.cli_orders.specs.declared.order.CheckOrder.{CheckOrder}
+use Rattle.cli_orders.specs.declared.order.Watching.{Watching}
 use Rattle.cli_orders.specs.declared.order.MergeOrder.{MergeOrder}
 use Rattle.cli_orders.specs.declared.order.Order.TheVariants.{Solve, Check, Show, Gen, Demo, Detect, Propose, Merge, Migrate}
 
@@ -44,9 +45,19 @@ apart name s t a b same other =
     let both : true ≡ false = sym same ∙ ap (λ (u : Text). bytes_eq s u) (sym a ∙ b) ∙ other in
     absurd (cc)
 
+-- what watches a search, word by word
+abbrev watching_of : (time gap log stop : Option Text) → Watching
+watching_of time gap log stop = record { time = time; gap = gap; log = log; stop = stop }
+
+watchings_of : (a b c d e f g h : Option Text) → a ≡ b → c ≡ d → e ≡ f → g ≡ h → watching_of a c e g ≡ watching_of b d f h
+watchings_of a b c d e f g h p q r s = rw (p, q, r, s) refl
+
+watchings : (a b : Watching) → a.time ≡ b.time → a.gap ≡ b.gap → a.log ≡ b.log → a.stop ≡ b.stop → a ≡ b
+watchings a b p q r s = watchings_of a.time b.time a.gap b.gap a.log b.log a.stop b.stop p q r s
+
 -- the words of an order to solve, one by one
-abbrev solve_of : (lp : Text) (dec : Option Text) (steps : Option ℕ) (cert from : Option Text) (leaf workers order : Option ℕ) (cuts : ℕ) (limits : Limits) → Order
-solve_of lp dec steps cert from leaf workers order cuts limits = Solve (record {
+abbrev solve_of : (lp : Text) (dec : Option Text) (steps : Option ℕ) (cert from : Option Text) (leaf workers order : Option ℕ) (cuts : ℕ) (limits : Limits) (watching : Watching) → Order
+solve_of lp dec steps cert from leaf workers order cuts limits watching = Solve (record {
   lp = lp;
   dec = dec;
   steps = steps;
@@ -57,16 +68,18 @@ solve_of lp dec steps cert from leaf workers order cuts limits = Solve (record {
   order = order;
   cuts = cuts;
   limits = limits;
+  watching = watching;
 })
 
-solves_of : (a b : Text) (c d : Option Text) (m n : Option ℕ) (e f g h : Option Text) (i j k l x y : Option ℕ) (few many : ℕ) (under over : Limits) → a ≡ b → c ≡ d → m ≡ n → e ≡ f → g ≡ h
-    → i ≡ j → k ≡ l → x ≡ y → few ≡ many → under ≡ over → solve_of a c m e g i k x few under ≡ solve_of b d n f h j l y many over
-solves_of a b c d m n e f g h i j k l x y few many under over p q r s t u v w z same = rw (p, q, r, s, t, u, v, w, z, same) refl
+solves_of : (a b : Text) (c d : Option Text) (m n : Option ℕ) (e f g h : Option Text) (i j k l x y : Option ℕ) (few many : ℕ) (under over : Limits) (seen watched : Watching) → a ≡ b → c ≡ d → m ≡ n → e ≡ f → g ≡ h
+    → i ≡ j → k ≡ l → x ≡ y → few ≡ many → under ≡ over → seen ≡ watched
+    → solve_of a c m e g i k x few under seen ≡ solve_of b d n f h j l y many over watched
+solves_of a b c d m n e f g h i j k l x y few many under over seen watched p q r s t u v w z same eyes = rw (p, q, r, s, t, u, v, w, z, same, eyes) refl
 
 solves : (a b : SolveOrder) → a.lp ≡ b.lp → a.dec ≡ b.dec → a.steps ≡ b.steps → a.cert ≡ b.cert → a.from ≡ b.from → a.leaf ≡ b.leaf
-    → a.workers ≡ b.workers → a.order ≡ b.order → a.cuts ≡ b.cuts → a.limits ≡ b.limits → Solve a ≡ Solve b
-solves a b p q r s t u v w z same =
-    solves_of a.lp b.lp a.dec b.dec a.steps b.steps a.cert b.cert a.from b.from a.leaf b.leaf a.workers b.workers a.order b.order a.cuts b.cuts a.limits b.limits p q r s t u v w z same
+    → a.workers ≡ b.workers → a.order ≡ b.order → a.cuts ≡ b.cuts → a.limits ≡ b.limits → a.watching ≡ b.watching → Solve a ≡ Solve b
+solves a b p q r s t u v w z same eyes =
+    solves_of a.lp b.lp a.dec b.dec a.steps b.steps a.cert b.cert a.from b.from a.leaf b.leaf a.workers b.workers a.order b.order a.cuts b.cuts a.limits b.limits a.watching b.watching p q r s t u v w z same eyes
 
 -- those of an order to check
 abbrev check_of : (lp cert : Text) (dec : Option Text) (visits : Option ℕ) (limits : Limits) → Order
@@ -115,6 +128,10 @@ one_stated name rows (Solve a) (Solve b) x y =
     (may_be_one (first_of (codes "workers") rows) 1 most_workers a.workers b.workers x.7 y.7)
     (may_be_one (first_of (codes "order") rows) 0 most_seed a.order b.order x.8 y.8)
     (one_count (first_of (codes "cuts") rows) most_cuts a.cuts b.cuts x.10 y.10) (sym x.11 ∙ y.11)
+    (watchings a.watching b.watching (one_given (first_of (codes "time") rows) a.watching.time b.watching.time x.12.time y.12.time)
+    (one_given (first_of (codes "gap") rows) a.watching.gap b.watching.gap x.12.gap y.12.gap)
+    (one_given (first_of (codes "log") rows) a.watching.log b.watching.log x.12.log y.12.log)
+    (one_given (first_of (codes "stop") rows) a.watching.stop b.watching.stop x.12.stop y.12.stop))
 one_stated name rows (Solve a) (Check e) x y = apart name (codes "solve") (codes "check") x.0 y.0 refl refl
 one_stated name rows (Solve a) (Show e f g h s) x y = apart name (codes "solve") (codes "show") x.0 y.0 refl refl
 one_stated name rows (Solve a) (Gen e f g h) x y = apart name (codes "solve") (codes "gen") x.0 y.0 refl refl
@@ -221,8 +238,8 @@ one_order words o p x y =
     one_met _ (x.stated.name, x.stated.rows) (y.stated.name, y.stated.rows) x.stated.subcommand y.stated.subcommand in
     one_stated y.stated.name y.stated.rows o p (subst (λ (s : Text × List Row). HasValues s.0 s.1 o) same x.stated.values) y.stated.values
 
--- an order to solve has its leaf where it may be named
-solve_is_placed : (rows : List Row) (order : Order) → HasValues (codes "solve") rows order → IsLeafPlaced rows
+-- the words of an order to solve go together
+solve_is_placed : (rows : List Row) (order : Order) → HasValues (codes "solve") rows order → ArePlaced rows
 solve_is_placed rows (Solve a) has = has.9
 solve_is_placed rows (Check a) has = apart (codes "solve") (codes "solve") (codes "check") refl has.0 refl refl
 solve_is_placed rows (Show a b c d s) has = apart (codes "solve") (codes "solve") (codes "show") refl has.0 refl refl
@@ -244,7 +261,7 @@ not_both words order (inr astray) is =
 -- an order with its parts as other values that are the same
 pub as_solve : (order : Order) (given : SolveOrder) (a : Text) (b c d : Option Text) → order ≡ Solve given → a ≡ given.lp → b ≡ given.dec → c ≡ given.cert
     → d ≡ given.from → Solve (record given { lp = a; dec = b; cert = c; from = d }) ≡ order
-as_solve order given a b c d is p q r s = solves (record given { lp = a; dec = b; cert = c; from = d }) given p q refl r s refl refl refl refl refl ∙ sym is
+as_solve order given a b c d is p q r s = solves (record given { lp = a; dec = b; cert = c; from = d }) given p q refl r s refl refl refl refl refl refl ∙ sym is
 
 pub as_check : (order : Order) (given : CheckOrder) (a b : Text) (c : Option Text) → order ≡ Check given → a ≡ given.lp → b ≡ given.cert → c ≡ given.dec
     → Check (record given { lp = a; cert = b; dec = c }) ≡ order

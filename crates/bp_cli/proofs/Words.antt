@@ -8,7 +8,7 @@ use Rattle.cli_orders.specs.declared.order.Order.TheVariants.{Solve, Check, Show
 use Rattle.bp_report.specs.Refusals.{words_refusal}
 use Rattle.frontend.specs.Answers.{AnswersBy, IsOnly, CutsOff, FilesStand}
 use Rattle.bp_cli.specs.Promises.{Demonstrates}
-use Rattle.bp_cli.specs.Running.{Answers, refused, ordered, AnswersOrder, OfOrder, HasWritten}
+use Rattle.bp_cli.specs.Running.{Answers, refused, ordered, AnswersOrder, OfOrder, HasWritten, stopped_at}
 use Rattle.cmd_gen.specs.Generates.{untouched}
 use Rattle.cmd_decompose.specs.DetectFiles as detected
 use Rattle.cmd_decompose.specs.ProposeFiles as proposed
@@ -18,26 +18,26 @@ use Rattle.cmd_solve.proofs.Parts.{untouched_part}
 use Rattle.bp_cli.proofs.OneOrder.{one_order, not_both}
 
 -- an answer of the order
-pub order_answers : (words : List (List ℕ)) (order : Order) (files : Files) (kept : Option Outcome) (status : ℕ) (tells : Bool) (before now : List ℕ) → IsOrderOf words order
-    → AnswersBy (AnswersOrder order files kept) status tells before now → AnswersBy (Answers words files kept) status tells before now
-order_answers words order files kept status tells before now is answers = λ no_read no_write no_want.
+pub order_answers : (words : List (List ℕ)) (order : Order) (steps : Option ℕ) (files : Files) (kept : Option Outcome) (status : ℕ) (tells : Bool) (before now : List ℕ) → IsOrderOf words order
+    → AnswersBy (AnswersOrder (stopped_at order steps) files kept) status tells before now → AnswersBy (Answers words steps files kept) status tells before now
+order_answers words order steps files kept status tells before now is answers = λ no_read no_write no_want.
     let answer = answers no_read no_write no_want in
     (answer.0, ordered order is answer.1, answer.2)
 
 -- no other status is right
-pub order_only : (words : List (List ℕ)) (order : Order) (files : Files) (kept : Option Outcome) (status : ℕ) → IsOrderOf words order
-    → IsOnly (AnswersOrder order files kept) status → IsOnly (Answers words files kept) status
-order_only words order files kept status is only = λ no_read no_write no_want meant report right. by meant report (only no_read no_write no_want) right
+pub order_only : (words : List (List ℕ)) (order : Order) (steps : Option ℕ) (files : Files) (kept : Option Outcome) (status : ℕ) → IsOrderOf words order
+    → IsOnly (AnswersOrder (stopped_at order steps) files kept) status → IsOnly (Answers words steps files kept) status
+order_only words order steps files kept status is only = λ no_read no_write no_want meant report right. by meant report (only no_read no_write no_want) right
   where
-    by : (meant : ℕ) (report : List ℕ) → ((m : ℕ) (r : List ℕ) → AnswersOrder order files kept m r → status ≡ m) → Answers words files kept meant report → status ≡ meant
+    by : (meant : ℕ) (report : List ℕ) → ((m : ℕ) (r : List ℕ) → AnswersOrder (stopped_at order steps) files kept m r → status ≡ m) → Answers words steps files kept meant report → status ≡ meant
     by meant report each (refused fault none two printed) = absurd (not_both words order fault is)
     by meant report each (ordered other other_is right) =
-        each meant report (subst (λ (o : Order). AnswersOrder o files kept meant report) (one_order words other order other_is is) right)
+        each meant report (subst (λ (o : Order). AnswersOrder (stopped_at o steps) files kept meant report) (one_order words other order other_is is) right)
 
 -- a beginning of an answer
-pub order_cut : (words : List (List ℕ)) (order : Order) (files : Files) (status : ℕ) (lost : Option (Vec ℕ Global)) (tells : Bool) (before now : List ℕ) → IsOrderOf words order
-    → CutsOff (AnswersOrder order files) status lost tells before now → CutsOff (Answers words files) status lost tells before now
-order_cut words order files status lost tells before now is cuts = λ is_fault.
+pub order_cut : (words : List (List ℕ)) (order : Order) (steps : Option ℕ) (files : Files) (status : ℕ) (lost : Option (Vec ℕ Global)) (tells : Bool) (before now : List ℕ) → IsOrderOf words order
+    → CutsOff (AnswersOrder (stopped_at order steps) files) status lost tells before now → CutsOff (Answers words steps files) status lost tells before now
+order_cut words order steps files status lost tells before now is cuts = λ is_fault.
     let cut = cuts is_fault in
     (cut.0, cut.1, cut.2, cut.3, ordered order is cut.4, cut.5)
 
@@ -50,11 +50,11 @@ pub no_order : (words : List (List ℕ)) (Holds : Order → Type 0) → AreRefus
 no_order words Holds fault = λ other other_is. absurd (not_both words other fault other_is)
 
 -- words that are refused
-pub refused_only : (words : List (List ℕ)) (files : Files) (status : ℕ) → AreRefused words → (status ≢ 8 → status ≢ 9 → status ≡ 2)
-    → IsOnly (Answers words files None) status
-refused_only words files status fault two = λ no_read no_write no_want meant report right. by meant report right (two no_write no_want)
+pub refused_only : (words : List (List ℕ)) (steps : Option ℕ) (files : Files) (status : ℕ) → AreRefused words → (status ≢ 8 → status ≢ 9 → status ≡ 2)
+    → IsOnly (Answers words steps files None) status
+refused_only words steps files status fault two = λ no_read no_write no_want meant report right. by meant report right (two no_write no_want)
   where
-    by : (meant : ℕ) (report : List ℕ) → Answers words files None meant report → status ≡ 2 → status ≡ meant
+    by : (meant : ℕ) (report : List ℕ) → Answers words steps files None meant report → status ≡ 2 → status ≡ meant
     by meant report (refused _ none is printed) is_two = cc
     by meant report (ordered order is right) is_two = absurd (not_both words order fault is)
 
@@ -65,11 +65,11 @@ refused_two status (inr (inl fault)) no_write no_want = absurd (no_write fault)
 refused_two status (inr (inr want)) no_write no_want = absurd (no_want want)
 
 -- a beginning of a refusal of words, whose report is lost
-pub words_cut : (words : List (List ℕ)) (files : Files) (status : ℕ) (lost : Option (Vec ℕ Global)) (tells : Bool) (before now : List ℕ) → AreRefused words
+pub words_cut : (words : List (List ℕ)) (steps : Option ℕ) (files : Files) (status : ℕ) (lost : Option (Vec ℕ Global)) (tells : Bool) (before now : List ℕ) → AreRefused words
     → (status ≡ 8 → IsSomeAnd lost (λ report. report.items ≡ words_refusal)) → (IsTrue tells → status ≡ 8 → (count : ℕ) × (now ≡ before ++ take count words_refusal))
-    → CutsOff (Answers words files) status lost tells before now
-words_cut words files status None tells before now fault gone partly = λ is_fault. absurd (gone is_fault)
-words_cut words files status (Some report) tells before now fault gone partly = λ is_fault. (
+    → CutsOff (Answers words steps files) status lost tells before now
+words_cut words steps files status None tells before now fault gone partly = λ is_fault. absurd (gone is_fault)
+words_cut words steps files status (Some report) tells before now fault gone partly = λ is_fault. (
   None,
   2,
   report,

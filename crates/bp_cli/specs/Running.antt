@@ -3,11 +3,12 @@ use Rattle.std.specs.Prelude.{◌≡◌, ℕ, List, [], Option, None}
 use Rattle.bp_shelf.specs.Shelf.{Files}
 use Rattle.search_laws.specs.declared.Event.{Event}
 use Rattle.branch_tree.specs.declared.outcome.Outcome.{Outcome}
-use Rattle.cli_orders.specs.Orders.{IsOrderOf, AreRefused}
+use Rattle.cli_orders.specs.Orders.{IsOrderOf, AreRefused, is_watched}
 use Rattle.cli_orders.specs.declared.order.Order.{Order}
 use Rattle.cli_orders.specs.declared.order.Order.TheVariants.{Solve, Check, Show, Gen, Demo, Detect, Propose, Merge, Migrate}
 use Rattle.bp_report.specs.Refusals.{words_refusal}
 use Rattle.frontend.specs.Answers.{FilesStand}
+use Rattle.search_outcome.specs.Endings.{StopsAt}
 use Rattle.cmd_solve.specs.Solves.{AnswersSolve}
 use Rattle.cmd_solve.specs.Saves.{HasCertificate, LeavesCertificate, IsUntouched, LeavesPart}
 use Rattle.cmd_solve.specs.Crews.{HasEvents}
@@ -24,6 +25,30 @@ use Rattle.cmd_certificates.specs.MergeFiles.{MergeLeaves, MergeWrites}
 use Rattle.cmd_certificates.specs.Migrates.{AnswersMigrate}
 use Rattle.cmd_certificates.specs.MigrateFiles.{MigrateLeaves, MigrateWrites}
 
+-- an order with other steps, where it is one to solve
+abbrev pub stopped_at : Order → (steps : Option ℕ) → Order
+stopped_at (Solve given) steps = Solve (record given { steps = steps })
+stopped_at (Check given) steps = Check given
+stopped_at (Show lp dec blocks classes limits) steps = Show lp dec blocks classes limits
+stopped_at (Gen seed size lp dec) steps = Gen seed size lp dec
+stopped_at (Demo seed size) steps = Demo seed size
+stopped_at (Detect lp list dec limits) steps = Detect lp list dec limits
+stopped_at (Propose lp dec limits) steps = Propose lp dec limits
+stopped_at (Merge given) steps = Merge given
+stopped_at (Migrate lp cert new dec limits) steps = Migrate lp cert new dec limits
+
+-- the steps by which an order is answered: those of the order, and of one whose search is watched no more than those
+abbrev pub StopsOrder : Order → (steps : Option ℕ) → Type 0
+StopsOrder (Solve given) steps = StopsAt (is_watched given.watching) given.steps steps
+StopsOrder (Check given) steps = Unit {0}
+StopsOrder (Show lp dec blocks classes limits) steps = Unit {0}
+StopsOrder (Gen seed size lp dec) steps = Unit {0}
+StopsOrder (Demo seed size) steps = Unit {0}
+StopsOrder (Detect lp list dec limits) steps = Unit {0}
+StopsOrder (Propose lp dec limits) steps = Unit {0}
+StopsOrder (Merge given) steps = Unit {0}
+StopsOrder (Migrate lp cert new dec limits) steps = Unit {0}
+
 -- what an order is answered by the files, with what is kept
 abbrev pub AnswersOrder : Order → Files → Option Outcome → (status : ℕ) → (report : List ℕ) → Type 0
 AnswersOrder (Solve given) files kept status report = AnswersSolve given.limits files given.lp given.dec given.steps given.from given.leaf given.cuts kept status report
@@ -36,10 +61,11 @@ AnswersOrder (Propose lp dec limits) files kept status report = (kept ≡ None) 
 AnswersOrder (Merge given) files kept status report = (kept ≡ None) × AnswersMerge given.limits files given.lp given.first given.second given.dec status report
 AnswersOrder (Migrate lp cert new dec limits) files kept status report = (kept ≡ None) × AnswersMigrate limits files lp cert dec status report
 
--- what words are answered by the files, with what is kept: words that are no command line are refused
-pub data Answers (words : List (List ℕ)) (files : Files) (kept : Option Outcome) (status : ℕ) (report : List ℕ) : Type 0 where
-  refused : AreRefused words → kept ≡ None → status ≡ 2 → report ≡ words_refusal → Answers words files kept status report
-  ordered : (order : Order) → IsOrderOf words order → AnswersOrder order files kept status report → Answers words files kept status report
+-- what words are answered by the files, with what is kept, by the steps at which the search stopped: words that are no command line are
+-- refused
+pub data Answers (words : List (List ℕ)) (steps : Option ℕ) (files : Files) (kept : Option Outcome) (status : ℕ) (report : List ℕ) : Type 0 where
+  refused : AreRefused words → kept ≡ None → status ≡ 2 → report ≡ words_refusal → Answers words steps files kept status report
+  ordered : (order : Order) → IsOrderOf words order → AnswersOrder (stopped_at order steps) files kept status report → Answers words steps files kept status report
 
 -- What an order wrote, and what stands of the files: the file of `--cert` holds the certificate of what is kept, or for want of
 -- memory what it held or a beginning of the certificate of an outcome, and no other file changed; or both made texts stand, or what a fault left of them; or the text of the decomposition that was found or chosen, or

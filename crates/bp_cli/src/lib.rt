@@ -3,5 +3,7 @@
 
 mod top;
 
+pub use bp_search::{Progress, Unwatched, Watch};
 pub use frontend::Ended;
+pub use search_outcome::Ran;
 pub use top::run;

@@ -1,5 +1,5 @@
 -- What the outcomes claim.
-use Rattle.std.proofs.Common.{◌≡◌, refl, sym, subst, ap, ℕ, ◌<◌, ◌≤◌, List, [], ◌∷◌, ◌++◌, map, Option, Some, None, ℤ, length, get_or, arith, Bool, true, false}
+use Rattle.std.proofs.Common.{◌≡◌, refl, sym, subst, ap, ℕ, ◌<◌, ◌≤◌, List, [], ◌∷◌, ◌++◌, map, Option, Some, None, ℤ, get_or, arith, Bool, true, false}
 use Rattle.std.specs.Prelude.{option_to_list, ◌≤ℤ◌, int_lt, if◌then◌else◌}
 use Rattle.std.specs.Option.{unwrap_or}
 use Rattle.std.specs.Int.{int_min}

@@ -4,3 +4,4 @@ pub mod Beside
 pub mod Writable
 pub mod Extending
 pub mod Resuming
+pub mod Watched

@@ -1,7 +1,6 @@
 -- What a search that goes on from a tree leaves of it.
-use Rattle.std.proofs.Common.{◌≡◌, ◌∙◌, ◌⊎◌, sym, subst, ap, refl, ℕ, List, [], ◌∷◌, ◌++◌, Option, Some, None, ℤ, length, arith}
-use Rattle.std.specs.Prelude.{◌≤ℤ◌, option_map, option_to_list, IfSome, Contains, All}
-use Rattle.std.proofs.lemmas.Int.{ints}
+use Rattle.std.proofs.Common.{◌≡◌, ◌∙◌, sym, subst, ap, refl, ℕ, List, ◌++◌, Option, Some, None, ℤ, arith}
+use Rattle.std.specs.Prelude.{◌≤ℤ◌, option_map, option_to_list, IfSome, Contains}
 use Rattle.bp_theory.specs.Program.{Program, IsFeasible, cost}
 use Rattle.bp_theory.specs.Blocking.{Blocking}
 use Rattle.bp_theory.specs.declared.Span.{Span}
@@ -10,7 +9,7 @@ use Rattle.search_laws.specs.declared.Next.{Next}
 use Rattle.search_laws.specs.declared.Next.TheVariants.{Shut, Fork}
 use Rattle.search_laws.specs.declared.Verdict.{Verdict}
 use Rattle.bp_theory.specs.Trees.{steps}
-use Rattle.search_laws.specs.Grove.{GrowingTree, live_bounds, certificate_tree}
+use Rattle.search_laws.specs.Grove.{live_bounds, certificate_tree}
 use Rattle.search_laws.specs.GroveFacts.{IsNoDearer, IsRemainingBound, best_cost}
 use Rattle.search_laws.specs.Verdicts.{IsVerdict, IsNext, better, grown, cheaper_cost}
 use Rattle.search_laws.proofs.CrewProof.{verdicts_keep_lem}
@@ -24,7 +23,7 @@ use Rattle.branch_tree.proofs.Standing.{leaf_of_turn}
 use Rattle.bp_search.specs.declared.kept.Kept.{Kept}
 use Rattle.bp_search.specs.Searches.{kept_point, kept_cost, as_pair, HasItsCost}
 use Rattle.bp_search.specs.Ends.{EndsWithin, HasStopped, grove_in, point_of}
-use Rattle.bp_search.specs.Resumed.{Extends, KeepsAbove, GoesOn, cost_in, bound_in}
+use Rattle.bp_search.specs.Resumed.{Extends, GoesOn, cost_in, bound_in}
 use Rattle.bp_search.proofs.Extending.{IsNoLess, grown_extends, above_least, least_above}
 use Rattle.bp_search.proofs.Running.{given_is}
 use Rattle.bp_search.proofs.Final.{faithful}

@@ -1,5 +1,5 @@
 -- How a search may end.
-use Rattle.std.specs.Prelude.{◌≡◌, ℕ, ◌+◌, ◌<◌, ◌≤◌, ◌^◌, List, [], ◌++◌, Option, Some, None, option_map, option_to_list, IfSome, ℤ, ◌≤ℤ◌}
+use Rattle.std.specs.Prelude.{◌≡◌, ℕ, ◌+◌, ◌<◌, ◌≤◌, List, ◌++◌, Option, Some, None, option_map, option_to_list, IfSome, ℤ, ◌≤ℤ◌}
 use Rattle.bp_theory.specs.Limits.{untold_steps}
 use Rattle.bp_theory.specs.Program.{IsFeasible, IsBest, cost}
 use Rattle.bp_theory.specs.Trees.{steps}

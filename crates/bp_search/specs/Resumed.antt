@@ -1,5 +1,5 @@
 -- What a search that goes on from a tree leaves of it.
-use Rattle.std.specs.Prelude.{◌≡◌, ℕ, List, Option, Some, None, option_map, IfSome, ℤ, ◌≤ℤ◌}
+use Rattle.std.specs.Prelude.{◌≡◌, List, Option, Some, None, option_map, IfSome, ℤ, ◌≤ℤ◌}
 use Rattle.block_program.specs.Blocked.{BlockedProgram}
 use Rattle.search_laws.specs.Grove.{GrowingTree, live, shut, fork}
 use Rattle.search_laws.specs.GroveFacts.{IsNoDearer, IsRemainingBound}

@@ -51,8 +51,8 @@ fn stopped(grove: Grove, best: Option<Kept>) -> Outcome
     budget(grove, best, &bound)
 }
 
-// The least of the live leaves' bounds and the kept point's cost.
-fn remaining(grove: &Grove, best: &Option<Kept>) -> i64
+/// The least of the live leaves' bounds and the kept point's cost.
+pub(crate) fn remaining(grove: &Grove, best: &Option<Kept>) -> i64
     requires { 0 < live_count grove.now.tree }
     ensures { IsLeastOf (live_bounds grove.now.tree ++ option_to_list (kept_cost best.now)) result }
 {

@@ -27,8 +27,12 @@ pub fn grow(
     ensures standing { IsStanding grove.new }
     ensures same { OnErr result (grove.new ≡ grove.old) }
 {
+    // For the proof alone: the grove stands.
+    let _ = grove.count();
     match next {
         Next::Shut(proof) => {
+            // For the proof alone: the grove stands, and still does where memory is short.
+            let _ = grove.live();
             let proof = grove.shared(alloc, proof)?;
             grove.shut(b, turn, proof);
             Ok(())

@@ -9,6 +9,7 @@ mod ends;
 mod growth;
 mod kept;
 mod steps;
+mod watch;
 
 ghost use Rattle.std.specs.Prelude.{◌≤◌, ◌^◌, IfOk, IfSome};
 ghost use Rattle.branch_tree.specs.Loads.{IsLoaded};
@@ -25,6 +26,7 @@ pub use ends::conclude;
 pub use growth::grow;
 pub use kept::{Kept, cost_of, keep, kept_from};
 use std::alloc::{AllocError, Global};
+pub use watch::{Progress, Stopped, Unwatched, Watch, resume_watched, search_watched};
 
 /// The greatest number of steps, and that where none is given.
 pub const MAX_STEPS: u64 = 1 << 60;

@@ -25,6 +25,10 @@ static SUBCOMMANDS: [Subcommand; 9] = [
             Argument::NumberOption("order", 0, u64::MAX),
             Argument::NumberOption("cuts", 0, MOST_CUTS),
             Argument::Flag("large"),
+            Argument::FileOption("time"),
+            Argument::FileOption("gap"),
+            Argument::FileOption("log"),
+            Argument::FileOption("stop"),
         ],
     },
     Subcommand {

@@ -4,5 +4,5 @@
 mod command;
 mod read;
 
-pub use cli_orders::{CheckOrder, MergeOrder, Order, SolveOrder, Text, WordFault};
+pub use cli_orders::{CheckOrder, MergeOrder, Order, SolveOrder, Text, Watching, WordFault};
 pub use read::read_words;

@@ -8,15 +8,15 @@ use crate::command::make_command;
 use clap::ArgMatches;
 use clap::error::ErrorKind;
 use cli_orders::{
-    Order, Problem, SolveOrder, WordFault, check_order, demo_order, detect_order, ends_of,
-    gen_order, is_leaf_placed, limits_of, merge_order, migrate_order, problem_of, propose_order,
-    show_order, solve_numbers,
+    Order, Problem, SolveOrder, WordFault, are_placed, check_order, demo_order, detect_order,
+    ends_of, gen_order, limits_of, merge_order, migrate_order, problem_of, propose_order,
+    show_order, solve_numbers, watching_of,
 };
 use std::alloc::Global;
 
 /// The order that words give, the program's name first. They are refused exactly where the command finds a fault in
 /// them, as the crate that reads words states for such a command, or where they name a leaf without a certificate to go
-/// on from or beside a crew; and the files and numbers are those that it states.
+/// on from or beside a crew, or watch the search beside either or without an amount; and the files and numbers are those that it states.
 pub fn read_words(alloc: Global, words: &[String]) -> Result<Order, WordFault>
     ensures order { IfOk result (IsOrderOf (map string_bytes words.now)) }
     ensures range { IfOk result IsInRange }
@@ -79,11 +79,12 @@ fn solve_order(alloc: Global, solve: &ArgMatches) -> Result<Order, WordFault>
     ensures refused { result ≡ Err WordFault.Refused →
         (order : Order) → HasValues (codes "solve") (rows_of (found_of solve.now)) order → ⊥ }
 {
-    if !is_leaf_placed(solve) {
+    if !are_placed(solve) {
         return Err(WordFault::Refused);
     }
     let numbers = solve_numbers(solve)?;
     let ends = ends_of(alloc, solve)?;
+    let watching = watching_of(alloc, solve)?;
     let Problem { lp, dec } = problem_of(alloc, solve)?;
     Ok(Order::Solve(SolveOrder {
         lp,
@@ -96,5 +97,6 @@ fn solve_order(alloc: Global, solve: &ArgMatches) -> Result<Order, WordFault>
         order: numbers.order,
         cuts: numbers.cuts,
         limits: limits_of(solve),
+        watching,
     }))
 }

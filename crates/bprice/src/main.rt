@@ -4,8 +4,9 @@
 #![tactic(auto)]
 
 mod named;
+mod watching;
 
-use bp_cli::run;
+use bp_cli::{Unwatched, Watch, run};
 use bp_real::{
     FileShelf, Files, HostDisk, HostSurvey, Obstacle, OutSink, Watched, WatchedSink, find_obstacle,
 };
@@ -17,6 +18,7 @@ use std::io::{ErrorKind, Write};
 use std::process::ExitCode;
 use std::rt::Env;
 use std::{env, io};
+use watching::SearchWatch;
 
 // The status of a run that is not begun.
 const NOT_BEGUN: u8 = 125;
@@ -53,11 +55,11 @@ fn put_obstacle(rt: &HostRuntime, found: &Obstacle) {
     }
 }
 
-// Runs on these words, and gives the status that the run ended with.
-fn run_words(rt: &HostRuntime, words: &[String]) -> u8 {
+// Runs on these words, with this watch on the search, and gives the status that the run ended with.
+fn run_words<W: Watch>(rt: &HostRuntime, words: &[String], watch: &mut W) -> u8 {
     let mut shelf = Watched::new(rt.alloc(), FileShelf::new(rt));
     let mut out = WatchedSink::new(rt.alloc(), OutSink::new(rt));
-    let ended = run(rt.alloc(), words, &mut shelf, &mut out);
+    let ended = run(rt.alloc(), words, &mut shelf, &mut out, watch).ended;
     let (mut shelf, mut files) = shelf.into_parts();
     let (out, put) = out.into_parts();
     // Where a write failed, the report that was lost; else what was put.
@@ -108,18 +110,18 @@ fn start(rt: &HostRuntime, words: &[String]) -> u8 {
             if is_stopped(rt, &order) {
                 return NOT_BEGUN;
             }
+            run_words(rt, words, &mut SearchWatch::new(rt, &order))
         }
-        Err(WordFault::Refused) => {}
-        Err(WordFault::NoMemory) => return NO_MEMORY,
+        Err(WordFault::Refused) => run_words(rt, words, &mut Unwatched),
+        Err(WordFault::NoMemory) => NO_MEMORY,
     }
-    run_words(rt, words)
 }
 
 fn main(rt: HostRuntime) -> ExitCode {
     let status = match words_of(&rt) {
         Ok(words) => start(&rt, &words),
         // Words that are no text are no command line.
-        Err(fault) if fault.kind() == ErrorKind::InvalidData => run_words(&rt, &[]),
+        Err(fault) if fault.kind() == ErrorKind::InvalidData => run_words(&rt, &[], &mut Unwatched),
         Err(_) => NO_MEMORY,
     };
     ExitCode::from(status)

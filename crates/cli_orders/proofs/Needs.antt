@@ -3,7 +3,7 @@ use Rattle.std.proofs.Common.{◌≡◌, sym, subst, ℕ, Bool, true, false, Lis
 use Rattle.std.specs.Str.{bytes_eq}
 use Rattle.clap.specs.Words.{Row, Text, first_of}
 use Rattle.cli_orders.specs.CommandLine.{most_visits}
-use Rattle.cli_orders.specs.Orders.{HasValues, IsLeafPlaced, MayHaveNumber}
+use Rattle.cli_orders.specs.Orders.{HasValues, ArePlaced, MayHaveNumber}
 use Rattle.cli_orders.specs.Parts.{IsPair, AreSides, IsScale, AreSolveNumbers}
 use Rattle.cli_orders.specs.declared.order.Order.{Order}
 use Rattle.cli_orders.specs.declared.order.Order.TheVariants.{Solve, Check, Show, Gen, Demo, Detect, Propose, Merge, Migrate}
@@ -23,7 +23,7 @@ not_there given none there = let e = there.is in absurd (cc)
 pub record SolveNeeds (rows : List Row) : Type 0 where
   pub numbers : SolveNumbers
   pub are : AreSolveNumbers rows numbers
-  pub placed : IsLeafPlaced rows
+  pub placed : ArePlaced rows
   pub lp : IsThere (first_of (codes "lp") rows)
 
 pub record CheckNeeds (rows : List Row) : Type 0 where

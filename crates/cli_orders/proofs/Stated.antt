@@ -43,7 +43,7 @@ in_range met (Solve given) stated = (
   at_most given.steps (within (first_of (codes "steps") stated.rows) 0 most_steps given.steps stated.values.3),
   within (first_of (codes "workers") stated.rows) 1 most_workers given.workers stated.values.7,
   together (first_of (codes "leaf") stated.rows) (first_of (codes "from") stated.rows) (first_of (codes "workers") stated.rows)
-      (first_of (codes "order") stated.rows) given.leaf given.from given.workers given.order stated.values.6 stated.values.5 stated.values.7 stated.values.8 stated.values.9,
+      (first_of (codes "order") stated.rows) given.leaf given.from given.workers given.order stated.values.6 stated.values.5 stated.values.7 stated.values.8 stated.values.9.leaf,
   counted (first_of (codes "cuts") stated.rows) most_cuts given.cuts stated.values.10,
 ) where
   at_most : (n : Option ℕ) → IfSome n (λ k. (0 ≤ k) × (k ≤ most_steps)) → IfSome n (λ k. k ≤ most_steps)

@@ -1,4 +1,4 @@
--- Words that the command takes give an order, or misplace a leaf.
+-- Words that the command takes give an order, or misplace a word.
 use Rattle.std.proofs.Common.{◌≡◌, ◌⊎◌, inl, inr, refl, ⊎_elim, ℕ, ◌∷◌, Bool, true, false, List, [], Option, Some, None}
 use Rattle.std.specs.Prelude.{◌&&◌, ◌||◌, not, if◌then◌else◌, is_some, option_map, codes}
 use Rattle.std.specs.List.{AllByRecursion}
@@ -16,7 +16,7 @@ use Rattle.clap.proofs.ValueTestLemmas.{accepts-Accepts}
 use Rattle.cli_orders.specs.declared.order.Order.{Order}
 use Rattle.cli_orders.specs.declared.order.Order.TheVariants.{Solve, Check, Show, Gen, Demo, Detect, Propose, Merge, Migrate}
 use Rattle.cli_orders.specs.CommandLine.{command_line, solve_words, check_words, show_words, gen_words, demo_words, detect_words, propose_words, merge_words, migrate_words, most_steps, most_leaf, most_visits, most_seed, most_size, most_workers, most_cuts}
-use Rattle.cli_orders.specs.Orders.{IsNumber, MayHaveNumber, HasCount, is_set, limits_of, GoTogether, IsLeafPlaced, IsStated, MisplacesLeaf, AreRefused}
+use Rattle.cli_orders.specs.Orders.{IsNumber, MayHaveNumber, HasCount, is_set, limits_of, GoTogether, IsLeafPlaced, GoesAlone, IsAloneIn, ArePlaced, is_amount_or_none, IsStated, MisplacesWord, AreRefused}
 use Rattle.cli_orders.proofs.Presence.{Checks, both_parts, full_level, given_has, first_good}
 
 -- the command and its subcommands as they are built
@@ -83,7 +83,19 @@ solve_checks = (
                 record { wants = inl refl; plain = tt; passes = λ v e. e },
                 (
                   record { wants = inl refl; plain = tt; passes = λ v e. e },
-                  (record { wants = inr tt; plain = (refl, tt); passes = λ v e. refl }, tt),
+                  (
+                    record { wants = inr tt; plain = (refl, tt); passes = λ v e. refl },
+                    (
+                      record { wants = inl refl; plain = tt; passes = λ v e. refl },
+                      (
+                        record { wants = inl refl; plain = tt; passes = λ v e. refl },
+                        (
+                          record { wants = inl refl; plain = tt; passes = λ v e. refl },
+                          (record { wants = inl refl; plain = tt; passes = λ v e. refl }, tt),
+                        ),
+                      ),
+                    ),
+                  ),
                 ),
               ),
             ),
@@ -253,9 +265,55 @@ placed (Some leaf) (Some from) (Some workers) order = inr (λ h. let e = h.1 in 
 placed (Some leaf) (Some from) None (Some order) = inr (λ h. let e = h.2 in absurd (cc))
 placed (Some leaf) (Some from) None None = inl (refl, refl, refl)
 
--- a subcommand that was met states an order, or misplaces a leaf
+-- a word that watches a search is where it may be, or not
+alone : (watching leaf workers order : Option Text) → GoesAlone watching leaf workers order ⊎ (GoesAlone watching leaf workers order → ⊥)
+alone None leaf workers order = inl tt
+alone (Some text) (Some leaf) workers order = inr (λ h. let e = h.0 in absurd (cc))
+alone (Some text) None (Some workers) order = inr (λ h. let e = h.1 in absurd (cc))
+alone (Some text) None None (Some order) = inr (λ h. let e = h.2 in absurd (cc))
+alone (Some text) None None None = inl (refl, refl, refl)
+
+-- a test holds, or not
+holds : (t : Bool) → (t ≡ true) ⊎ (t ≡ true → ⊥)
+holds true = inl refl
+holds false = inr (λ e. absurd (cc))
+
+-- the words of `solve` go together, or not
+all_placed : (rows : List Row) → ArePlaced rows ⊎ (ArePlaced rows → ⊥)
+all_placed rows =
+    ⊎_elim
+    (λ (leaf : IsLeafPlaced rows).
+    ⊎_elim
+    (λ (time : IsAloneIn rows (codes "time")).
+    ⊎_elim
+    (λ (gap : IsAloneIn rows (codes "gap")).
+    ⊎_elim
+    (λ (log : IsAloneIn rows (codes "log")).
+    ⊎_elim
+    (λ (stop : IsAloneIn rows (codes "stop")).
+    ⊎_elim
+    (λ (seconds : is_amount_or_none (first_of (codes "time") rows) ≡ true).
+    ⊎_elim
+    (λ (percent : is_amount_or_none (first_of (codes "gap") rows) ≡ true).
+    ⊎_elim
+    (λ (every : is_amount_or_none (first_of (codes "log") rows) ≡ true).
+    inl (record { leaf = leaf; time = time; gap = gap; log = log; stop = stop; seconds = seconds; percent = percent; every = every }))
+    (λ no. inr (λ (h : ArePlaced rows). no h.every)) (holds (is_amount_or_none (first_of (codes "log") rows))))
+    (λ no. inr (λ (h : ArePlaced rows). no h.percent)) (holds (is_amount_or_none (first_of (codes "gap") rows))))
+    (λ no. inr (λ (h : ArePlaced rows). no h.seconds)) (holds (is_amount_or_none (first_of (codes "time") rows))))
+    (λ no. inr (λ (h : ArePlaced rows). no h.stop)) (alone_in (codes "stop")))
+    (λ no. inr (λ (h : ArePlaced rows). no h.log)) (alone_in (codes "log")))
+    (λ no. inr (λ (h : ArePlaced rows). no h.gap)) (alone_in (codes "gap")))
+    (λ no. inr (λ (h : ArePlaced rows). no h.time)) (alone_in (codes "time")))
+    (λ no. inr (λ (h : ArePlaced rows). no h.leaf))
+    (placed (first_of (codes "leaf") rows) (first_of (codes "from") rows) (first_of (codes "workers") rows) (first_of (codes "order") rows))
+  where
+    alone_in : (name : Text) → IsAloneIn rows name ⊎ (IsAloneIn rows name → ⊥)
+    alone_in name = alone (first_of name rows) (first_of (codes "leaf") rows) (first_of (codes "workers") rows) (first_of (codes "order") rows)
+
+-- a subcommand that was met states an order, or misplaces a word
 abbrev pub Gives : Option (Text × List Row) → Type 0
-Gives met = ((order : Order) × IsStated met order) ⊎ MisplacesLeaf met
+Gives met = ((order : Order) × IsStated met order) ⊎ MisplacesWord met
 
 -- what each subcommand states
 solve_states : (words : List Text) → level_fault solve_level [] nothing_held words false [] ≡ [] → Gives (Some (rows_at solve_level words))
@@ -269,7 +327,7 @@ solve_states words e =
     let order = number_stated 0 most_seed (first_of (codes "order") rows) (λ text is. first_good good (codes "order") rows text level.0 is) in
     let cuts = count_stated most_cuts (first_of (codes "cuts") rows) (λ text is. first_good good (codes "cuts") rows text level.0 is) in
     ⊎_elim
-    (λ (well : IsLeafPlaced rows). inl (
+    (λ (well : ArePlaced rows). inl (
       Solve (record {
         lp = lp.0;
         dec = first_of (codes "dec") rows;
@@ -281,16 +339,22 @@ solve_states words e =
         order = order.0;
         cuts = cuts.0;
         limits = limits_of (first_of (codes "large") rows);
+        watching = record {
+          time = first_of (codes "time") rows;
+          gap = first_of (codes "gap") rows;
+          log = first_of (codes "log") rows;
+          stop = first_of (codes "stop") rows;
+        };
       }),
       record {
         name = codes "solve";
         rows = rows;
         subcommand = refl;
-        values = (refl, lp.1, refl, steps.1, refl, refl, leaf.1, workers.1, order.1, well, cuts.1, refl);
+        values = (refl, lp.1, refl, steps.1, refl, refl, leaf.1, workers.1, order.1, well, cuts.1, refl, record { time = refl; gap = refl; log = refl; stop = refl });
       },
     ))
     (λ astray. inr (rows, refl, astray))
-    (placed (first_of (codes "leaf") rows) (first_of (codes "from") rows) (first_of (codes "workers") rows) (first_of (codes "order") rows))
+    (all_placed rows)
 
 check_states : (words : List Text) → level_fault check_level [] nothing_held words false [] ≡ []
     → (order : Order) × IsStated (Some (rows_at check_level words)) order
@@ -465,7 +529,7 @@ met_level t u v w x y z m n = if t then Some solve_level
     else (if x then Some demo_level else (if y then Some detect_level else (if z then Some propose_level
     else (if m then Some merge_level else (if n then Some migrate_level else None))))))))
 
--- the subcommand that was met states an order, or misplaces a leaf
+-- the subcommand that was met states an order, or misplaces a word
 met_states : (stop : Option (Text × List Text)) → entered_fault line stop ≡ [] → is_some (entered line stop) ≡ true → Gives (entered line stop)
 met_states None e has = absurd (cc)
 met_states (Some p) e has =
@@ -488,7 +552,7 @@ met_states (Some p) e has =
     pick false false false false false false false false true e has = inl (migrate_states p.1 e)
     pick false false false false false false false false false e has = absurd (cc)
 
--- words without fault give an order, or misplace a leaf
+-- words without fault give an order, or misplace a word
 taken_gives : (words : List Text) → fault_of command_line words ≡ [] → Gives (subcommand_of command_line words)
 taken_gives words e =
     let given : List Text = argument_words command_line words in

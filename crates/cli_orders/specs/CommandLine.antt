@@ -80,6 +80,20 @@ order_option = record (new_rule (codes "order")) { long = Some (codes "order"); 
 abbrev pub cuts_option : Rule
 cuts_option = record (new_rule (codes "cuts")) { long = Some (codes "cuts"); parser = Some (Unsigned 0 most_cuts) }
 
+-- for how long a search may go on and up to which gap, how often a line of its table comes, and the file that ends it, behind
+-- `--time`, `--gap`, `--log` and `--stop`
+abbrev pub time_option : Rule
+time_option = record (new_rule (codes "time")) { long = Some (codes "time") }
+
+abbrev pub gap_option : Rule
+gap_option = record (new_rule (codes "gap")) { long = Some (codes "gap") }
+
+abbrev pub log_option : Rule
+log_option = record (new_rule (codes "log")) { long = Some (codes "log") }
+
+abbrev pub stop_option : Rule
+stop_option = record (new_rule (codes "stop")) { long = Some (codes "stop") }
+
 -- the seed and the size, by their places
 abbrev pub seed_word : Rule
 seed_word = record (new_rule (codes "seed")) { required = true; parser = Some (Unsigned 0 most_seed) }
@@ -109,10 +123,12 @@ second_word = record (new_rule (codes "second")) { required = true }
 abbrev pub new_word : Rule
 new_word = record (new_rule (codes "new")) { required = true }
 
--- `solve LP [--dec FILE] [--steps N] [--cert FILE] [--from CERT] [--leaf K] [--workers W] [--order SEED] [--cuts C] [--large]`
+-- `solve LP [--dec FILE] [--steps N] [--cert FILE] [--from CERT] [--leaf K] [--workers W] [--order SEED] [--cuts C] [--large]
+--   [--time SECONDS] [--gap PERCENT] [--log SECONDS] [--stop FILE]`
 abbrev pub solve_words : Shape
 solve_words = record (new_shape (codes "solve")) {
-  rules = lp_word ∷ dec_option ∷ steps_option ∷ cert_option ∷ from_option ∷ leaf_option ∷ workers_option ∷ order_option ∷ cuts_option ∷ large_flag ∷ [];
+  rules = lp_word ∷ dec_option ∷ steps_option ∷ cert_option ∷ from_option ∷ leaf_option ∷ workers_option ∷ order_option ∷ cuts_option ∷ large_flag
+      ∷ time_option ∷ gap_option ∷ log_option ∷ stop_option ∷ [];
 }
 
 -- `check LP CERT [--dec FILE] [--visits M] [--large]`

@@ -1,5 +1,5 @@
 -- What a command line orders.
-use Rattle.std.specs.Prelude.{◌≡◌, ◌≢◌, ◌⊎◌, ℕ, ◌≤◌, Bool, true, false, List, [], Option, Some, None, IfSome, IsSome, codes}
+use Rattle.std.specs.Prelude.{◌≡◌, ◌≢◌, ◌⊎◌, ℕ, ◌≤◌, ◌&&◌, not, nat_le, nat_eq, Bool, true, false, List, [], ◌∷◌, length, if◌then◌else◌, Option, Some, None, IfSome, IsSome, is_some, ◌||◌, codes}
 use Rattle.std.specs.Option.{option_map_or}
 use Rattle.std.specs.Str.{bytes_eq}
 use Rattle.std.specs.Str.Parse.{IsNumeral, digits_value, without_leading_plus}
@@ -8,6 +8,7 @@ use Rattle.bp_theory.specs.declared.Limits.{Limits}
 use Rattle.bp_theory.specs.declared.Limits.TheVariants.{Usual, Large}
 use Rattle.cli_orders.specs.CommandLine.{command_line, most_steps, most_leaf, most_visits, most_seed, most_size, most_workers, most_cuts}
 use Rattle.cli_orders.specs.declared.order.Order.{Order}
+use Rattle.cli_orders.specs.declared.order.Watching.{Watching}
 use Rattle.cli_orders.specs.declared.order.Order.TheVariants.{Solve, Check, Show, Gen, Demo, Detect, Propose, Merge, Migrate}
 
 -- a text means a number from `low` to `high`: it is decimal digits, before which a plus may stand
@@ -54,6 +55,53 @@ abbrev pub IsLeafPlaced : List Row → Type 0
 IsLeafPlaced rows =
     GoTogether (first_of (codes "leaf") rows) (first_of (codes "from") rows) (first_of (codes "workers") rows) (first_of (codes "order") rows)
 
+-- whether a text goes on as an amount does: decimal digits, and one point at most with digits on both sides, by whether a point and
+-- a digit behind the last one were met
+abbrev pub is_amount_from : (pointed digit : Bool) → Text → Bool
+is_amount_from pointed digit [] = digit
+is_amount_from pointed digit (c ∷ cs) = if nat_le 48 c && nat_le c 57 then is_amount_from pointed true cs
+    else (if nat_eq c 46 && (digit && not pointed) then is_amount_from true false cs else false)
+
+-- an amount is decimal, of 18 bytes at most
+abbrev pub is_amount : Text → Bool
+is_amount text = nat_le (length text) 18 && is_amount_from false false text
+
+-- a value is an amount where it is there
+abbrev pub is_amount_or_none : Option Text → Bool
+is_amount_or_none given = option_map_or is_amount given true
+
+-- a word that watches a search stands beside none of a leaf, workers and their order
+abbrev pub GoesAlone : (watching leaf workers order : Option Text) → Type 0
+GoesAlone None leaf workers order = Unit {0}
+GoesAlone (Some text) leaf workers order = (leaf ≡ None) × (workers ≡ None) × (order ≡ None)
+
+-- the same of a word by its name
+abbrev pub IsAloneIn : List Row → (name : Text) → Type 0
+IsAloneIn rows name = GoesAlone (first_of name rows) (first_of (codes "leaf") rows) (first_of (codes "workers") rows) (first_of (codes "order") rows)
+
+-- whether anything watches a search
+abbrev pub is_watched : Watching → Bool
+is_watched w = is_some w.time || (is_some w.gap || (is_some w.log || is_some w.stop))
+
+-- the words of `solve` go together: a leaf is where it may be named, the words that watch a search stand where they may, and their
+-- numbers are amounts
+pub record ArePlaced (rows : List Row) : Type 0 where
+  pub leaf : IsLeafPlaced rows
+  pub time : IsAloneIn rows (codes "time")
+  pub gap : IsAloneIn rows (codes "gap")
+  pub log : IsAloneIn rows (codes "log")
+  pub stop : IsAloneIn rows (codes "stop")
+  pub seconds : is_amount_or_none (first_of (codes "time") rows) ≡ true
+  pub percent : is_amount_or_none (first_of (codes "gap") rows) ≡ true
+  pub every : is_amount_or_none (first_of (codes "log") rows) ≡ true
+
+-- what watches a search, by its words
+pub record IsWatching (rows : List Row) (watching : Watching) : Type 0 where
+  pub time : first_of (codes "time") rows ≡ watching.time
+  pub gap : first_of (codes "gap") rows ≡ watching.gap
+  pub log : first_of (codes "log") rows ≡ watching.log
+  pub stop : first_of (codes "stop") rows ≡ watching.stop
+
 -- an order has the values that stand in the rows of the subcommand
 abbrev pub HasValues : Text → List Row → Order → Type 0
 HasValues name rows (Solve given) =
@@ -61,8 +109,9 @@ HasValues name rows (Solve given) =
     × MayHaveNumber (first_of (codes "steps") rows) 0 most_steps given.steps × (first_of (codes "cert") rows ≡ given.cert)
     × (first_of (codes "from") rows ≡ given.from) × MayHaveNumber (first_of (codes "leaf") rows) 1 most_leaf given.leaf
     × MayHaveNumber (first_of (codes "workers") rows) 1 most_workers given.workers
-    × MayHaveNumber (first_of (codes "order") rows) 0 most_seed given.order × IsLeafPlaced rows
+    × MayHaveNumber (first_of (codes "order") rows) 0 most_seed given.order × ArePlaced rows
     × HasCount (first_of (codes "cuts") rows) most_cuts given.cuts × (limits_of (first_of (codes "large") rows) ≡ given.limits)
+    × IsWatching rows given.watching
 HasValues name rows (Check given) =
     (name ≡ codes "check") × (first_of (codes "lp") rows ≡ Some given.lp) × (first_of (codes "cert") rows ≡ Some given.cert)
     × (first_of (codes "dec") rows ≡ given.dec) × MayHaveNumber (first_of (codes "visits") rows) 0 most_visits given.visits
@@ -119,10 +168,11 @@ pub record IsOrderOf (words : List Text) (order : Order) : Type 0 where
   pub taken : fault_of command_line words ≡ []
   pub stated : IsStated (subcommand_of command_line words) order
 
--- the subcommand that was met is `solve`, and a leaf is named without a certificate to go on from, or beside a crew
-abbrev pub MisplacesLeaf : Option (Text × List Row) → Type 0
-MisplacesLeaf met = (rows : List Row) × (met ≡ Some (codes "solve", rows)) × (IsLeafPlaced rows → ⊥)
+-- the subcommand that was met is `solve`, and its words do not go together: a leaf without a certificate to go on from or beside a
+-- crew, or a word that watches the search beside one of those, or without an amount
+abbrev pub MisplacesWord : Option (Text × List Row) → Type 0
+MisplacesWord met = (rows : List Row) × (met ≡ Some (codes "solve", rows)) × (ArePlaced rows → ⊥)
 
--- words are no command line: the command finds a fault in them, or they misplace a leaf
+-- words are no command line: the command finds a fault in them, or they misplace a word
 abbrev pub AreRefused : List Text → Type 0
-AreRefused words = (fault_of command_line words ≢ []) ⊎ MisplacesLeaf (subcommand_of command_line words)
+AreRefused words = (fault_of command_line words ≢ []) ⊎ MisplacesWord (subcommand_of command_line words)

@@ -6,6 +6,7 @@ mod command;
 mod order;
 mod orders;
 mod parts;
+mod placed;
 mod text;
 mod values;
 
@@ -13,11 +14,12 @@ pub use command::{
     Argument, MOST_CUTS, MOST_LEAF, MOST_SIZE, MOST_STEPS, MOST_VISITS, MOST_WORKERS, Subcommand,
     joined_command,
 };
-pub use order::{CheckOrder, MergeOrder, Order, SolveOrder, WordFault};
+pub use order::{CheckOrder, MergeOrder, Order, SolveOrder, Watching, WordFault};
 pub use orders::{
     check_order, demo_order, detect_order, gen_order, merge_order, migrate_order, propose_order,
     show_order,
 };
 pub use parts::{Ends, Pair, Problem, Scale, Sides, SolveNumbers};
+pub use placed::are_placed;
 pub use text::Text;
-pub use values::{ends_of, is_leaf_placed, limits_of, problem_of, solve_numbers};
+pub use values::{ends_of, limits_of, problem_of, solve_numbers, watching_of};

@@ -1,11 +1,34 @@
 // What a command line orders, and why words are no command line.
 ghost use Rattle.std.specs.Prelude.{◌≡◌};
 ghost use Rattle.cli_orders.specs.declared.order.WordFault.TheVariants.{NoMemory};
+ghost use Rattle.cli_orders.specs.Orders.{is_watched};
 
 use crate::text::Text;
 use bp_theory::Limits;
 use std::alloc::AllocError;
 use thiserror::Error;
+
+/// What watches a search and may end it, each as it is written.
+#[derive(Drop)]
+pub struct Watching {
+    /// For how many seconds the search may go on at most, where it is said.
+    pub time: Option<Text>,
+    /// Up to which gap in percent it goes on, where it is said.
+    pub gap: Option<Text>,
+    /// After how many seconds a line of its table comes, where one is wanted.
+    pub log: Option<Text>,
+    /// The file that ends the search once it is there, where one is named.
+    pub stop: Option<Text>,
+}
+
+impl Watching {
+    /// Whether anything watches the search.
+    pub fn is_any(&self) -> bool
+        ensures { result ≡ is_watched self.now }
+    {
+        self.time.is_some() || self.gap.is_some() || self.log.is_some() || self.stop.is_some()
+    }
+}
 
 /// The files and the numbers of an order to solve.
 #[derive(Drop)]
@@ -30,6 +53,8 @@ pub struct SolveOrder {
     pub cuts: u32,
     /// The limits that the model keeps.
     pub limits: Limits,
+    /// What watches the search.
+    pub watching: Watching,
 }
 
 /// The files and the number of an order to check.
@@ -69,7 +94,8 @@ pub struct MergeOrder {
 pub enum Order {
     /// Solve the LP file by a decomposition, from the start or from where a certificate stopped, by a crew where workers or
     /// their order are given, with rounding cuts where a number of them is given, and write a certificate where a file is
-    /// named for it. A leaf goes with a certificate to go on from, and without a crew.
+    /// named for it. A leaf goes with a certificate to go on from, and without a crew; what watches the search goes with neither a
+    /// leaf nor a crew.
     Solve(SolveOrder),
     /// Check a certificate of the LP file.
     Check(CheckOrder),

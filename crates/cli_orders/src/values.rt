@@ -1,7 +1,7 @@
 // What the arguments of a subcommand say: files, numbers and flags.
-ghost use Rattle.std.specs.Prelude.{◌≡◌, ◌↔◌, ◌<◌, ◌^◌, ℕ, Err, None, Some, Option, option_map, codes, IfOk, IfSome, IfNone, IsTrue};
+ghost use Rattle.std.specs.Prelude.{◌≡◌, ◌<◌, ◌^◌, ℕ, Err, None, Some, Option, option_map, codes, IfOk, IfSome, IfNone};
 ghost use Rattle.clap.specs.Words.{found_of, rows_of, first_of};
-ghost use Rattle.cli_orders.specs.Orders.{IsNumber, HasNumber, MayHaveNumber, HasCount, is_set, limits_of, IsLeafPlaced};
+ghost use Rattle.cli_orders.specs.Orders.{IsNumber, HasNumber, MayHaveNumber, HasCount, is_set, limits_of, IsWatching};
 ghost use Rattle.cli_orders.specs.Parts.{IsProblem, IsPair, AreSides, AreEnds, IsScale, AreSolveNumbers};
 ghost use Rattle.cli_orders.specs.declared.parts.Pair.{Pair};
 ghost use Rattle.cli_orders.specs.declared.parts.Sides.{Sides};
@@ -9,7 +9,7 @@ ghost use Rattle.cli_orders.specs.declared.parts.Scale.{Scale};
 ghost use Rattle.cli_orders.specs.declared.parts.SolveNumbers.{SolveNumbers};
 
 use crate::command::{MOST_CUTS, MOST_LEAF, MOST_SIZE, MOST_STEPS, MOST_WORKERS};
-use crate::order::WordFault;
+use crate::order::{Watching, WordFault};
 use crate::parts::{Ends, Pair, Problem, Scale, Sides, SolveNumbers};
 use crate::text::Text;
 use bp_theory::Limits;
@@ -45,18 +45,20 @@ pub fn ends_of(alloc: Global, solve: &ArgMatches) -> Result<Ends, AllocError>
     Ok(Ends { cert, from })
 }
 
-/// Whether a leaf is named only beside a certificate to go on from, and not beside a crew.
-pub fn is_leaf_placed(solve: &ArgMatches) -> bool
-    ensures { IsTrue result ↔ IsLeafPlaced (rows_of (found_of solve.now)) }
+/// What watches the search of an order to solve.
+pub fn watching_of(alloc: Global, solve: &ArgMatches) -> Result<Watching, AllocError>
+    ensures { IfOk result (IsWatching (rows_of (found_of solve.now))) }
 {
-    match value_of(solve, "leaf") {
-        None => true,
-        Some(_) => {
-            value_of(solve, "from").is_some()
-                && value_of(solve, "workers").is_none()
-                && value_of(solve, "order").is_none()
-        }
-    }
+    let time = optional(alloc, solve, "time")?;
+    let gap = optional(alloc, solve, "gap")?;
+    let log = optional(alloc, solve, "log")?;
+    let stop = optional(alloc, solve, "stop")?;
+    Ok(Watching {
+        time,
+        gap,
+        log,
+        stop,
+    })
 }
 
 /// The files of a problem: the LP file, and the decomposition's where it is named.
@@ -225,7 +227,7 @@ fn optional(alloc: Global, matches: &ArgMatches, id: &str) -> Result<Option<Text
 }
 
 // The value of an argument, where it is given.
-fn value_of<'a>(matches: &ArgMatches<'a>, id: &str) -> Option<&'a str>
+pub fn value_of<'a>(matches: &ArgMatches<'a>, id: &str) -> Option<&'a str>
     ensures { option_map (λ s. s.now) result ≡ first_of id.now (rows_of (found_of matches.now)) }
 {
     matches.get_str(id)

@@ -3,3 +3,4 @@ pub mod Told
 pub mod Starting
 pub mod CrewEvents
 pub mod Parts
+pub mod Stopping

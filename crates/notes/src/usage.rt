@@ -35,6 +35,10 @@ const COMMANDS: [Command; 9] = [
             "--order",
             "--cuts",
             "--large",
+            "--time",
+            "--gap",
+            "--log",
+            "--stop",
         ],
         does: "a best point, and a certificate of it",
     },
@@ -99,7 +103,7 @@ struct Choice {
     means: &'static str,
 }
 
-const OPTIONS: [Choice; 12] = [
+const OPTIONS: [Choice; 16] = [
     Choice {
         name: "--dec",
         value: "DEC",
@@ -160,7 +164,41 @@ const OPTIONS: [Choice; 12] = [
         value: "",
         means: "       read models of up to 524288 variables, not 4096",
     },
+    Choice {
+        name: "--time",
+        value: "S",
+        means: "       stop after S seconds, and keep a bound",
+    },
+    Choice {
+        name: "--gap",
+        value: "P",
+        means: "        stop once value and bound are no more than P percent apart",
+    },
+    Choice {
+        name: "--log",
+        value: "S",
+        means: "        tell on standard error how it goes, every S seconds",
+    },
+    Choice {
+        name: "--stop",
+        value: "FILE",
+        means: "    stop once this file is there",
+    },
 ];
+
+// How many of the options the whole usage tells; that of a command tells all of its own.
+const IN_USAGE: usize = 12;
+
+// The words that stand for amounts, with what they are.
+const AMOUNTS: [(&str, &str); 2] = [("S", "seconds"), ("P", "percent")];
+
+// How many bytes an amount has at most.
+const LONGEST_AMOUNT: usize = 18;
+
+// The options that watch a search, and those beside which they may not stand.
+const WATCHING: [&str; 4] = ["--time", "--gap", "--log", "--stop"];
+
+const UNWATCHED: [&str; 3] = ["--leaf", "--workers", "--order"];
 
 // The words that stand for numbers, with the least and the greatest number that each may be.
 const NUMBERS: [(&str, u64, u64); 7] = [
@@ -282,7 +320,7 @@ pub fn put_usage(note: &mut Note) {
     for command in COMMANDS.as_slice() {
         put_short(note, command);
     }
-    for choice in OPTIONS.as_slice() {
+    for choice in OPTIONS.iter().take(IN_USAGE) {
         put_choice(note, choice);
     }
     note.put(STATUSES);
@@ -370,7 +408,7 @@ fn put_command_note(note: &mut Note, command: &Command, words: &[String]) {
     put_line(note, command);
 }
 
-// The first word that is wrong and why; or else a leaf that is misplaced, or the word that is missing.
+// The first word that is wrong and why; or else one that is misplaced, or the word that is missing.
 fn put_fault(note: &mut Note, command: &Command, words: &[String]) {
     let mut reach = Reach {
         ended: false,
@@ -382,10 +420,31 @@ fn put_fault(note: &mut Note, command: &Command, words: &[String]) {
             return;
         }
     }
-    match misplaced_leaf(words) {
+    match misplaced(words) {
         Some(why) => note.put(why),
         None => put_missing(note, command, &reach),
     }
+}
+
+// What is wrong with words that do not go together.
+fn misplaced(words: &[String]) -> Option<&'static str> {
+    match misplaced_leaf(words) {
+        Some(why) => Some(why),
+        None if has_any(words, &WATCHING) && has_any(words, &UNWATCHED) => {
+            Some("--time, --gap, --log and --stop go without --leaf, --workers and --order")
+        }
+        None => None,
+    }
+}
+
+// Whether one of these options stands among words.
+fn has_any(words: &[String], options: &[&str]) -> bool {
+    for option in options {
+        if has_option(words, option) {
+            return true;
+        }
+    }
+    false
 }
 
 // What is wrong with a leaf that is named, where it has no certificate or a crew beside it.
@@ -554,6 +613,9 @@ fn put_wrong_place(note: &mut Note, command: &Command, place: &str, word: &str) 
 
 // Puts the numbers that a name stands for where a word is none of them: whether it is not.
 fn put_wrong_number(note: &mut Note, name: &str, word: &str) -> bool {
+    if put_wrong_amount(note, name, word) {
+        return true;
+    }
     for (number, least, greatest) in NUMBERS.as_slice() {
         if *number == name && !is_between(word, *least, *greatest) {
             note.put(name);
@@ -567,6 +629,37 @@ fn put_wrong_number(note: &mut Note, name: &str, word: &str) -> bool {
         }
     }
     false
+}
+
+// Puts what an amount that a name stands for is where a word is none: whether it is not.
+fn put_wrong_amount(note: &mut Note, name: &str, word: &str) -> bool {
+    for (amount, unit) in AMOUNTS.as_slice() {
+        if *amount == name && !is_amount(word) {
+            note.put(name);
+            note.put(" is a number of ");
+            note.put(unit);
+            note.put(" as 60 or 0.5, and not ");
+            note.put_quoted(word.as_bytes());
+            return true;
+        }
+    }
+    false
+}
+
+// Whether a word is an amount: decimal digits, with one point at most, which has digits on both sides.
+fn is_amount(word: &str) -> bool {
+    let (whole, part) = word.split_once(".").unwrap_or((word, "0"));
+    word.len() <= LONGEST_AMOUNT && is_digits(whole) && is_digits(part)
+}
+
+// Whether a text is decimal digits, one at least.
+fn is_digits(text: &str) -> bool {
+    for byte in text.as_bytes() {
+        if !byte.is_ascii_digit() {
+            return false;
+        }
+    }
+    !text.is_empty()
 }
 
 // Whether a word is a number between two.

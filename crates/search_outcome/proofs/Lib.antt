@@ -1,3 +1,4 @@
 pub mod Outcomes
 pub mod Parts
 pub mod Below
+pub mod Watched

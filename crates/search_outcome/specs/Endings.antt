@@ -1,5 +1,5 @@
 -- How a search ends, from where it begins.
-use Rattle.std.specs.Prelude.{◌≡◌, ℕ, ◌+◌, List, Option, Some, None}
+use Rattle.std.specs.Prelude.{◌≡◌, ℕ, ◌+◌, ◌≤◌, Bool, true, false, List, Option, Some, None}
 use Rattle.bp_theory.specs.Trees.{steps}
 use Rattle.block_program.specs.Blocked.{BlockedProgram}
 use Rattle.search_laws.specs.declared.Side.{Side}
@@ -25,3 +25,8 @@ EndsAt b (Some from) below given outcome told = EndsOn b from.grove.tree below g
 abbrev pub GoesOnAt : BlockedProgram → Option Loaded → Outcome → Type 0
 GoesOnAt b None outcome = Unit {0}
 GoesOnAt b (Some from) outcome = GoesOn b from.grove from.best outcome
+
+-- for how many steps a search was one: the given ones, and of a search that was watched no more than those
+abbrev pub StopsAt : (watched : Bool) → (given steps : Option ℕ) → Type 0
+StopsAt false given steps = steps ≡ given
+StopsAt true given steps = given_steps steps ≤ given_steps given

@@ -1,13 +1,14 @@
 // A search without a crew.
-ghost use Rattle.std.specs.Prelude.{◌≡◌, ◌≤◌, ◌^◌, IfOk, IfSome};
+ghost use Rattle.std.specs.Prelude.{◌≡◌, ◌≤◌, ◌^◌, IfOk, IfSome, Some, None};
 ghost use Rattle.branch_tree.specs.Loads.{IsLoaded};
 ghost use Rattle.cert_text.specs.Outcomes.{IsWritable};
+ghost use Rattle.bp_search.specs.Ends.{given_steps};
 ghost use Rattle.bp_search.specs.Below.{steps_in};
 ghost use Rattle.bp_search.specs.Resumed.{GoesOn};
 ghost use Rattle.search_outcome.specs.Endings.{EndsAt, EndsOn, GoesOnAt};
 
 use block_program::Blocked;
-use bp_search::{resume, resume_below, search};
+use bp_search::{Stopped, Watch, resume, resume_below, resume_watched, search, search_watched};
 use bp_theory::Items;
 use branch_tree::{Loaded, Outcome};
 use search_laws::Side;
@@ -62,6 +63,28 @@ fn search_on(
             let taken = steps_in(&outcome) - before;
             Ok((outcome, Some(taken)))
         }
+    }
+}
+
+/// A search from a tree, or from the start, without a crew, that a watch may end. It ends as one for as many steps as it took, which
+/// are no more than the given ones.
+pub fn watch_alone<W: Watch>(
+    alloc: Global,
+    b: &Blocked,
+    from: Option<Loaded>,
+    steps: Option<u64>,
+    watch: &mut W,
+) -> Result<Stopped, AllocError>
+    requires loaded { IfSome from (IsLoaded b.now) }
+    requires few { IfSome steps (λ n. n ≤ 2 ^ 60) }
+    ensures ends { IfOk result (λ s. EndsAt b.now from None (Some s.taken) s.outcome (Some s.taken)) }
+    ensures few { IfOk result (λ s. s.taken ≤ given_steps steps) }
+    ensures goes_on { IfOk result (λ s. GoesOnAt b.now from s.outcome) }
+    ensures writable { IfOk result (λ s. IsWritable b.now s.outcome) }
+{
+    match from {
+        None => search_watched(alloc, b, steps, watch),
+        Some(from) => resume_watched(alloc, b, from, steps, watch),
     }
 }
 

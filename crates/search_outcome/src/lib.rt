@@ -3,7 +3,9 @@
 #![tactic(auto)]
 
 mod alone;
+mod ran;
 mod told;
 
-pub use alone::search_alone;
+pub use alone::{search_alone, watch_alone};
+pub use ran::Ran;
 pub use told::{status_of, tell};

@@ -1,14 +1,14 @@
 // Command lines, and the order that each gives.
 use crate::tables::{Table, check, told};
 use bp_theory::Limits;
-use bp_words::{Order, SolveOrder, Text, WordFault, read_words};
+use bp_words::{Order, SolveOrder, Text, Watching, WordFault, read_words};
 use std::alloc::{AllocError, Global};
 use std::fmt;
 use std::fmt::Write;
 use std::test::Fail;
 
 /// Lines of an order and of the words that give it, with ` @ ` between them. A dash stands for what isn't given, and
-/// `''` for a word without letters; behind an order whose model keeps the large limits there is a plus. Other lines are headings.
+/// `''` for a word without letters; behind an order whose model keeps the large limits there is a plus, and last what watches the search. Other lines are headings.
 const LINES: &str = "\
 # Files, joined to their options and apart.
 solve a.lp - - - - - - - 0 @ solve a.lp
@@ -107,6 +107,35 @@ refused @ gen 18446744073709551616 1 a.lp a.dec
 refused @ gen 1 1 a.lp
 refused @ demo 1 ''
 refused @ demo -1 1
+# What watches a search.
+solve a.lp - - - - - - - 0 time 60 @ solve a.lp --time 60
+solve a.lp d 9 c - - - - 0 time 0.5 gap 1.25 log 5 stop f @ solve --dec d --steps 9 --time 0.5 --gap=1.25 a.lp --cert c --log 5 --stop f
+solve a.lp - - - f - - - 3+ gap 0 @ solve a.lp --gap 0 --from f --cuts 3 --large
+solve a.lp - - - - - - - 0 log 000000000000000.01 @ solve a.lp --log 000000000000000.01
+solve a.lp - - - - - - - 0 stop a.lp @ solve a.lp --stop a.lp
+refused @ solve a.lp --time
+refused @ solve a.lp --time 1 --time 1
+refused @ solve a.lp --time ''
+refused @ solve a.lp --time=-1
+refused @ solve a.lp --time +1
+refused @ solve a.lp --time 1s
+refused @ solve a.lp --time .5
+refused @ solve a.lp --time 5.
+refused @ solve a.lp --time 1.2.3
+refused @ solve a.lp --time 1e3
+refused @ solve a.lp --time nan
+refused @ solve a.lp --time 0000000000000000.01
+refused @ solve a.lp --gap 1%
+refused @ solve a.lp --gap inf
+refused @ solve a.lp --log
+refused @ solve a.lp --log a
+refused @ solve a.lp --stop
+refused @ solve a.lp --time 1 --workers 1
+refused @ solve a.lp --gap 1 --order 0
+refused @ solve a.lp --log 1 --from f --leaf 1
+refused @ solve a.lp --stop f --workers 2 --order 1
+refused @ check a.lp c --time 1
+refused @ demo 1 1 --time 1
 # Words that are no command line.
 refused @ prove a.lp
 refused @ solve
@@ -222,9 +251,29 @@ fn solve(alloc: Global, given: &SolveOrder) -> Result<String, AllocError> {
     let order = number(given.order);
     let cuts = given.cuts;
     let plus = sign(&given.limits);
+    let watching = watching(alloc, &given.watching)?;
     format!(in alloc;
-        "solve {lp} {dec} {steps} {cert} {from} {leaf} {workers} {order} {cuts}{plus}"
+        "solve {lp} {dec} {steps} {cert} {from} {leaf} {workers} {order} {cuts}{plus}{watching}"
     )
+}
+
+// What watches a search in short: each word that is given, with its value.
+fn watching(alloc: Global, given: &Watching) -> Result<String, AllocError> {
+    let mut text = String::new(alloc);
+    put_watching(&mut text, " time ", &given.time)?;
+    put_watching(&mut text, " gap ", &given.gap)?;
+    put_watching(&mut text, " log ", &given.log)?;
+    put_watching(&mut text, " stop ", &given.stop)?;
+    Ok(text)
+}
+
+// A word that watches a search, where it is given, with its value.
+fn put_watching(text: &mut String, word: &str, value: &Option<Text>) -> Result<(), AllocError> {
+    if let Some(value) = value {
+        text.push_str(word)?;
+        text.push_str(value.as_str())?;
+    }
+    Ok(())
 }
 
 // A plus for the large limits.
@@ -335,7 +384,7 @@ pub fn add_wrong(alloc: Global, all: &mut String, line: &str) -> Result<bool, Al
 
 #[test]
 fn each_line_gives_its_order_or_is_refused(rt: HostRuntime) -> Result<(), Fail> {
-    check(&rt, told(rt.alloc(), Table::Lines, LINES), "141 lines")
+    check(&rt, told(rt.alloc(), Table::Lines, LINES), "169 lines")
 }
 
 #[test]

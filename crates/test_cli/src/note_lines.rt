@@ -51,7 +51,11 @@ check m.lp c --decs d @ 2 refused words @ - @ - @ bprice: '--decs' is no option 
 check m.lp c --visits x @ 2 refused words @ - @ - @ bprice: M is a whole number from 0 to 18446744073709551615, and not 'x'|usage: bprice check LP CERT [--dec DEC] [--visits M] [--large]|
 show m.lp --blocks=1 @ 2 refused words @ - @ - @ bprice: --blocks takes no value|usage: bprice show LP [--dec DEC] [--blocks] [--classes] [--large]|
 solve --steps=1.5 m.lp @ 2 refused words @ - @ - @ bprice: N is a whole number from 0 to 1152921504606846976, and not '1.5'|*
-solve m.lp --cuts 257 @ 2 refused words @ - @ - @ bprice: C is a whole number from 0 to 256, and not '257'|usage: bprice solve LP [--dec DEC] [--steps N] [--cert CERT] [--from FILE] [--leaf K] [--workers W] [--order SEED] [--cuts C] [--large]|
+solve m.lp --cuts 257 @ 2 refused words @ - @ - @ bprice: C is a whole number from 0 to 256, and not '257'|usage: bprice solve LP [--dec DEC] [--steps N] [--cert CERT] [--from FILE] [--leaf K] [--workers W] [--order SEED] [--cuts C] [--large] [--time S] [--gap P] [--log S] [--stop FILE]|
+solve m.lp --time 1s @ 2 refused words @ - @ - @ bprice: S is a number of seconds as 60 or 0.5, and not '1s'|*
+solve m.lp --gap=1.2.3 @ 2 refused words @ - @ - @ bprice: P is a number of percent as 60 or 0.5, and not '1.2.3'|*
+solve m.lp --log --gap @ 2 refused words @ - @ - @ bprice: --log wants a value behind it: S|*
+solve m.lp --stop f --workers 2 @ 2 refused words @ - @ - @ bprice: --time, --gap, --log and --stop go without --leaf, --workers and --order|*
 solve m.lp --workers 65 @ 2 refused words @ - @ - @ bprice: W is a whole number from 1 to 64, and not '65'|*
 solve m.lp @ 7 @ - @ - @ bprice: m.lp: it could not be read; it has to be a plain file (no folder, no pipe) that may be read|
 solve m.lp @ 11 @ - @ - @ bprice: m.lp: there is no such file|
@@ -271,5 +275,5 @@ pub fn add_wrong(alloc: Global, all: &mut String, line: &str) -> Result<bool, Al
 
 #[test]
 fn notes_are_as_written(rt: HostRuntime) -> Result<(), Fail> {
-    check(&rt, told(rt.alloc(), Table::Notes, CASES), "96 lines")
+    check(&rt, told(rt.alloc(), Table::Notes, CASES), "100 lines")
 }

@@ -1,5 +1,5 @@
 // Files in memory and an output, over which commands are run.
-use bp_cli::run;
+use bp_cli::{Unwatched, run};
 use bp_shelf::{MemShelf, MemSink};
 use frontend::read_front;
 use search_laws::Event;
@@ -107,7 +107,14 @@ impl Stage {
     /// Runs the program with these words, its own name first.
     pub fn run(&mut self, words: &[String]) -> Result<Answer, AllocError> {
         let mut sink = MemSink::make(self.alloc, self.room, &self.failing)?;
-        let ended = run(self.alloc, words, &mut self.shelf, &mut sink);
+        let ended = run(
+            self.alloc,
+            words,
+            &mut self.shelf,
+            &mut sink,
+            &mut Unwatched,
+        )
+        .ended;
         Ok(Answer {
             report: sink.bytes().to_vec(self.alloc)?,
             status: ended.status,

@@ -13,6 +13,7 @@ use Rattle.cmd_solve.specs.Crews.{ordered_crew, EventsBy}
 use Rattle.cmd_solve.proofs.Saving.{lift_saved}
 use Rattle.cmd_solve.proofs.CrewEvents.{lift_events, none_of, printed_none}
 use Rattle.cmd_solve.proofs.Parts.{lift_part, untouched_part}
+use Rattle.cmd_solve.proofs.Stopping.{stops_there}
 use Rattle.cmd_solve.proofs.solve.Goals as goal
 
 pub returns-in-Ok-clause-answered : goal.returns-in-Ok-clause-answered
@@ -20,10 +21,10 @@ returns-in-Ok-clause-answered g c = λ told.
     let files = g.F.Shelf.file c.args.shelf.now in
     let from : Option (List ℕ) = option_map (λ name. name.now) c.args.request.from in
     let still : IsTrue (g.F.Shelf.tells c.load.new.shelf) = subst (λ (t : Bool). IsTrue t) (sym c.in-Ok.ensures.told) told in
-    lift_answers c.args.sources.limits files c.args.sources.lp.now (option_map (λ name. name.now) c.args.sources.dec) (c.solve_blocks.result.kept ≡ None)
-    (SolvesBy files from c.args.request.leaf c.args.request.steps c.args.request.cuts c.solve_blocks.result.kept) c.in-Ok.b c.solve_blocks.result.status (g.O.Sink.tells c.args.out.now) (g.O.Sink.taken c.args.out.now) (g.O.Sink.taken c.solve_blocks.new.out)
+    lift_answers c.args.sources.limits files c.args.sources.lp.now (option_map (λ name. name.now) c.args.sources.dec) (c.solve_blocks.result.ended.kept ≡ None)
+    (SolvesBy files from c.args.request.leaf c.solve_blocks.result.steps c.args.request.cuts c.solve_blocks.result.ended.kept) c.in-Ok.b c.solve_blocks.result.ended.status (g.O.Sink.tells c.args.out.now) (g.O.Sink.taken c.args.out.now) (g.O.Sink.taken c.solve_blocks.new.out)
     (c.in-Ok.ensures.blocked told)
-    (subst (λ (fs : Files). AnswersBy (SolvesBy fs from c.args.request.leaf c.args.request.steps c.args.request.cuts c.solve_blocks.result.kept c.in-Ok.b) c.solve_blocks.result.status (g.O.Sink.tells c.args.out.now) (g.O.Sink.taken c.args.out.now) (g.O.Sink.taken c.solve_blocks.new.out))
+    (subst (λ (fs : Files). AnswersBy (SolvesBy fs from c.args.request.leaf c.solve_blocks.result.steps c.args.request.cuts c.solve_blocks.result.ended.kept c.in-Ok.b) c.solve_blocks.result.ended.status (g.O.Sink.tells c.args.out.now) (g.O.Sink.taken c.args.out.now) (g.O.Sink.taken c.solve_blocks.new.out))
     c.in-Ok.ensures.files (c.solve_blocks.ensures.answered still))
 
 pub returns-in-Ok-clause-exact : goal.returns-in-Ok-clause-exact
@@ -31,9 +32,9 @@ returns-in-Ok-clause-exact g c = λ told.
     let files = g.F.Shelf.file c.args.shelf.now in
     let from : Option (List ℕ) = option_map (λ name. name.now) c.args.request.from in
     let still : IsTrue (g.F.Shelf.tells c.load.new.shelf) = subst (λ (t : Bool). IsTrue t) (sym c.in-Ok.ensures.told) told in
-    lift_only c.args.sources.limits files c.args.sources.lp.now (option_map (λ name. name.now) c.args.sources.dec) (c.solve_blocks.result.kept ≡ None)
-    (SolvesBy files from c.args.request.leaf c.args.request.steps c.args.request.cuts c.solve_blocks.result.kept) c.in-Ok.b c.solve_blocks.result.status (c.in-Ok.ensures.blocked told)
-    (subst (λ (fs : Files). IsOnly (SolvesBy fs from c.args.request.leaf c.args.request.steps c.args.request.cuts c.solve_blocks.result.kept c.in-Ok.b) c.solve_blocks.result.status) c.in-Ok.ensures.files (c.solve_blocks.ensures.exact still))
+    lift_only c.args.sources.limits files c.args.sources.lp.now (option_map (λ name. name.now) c.args.sources.dec) (c.solve_blocks.result.ended.kept ≡ None)
+    (SolvesBy files from c.args.request.leaf c.solve_blocks.result.steps c.args.request.cuts c.solve_blocks.result.ended.kept) c.in-Ok.b c.solve_blocks.result.ended.status (c.in-Ok.ensures.blocked told)
+    (subst (λ (fs : Files). IsOnly (SolvesBy fs from c.args.request.leaf c.solve_blocks.result.steps c.args.request.cuts c.solve_blocks.result.ended.kept c.in-Ok.b) c.solve_blocks.result.ended.status) c.in-Ok.ensures.files (c.solve_blocks.ensures.exact still))
 
 pub returns-in-Ok-clause-cut_off : goal.returns-in-Ok-clause-cut_off
 returns-in-Ok-clause-cut_off g c = λ told.
@@ -41,9 +42,9 @@ returns-in-Ok-clause-cut_off g c = λ told.
     let from : Option (List ℕ) = option_map (λ name. name.now) c.args.request.from in
     let still : IsTrue (g.F.Shelf.tells c.load.new.shelf) = subst (λ (t : Bool). IsTrue t) (sym c.in-Ok.ensures.told) told in
     lift_cut c.args.sources.limits files c.args.sources.lp.now (option_map (λ name. name.now) c.args.sources.dec) (λ kept. kept ≡ None)
-    (λ kept. SolvesBy files from c.args.request.leaf c.args.request.steps c.args.request.cuts kept) c.in-Ok.b c.solve_blocks.result.status c.solve_blocks.result.lost (g.O.Sink.tells c.args.out.now) (g.O.Sink.taken c.args.out.now)
+    (λ kept. SolvesBy files from c.args.request.leaf c.solve_blocks.result.steps c.args.request.cuts kept) c.in-Ok.b c.solve_blocks.result.ended.status c.solve_blocks.result.ended.lost (g.O.Sink.tells c.args.out.now) (g.O.Sink.taken c.args.out.now)
     (g.O.Sink.taken c.solve_blocks.new.out) (c.in-Ok.ensures.blocked told)
-    (subst (λ (fs : Files). CutsOff (λ (kept : Option Outcome). SolvesBy fs from c.args.request.leaf c.args.request.steps c.args.request.cuts kept c.in-Ok.b) c.solve_blocks.result.status c.solve_blocks.result.lost
+    (subst (λ (fs : Files). CutsOff (λ (kept : Option Outcome). SolvesBy fs from c.args.request.leaf c.solve_blocks.result.steps c.args.request.cuts kept c.in-Ok.b) c.solve_blocks.result.ended.status c.solve_blocks.result.ended.lost
     (g.O.Sink.tells c.args.out.now) (g.O.Sink.taken c.args.out.now) (g.O.Sink.taken c.solve_blocks.new.out))
     c.in-Ok.ensures.files (c.solve_blocks.ensures.cut_off still))
 
@@ -85,7 +86,7 @@ returns-in-Ok-clause-failed g c = λ is_fault.
     (g.O.Sink.faults c.args.out.now) (g.O.Sink.faults c.solve_blocks.new.out) (g.O.Sink.puts c.args.out.now) (g.O.Sink.puts c.solve_blocks.new.out)
     (g.O.Sink.taken c.args.out.now) (g.O.Sink.taken c.solve_blocks.new.out) c.in-Ok.ensures.writes
     (λ stands told. searched c.in-Ok.b (c.in-Ok.ensures.blocked told)
-    (subst (λ (fs : Files). LeavesBy fs from c.args.request.leaf c.args.request.steps c.args.request.cuts cert (g.F.Shelf.file c.solve_blocks.new.shelf) c.in-Ok.b) c.in-Ok.ensures.files
+    (subst (λ (fs : Files). LeavesBy fs from c.args.request.leaf c.solve_blocks.result.steps c.args.request.cuts cert (g.F.Shelf.file c.solve_blocks.new.shelf) c.in-Ok.b) c.in-Ok.ensures.files
     (stands (c.in-Ok.ensures.told ∙ told))))
     (c.solve_blocks.ensures.failed is_fault)
 
@@ -104,9 +105,9 @@ returns-in-Ok-clause-events g c = λ told.
     let files = g.F.Shelf.file c.args.shelf.now in
     let from : Option (List ℕ) = option_map (λ name. name.now) c.args.request.from in
     let still : IsTrue (g.F.Shelf.tells c.load.new.shelf) = subst (λ (t : Bool). IsTrue t) (sym c.in-Ok.ensures.told) told in
-    lift_events c.args.sources.limits files c.args.sources.lp.now (option_map (λ name. name.now) c.args.sources.dec) c.args.request.steps from c.args.request.workers c.args.request.order c.args.request.cuts c.in-Ok.b c.solve_blocks.result.kept
-    c.solve_blocks.result.events.items (c.in-Ok.ensures.blocked told)
-    (subst (λ (fs : Files). EventsBy fs from c.args.request.steps (ordered_crew c.args.request.workers c.args.request.order) c.args.request.cuts c.in-Ok.b c.solve_blocks.result.kept c.solve_blocks.result.events.items)
+    lift_events c.args.sources.limits files c.args.sources.lp.now (option_map (λ name. name.now) c.args.sources.dec) c.solve_blocks.result.steps from c.args.request.workers c.args.request.order c.args.request.cuts c.in-Ok.b c.solve_blocks.result.ended.kept
+    c.solve_blocks.result.ended.events.items (c.in-Ok.ensures.blocked told)
+    (subst (λ (fs : Files). EventsBy fs from c.solve_blocks.result.steps (ordered_crew c.args.request.workers c.args.request.order) c.args.request.cuts c.in-Ok.b c.solve_blocks.result.ended.kept c.solve_blocks.result.ended.events.items)
     c.in-Ok.ensures.files (c.solve_blocks.ensures.events still))
 
 pub returns-in-Err-Refused-clause-events : goal.returns-in-Err-Refused-clause-events
@@ -125,9 +126,9 @@ returns-in-Ok-clause-saved g c = λ told.
     let files = g.F.Shelf.file c.args.shelf.now in
     let from : Option (List ℕ) = option_map (λ name. name.now) c.args.request.from in
     let cert : Option (List ℕ) = option_map (λ name. name.now) c.args.request.cert in
-    lift_saved c.args.sources.limits files c.args.sources.lp.now (option_map (λ name. name.now) c.args.sources.dec) cert from c.args.request.cuts (g.F.Shelf.file c.solve_blocks.new.shelf) c.in-Ok.b c.solve_blocks.result.kept
+    lift_saved c.args.sources.limits files c.args.sources.lp.now (option_map (λ name. name.now) c.args.sources.dec) cert from c.args.request.cuts (g.F.Shelf.file c.solve_blocks.new.shelf) c.in-Ok.b c.solve_blocks.result.ended.kept
     (c.in-Ok.ensures.blocked told)
-    (subst (λ (fs : Files). SavesBy fs from c.args.request.cuts c.in-Ok.b cert (g.F.Shelf.file c.solve_blocks.new.shelf) c.solve_blocks.result.kept) c.in-Ok.ensures.files (c.solve_blocks.ensures.saved still))
+    (subst (λ (fs : Files). SavesBy fs from c.args.request.cuts c.in-Ok.b cert (g.F.Shelf.file c.solve_blocks.new.shelf) c.solve_blocks.result.ended.kept) c.in-Ok.ensures.files (c.solve_blocks.ensures.saved still))
 
 pub returns-in-Ok-clause-part : goal.returns-in-Ok-clause-part
 returns-in-Ok-clause-part g c = λ told want.
@@ -135,9 +136,9 @@ returns-in-Ok-clause-part g c = λ told want.
     let from : Option (List ℕ) = option_map (λ name. name.now) c.args.request.from in
     let cert : Option (List ℕ) = option_map (λ name. name.now) c.args.request.cert in
     let still : IsTrue (g.F.Shelf.tells c.load.new.shelf) = subst (λ (t : Bool). IsTrue t) (sym c.in-Ok.ensures.told) told in
-    lift_part c.args.sources.limits files c.args.sources.lp.now (option_map (λ name. name.now) c.args.sources.dec) c.args.request.steps cert from c.args.request.leaf c.args.request.cuts (g.F.Shelf.file c.solve_blocks.new.shelf) c.in-Ok.b
+    lift_part c.args.sources.limits files c.args.sources.lp.now (option_map (λ name. name.now) c.args.sources.dec) c.solve_blocks.result.steps cert from c.args.request.leaf c.args.request.cuts (g.F.Shelf.file c.solve_blocks.new.shelf) c.in-Ok.b
     (c.in-Ok.ensures.blocked told)
-    (subst (λ (fs : Files). AsBeforeOr (HoldsPartBy fs from c.args.request.leaf c.args.request.steps c.args.request.cuts c.in-Ok.b) cert fs (g.F.Shelf.file c.solve_blocks.new.shelf))
+    (subst (λ (fs : Files). AsBeforeOr (HoldsPartBy fs from c.args.request.leaf c.solve_blocks.result.steps c.args.request.cuts c.in-Ok.b) cert fs (g.F.Shelf.file c.solve_blocks.new.shelf))
     c.in-Ok.ensures.files (c.solve_blocks.ensures.part still want))
 
 pub returns-in-Err-Stopped-clause-part : goal.returns-in-Err-Stopped-clause-part
@@ -149,3 +150,11 @@ pub returns-in-Err-Refused-clause-part : goal.returns-in-Err-Refused-clause-part
 returns-in-Err-Refused-clause-part g c = λ told want.
     untouched_part c.args.sources.limits (g.F.Shelf.file c.args.shelf.now) c.args.sources.lp.now (option_map (λ name. name.now) c.args.sources.dec) c.args.request.steps (option_map (λ name. name.now) c.args.request.cert)
     (option_map (λ name. name.now) c.args.request.from) c.args.request.leaf c.args.request.cuts (g.F.Shelf.file c.load.new.shelf) c.in-Err-Refused.ensures.files
+
+-- ---- the steps
+
+pub returns-in-Err-Refused-clause-stops : goal.returns-in-Err-Refused-clause-stops
+returns-in-Err-Refused-clause-stops g c = stops_there c.args.request.watched c.args.request.steps
+
+pub returns-in-Err-Stopped-clause-stops : goal.returns-in-Err-Stopped-clause-stops
+returns-in-Err-Stopped-clause-stops g c = stops_there c.args.request.watched c.args.request.steps

@@ -11,6 +11,7 @@ use Rattle.cmd_solve.proofs.CrewEvents.{started_events, none_by, printed_none, r
 use Rattle.cmd_solve.proofs.Saving.{saved_by, none_saved}
 use Rattle.search_outcome.proofs.Parts.{nothing_left}
 use Rattle.cmd_solve.proofs.Parts.{started_part}
+use Rattle.cmd_solve.proofs.Stopping.{stops_there}
 use Rattle.cmd_solve.proofs.solve_blocks.Goals as goal
 
 -- ---- from a loaded tree
@@ -30,7 +31,7 @@ returns-in-Ok-Ready-clause-answered g c = λ told.
     let files = g.F.Shelf.file c.args.shelf.now in
     let from : Option (List ℕ) = option_map (λ name. name.now) c.args.request.from in
     let start = c.in-Ok-Ready.ensures.start told in
-    started_answers files from c.args.request.leaf c.args.request.steps c.args.request.cuts c.answer.result.kept c.args.b c.in-Ok-Ready.c c.in-Ok-Ready.from c.in-Ok-Ready.below c.answer.result.status (g.O.Sink.tells c.args.out.now) (g.O.Sink.taken c.args.out.now)
+    started_answers files from c.args.request.leaf c.answer.result.steps c.args.request.cuts c.answer.result.ended.kept c.args.b c.in-Ok-Ready.c c.in-Ok-Ready.from c.in-Ok-Ready.below c.answer.result.ended.status (g.O.Sink.tells c.args.out.now) (g.O.Sink.taken c.args.out.now)
     (g.O.Sink.taken c.answer.new.out) (comes_from files from c.args.request.leaf c.args.request.cuts c.args.b c.in-Ok-Ready.c c.in-Ok-Ready.from c.in-Ok-Ready.below (rw c.in-Ok-Ready.field-0-is at start)) c.answer.ensures.answered
 
 pub returns-in-Ok-Ready-clause-exact : goal.returns-in-Ok-Ready-clause-exact
@@ -38,7 +39,7 @@ returns-in-Ok-Ready-clause-exact g c = λ told.
     let files = g.F.Shelf.file c.args.shelf.now in
     let from : Option (List ℕ) = option_map (λ name. name.now) c.args.request.from in
     let start = c.in-Ok-Ready.ensures.start told in
-    started_only files from c.args.request.leaf c.args.request.steps c.args.request.cuts c.answer.result.kept c.args.b c.in-Ok-Ready.c c.in-Ok-Ready.from c.in-Ok-Ready.below c.answer.result.status
+    started_only files from c.args.request.leaf c.answer.result.steps c.args.request.cuts c.answer.result.ended.kept c.args.b c.in-Ok-Ready.c c.in-Ok-Ready.from c.in-Ok-Ready.below c.answer.result.ended.status
     (g.O.Sink.tells c.args.out.now) (g.O.Sink.taken c.args.out.now) (g.O.Sink.taken c.answer.new.out) c.blocks-2.ensures.formed
     (comes_from files from c.args.request.leaf c.args.request.cuts c.args.b c.in-Ok-Ready.c c.in-Ok-Ready.from c.in-Ok-Ready.below (rw c.in-Ok-Ready.field-0-is at start)) c.answer.ensures.answered
 
@@ -50,7 +51,7 @@ returns-in-Ok-Ready-clause-failed g c = λ is_fault.
     (g.O.Sink.faults c.args.out.now) (g.O.Sink.faults c.answer.new.out) (g.O.Sink.puts c.args.out.now) (g.O.Sink.puts c.answer.new.out)
     (g.O.Sink.taken c.args.out.now) (g.O.Sink.taken c.answer.new.out) c.in-Ok-Ready.ensures.writes
     (λ stands told. let start = c.in-Ok-Ready.ensures.start told in
-    started_leaves files from c.args.request.leaf c.args.request.steps c.args.request.cuts (option_map (λ name. name.now) c.args.request.cert) (g.F.Shelf.file c.answer.new.shelf) c.args.b c.in-Ok-Ready.c c.in-Ok-Ready.from c.in-Ok-Ready.below
+    started_leaves files from c.args.request.leaf c.answer.result.steps c.args.request.cuts (option_map (λ name. name.now) c.args.request.cert) (g.F.Shelf.file c.answer.new.shelf) c.args.b c.in-Ok-Ready.c c.in-Ok-Ready.from c.in-Ok-Ready.below
     (comes_from files from c.args.request.leaf c.args.request.cuts c.args.b c.in-Ok-Ready.c c.in-Ok-Ready.from c.in-Ok-Ready.below (rw c.in-Ok-Ready.field-0-is at start)) (stands (c.in-Ok-Ready.ensures.told ∙ told)))
     (c.answer.ensures.failed is_fault)
 
@@ -59,7 +60,7 @@ returns-in-Ok-Ready-clause-cut_off g c = λ told.
     let files = g.F.Shelf.file c.args.shelf.now in
     let from : Option (List ℕ) = option_map (λ name. name.now) c.args.request.from in
     let start = c.in-Ok-Ready.ensures.start told in
-    started_cut files from c.args.request.leaf c.args.request.steps c.args.request.cuts c.args.b c.in-Ok-Ready.c c.in-Ok-Ready.from c.in-Ok-Ready.below c.answer.result.status c.answer.result.lost (g.O.Sink.tells c.args.out.now)
+    started_cut files from c.args.request.leaf c.answer.result.steps c.args.request.cuts c.args.b c.in-Ok-Ready.c c.in-Ok-Ready.from c.in-Ok-Ready.below c.answer.result.ended.status c.answer.result.ended.lost (g.O.Sink.tells c.args.out.now)
     (g.O.Sink.taken c.args.out.now) (g.O.Sink.taken c.answer.new.out) (comes_from files from c.args.request.leaf c.args.request.cuts c.args.b c.in-Ok-Ready.c c.in-Ok-Ready.from c.in-Ok-Ready.below (rw c.in-Ok-Ready.field-0-is at start)) c.answer.ensures.cut_off
 
 -- ---- refused as a start
@@ -125,7 +126,7 @@ returns-in-Ok-Ready-clause-events g c = λ told.
     let files = g.F.Shelf.file c.args.shelf.now in
     let from : Option (List ℕ) = option_map (λ name. name.now) c.args.request.from in
     let start = c.in-Ok-Ready.ensures.start told in
-    started_events files from c.args.request.leaf c.args.request.steps (ordered_crew c.args.request.workers c.args.request.order) c.args.request.cuts c.args.b c.in-Ok-Ready.c c.in-Ok-Ready.from c.in-Ok-Ready.below c.answer.result.kept c.answer.result.events.items
+    started_events files from c.args.request.leaf c.answer.result.steps (ordered_crew c.args.request.workers c.args.request.order) c.args.request.cuts c.args.b c.in-Ok-Ready.c c.in-Ok-Ready.from c.in-Ok-Ready.below c.answer.result.ended.kept c.answer.result.ended.events.items
     (comes_from files from c.args.request.leaf c.args.request.cuts c.args.b c.in-Ok-Ready.c c.in-Ok-Ready.from c.in-Ok-Ready.below (rw c.in-Ok-Ready.field-0-is at start)) c.answer.ensures.events
 
 pub returns-in-Ok-Refused-clause-events : goal.returns-in-Ok-Refused-clause-events
@@ -146,7 +147,7 @@ returns-in-Ok-Ready-clause-saved g c = λ told.
     let from : Option (List ℕ) = option_map (λ name. name.now) c.args.request.from in
     let start = c.in-Ok-Ready.ensures.start told in
     saved_by files from c.args.request.cuts c.args.b c.in-Ok-Ready.c c.in-Ok-Ready.from (option_map (λ name. name.now) c.args.request.cert) (g.F.Shelf.file c.answer.new.shelf)
-    c.answer.result.kept
+    c.answer.result.ended.kept
     (begins files from c.args.request.leaf c.args.request.cuts c.args.b c.in-Ok-Ready.c c.in-Ok-Ready.from c.in-Ok-Ready.below
     (comes_from files from c.args.request.leaf c.args.request.cuts c.args.b c.in-Ok-Ready.c c.in-Ok-Ready.from c.in-Ok-Ready.below (rw c.in-Ok-Ready.field-0-is at start)))
     (c.answer.ensures.saved (c.in-Ok-Ready.ensures.told ∙ told))
@@ -172,8 +173,8 @@ returns-in-Ok-Ready-clause-part g c = λ told want.
     let from : Option (List ℕ) = option_map (λ name. name.now) c.args.request.from in
     let cert : Option (List ℕ) = option_map (λ name. name.now) c.args.request.cert in
     let start = c.in-Ok-Ready.ensures.start told in
-    subst (λ (fs : Files). AsBeforeOr (HoldsPartBy files from c.args.request.leaf c.args.request.steps c.args.request.cuts c.args.b) cert fs (g.F.Shelf.file c.answer.new.shelf)) c.in-Ok-Ready.ensures.files
-    (started_part files from c.args.request.leaf c.args.request.steps c.args.request.cuts c.args.b c.in-Ok-Ready.c c.in-Ok-Ready.from c.in-Ok-Ready.below cert (g.F.Shelf.file c.begin.new.shelf) (g.F.Shelf.file c.answer.new.shelf)
+    subst (λ (fs : Files). AsBeforeOr (HoldsPartBy files from c.args.request.leaf c.answer.result.steps c.args.request.cuts c.args.b) cert fs (g.F.Shelf.file c.answer.new.shelf)) c.in-Ok-Ready.ensures.files
+    (started_part files from c.args.request.leaf c.answer.result.steps c.args.request.cuts c.args.b c.in-Ok-Ready.c c.in-Ok-Ready.from c.in-Ok-Ready.below cert (g.F.Shelf.file c.begin.new.shelf) (g.F.Shelf.file c.answer.new.shelf)
     (comes_from files from c.args.request.leaf c.args.request.cuts c.args.b c.in-Ok-Ready.c c.in-Ok-Ready.from c.in-Ok-Ready.below (rw c.in-Ok-Ready.field-0-is at start))
     (c.answer.ensures.part (c.in-Ok-Ready.ensures.told ∙ told) want))
 
@@ -186,3 +187,11 @@ pub returns-in-Ok-Refused-clause-part : goal.returns-in-Ok-Refused-clause-part
 returns-in-Ok-Refused-clause-part g c = λ told want.
     nothing_left (HoldsPartBy (g.F.Shelf.file c.args.shelf.now) (option_map (λ name. name.now) c.args.request.from) c.args.request.leaf c.args.request.steps c.args.request.cuts c.args.b)
     (option_map (λ name. name.now) c.args.request.cert) (g.F.Shelf.file c.args.shelf.now) (g.F.Shelf.file c.begin.new.shelf) c.in-Ok-Refused.ensures.files
+
+-- ---- the steps
+
+pub returns-in-Ok-Refused-clause-stops : goal.returns-in-Ok-Refused-clause-stops
+returns-in-Ok-Refused-clause-stops g c = stops_there c.args.request.watched c.args.request.steps
+
+pub returns-in-Err-clause-stops : goal.returns-in-Err-clause-stops
+returns-in-Err-clause-stops g c = stops_there c.args.request.watched c.args.request.steps

@@ -1,4 +1,4 @@
-use Rattle.std.proofs.Common.{◌≡◌, ◌+◌, ◌⊎◌, inl, inr, ⊎_elim, ℕ, arith}
+use Rattle.std.proofs.Common.{◌≡◌, ◌+◌, inl, inr, ⊎_elim, arith}
 use Rattle.bp_theory.specs.Trees.{steps}
 use Rattle.search_laws.specs.Grove.{certificate_tree}
 use Rattle.bp_search.specs.Ends.{given_steps}

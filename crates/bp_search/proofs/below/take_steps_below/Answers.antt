@@ -1,5 +1,4 @@
-use Rattle.std.proofs.Common.{arith, List}
-use Rattle.search_laws.specs.declared.Side.{Side}
+use Rattle.std.proofs.Common.{arith}
 use Rattle.open_nodes.specs.Queues.{LiesBelow}
 use Rattle.bp_search.specs.Searches.{kept_cost}
 use Rattle.bp_search.proofs.Extending.{extends_itself, extends_on, no_dearer_itself, no_dearer_on}

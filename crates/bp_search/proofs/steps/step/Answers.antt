@@ -2,9 +2,7 @@ use Rattle.std.proofs.Common.{subst, sym, ◌<◌, ◌^◌}
 use Rattle.std.specs.Prelude.{IfSome, unsigned_abs, Option, ℤ}
 use Rattle.bp_search.proofs.Running.{turn_of, small_cost, can_grow, runs_on, one_step}
 use Rattle.bp_search.specs.Below.{IsAsBeside}
-use Rattle.search_laws.specs.GroveFacts.{IsNoDearer}
 use Rattle.bp_search.specs.Resumed.{Extends}
-use Rattle.bp_search.specs.Searches.{kept_cost}
 use Rattle.bp_search.proofs.Beside.{grown_is}
 use Rattle.bp_search.proofs.Resuming.{step_extends, step_cheaper}
 use Rattle.bp_search.proofs.steps.step.Goals as goal

@@ -19,4 +19,4 @@ returns-clause-order c =
     let numbers = c.in_ok-numbers.ensures.numbers in
     let ends = c.in_ok-ends.ensures in
     let problem = c.in_ok-lp.ensures.files in
-    (refl, problem.lp, problem.dec, numbers.steps, ends.cert, ends.from, numbers.leaf, numbers.workers, numbers.order, search rules, numbers.cuts, sym c.limits_of.ensures)
+    (refl, problem.lp, problem.dec, numbers.steps, ends.cert, ends.from, numbers.leaf, numbers.workers, numbers.order, search rules, numbers.cuts, sym c.limits_of.ensures, c.in_ok-watching.ensures)
