@@ -31,8 +31,6 @@ pub fn grow(
     let _ = grove.count();
     match next {
         Next::Shut(proof) => {
-            // For the proof alone: the grove stands, and still does where memory is short.
-            let _ = grove.live();
             let proof = grove.shared(alloc, proof)?;
             grove.shut(b, turn, proof);
             Ok(())
