@@ -7,13 +7,13 @@ use Rattle.block_program.specs.Blocked.{BlockedProgram, IsFormed}
 use Rattle.search_laws.specs.declared.Event.{Event}
 use Rattle.search_laws.specs.Grove.{zone_at}
 use Rattle.search_laws.specs.GroveFacts.{IsNoDearer, best_cost}
-use Rattle.search_laws.specs.Verdicts.{better, grown, cheaper_cost}
+use Rattle.search_laws.specs.Verdicts.{cheaper_cost}
 use Rattle.search_laws.specs.Crew.{Crew, CrewEvent, takes, reports, drops as drops', Leads, IsRun}
 use Rattle.search_laws.proofs.CrewProof.{verdicts_keep_lem}
 use Rattle.branch_tree.specs.Adopted.{IsSearchState, point_in}
 use Rattle.branch_tree.specs.declared.loaded.Loaded.{Loaded}
 use Rattle.branch_tree.specs.declared.outcome.Outcome.{Outcome}
-use Rattle.bp_search.specs.Ends.{EndsWithin, grove_in, point_of}
+use Rattle.bp_search.specs.Ends.{EndsWithin}
 use Rattle.bp_search.specs.Resumed.{Extends, GoesOn, cost_in}
 use Rattle.bp_search.proofs.Extending.{extends_itself, extends_on, grown_extends, no_dearer_itself, no_dearer_on}
 use Rattle.bp_search.proofs.Resuming.{no_less, goes_on, cost_is}
