@@ -52,8 +52,9 @@ fn crew_ordered(workers: Option<u32>, order: Option<u64>) -> Option<CrewOrder>
     }
 }
 
-/// A search from a tree, or from the start, as a request asks: watched where it is to be and neither a crew nor a path is
-/// there, and else as `search_from`.
+/// A search from a tree, or from the start, by a crew where one is ordered, and else watched where it is to be. Where there is a
+/// path, it works at that path of the tree and below it alone, and is not watched. What it ends with goes on from the tree: only live
+/// leaves have grown, its point is no dearer, and its dual bound is no less.
 pub fn search_asked<W: Watch>(
     alloc: Global,
     b: &Blocked,
@@ -71,12 +72,90 @@ pub fn search_asked<W: Watch>(
     ensures events { IfOk result (λ s. IsSearchOf b.now origin.from s.steps
         (ordered_crew request.entry.workers request.entry.order) s.outcome s.events.items) }
 {
-    let Origin { from, below } = origin;
     let crew = crew_ordered(request.workers, request.order);
-    match (request.watched, below, crew) {
-        (true, None, None) => search_watching(alloc, b, from, request.steps, watch),
-        (_, below, crew) => search_from(alloc, b, from, below, request.steps, crew),
+    search_from(
+        alloc,
+        b,
+        origin,
+        request.steps,
+        crew,
+        request.watched,
+        watch,
+    )
+}
+
+// The same by a crew, where there is one.
+fn search_from<W: Watch>(
+    alloc: Global,
+    b: &Blocked,
+    origin: Origin,
+    steps: Option<u64>,
+    crew: Option<CrewOrder>,
+    watched: bool,
+    watch: &mut W,
+) -> Result<Searched, AllocError>
+    requires loaded { IfSome origin.from (IsLoaded b.now) }
+    requires few { IfSome steps (λ n. n ≤ 2 ^ 60) }
+    requires some { IfSome crew (λ c. 1 ≤ c.workers) }
+    requires alone { IfSome origin.below (λ _. crew ≡ None) }
+    ensures ends { IfOk result (λ s. EndsAt b.now origin.from origin.below s.steps s.outcome s.told) }
+    ensures stops { IfOk result (λ s. StopsAt watched steps s.steps) }
+    ensures writable { IfOk result (λ s. IsWritable b.now s.outcome) }
+    ensures events { IfOk result (λ s. IsSearchOf b.now origin.from s.steps crew s.outcome s.events.items) }
+{
+    let Origin { from, below } = origin;
+    match crew {
+        None => search_lone(alloc, b, from, below, steps, watched, watch),
+        Some(crew) => search_together(alloc, b, from, steps, crew),
     }
+}
+
+// The same without a crew: watched where it is to be and there is no path.
+fn search_lone<W: Watch>(
+    alloc: Global,
+    b: &Blocked,
+    from: Option<Loaded>,
+    below: Option<Items<Side>>,
+    steps: Option<u64>,
+    watched: bool,
+    watch: &mut W,
+) -> Result<Searched, AllocError>
+    requires loaded { IfSome from (IsLoaded b.now) }
+    requires few { IfSome steps (λ n. n ≤ 2 ^ 60) }
+    ensures ends { IfOk result (λ s. EndsAt b.now from below s.steps s.outcome s.told) }
+    ensures stops { IfOk result (λ s. StopsAt watched steps s.steps) }
+    ensures writable { IfOk result (λ s. IsWritable b.now s.outcome) }
+    ensures events { IfOk result (λ s. IsSearchOf b.now from s.steps None s.outcome s.events.items) }
+{
+    if watched && below.is_none() {
+        search_watching(alloc, b, from, steps, watch)
+    } else {
+        search_unwatched(alloc, b, from, below, steps)
+    }
+}
+
+// A search from a tree, or from the start, without a crew and a watch.
+fn search_unwatched(
+    alloc: Global,
+    b: &Blocked,
+    from: Option<Loaded>,
+    below: Option<Items<Side>>,
+    steps: Option<u64>,
+) -> Result<Searched, AllocError>
+    requires loaded { IfSome from (IsLoaded b.now) }
+    requires few { IfSome steps (λ n. n ≤ 2 ^ 60) }
+    ensures ends { IfOk result (λ s. EndsAt b.now from below s.steps s.outcome s.told) }
+    ensures same { IfOk result (λ s. s.steps ≡ steps) }
+    ensures writable { IfOk result (λ s. IsWritable b.now s.outcome) }
+    ensures events { IfOk result (λ s. IsSearchOf b.now from s.steps None s.outcome s.events.items) }
+{
+    let (outcome, told) = search_alone(alloc, b, from, below, steps)?;
+    Ok(Searched {
+        outcome,
+        steps,
+        told,
+        events: Vec::new(alloc),
+    })
 }
 
 // A search from a tree, or from the start, that is watched: as one for as many steps as it took.
@@ -101,40 +180,6 @@ fn search_watching<W: Watch>(
         told: Some(taken),
         events: Vec::new(alloc),
     })
-}
-
-// A search from a tree, or from the start, by a crew where one is ordered. Where there is a path, it works at that
-// path of the tree and below it alone. What it ends with goes on from the tree: only live leaves have grown, its point is no dearer, and its
-// dual bound is no less.
-fn search_from(
-    alloc: Global,
-    b: &Blocked,
-    from: Option<Loaded>,
-    below: Option<Items<Side>>,
-    steps: Option<u64>,
-    crew: Option<CrewOrder>,
-) -> Result<Searched, AllocError>
-    requires loaded { IfSome from (IsLoaded b.now) }
-    requires few { IfSome steps (λ n. n ≤ 2 ^ 60) }
-    requires some { IfSome crew (λ c. 1 ≤ c.workers) }
-    requires alone { IfSome below (λ _. crew ≡ None) }
-    ensures ends { IfOk result (λ s. EndsAt b.now from below s.steps s.outcome s.told) }
-    ensures same { IfOk result (λ s. s.steps ≡ steps) }
-    ensures writable { IfOk result (λ s. IsWritable b.now s.outcome) }
-    ensures events { IfOk result (λ s. IsSearchOf b.now from s.steps crew s.outcome s.events.items) }
-{
-    match crew {
-        None => {
-            let (outcome, told) = search_alone(alloc, b, from, below, steps)?;
-            Ok(Searched {
-                outcome,
-                steps,
-                told,
-                events: Vec::new(alloc),
-            })
-        }
-        Some(crew) => search_together(alloc, b, from, steps, crew),
-    }
 }
 
 // A search from a tree, or from the start, by a crew.
