@@ -1,5 +1,5 @@
 -- A file is one start, or refused as one in one way.
-use Rattle.std.proofs.Common.{◌≡◌, ◌≢◌, ◌⊎◌, ◌∙◌, ◌-◌, refl, sym, ap, subst, ℕ, Bool, IsTrue, List, [], Vec, Global, Option, Some, None, IfSome, take, arith, inl, inr, append-nil, ◌++◌, if◌then◌else◌}
+use Rattle.std.proofs.Common.{◌≡◌, ◌≢◌, ◌⊎◌, ◌∙◌, refl, sym, ap, subst, ℕ, Bool, IsTrue, List, [], Vec, Global, Option, Some, None, IfSome, take, arith, inl, inr, append-nil, ◌++◌, if◌then◌else◌}
 use Rattle.std.specs.Prelude.{nat_eq}
 use Rattle.bp_theory.specs.Trees.{Tree}
 use Rattle.bp_theory.specs.Claims.{Certificate, IsCertified}

@@ -1,5 +1,5 @@
 -- For how many steps a search was one.
-use Rattle.std.proofs.Common.{◌≡◌, refl, subst, sym, ℕ, Bool, true, false, Option, Some, None, Result, Ok, Err, ◌≤◌, arith}
+use Rattle.std.proofs.Common.{◌≡◌, refl, subst, sym, ℕ, Bool, true, false, Option, Result, Ok, Err, ◌≤◌, arith}
 use Rattle.std.specs.Prelude.{IfOk}
 use Rattle.bp_search.specs.Ends.{given_steps}
 use Rattle.search_outcome.specs.Endings.{StopsAt}

@@ -67,7 +67,7 @@ pub fn search_asked<W: Watch>(
     requires some { IfSome request.workers (λ w. 1 ≤ w) }
     requires alone { IfSome origin.below (λ _. (request.workers ≡ None) × (request.order ≡ None)) }
     ensures ends { IfOk result (λ s. EndsAt b.now origin.from origin.below s.steps s.outcome s.told) }
-    ensures stops { IfOk result (λ s. StopsAt request.watched request.steps s.steps) }
+    ensures stops { IfOk result (λ s. StopsAt request.entry.watched request.entry.steps s.steps) }
     ensures writable { IfOk result (λ s. IsWritable b.now s.outcome) }
     ensures events { IfOk result (λ s. IsSearchOf b.now origin.from s.steps
         (ordered_crew request.entry.workers request.entry.order) s.outcome s.events.items) }

@@ -98,7 +98,7 @@ pub fn solve<F: Shelf, O: Sink, W: Watch>(
         name.now) sources.entry.dec) result.steps (option_map (λ name. name.now) request.entry.from) request.entry.workers request.entry.order
         request.entry.cuts result.ended.kept result.ended.events.items }
     ensures no_events { result.ended.kept ≡ None → result.ended.events.items ≡ [] }
-    ensures stops { StopsAt request.watched request.steps result.steps }
+    ensures stops { StopsAt request.entry.watched request.entry.steps result.steps }
     ensures words { result.ended.status ≢ 2 }
     ensures files { IsTrue (F.tells shelf.old) →
         FilesStand (option_map (λ name. name.now) request.entry.cert) (F.file shelf.old)
@@ -169,7 +169,7 @@ fn solve_blocks<F: Shelf, O: Sink, W: Watch>(
         EventsBy (F.file shelf.old) (option_map (λ name. name.now) request.entry.from) result.steps (ordered_crew request.entry.workers request.entry.order) request.entry.cuts b
         result.ended.kept result.ended.events.items }
     ensures no_events { result.ended.kept ≡ None → result.ended.events.items ≡ [] }
-    ensures stops { StopsAt request.watched request.steps result.steps }
+    ensures stops { StopsAt request.entry.watched request.entry.steps result.steps }
     ensures words { result.ended.status ≢ 2 }
     ensures files { IsTrue (F.tells shelf.old) →
         FilesStand (option_map (λ name. name.now) request.entry.cert) (F.file shelf.old)
@@ -237,7 +237,7 @@ fn answer<F: Shelf, O: Sink, W: Watch>(
     ensures kept { (result.ended.kept ≡ None) ⊎
         ((result.ended.status ≡ 0) ⊎ (result.ended.status ≡ 4) ⊎ (result.ended.status ≡ 5)) }
     ensures events { HasEventsFrom b.now origin.from result.steps (ordered_crew request.entry.workers request.entry.order) result.ended.kept result.ended.events.items }
-    ensures stops { StopsAt request.watched request.steps result.steps }
+    ensures stops { StopsAt request.entry.watched request.entry.steps result.steps }
     ensures statuses { (result.ended.status ≡ 0) ⊎ (result.ended.status ≡ 4) ⊎ (result.ended.status ≡ 5) ⊎
         (result.ended.status ≡ 8) ⊎ (result.ended.status ≡ 9) }
     ensures files { IsTrue (F.tells shelf.old) →

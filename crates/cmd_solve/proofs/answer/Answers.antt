@@ -50,5 +50,5 @@ returns-clause-part g c = λ told want.
     part_at c.args.b.now c.args.origin.from c.args.origin.below c.in-Ok.searched.steps c.in-Ok.searched.outcome c.in-Ok.searched.told (option_map (λ name. name.now) c.args.request.cert)
     (g.F.Shelf.file c.args.shelf.now) (g.F.Shelf.file c.tell-status.new.shelf) c.in-Ok.ensures.ends (c.tell-status.ensures.part told want)
 
-pub returns-in-Err-clause-stops : goal.returns-in-Err-clause-stops
-returns-in-Err-clause-stops g c = stops_there c.args.request.watched c.args.request.steps
+pub returns-in_default-clause-stops : goal.returns-in_default-clause-stops
+returns-in_default-clause-stops g c = stops_there c.args.request.watched c.args.request.steps
