@@ -1,5 +1,5 @@
 -- The headline of the order that words give.
-use Rattle.std.proofs.Common.{◌≡◌, ◌≢◌, subst, inl, inr, ◌⊎◌, ℕ, Bool, IsTrue, List, Option, Some, None, IfSome}
+use Rattle.std.proofs.Common.{◌≢◌, subst, ℕ, Bool, IsTrue, List, Option, Some, None, IfSome}
 use Rattle.bp_theory.specs.declared.Claim.{Claim}
 use Rattle.bp_shelf.specs.Shelf.{Files}
 use Rattle.branch_tree.specs.declared.outcome.Outcome.{Outcome}
@@ -13,7 +13,7 @@ use Rattle.cmd_check.specs.Checks.{AnswersCheck}
 use Rattle.cmd_solve.specs.Solves.{AnswersSolve}
 use Rattle.cmd_solve.specs.Saves.{HasCertificate}
 use Rattle.bp_cli.specs.Running.{Answers, refused, ordered, AnswersOrder, OfOrder, HasWritten, stopped_at}
-use Rattle.bp_cli.specs.Headline.{SolvesTruly, SolvesAccepted, ChecksTruly, IsOutcomeStatus}
+use Rattle.bp_cli.specs.Headline.{SolvesTruly, SolvesAccepted, ChecksTruly}
 use Rattle.bp_cli.specs.Promises.{SolvesDecomposed, WritesCertificate}
 use Rattle.bp_cli.proofs.OneOrder.{one_order, not_both}
 use Rattle.bp_cli.proofs.Truth.{solves_truly, solves_accepted, solves_decomposed, writes_certificate, checks_truly}

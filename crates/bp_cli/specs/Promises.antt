@@ -1,6 +1,6 @@
 -- What else a run promises beside its headline: an outcome for each accepted decomposition, a certificate that `check` accepts, and
 -- an answer to `demo` that hangs on no file.
-use Rattle.std.specs.Prelude.{◌≡◌, ◌≢◌, ◌⊎◌, ℕ, Bool, IsTrue, List, Option, Some, None, IfSome, Vec}
+use Rattle.std.specs.Prelude.{◌≡◌, ◌≢◌, ◌⊎◌, ℕ, Bool, List, Option, Some, None, IfSome, Vec}
 use Rattle.std.specs.Global.{Global}
 use Rattle.bp_theory.specs.declared.Claim.{Claim}
 use Rattle.bp_shelf.specs.Shelf.{Files}
