@@ -4,6 +4,7 @@ use bp_words::{Order, Text, Watching};
 use std::alloc::{AllocError, Global};
 use std::fs;
 use std::io::Write;
+use std::num::nearest_i64_to_f64;
 use std::time::Instant;
 
 // The file that ends a search is looked for once in so many seconds at most.
@@ -177,13 +178,8 @@ fn gap_of(progress: &Progress) -> Option<f64> {
     match (progress.bound, progress.cost) {
         (Some(bound), Some(cost)) if bound >= cost => Some(0.0),
         (Some(bound), Some(cost)) => {
-            let apart = cost as f64 - bound as f64;
-            let size = if cost < 0 {
-                -(cost as f64)
-            } else {
-                cost as f64
-            };
-            Some(100.0 * apart / size)
+            let apart = nearest_i64_to_f64(cost) - nearest_i64_to_f64(bound);
+            Some(100.0 * apart / nearest_i64_to_f64(cost).abs())
         }
         _ => None,
     }
