@@ -21,7 +21,7 @@ const CASES: &str = "\
 help @ page @ - @ - @ usage: bprice COMMAND .., and `help COMMAND` tells of one; `--` ends the options|  solve LP [..]             a best point, and a certificate of it|*
 version @ page @ - @ - @ bprice 0.6.0, proved with rattle-kit-13f, logic dac8208d650f15bf|
 help demo @ page @ - @ - @ usage: bprice demo SEED SIZE|  makes one in memory, solves it, checks that|
-help solve @ page @ - @ - @ usage: bprice solve LP [--dec DEC] [--steps N] [--cert CERT] [--from FILE] [--leaf K] [--workers W] [--order SEED] [--cuts C] [--large]|  a best point, and a certificate of it|*
+help solve @ page @ - @ - @ usage: bprice solve LP [--dec DEC] [--steps N] [--cert CERT] [--from FILE] [--leaf K] [--workers W] [--order SEED] [--cuts C] [--large] [--time S] [--gap P] [--log S] [--stop FILE]|  a best point, and a certificate of it|*
 help check @ page @ - @ - @ usage: bprice check LP CERT [--dec DEC] [--visits M] [--large]|*
 help propose @ page @ - @ - @ usage: bprice propose LP DEC [--large]|*
 help detect @ page @ - @ - @ usage: bprice detect LP ROWS DEC [--large]|*
