@@ -11,7 +11,7 @@ import select
 import time
 import zlib
 
-from bprice_search import (BUDGET, HERE, INFEASIBLE, LAUNCHER, OPTIMAL, WAIT, WHICH, WORDS, Call, Outcome, Progress, Refused, Standing, Stop, Way,
+from bprice_search import (BUDGET, HERE, INFEASIBLE, LAUNCHER, OPTIMAL, WHICH, WORDS, Call, Outcome, Progress, Refused, Standing, Stop, Way,
                            hint, is_within)
 
 CUTS = 64  # how many cuts a way with cuts has, where no number is told
@@ -31,18 +31,14 @@ class Racer(Way):
         self.own = None  # the best value that it found by itself
         self.used, self.since = 0.0, None  # the seconds by the clock that its calls ran, without those since the last one began or went on
         self.is_live = True  # neither dropped nor at the end of its steps or its time
-        self.is_dropped = self.is_asked = False  # whether the call at hand is asked for its end
+        self.is_dropped = False
 
     def seconds(self):
         return self.used + (0.0 if self.since is None else time.monotonic() - self.since)
 
     def begin(self, program, words, seconds):
         super().begin(program, words, seconds)
-        self.since, self.is_asked = time.monotonic(), False
-
-    def stop(self):
-        super().stop()
-        self.is_asked = True
+        self.since = time.monotonic()
 
     def suspend(self):
         self.call.suspend()
@@ -206,18 +202,18 @@ class Race:
         both = Standing(BUDGET, 0, 0, ahead.now.bound, found.now.value)
         if self.sign * (both.bound - both.value) >= 0 or is_within(both.gap(), self.words.gap):
             for way, is_new in ((ahead, not ahead.answer or ahead.answer.bound != both.bound), (found, not found.answer or found.answer.value != both.value)):
-                if way.call and is_new and not way.is_asked and ahead is not found:
+                if way.call and is_new and way.asked is None and ahead is not found:
                     way.stop()
 
     def bring_in(self):
         """Asks all calls for their end, and takes what they come to within some seconds. A further signal doesn't wait."""
-        begin, asked = time.monotonic(), self.stop.asked
+        asked = self.stop.asked
         for way in self.ways:
             if way.call:
                 way.stop()
                 if way.since is None:
                     way.resume()
-        while any(way.call for way in self.ways) and not self.winner and time.monotonic() - begin < WAIT and self.stop.asked == asked:
+        while any(way.call and not way.is_overdue() for way in self.ways) and not self.winner and self.stop.asked == asked:
             self.wait()
 
     def is_over(self):
@@ -326,7 +322,7 @@ class Race:
         for way in self.ways:
             if way is not self.ahead:
                 self.drop(way)
-        if self.ahead.call is not None and not self.ahead.is_asked:
+        if self.ahead.call is not None and self.ahead.asked is None:
             self.ahead.stop()
         self.ahead.is_live, self.ahead.is_dropped = True, False
 

@@ -13,7 +13,7 @@ OPTIMAL, WORDS, INFEASIBLE, BUDGET = 0, 2, 4, 5
 # possible, and calls end only so that the certificate on the disk is not too old if the machine stops. All seconds are of the clock.
 SHARE, LONGEST = 60.0, 240.0  # the seconds of a way's first call; each further one has twice as many, up to so many
 BESIDE = 0.04  # a call is longer where reading and judging its certificate would be more than this part of it
-WAIT = 3.0  # seconds that a call has to its end once it is asked for, or the time is over
+WAIT = 5.0  # seconds that a call has to its end once it is asked for, anew each time that its certificate has grown
 SPARSE = 0.02  # of a long search a line comes each time that this part of the seconds so far is over, where it is not on a terminal
 STEPS = 32  # where the program can't watch a search, its first call has so many steps, and each further one twice as many
 
@@ -198,6 +198,7 @@ class Way:
         self.taken = self.calls = 0  # the steps of this run, and how many calls had steps
         self.setup, self.has_begun = 0.0, False  # the seconds of the last call until its first step, and whether the call at hand has come to its own
         self.is_to_look = os.path.exists(cert)  # whether the next call takes no steps
+        self.asked, self.written = None, 0  # when the call at hand was asked for its end, or its certificate grew since; the bytes of that
         self.watches, self.notes = True, []  # whether the program can watch a search; what it wrote to standard error beside the table
 
     def can_go_on(self, left, most):
@@ -215,7 +216,7 @@ class Way:
             steps = min(STEPS << self.calls, 1 << 40 if steps is None else steps)
         steps = 0 if self.is_to_look else steps
         self.tidy()
-        self.notes, self.has_begun = [], False
+        self.notes, self.has_begun, self.asked, self.written = [], False, None, 0
         self.call = Call(program, ["solve", words.lp, *(["--dec", self.dec] if self.dec else []), *(["--from", self.cert] if goes_on else []),
                                    *(["--cuts", str(self.cuts)] if self.cuts and not goes_on else []), "--cert", self.part,
                                    *([] if steps is None else ["--steps", str(steps)]), *(self.watching(words, seconds) if self.watches else []),
@@ -240,7 +241,14 @@ class Way:
     def stop(self):
         """Asks the call for its end."""
         with open(self.halt, "w", encoding="ascii"):
-            pass
+            self.asked = time.monotonic()
+
+    def is_overdue(self):
+        """Whether the call was asked for its end some seconds ago, and does not write its certificate."""
+        written = size_of(self.part)
+        if written > self.written:
+            self.written, self.asked = written, time.monotonic()
+        return time.monotonic() - self.asked > WAIT
 
     def take(self):
         """Takes what the call came to, and hands it out."""
@@ -267,6 +275,11 @@ class Way:
         for name in (self.part, self.halt):
             if os.path.exists(name):
                 os.unlink(name)
+
+
+def size_of(name):
+    """The bytes of a file, 0 where there is none."""
+    return os.path.getsize(name) if os.path.exists(name) else 0
 
 
 def row(line):
@@ -346,21 +359,20 @@ class Run:
 
     def call(self, call):
         """Reads a call to its end. It is asked for that once the time is over or a signal comes, and broken off where it does not heed it."""
-        asked = None
+        way, way.asked = self.way, None
         try:
             while True:
-                if asked is None and (self.stop.asked or self.left() <= 0):
-                    asked = time.monotonic()
-                    self.way.stop()
-                if asked is not None and (self.stop.asked > 1 or time.monotonic() - asked > WAIT):
+                if way.asked is None and (self.stop.asked or self.left() <= 0):
+                    way.stop()
+                if way.asked is not None and (self.stop.asked > 1 or way.is_overdue()):
                     raise Stopped
-                most = max(0.0, min(1.0, self.left())) if asked is None else 0.2
+                most = max(0.0, min(1.0, self.left())) if way.asked is None else 0.2
                 for source in select.select([*call.sources(), self.stop.woken], [], [], most)[0]:
                     if source == self.stop.woken:
                         self.stop.drain()
                     elif call.read(source):
                         return call
-                self.progress.tell(self.way.now)
+                self.progress.tell(way.now)
         finally:
             call.end()
 
