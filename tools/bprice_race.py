@@ -201,7 +201,9 @@ class Race:
         ahead, found = max(known, key=lambda way: self.sign * way.now.bound), min(valued, key=lambda way: self.sign * way.now.value)
         both = Standing(BUDGET, 0, 0, ahead.now.bound, found.now.value)
         if self.sign * (both.bound - both.value) >= 0 or is_within(both.gap(), self.words.gap):
-            for way, is_new in ((ahead, not ahead.answer or ahead.answer.bound != both.bound), (found, not found.answer or found.answer.value != both.value)):
+            bound_is_new = not ahead.answer or ahead.answer.bound != both.bound
+            value_is_new = not found.answer or found.answer.value != both.value
+            for way, is_new in ((ahead, bound_is_new), (found, value_is_new)):
                 if way.call and is_new and way.asked is None and ahead is not found:
                     way.stop()
 

@@ -168,6 +168,21 @@ def test_nothing_runs_on(model, monkeypatch):
             os.kill(int(name.name.removeprefix("pid-")), 0)
 
 
+@pytest.mark.parametrize("processors", [1, 2])
+def test_nothing_is_lost(tmp_path, processors):
+    """A signal has each way write its certificate, and leaves no other file."""
+    run("gen", 5, 300, "plan.lp", "own.dec", cwd=tmp_path)
+    with start("plan.lp", "--no-dec", "--processors", processors, cwd=tmp_path) as ran:
+        told_last = [ran.stderr.readline() for _ in range(4)][-1]
+        ran.send_signal(signal.SIGINT)
+        out, err = ran.communicate(timeout=40)
+    assert ran.returncode == 5 and out.startswith("budget ") and "Traceback" not in err
+    bound, told_bound = int(re.search(r"^bound (-?\d+)$", out, re.MULTILINE)[1]), int(re.search(r"bound (-?\d+)", told_last)[1])
+    assert bound <= told_bound if (tmp_path / "plan.lp").read_text().lower().startswith("max") else bound >= told_bound
+    names = sorted(name.name for name in (tmp_path / "plan.ways").iterdir())
+    assert names == ["plain-cuts-64.cert", "plain.cert", "text"] and judged(tmp_path, err).startswith("bound ")
+
+
 def test_way_that_is_behind(tmp_path):
     """Both bound and own value have to be worse by a margin, in no less time."""
     import bprice_race
