@@ -2,8 +2,8 @@
 
 A way is a search without or with a decomposition, without or with cuts, and has a certificate of its own. What one finds is true of the model, so
 that the best bound and the best point of all ways are the race's: the better point is written into a way's certificate between two calls, and
-`solve --from` judges it there. Where there are more ways than processors, ways take turns whose length doubles: a call that has to wait is
-suspended, so that nothing of it is lost.
+`solve --from` judges it there. Where there are more ways than processors, ways take turns whose length doubles: a call ends with its turn, and
+one whose step takes longer is suspended until the next.
 """
 import fcntl
 import os
@@ -11,10 +11,11 @@ import select
 import time
 import zlib
 
-from bprice_search import (BUDGET, GRACE, HERE, INFEASIBLE, LAUNCHER, OPTIMAL, WHICH, WORDS, Answer, Call, Outcome, Progress, Refused, Standing, Stop,
-                           hint, pace_for)
+from bprice_search import (BUDGET, HERE, INFEASIBLE, LAUNCHER, OPTIMAL, WHICH, WORDS, Call, Outcome, Progress, Refused, Standing, Stop, Way,
+                           hint, is_within)
 
 CUTS = 64  # how many cuts a way with cuts has, where no number is told
+SHARE = 5.0  # the seconds of a way's first call, where it has a processor of its own: between two calls ways get the best point
 TURN = 0.5  # the seconds of the first turn, where ways take turns
 FAIR = 10.0  # no way is dropped that had fewer seconds than these
 BEHIND = 0.01  # a way is behind where bound and value are both worse by this part
@@ -22,68 +23,41 @@ LAST_CALL = 2.0  # seconds that the first call of all has to its report, once th
 ENDS = OPTIMAL, INFEASIBLE
 
 
-class Way:
-    """One way through the model, and how far it is."""
+class Racer(Way):
+    """One way of a race, with the time that it had."""
 
-    def __init__(self, name, cert, dec, cuts, pace):
-        self.name, self.cert, self.dec, self.cuts, self.pace = name, cert, dec, cuts, pace
-        self.answer = self.call = None
+    def __init__(self, name, cert, dec, cuts):
+        super().__init__(name, cert, dec, cuts, SHARE)
         self.own = None  # the best value that it found by itself
         self.used, self.since = 0.0, None  # the seconds by the clock that its calls ran, without those since the last one began or went on
-        self.taken = 0  # the steps of this run
-        self.steps, self.planned, self.ran = 0, None, 0.0  # of the call at hand: its steps, the seconds it should take, and `used` at its beginning
-        self.is_to_measure = os.path.exists(cert)
         self.is_live = True  # neither dropped nor at the end of its steps or its time
         self.is_dropped = False
 
     def seconds(self):
         return self.used + (0.0 if self.since is None else time.monotonic() - self.since)
 
-    def plan(self, left, most):
-        """Plans the next call, for the time that is left to it, and at most so many steps; whether there is one."""
-        self.steps, self.planned = (0, None) if self.is_to_measure else self.pace.next(left)
-        if most is not None and self.steps:
-            self.steps = min(self.steps, most - self.taken)
-        return self.is_to_measure or self.steps > 0
-
-    def begin(self, program, words):
-        goes_on = os.path.exists(self.cert)
-        self.ran, self.since = self.used, time.monotonic()
-        self.call = Call(program, ["solve", words.lp, *(["--dec", self.dec] if self.dec else []), *(["--from", self.cert] if goes_on else []),
-                                   *(["--cuts", str(self.cuts)] if self.cuts and not goes_on else []), "--steps", str(self.steps),
-                                   "--cert", self.cert + ".part", *words.limits(), *words.rest])
+    def begin(self, program, words, seconds):
+        super().begin(program, words, seconds)
+        self.since = time.monotonic()
 
     def suspend(self):
         self.call.suspend()
-        self.used, self.since = self.seconds(), None
+        self.rest()
 
     def resume(self):
         self.call.resume()
         self.since = time.monotonic()
 
+    def rest(self):
+        self.used, self.since = self.seconds(), None
+
     def end_call(self):
-        """Breaks the call off where there is one."""
-        if self.call is not None:
-            self.call.end()
-            self.call, self.used, self.since = None, self.seconds(), None
-        if os.path.exists(self.cert + ".part"):
-            os.unlink(self.cert + ".part")
+        self.rest()
+        super().end_call()
 
     def take(self):
-        """Takes what the call came to."""
-        call = self.call
-        self.call, self.used, self.since = None, self.seconds(), None
-        if call.status not in (*ENDS, BUDGET):
-            return call
-        os.replace(self.cert + ".part", self.cert)
-        self.answer = Answer(call.report(), call.status, self.cert)
-        if self.steps == 0:
-            self.pace.measured(call.took)
-            self.is_to_measure = False
-        else:
-            self.is_to_measure = self.pace.note(self.steps, self.planned, call.took, self.used - self.ran)
-        self.taken += self.steps
-        return call
+        self.rest()
+        return super().take()
 
 
 class Point:
@@ -105,7 +79,6 @@ class Race:
         self.processors = words.processors or max(1, len(os.sched_getaffinity(0)) - 1)
         self.ways, self.proposal = [], None
         self.turn, self.sign, self.lock = TURN, None, None
-        self.answers, self.told = 0, 0  # how many calls have ended, and of how many the progress has told
         self.point = self.winner = self.ahead = None  # the best point; the way that proved its answer; the way with the best bound
 
     def path(self, name):
@@ -160,7 +133,7 @@ class Race:
         numbers = (0, CUTS) if self.words.cuts is None else (self.words.cuts,)
         for number in numbers:
             full = f"{name}-cuts-{number}" if number else name
-            self.ways.append(Way(full, self.path(f"{full}.cert"), dec, number, pace_for(self.words, dec is not None)))
+            self.ways.append(Racer(full, self.path(f"{full}.cert"), dec, number))
 
     def wants_proposal(self):
         return self.words.dec == "auto" or self.words.dec is None and not self.words.no_dec
@@ -202,7 +175,7 @@ class Race:
             self.propose()
         else:
             first = next((way for way in self.ways if is_closed(way.cert)), self.ways[0])
-            first.is_to_measure = True
+            first.is_to_look = True
             others, self.ways = self.ways, [first]
             while not (first.answer or self.is_over()):
                 self.hand_out()
@@ -215,16 +188,44 @@ class Race:
             if not self.proposal and not any(way.call for way in self.ways):
                 return
             self.wait()
+            self.bring_together()
+        if self.ahead and not self.winner:
+            self.bring_in()
+
+    def bring_together(self):
+        """Asks the calls for their end whose bound and point are near enough by what they told, so that certificates tell it."""
+        known = [way for way in self.ways if way.now and way.now.bound is not None and not way.is_dropped]
+        valued = [way for way in known if way.now.value is not None]
+        if not valued:
+            return
+        ahead, found = max(known, key=lambda way: self.sign * way.now.bound), min(valued, key=lambda way: self.sign * way.now.value)
+        both = Standing(BUDGET, 0, 0, ahead.now.bound, found.now.value)
+        if self.sign * (both.bound - both.value) >= 0 or is_within(both.gap(), self.words.gap):
+            bound_is_new = not ahead.answer or ahead.answer.bound != both.bound
+            value_is_new = not found.answer or found.answer.value != both.value
+            for way, is_new in ((ahead, bound_is_new), (found, value_is_new)):
+                if way.call and is_new and way.asked is None and ahead is not found:
+                    way.stop()
+
+    def bring_in(self):
+        """Asks all calls for their end, and takes what they come to within some seconds. A further signal doesn't wait."""
+        asked = self.stop.asked
+        for way in self.ways:
+            if way.call:
+                way.stop()
+                if way.since is None:
+                    way.resume()
+        while any(way.call and not way.is_overdue() for way in self.ways) and not self.winner and self.stop.asked == asked:
+            self.wait()
 
     def is_over(self):
         if self.winner:
             return True
         if self.stop.asked:
             return bool(self.ahead) or self.stop.asked > 1 or time.monotonic() - self.stop.since > LAST_CALL
-        if self.left() + (GRACE if self.ahead else LAST_CALL) <= 0:
+        if self.left() + (0.0 if self.ahead else LAST_CALL) <= 0:
             return True
-        gap = self.standing().gap() if self.ahead else None
-        return self.words.gap is not None and gap is not None and gap <= self.words.gap
+        return bool(self.ahead) and is_within(self.standing().gap(), self.words.gap)
 
     def hand_out(self):
         """Gives the processors to ways: those that had less than a turn come first, and of these those that run."""
@@ -232,11 +233,8 @@ class Race:
         live = [way for way in self.ways if way.is_live]
         for way in live:
             if way.call is None:
-                way.is_live = way.plan(self.left() * min(1.0, max(1, slots) / len(live)), self.words.steps)
+                way.is_live = way.can_go_on(self.left(), self.words.steps)
         live = [way for way in live if way.is_live]
-        ahead = self.ahead
-        if not live and ahead and not ahead.is_dropped and ahead.plan(self.left(), self.words.steps):
-            live, ahead.is_live = [ahead], True  # no share is enough for a call, but all that is left may be
         while live and all(way.seconds() >= self.turn for way in live):
             self.turn *= 2
         live.sort(key=lambda way: (way.seconds() >= self.turn, way.since is None, way.seconds()))
@@ -246,32 +244,36 @@ class Race:
         for way in live[:slots]:
             if way.call is None:
                 self.lend(way)
-                way.begin(self.program, self.words)
+                seconds = way.setup + max(self.turn - way.seconds(), self.turn / 2) if len(live) > slots else way.seconds_of_call()
+                way.begin(self.program, self.words, min(seconds, self.left()))
             elif way.since is None:
                 way.resume()
 
     def wait(self):
         """Waits for a call, a signal, the end of a turn or of the time, or a second."""
-        running = {way.call.reading: way for way in self.ways if way.since is not None}
+        running = {source: way for way in self.ways if way.since is not None for source in way.call.sources()}
         waiting = any(way.is_live and way.since is None for way in self.ways)
         turns = [self.turn - way.seconds() for way in running.values()] if waiting else []
-        ends = [end for end in (*turns, self.left() + GRACE) if end > 0] or [0.1]
+        ends = [end for end in (*turns, self.left()) if end > 0] or [0.1]
         proposal = [self.proposal.reading] if self.proposal else []
-        ready = select.select([*running, *proposal, self.stop.woken], [], [], min(1.0, *ends))[0]
-        for reading in ready:
-            if reading == self.stop.woken:
+        for source in select.select([*running, *proposal, self.stop.woken], [], [], min(1.0, *ends))[0]:
+            if source == self.stop.woken:
                 self.stop.drain()
-            elif self.proposal and reading == self.proposal.reading:
-                if self.proposal.read():
+            elif self.proposal and source == self.proposal.reading:
+                if self.proposal.read(source):
                     self.take_proposal()
-            elif running[reading].call and running[reading].call.read():
-                self.take(running[reading])
-        if self.ahead and (self.progress.is_terminal or self.answers > self.told) and self.progress.tell(self.standing()):
-            self.told = self.answers
+            elif running[source].call and source in running[source].call.sources() and running[source].call.read(source):
+                self.take(running[source])
+        if self.ahead:
+            self.progress.tell(self.told())
 
     def take(self, way):
         """Takes the end of a call into the race."""
-        call, self.answers = way.take(), self.answers + 1
+        call = way.take()
+        if call.status == WORDS and way.watches:
+            way.watches = False
+            return
+        self.progress.note(way.notes)
         if call.status not in (*ENDS, BUDGET):
             self.take_refusal(way, call)
             return
@@ -322,8 +324,8 @@ class Race:
         for way in self.ways:
             if way is not self.ahead:
                 self.drop(way)
-        if self.ahead.call is not None:
-            self.ahead.end_call()
+        if self.ahead.call is not None and self.ahead.asked is None:
+            self.ahead.stop()
         self.ahead.is_live, self.ahead.is_dropped = True, False
 
     def drop(self, way, why=""):
@@ -351,6 +353,13 @@ class Race:
         """How far the race is."""
         best = self.ahead.answer
         return Standing(BUDGET, best.steps, best.open, best.bound, self.point.value if self.point else None)
+
+    def told(self):
+        """How far the race is by what calls have told since."""
+        known = [way.now for way in self.ways if way.now and way.now.bound is not None]
+        values = [now.value for now in (*known, self.point) if now and now.value is not None]
+        best = max([*known, self.ahead.answer], key=lambda now: self.sign * now.bound)
+        return Standing(BUDGET, best.steps, best.open, best.bound, self.sign * min(self.sign * value for value in values) if values else None)
 
     def end(self):
         for way in self.ways:
@@ -439,7 +448,7 @@ def quoted(word):
 def finished(program, *words):
     """A program's call that has ended."""
     call = Call(program, words)
-    while not call.read():
+    while not call.read(call.reading):
         pass
     return call
 

@@ -1,4 +1,4 @@
-"""A search in many calls of `solve`: how long these are, what they print, and the run of one way. `tools/bprice-run` calls this."""
+"""A search in few calls of `solve`: what these are asked, what they tell, and the run of one way. `tools/bprice-run` calls this."""
 import os
 import select
 import signal
@@ -9,19 +9,13 @@ HERE = os.path.dirname(os.path.realpath(__file__))
 LAUNCHER, WHICH = os.path.join(HERE, "..", "bprice"), os.path.join(HERE, "..", "release", "which.sh")
 OPTIMAL, WORDS, INFEASIBLE, BUDGET = 0, 2, 4, 5
 
-# A call begins with reading and judging the certificate, and lacks what the call before learned beside it: bases, scores of variables,
-# columns. So calls are long where they can be. All seconds of these are of the processor, so that other work on the machine makes no difference.
-FIRST = 1, 48  # the steps of the first calls: the root, and enough to tell what a step takes, while few leaves lack their bases
-FIRST_DEC, LEAST_DEC = 1_000_000, 16  # with a decomposition judging the root may be dear: so many steps times bytes of the LP text, and at least
-DEAR, DEAR_DEC = 5.0, 2.0  # a step of these costs about so many times what later ones do, or less
-SLICE = 5.0  # what a later call takes at least
-SHARE, LONGEST = 0.2, 60.0  # this part of the time so far is taken if it is longer, up to so many seconds: what a stop may lose
-BESIDE = 0.04  # a later call is so long that reading and judging all certificates so far is this part of the time at its end, whatever a stop may lose
-JUDGING = 0.1  # reading and judging a step takes this part of what the step took, or less
-SURPRISE = 1.5  # a call that takes so many times what was planned has that measured
-GROWTH = 512  # a call has at most so many times the steps of the one before
-MARGIN = 0.75  # this part of the time that is left is planned for: a call that runs past the time is lost, and leaves begin without their bases
-GRACE = 0.3  # seconds that a call may run past the time
+# A call begins with reading and judging the certificate, and lacks what the call before learned beside it. So a search is one call as long as
+# possible, and calls end only so that the certificate on the disk is not too old if the machine stops. All seconds are of the clock.
+SHARE, LONGEST = 60.0, 240.0  # the seconds of a way's first call; each further one has twice as many, up to so many
+BESIDE = 0.04  # a call is longer where reading and judging its certificate would be more than this part of it
+WAIT = 5.0  # seconds that a call has to its end once it is asked for, anew each time that its certificate has grown
+SPARSE = 0.02  # of a long search a line comes each time that this part of the seconds so far is over, where it is not on a terminal
+STEPS = 32  # where the program can't watch a search, its first call has so many steps, and each further one twice as many
 
 
 class Stopped(Exception):
@@ -85,28 +79,55 @@ class Outcome:
 
 
 class Call:
-    """A program in a process group of its own, so that the terminal's Ctrl-C doesn't reach it. What it prints is read as it comes."""
+    """A program in a process group of its own, so that the terminal's Ctrl-C doesn't reach it. What it prints is read as it comes.
 
-    def __init__(self, program, words):
+    Where `hear` is given, it gets each line that the program writes to standard error.
+    """
+
+    def __init__(self, program, words, hear=None):
+        self.hear, self.parts, self.rest, self.status = hear, [], b"", None
         self.reading, writing = os.pipe()
-        nothing = (os.POSIX_SPAWN_OPEN, 0, os.devnull, os.O_RDONLY, 0)
+        self.hearing, telling = os.pipe() if hear else (None, None)
+        actions = [(os.POSIX_SPAWN_OPEN, 0, os.devnull, os.O_RDONLY, 0), (os.POSIX_SPAWN_DUP2, writing, 1)]
+        actions += [(os.POSIX_SPAWN_DUP2, telling, 2)] if hear else []
         try:
-            self.child = os.posix_spawn(program, [program, *words], os.environ, setpgroup=0,
-                                        file_actions=[nothing, (os.POSIX_SPAWN_DUP2, writing, 1)])
+            self.child = os.posix_spawn(program, [program, *words], os.environ, setpgroup=0, file_actions=actions)
         except OSError:
-            os.close(self.reading)
+            self.shut()
             raise
         finally:
             os.close(writing)
-        self.parts, self.status = [], None
-        self.took = 0.0  # the seconds of the processor, once it has ended
+            if hear:
+                os.close(telling)
+                os.set_blocking(self.hearing, False)
 
-    def read(self):
+    def sources(self):
+        """What is read of it."""
+        return [self.reading] if self.hearing is None else [self.reading, self.hearing]
+
+    def read(self, source):
         """Takes what is there, and tells whether that was all."""
+        if source == self.hearing:
+            self.listen()
+            return False
         self.parts.append(os.read(self.reading, 1 << 16))
         if not self.parts[-1]:
             self.reap()
         return self.status is not None
+
+    def listen(self):
+        """Hands on the whole lines on standard error; whether there was something."""
+        try:
+            text = os.read(self.hearing, 1 << 16)
+        except BlockingIOError:
+            return False
+        *lines, self.rest = (self.rest + text).split(b"\n")
+        for line in lines:
+            self.hear(line.decode("latin-1"))
+        if not text:
+            os.close(self.hearing)
+            self.hearing = None
+        return bool(text)
 
     def report(self):
         return b"".join(self.parts).decode("latin-1")
@@ -124,9 +145,16 @@ class Call:
             self.reap()
 
     def reap(self):
-        _, ended, used = os.wait4(self.child, 0)
-        self.status, self.took = os.waitstatus_to_exitcode(ended), used.ru_utime + used.ru_stime
+        self.status = os.waitstatus_to_exitcode(os.waitpid(self.child, 0)[1])
+        while self.hearing is not None and self.listen():
+            pass
+        self.shut()
+
+    def shut(self):
         os.close(self.reading)
+        if self.hearing is not None:
+            os.close(self.hearing)
+            self.hearing = None
 
 
 class Stop:
@@ -160,55 +188,123 @@ class Stop:
             signal.signal(number, signal.SIG_IGN)
 
 
-class Pace:
-    """How long calls are. Seconds are of the processor where nothing else is said."""
+class Way:
+    """A search with a certificate of its own: what is known of it, and the call at hand."""
 
-    def __init__(self, first, dear):
-        self.first, self.dear = first, dear  # how many steps the first calls have at most, and how much dearer these are than later ones
-        self.beside = 0.0  # what judging takes beside the part of the steps of this run
-        self.worked = self.paid = 0.0  # what steps took so far, and what reading and judging did
-        self.step, self.slow = 0.0, 1.0  # what a step took in the last call, and how much longer a call is by the clock
-        self.last = self.calls = 0  # the steps of the last call, and how many calls had steps
+    def __init__(self, name, cert, dec, cuts, share=SHARE):
+        self.name, self.cert, self.dec, self.cuts, self.share = name, cert, dec, cuts, share
+        self.part, self.halt = f"{cert}.part", f"{cert}.stop-{os.getpid()}"
+        self.answer = self.now = self.call = None  # of the last call that ended; what it or the call at hand told last
+        self.taken = self.calls = 0  # the steps of this run, and how many calls had steps
+        self.setup, self.has_begun = 0.0, False  # the seconds of the last call until its first step, and whether the call at hand has come to its own
+        self.is_to_look = os.path.exists(cert)  # whether the next call takes no steps
+        self.asked, self.written = None, 0  # when the call at hand was asked for its end, or its certificate grew since; the bytes of that
+        self.watches, self.notes = True, []  # whether the program can watch a search; what it wrote to standard error beside the table
 
-    def setup(self):
-        """What a call takes before its first step."""
-        return self.beside + JUDGING * self.worked
+    def can_go_on(self, left, most):
+        """Whether a call is of use in the time that is left, where at most so many steps are wanted in all."""
+        return self.is_to_look or left > self.setup and (most is None or self.taken < most)
 
-    def note(self, steps, planned, took, clock):
-        """Takes what a call took, in seconds of the processor and by the clock. Whether what it takes before its first step is to be measured."""
-        if clock > 0.1:
-            self.slow = max(1.0, clock / max(took, 0.01))
-        setup = self.setup() if self.calls or self.beside else 0.0
-        self.step = max(took - setup, took / 10, 1e-6) / steps  # later leaves are cheaper than the first ones, so earlier calls count for nothing
-        self.worked, self.paid = self.worked + self.step * steps, self.paid + setup
-        self.last, self.calls = steps, self.calls + 1
-        return planned is not None and took > SURPRISE * planned
+    def seconds_of_call(self):
+        return max(self.share, self.setup / BESIDE)
 
-    def measured(self, took):
-        """Takes what a call without steps took."""
-        self.beside, self.paid = max(0.0, took - JUDGING * self.worked), self.paid + took
+    def begin(self, program, words, seconds):
+        """Begins a call that ends after so many seconds at the latest."""
+        goes_on = os.path.exists(self.cert)
+        steps = None if words.steps is None else words.steps - self.taken
+        if not self.watches:
+            steps = min(STEPS << self.calls, 1 << 40 if steps is None else steps)
+        steps = 0 if self.is_to_look else steps
+        self.tidy()
+        self.notes, self.has_begun, self.asked, self.written = [], False, None, 0
+        self.call = Call(program, ["solve", words.lp, *(["--dec", self.dec] if self.dec else []), *(["--from", self.cert] if goes_on else []),
+                                   *(["--cuts", str(self.cuts)] if self.cuts and not goes_on else []), "--cert", self.part,
+                                   *([] if steps is None else ["--steps", str(steps)]), *(self.watching(words, seconds) if self.watches else []),
+                                   *words.limits(), *words.rest], self.hear)
 
-    def wanted(self):
-        """What a call takes for its steps."""
-        so_far = self.worked + self.paid
-        return max(SLICE, min(LONGEST, SHARE * so_far), (self.paid + self.setup()) / BESIDE - so_far)
+    def watching(self, words, seconds):
+        """The words by which the program watches its search."""
+        time_words = [] if seconds == float("inf") else ["--time", f"{max(0.0, seconds):.3f}"]
+        return [*time_words, *([] if words.gap is None else ["--gap", percent(words.gap)]), "--log", "1", "--stop", self.halt]
 
-    def next(self, left):
-        """How many steps the next call takes, and the seconds that this should take, where these are known: no steps where the time by the clock
-        that is left is too short for one."""
-        if self.calls == 0:
-            return self.first[0], None
-        if left < (self.setup() + self.step) * self.slow:
-            return 0, None
-        dear = self.dear if self.calls <= len(self.first) else 1.0
-        most = self.first[self.calls] if self.calls < len(self.first) else GROWTH * self.last
-        room = min(self.wanted() * dear, MARGIN * left / self.slow - self.setup()) / self.step
-        steps = int(max(1, min(room, most)))
-        return steps, self.setup() + steps * self.step / dear
+    def hear(self, line):
+        """Takes a line that the call wrote to standard error."""
+        told = row(line)
+        if told is None:
+            self.notes += [] if line.startswith(" ") else [line]
+            return
+        seconds, steps, leaves, bound, value = told
+        if not self.has_begun:
+            self.setup, self.has_begun = seconds, True
+        self.now = Standing(BUDGET, steps + (self.answer.steps if self.answer else 0), leaves, bound, value)
+
+    def stop(self):
+        """Asks the call for its end."""
+        with open(self.halt, "w", encoding="ascii"):
+            self.asked = time.monotonic()
+
+    def is_overdue(self):
+        """Whether the call was asked for its end some seconds ago, and does not write its certificate."""
+        written = size_of(self.part)
+        if written > self.written:
+            self.written, self.asked = written, time.monotonic()
+        return time.monotonic() - self.asked > WAIT
+
+    def take(self):
+        """Takes what the call came to, and hands it out."""
+        call, self.call = self.call, None
+        if call.status not in (OPTIMAL, INFEASIBLE, BUDGET):
+            self.now = self.answer
+            return call
+        os.replace(self.part, self.cert)
+        self.now = self.answer = Answer(call.report(), call.status, self.cert)
+        self.taken += int(call.report().split("\n", 1)[0][7:]) if call.status == BUDGET else 0
+        if not self.is_to_look:
+            self.share, self.calls = min(LONGEST, 2 * self.share), self.calls + 1
+        self.is_to_look = False
+        return call
+
+    def end_call(self):
+        """Breaks the call off where there is one."""
+        if self.call is not None:
+            self.call.end()
+            self.call, self.now = None, self.answer
+        self.tidy()
+
+    def tidy(self):
+        for name in (self.part, self.halt):
+            if os.path.exists(name):
+                os.unlink(name)
+
+
+def size_of(name):
+    """The bytes of a file, 0 where there is none."""
+    return os.path.getsize(name) if os.path.exists(name) else 0
+
+
+def row(line):
+    """Seconds, steps, open leaves, bound and value, None where there is none, of a line of the table that `--log` writes; None for other lines."""
+    fields = line.split()
+    if len(fields) != 6 or not set(line) <= set("0123456789.- "):
+        return None
+    try:
+        return float(fields[0]), int(fields[1]), int(fields[2]), int(fields[3]), None if fields[4] == "-" else int(fields[4])
+    except ValueError:
+        return None
+
+
+def percent(gap):
+    """A gap, a part of the value, as `solve --gap` takes it."""
+    return f"{min(100 * gap, 1e6):.9f}"
+
+
+def is_within(gap, wanted):
+    """Whether a gap is as near as wanted, where something is wanted and there is one, by the number that the program gets."""
+    return wanted is not None and gap is not None and 100 * gap <= float(percent(wanted))
 
 
 class Progress:
-    """Lines about the search on standard error, at most one a second."""
+    """Lines about the search on standard error, at most one a second, and fewer in a long search where they do not replace each other."""
 
     def __init__(self, log=None):
         self.begin, self.told, self.is_terminal, self.last = time.monotonic(), float("-inf"), sys.stderr.isatty(), None
@@ -219,7 +315,7 @@ class Progress:
 
     def tell(self, answer, is_last=False):
         """Writes a line on what stands, if none was written within the last second, and says whether it did."""
-        if answer is None or not is_last and self.seconds() - self.told < 1.0:
+        if answer is None or not is_last and self.seconds() - self.told < (1.0 if self.is_terminal else max(1.0, SPARSE * self.seconds())):
             return False
         self.told = self.seconds()
         parts = [f"steps {answer.steps}"]
@@ -239,6 +335,11 @@ class Progress:
         self.last = line
         return True
 
+    def note(self, lines):
+        """What the program wrote to standard error."""
+        for line in lines:
+            print(("\r\x1b[K" if self.is_terminal else "") + line, file=sys.stderr, flush=True)
+
     def say(self, text):
         """A line of its own, of what the run does."""
         print(("\r\x1b[K" if self.is_terminal else "") + f"bprice-run: {text}", file=sys.stderr, flush=True)
@@ -250,102 +351,83 @@ class Run:
     """The search of one way, from its certificate on where that is there."""
 
     def __init__(self, words):
-        self.words, self.progress, self.pace, self.stop = words, Progress(words.log_file), None, Stop()
-        self.part, self.program = words.cert + ".part", os.environ.get("BPRICE")
-        self.answer, self.taken, self.dec = None, 0, []
+        self.words, self.progress, self.stop = words, Progress(words.log_file), Stop()
+        self.program, self.way = os.environ.get("BPRICE"), Way("", words.cert, None, words.cuts)
 
     def left(self):
         return float("inf") if self.words.time is None else self.words.time - self.progress.seconds()
 
-    def call(self, program, *words):
-        """A program's call that has ended. It is broken off at the end of the time, or where the end is asked for."""
-        call = Call(program, words)
+    def call(self, call):
+        """Reads a call to its end. It is asked for that once the time is over or a signal comes, and broken off where it does not heed it."""
+        way, way.asked = self.way, None
         try:
-            while not self.stop.asked and self.left() + GRACE > 0:
-                if call.reading in select.select([call.reading, self.stop.woken], [], [], max(0.0, min(1.0, self.left() + GRACE)))[0]:
-                    if call.read():
+            while True:
+                if way.asked is None and (self.stop.asked or self.left() <= 0):
+                    way.stop()
+                if way.asked is not None and (self.stop.asked > 1 or way.is_overdue()):
+                    raise Stopped
+                most = max(0.0, min(1.0, self.left())) if way.asked is None else 0.2
+                for source in select.select([*call.sources(), self.stop.woken], [], [], most)[0]:
+                    if source == self.stop.woken:
+                        self.stop.drain()
+                    elif call.read(source):
                         return call
-                elif self.progress.is_terminal:
-                    self.progress.tell(self.answer)
-            raise Stopped
+                self.progress.tell(way.now)
         finally:
             call.end()
 
     def find_program(self):
         """The launcher's program is asked for once. Where there is none yet, the launcher itself is called."""
         if self.program is None:
-            call = self.call(WHICH)
+            call = self.call(Call(WHICH, []))
             self.program = call.report().strip() if call.status == 0 else LAUNCHER
 
     def decomposition(self):
         if self.words.dec != "auto":
-            return ["--dec", self.words.dec] if self.words.dec else []
+            return self.words.dec
         name = self.words.cert + ".dec"
         if not (os.path.exists(name) and os.path.exists(self.words.cert)):
-            call = self.call(self.program, "propose", self.words.lp, name, *self.words.limits())
+            call = self.call(Call(self.program, ["propose", self.words.lp, name, *self.words.limits()]))
             if call.status != 0:
                 raise Refused(call.report(), call.status, "this bprice has no command `propose`: name a decomposition's file with --dec"
                               if call.status == WORDS else f"propose {self.words.lp} {name}")
             self.progress.say(f"{call.report().strip()} in {name}")
-        return ["--dec", name]
+        return name
 
-    def solve(self, steps):
-        """One call of `solve`; the certificate takes the place of the one before once it is whole. Its seconds, of the processor and by the clock."""
-        words, clock = self.words, time.monotonic()
-        goes_on = os.path.exists(words.cert)
-        cuts = ["--cuts", str(words.cuts)] if words.cuts and not goes_on else []
-        call = self.call(self.program, "solve", words.lp, *self.dec, *cuts, "--steps", str(steps), "--cert", self.part,
-                         *(["--from", words.cert] if goes_on else []), *words.limits(), *words.rest)
+    def solve(self):
+        """One call of `solve`; the certificate takes the place of the one before once it is whole."""
+        way, goes_on = self.way, os.path.exists(self.words.cert)
+        way.begin(self.program, self.words, min(way.seconds_of_call(), self.left()))
+        self.call(way.call)
+        call = way.take()
+        if call.status == WORDS and way.watches:
+            way.watches = False
+            return
+        self.progress.note(way.notes)
         if call.status not in (OPTIMAL, INFEASIBLE, BUDGET):
-            raise Refused(call.report(), call.status, hint(call, words.cert) if goes_on else "")
-        os.replace(self.part, words.cert)
-        self.answer = Answer(call.report(), call.status, words.cert)
-        self.progress.tell(self.answer)
-        return call.took, time.monotonic() - clock
+            raise Refused(call.report(), call.status, hint(call, way.cert) if goes_on else "")
+        self.progress.tell(way.answer)
 
     def is_done(self):
-        if self.stop.asked or self.left() <= 0:
+        answer = self.way.answer
+        if self.stop.asked or self.left() <= 0 or not self.way.can_go_on(self.left(), self.words.steps):
             return True
-        if self.answer is None:
-            return False
-        gap = self.answer.gap()
-        return self.answer.status != BUDGET or self.words.gap is not None and gap is not None and gap <= self.words.gap \
-            or self.words.steps is not None and self.taken >= self.words.steps
+        return answer is not None and (answer.status != BUDGET or is_within(answer.gap(), self.words.gap))
 
     def go(self):
         self.find_program()
-        self.dec = self.decomposition()
-        self.refuse_shared(self.dec)
-        self.pace = pace_for(self.words, bool(self.dec))
-        if os.path.exists(self.words.cert) or self.words.time is not None or self.words.steps == 0:
-            self.pace.measured(self.solve(0)[0])
+        self.way.dec = self.decomposition()
+        self.refuse_shared()
+        self.way.is_to_look |= self.words.time is not None or self.words.steps == 0
         while not self.is_done():
-            steps, planned = self.pace.next(self.left())
-            if self.words.steps is not None:
-                steps = min(steps, self.words.steps - self.taken)
-            if steps == 0:
-                return
-            is_surprise = self.pace.note(steps, planned, *self.solve(steps))
-            self.taken += steps
-            if is_surprise and not self.is_done():
-                self.pace.measured(self.solve(0)[0])
+            self.solve()
 
-    def refuse_shared(self, dec):
+    def refuse_shared(self):
         """The file that calls write is none of those that they read."""
-        for name in (self.words.lp, *dec[1:]):
-            if os.path.exists(self.part) and os.path.exists(name) and os.path.samefile(self.part, name):
-                self.part = None
+        for name in filter(None, (self.words.lp, self.way.dec)):
+            if os.path.exists(self.way.part) and os.path.exists(name) and os.path.samefile(self.way.part, name):
+                self.way.part = self.way.halt
                 raise Refused("", WORDS, f"{name} would be written: name another file with --cert")
-
-    def tidy(self):
-        if self.part is not None and os.path.exists(self.part):
-            os.unlink(self.part)
-
-
-def pace_for(words, has_dec):
-    """The pace of a way through the model, with a decomposition or without."""
-    first = [max(LEAST_DEC, FIRST_DEC // max(1, size_of(words.lp)))] if has_dec and words.time is None else FIRST
-    return Pace(first, DEAR_DEC if has_dec else DEAR)
 
 
 def hint(call, cert):
@@ -357,28 +439,21 @@ def hint(call, cert):
     return ""
 
 
-def size_of(name):
-    """The bytes of a file, 0 where there is none, which the program tells."""
-    try:
-        return os.path.getsize(name)
-    except OSError:
-        return 0
-
-
 def search(words):
     """The outcome of a run of one way, None where it was stopped before the first report."""
     run = Run(words)
+    way = run.way
     try:
         run.go()
     except Stopped:
         pass
     finally:
         run.stop.shut()
-        run.tidy()
-    if run.answer is None:
+        way.end_call()
+    if way.answer is None:
         run.progress.say("stopped before the first report")
         return None
-    run.progress.tell(run.answer, is_last=True)
-    outcome = Outcome(run.answer.text(), run.answer.status, run.answer, run.answer.point())
-    outcome.cert, outcome.dec, outcome.seconds = words.cert, run.dec[1] if run.dec else None, run.progress.seconds()
+    run.progress.tell(way.answer, is_last=True)
+    outcome = Outcome(way.answer.text(), way.answer.status, way.answer, way.answer.point())
+    outcome.cert, outcome.dec, outcome.seconds = words.cert, way.dec, run.progress.seconds()
     return outcome

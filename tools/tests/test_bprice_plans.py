@@ -5,7 +5,6 @@ import re
 import signal
 import subprocess
 import sys
-import time
 
 import pytest
 
@@ -129,8 +128,7 @@ def test_signal(tmp_path):
     run("gen", 5, 300, "lp", "dec", cwd=tmp_path)
     with subprocess.Popen([sys.executable, TOOL, "lp", "--cert", "cert", "--plans", "2"], cwd=tmp_path, stdout=subprocess.PIPE, stderr=subprocess.PIPE,
                           text=True) as ran:
-        while not (tmp_path / "cert").exists():
-            time.sleep(0.02)
+        assert ran.stderr.readline().startswith("steps ")
         ran.send_signal(signal.SIGTERM)
         out, _ = ran.communicate(timeout=30)
     assert ran.returncode == 5 and out.startswith("budget ")

@@ -20,7 +20,7 @@ SCRIPT = """#!/usr/bin/env -S python3 -S -E
 import os, sys
 words = sys.argv[1:]
 cert = words[words.index("--cert") + 1] if "--cert" in words else ""
-steps = int(words[words.index("--steps") + 1]) if "--steps" in words else 0
+steps = int(words[words.index("--steps") + 1]) if "--steps" in words else 1 if "solve" in words else 0
 {}
 os.execv({!r}, [{!r}, *words])
 """
@@ -90,7 +90,7 @@ def test_ways_that_are_told(model, words, way):
 
 
 # One step of each way: with the decomposition bound 452 and value 456, with cuts bound 453 and value 461. Later calls take long.
-ONE_STEP = ("if steps > 0 and ('--from' in words or '/plain.' in cert or 'dec-cuts' in cert): " + LONG, "if steps > 0: words[words.index('--steps') + 1] = '1'")
+ONE_STEP = ("if steps > 0 and ('--from' in words or '/plain.' in cert or 'dec-cuts' in cert): " + LONG, "if steps > 0: words += ['--steps', '1']")
 
 
 @pytest.mark.parametrize("ending", ["signal", "gap"])
@@ -130,7 +130,7 @@ def test_bound_meets_value(tmp_path, monkeypatch):
     """The bound of one way meets the value of another: the first closes its tree with this point."""
     run("gen", 3, 20, "plan.lp", "own.dec", cwd=tmp_path)
     program(tmp_path, monkeypatch, f"if steps > 0 and ('/plain.' in cert or 'dec-cuts' in cert or 'plain-cuts' in cert and '--from' in words): {LONG}",
-            "if steps > 0 and 'plain-cuts' in cert: words[words.index('--steps') + 1] = '1'")
+            "if steps > 0 and 'plain-cuts' in cert: words += ['--steps', '1']")
     out, err, status = told("plan.lp", "--processors", 4, cwd=tmp_path)
     assert out.startswith("optimal 443\n") and status == 0 and judged(tmp_path, err) == "optimal 443"
 
@@ -168,10 +168,25 @@ def test_nothing_runs_on(model, monkeypatch):
             os.kill(int(name.name.removeprefix("pid-")), 0)
 
 
+@pytest.mark.parametrize("processors", [1, 2])
+def test_nothing_is_lost(tmp_path, processors):
+    """A signal has each way write its certificate, and leaves no other file."""
+    run("gen", 5, 300, "plan.lp", "own.dec", cwd=tmp_path)
+    with start("plan.lp", "--no-dec", "--processors", processors, cwd=tmp_path) as ran:
+        told_last = [ran.stderr.readline() for _ in range(4)][-1]
+        ran.send_signal(signal.SIGINT)
+        out, err = ran.communicate(timeout=40)
+    assert ran.returncode == 5 and out.startswith("budget ") and "Traceback" not in err
+    bound, told_bound = int(re.search(r"^bound (-?\d+)$", out, re.MULTILINE)[1]), int(re.search(r"bound (-?\d+)", told_last)[1])
+    assert bound <= told_bound if (tmp_path / "plan.lp").read_text().lower().startswith("max") else bound >= told_bound
+    names = sorted(name.name for name in (tmp_path / "plan.ways").iterdir())
+    assert names == ["plain-cuts-64.cert", "plain.cert", "text"] and judged(tmp_path, err).startswith("bound ")
+
+
 def test_way_that_is_behind(tmp_path):
     """Both bound and own value have to be worse by a margin, in no less time."""
     import bprice_race
-    race, ways = object.__new__(bprice_race.Race), [object.__new__(bprice_race.Way) for _ in range(2)]
+    race, ways = object.__new__(bprice_race.Race), [object.__new__(bprice_race.Racer) for _ in range(2)]
     race.point = bprice_race.Standing(5, 1, 1, 0, 1000)
     for sign, bounds in ((1, (950, 990)), (-1, (1050, 1010))):
         race.sign = sign

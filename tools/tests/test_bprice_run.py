@@ -131,6 +131,84 @@ def test_signals(large, number):
     assert int(re.match(r"budget (\d+)\n", out)[1]) >= before + 1
 
 
+WATCHES = knows("solve", "no.lp", "--time", "1")
+
+
+def counting(room, monkeypatch, *lines):
+    """A script that stands for the program, writes a line for each call, and does these lines before it."""
+    script = room / "program"
+    script.write_text("\n".join(["#!/bin/sh", 'echo "$@" >>calls', *lines, f'exec {PROGRAM} "$@"', ""]))
+    script.chmod(0o755)
+    monkeypatch.setenv("BPRICE", str(script))
+
+
+@pytest.mark.skipif(not WATCHES, reason="the program watches no search")
+@pytest.mark.parametrize("words", [(), ("--time", 60)])
+def test_nothing_is_lost(large, monkeypatch, words):
+    """A search is one call, and a signal leaves what it told, and no file beside the certificate."""
+    counting(large, monkeypatch)
+    with start("lp", "--cert", "cert", *words, cwd=large) as ran:
+        told_last = [ran.stderr.readline() for _ in range(3)][-1]
+        ran.send_signal(signal.SIGINT)
+        out, _ = ran.communicate(timeout=20)
+    steps = int(re.match(r"budget (\d+)\n", out)[1])
+    assert ran.returncode == 5 and steps >= int(told_last.split()[1]) > 0
+    calls = [line for line in (large / "calls").read_text().splitlines() if "--steps 0" not in line]
+    assert len(calls) == 1 and not list(large.glob("cert.*"))
+    assert accepted(large, "lp", "cert").split()[:2] == out.split("\n")[1].split()
+
+
+@pytest.mark.parametrize("ending", ["signal", "time"])
+def test_program_that_hangs(large, monkeypatch, ending):
+    """It is ended some seconds after the stop, and what stands is the last certificate."""
+    told("lp", "--cert", "cert", "--steps", 7, cwd=large)
+    before = (large / "cert").read_bytes()
+    counting(large, monkeypatch, 'case "$*" in *"--steps 0"*) ;; *) echo $$ >pid; exec sleep 50 ;; esac')
+    begin = time.monotonic()
+    with start("lp", "--cert", "cert", *(("--time", 3) if ending == "time" else ()), cwd=large) as ran:
+        if ending == "signal":
+            while not (large / "pid").exists():
+                time.sleep(0.01)
+            ran.send_signal(signal.SIGTERM)
+        out, _ = ran.communicate(timeout=40)
+    assert time.monotonic() - begin < 25 and ran.returncode == 5 and out.startswith("budget 7\n")
+    assert (large / "cert").read_bytes() == before and not list(large.glob("cert.*"))
+    with pytest.raises(ProcessLookupError):
+        os.kill(int((large / "pid").read_text()), 0)
+
+
+@pytest.mark.skipif(not WATCHES, reason="the program watches no search")
+def test_goes_on_to_save(large):
+    """A search of several calls counts its steps on, and its calls double."""
+    search = load_tool(TOP / "tools" / "bprice_search.py")
+    way = search.Way("", str(large / "cert"), None, None, share=0.5)
+    words = type("Words", (), {"lp": str(large / "lp"), "steps": None, "gap": None, "rest": [], "limits": lambda self: []})()
+    steps = []
+    for _ in range(2):
+        way.begin(PROGRAM, words, way.seconds_of_call())
+        while not way.call.read(way.call.reading):
+            pass
+        assert way.take().status == 5 and not way.notes
+        steps.append(way.answer.steps)
+    assert way.taken == steps[1] > steps[0] > 0 and way.share == 2.0
+
+
+def test_rows():
+    """Lines of the table are read strictly."""
+    search = load_tool(TOP / "tools" / "bprice_search.py")
+    assert search.row("      1.6      14068     8037                 2095                -2091    0.1913") == (1.6, 14068, 8037, 2095, -2091)
+    assert search.row("      0.0          0        1                 3889                    -         -") == (0.0, 0, 1, 3889, None)
+    for line in ("", "  seconds      steps   leaves                bound                value     gap %", "1.0 1 1 - 3 -", "1 2 3 4 5", "nan 1 1 1 1 1",
+                 "1.0 1_0 1 1 1 1", "1.0 2 3 4 5 6 7", "bprice: a b c d e"):
+        assert search.row(line) is None
+
+
+def test_notes_of_the_program(large):
+    """What the program says of a text that it refuses is passed on."""
+    (large / "bad").write_text("Maximize\n 3 x ^ 2\n")
+    assert "bad:2" in told("bad", "--cert", "cert", cwd=large)[1]
+
+
 def test_gap(large):
     """With the decomposition the value is near the bound long before both meet."""
     out, err, status = told("lp", "--dec", "dec", "--cert", "cert", "--gap", "5%", "--time", 40, cwd=large)
@@ -210,10 +288,20 @@ def test_proposed_decomposition(small, monkeypatch):
 
 
 def test_program_without_going_on(large, monkeypatch):
-    """A program that refuses `--from`: it says so. The one under test may know it, so that a script stands for it."""
+    """A program that refuses `--from`: it says so. A script stands for it."""
     script = large / "old"
     script.write_text(f'#!/bin/sh\nfor word; do [ "$word" = --from ] && echo refused words && exit 2; done\nexec {PROGRAM} "$@"\n')
     script.chmod(0o755)
     monkeypatch.setenv("BPRICE", str(script))
     out, err, status = told("lp", "--cert", "cert", "--time", 20, cwd=large, env=os.environ)
     assert (out, status) == ("refused words\n", 2) and "no `solve --from`" in err
+
+
+def test_program_without_watching(large, monkeypatch):
+    """Where the program refuses to watch a search, calls are of steps that double."""
+    counting(large, monkeypatch, 'case "$*" in *--log*) echo refused words; exit 2 ;; esac')
+    out, err, status = told("lp", "--cert", "cert", "--time", 4, cwd=large)
+    assert out.startswith("budget ") and status == 5 and "Traceback" not in err
+    asked = [int(found) for found in re.findall(r"^(?!.*--log).*--steps (\d+)", (large / "calls").read_text(), re.MULTILINE)]
+    assert asked[:3] == [0, 32, 64]
+    accepted(large, "lp", "cert")
