@@ -79,6 +79,7 @@ class Race:
         self.processors = words.processors or max(1, len(os.sched_getaffinity(0)) - 1)
         self.ways, self.proposal = [], None
         self.turn, self.sign, self.lock = TURN, None, None
+        self.start = None  # the certificate of the point that was given to begin with
         self.point = self.winner = self.ahead = None  # the best point; the way that proved its answer; the way with the best bound
 
     def path(self, name):
@@ -101,6 +102,7 @@ class Race:
             text = file.read()
         self.sign = -1 if maximizes(text) else 1
         self.make_folder(f"{zlib.crc32(text):08x} {len(text)}\n")
+        self.take_point()
         if self.words.dec is None:
             self.add_ways("plain", None)
         elif self.words.dec != "auto":
@@ -128,12 +130,22 @@ class Race:
         self.lock.write(stamp)
         self.lock.flush()
 
+    def take_point(self):
+        """Reads the point that was given. Ways begin with it that have no certificate yet."""
+        if self.words.start is not None:
+            import bprice_start
+            self.start, said = bprice_start.start_from(self.words.start, self.words.lp)
+            if said:
+                self.progress.say(said)
+
     def add_ways(self, name, dec):
         """The ways without cuts and with, for one decomposition or none."""
         numbers = (0, CUTS) if self.words.cuts is None else (self.words.cuts,)
         for number in numbers:
             full = f"{name}-cuts-{number}" if number else name
             self.ways.append(Racer(full, self.path(f"{full}.cert"), dec, number))
+            if self.start and self.ways[-1].is_new:
+                self.ways[-1].begin_with(self.start)
 
     def wants_proposal(self):
         return self.words.dec == "auto" or self.words.dec is None and not self.words.no_dec

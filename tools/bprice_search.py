@@ -198,8 +198,16 @@ class Way:
         self.taken = self.calls = 0  # the steps of this run, and how many calls had steps
         self.setup, self.has_begun = 0.0, False  # the seconds of the last call until its first step, and whether the call at hand has come to its own
         self.is_to_look = os.path.exists(cert)  # whether the next call takes no steps
+        self.is_new = not os.path.exists(cert)  # whether no search has worked on the certificate, so that cuts may be added
         self.asked, self.written = None, 0  # when the call at hand was asked for its end, or its certificate grew since; the bytes of that
         self.watches, self.notes = True, []  # whether the program can watch a search; what it wrote to standard error beside the table
+
+    def begin_with(self, text):
+        """Takes the certificate of a point to begin with."""
+        with open(self.part, "w", encoding="ascii", newline="\n") as file:
+            file.write(text)
+        os.replace(self.part, self.cert)
+        self.is_to_look = self.is_new = True
 
     def can_go_on(self, left, most):
         """Whether a call is of use in the time that is left, where at most so many steps are wanted in all."""
@@ -218,7 +226,7 @@ class Way:
         self.tidy()
         self.notes, self.has_begun, self.asked, self.written = [], False, None, 0
         self.call = Call(program, ["solve", words.lp, *(["--dec", self.dec] if self.dec else []), *(["--from", self.cert] if goes_on else []),
-                                   *(["--cuts", str(self.cuts)] if self.cuts and not goes_on else []), "--cert", self.part,
+                                   *(["--cuts", str(self.cuts)] if self.cuts and self.is_new else []), "--cert", self.part,
                                    *([] if steps is None else ["--steps", str(steps)]), *(self.watching(words, seconds) if self.watches else []),
                                    *words.limits(), *words.rest], self.hear)
 
@@ -257,6 +265,7 @@ class Way:
             self.now = self.answer
             return call
         os.replace(self.part, self.cert)
+        self.is_new = False
         self.now = self.answer = Answer(call.report(), call.status, self.cert)
         self.taken += int(call.report().split("\n", 1)[0][7:]) if call.status == BUDGET else 0
         if not self.is_to_look:
@@ -418,9 +427,21 @@ class Run:
         self.find_program()
         self.way.dec = self.decomposition()
         self.refuse_shared()
+        self.take_point()
         self.way.is_to_look |= self.words.time is not None or self.words.steps == 0
         while not self.is_done():
             self.solve()
+
+    def take_point(self):
+        """Begins with the point that was given, where there is no certificate yet."""
+        if self.words.start is not None and self.way.is_new:
+            import bprice_start
+            text, said = bprice_start.start_from(self.words.start, self.words.lp)
+            self.way.begin_with(text)
+            if said:
+                self.progress.say(said)
+        elif self.words.start is not None:
+            self.progress.say(f"{self.words.cert} is there, so the search goes on from it and not from {self.words.start}")
 
     def refuse_shared(self):
         """The file that calls write is none of those that they read."""

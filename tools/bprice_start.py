@@ -92,12 +92,3 @@ def start_from(name, lp):
         raise fault(0, "row", f"the point misses the row {missed[0]}, whose sum is {missed[1]}" + (f"; {lacking} variables were not given" if lacking else ""))
     said = f"{lacking} variables that {name} lacks are 0, or their lower bound where they can't be 0" if lacking else ""
     return certificate(point, model), said
-
-
-def begin_with(name, lp, cert):
-    """Writes the certificate of the point in a file, whole. What is to be said of it, "" where there is nothing."""
-    text, said = start_from(name, lp)
-    with open(cert + ".part", "w", encoding="ascii", newline="\n") as file:
-        file.write(text)
-    os.replace(cert + ".part", cert)
-    return said

@@ -1,18 +1,15 @@
 """A point to begin with: what `bprice-run --start` makes of a file, and what it refuses."""
-import random
 import subprocess
 import sys
 
 import pytest
 
-from conftest import TOP, load_tool, run
+from conftest import TOP, run
 
 TOOL = TOP / "tools" / "bprice-run"
 LP = "Maximize\n obj: 3 x + 2 y - 4 z\nSubject To\n c1: 2 x + y <= 5\n c2: x + 3 y + z <= 9\nBounds\n x <= 3\n y <= 3\n 2 <= z <= 5\n" \
      "Generals\n x y z\nEnd\n"
 OPTIMAL = "x 2\ny 1\nz 2\n"
-load_tool(TOP / "tools" / "bprice_search.py")
-sys.path.insert(0, str(TOP / "tools"))
 
 
 @pytest.fixture(name="room")
@@ -80,16 +77,27 @@ def test_a_certificate_that_is_there_comes_first(room):
     assert "cert is there, so the search goes on from it and not from point" in err
 
 
-def test_points_of_many_models(room):
-    """Each best point is taken again, and the search ends with it as before."""
-    for seed in range(1, 7):
-        run("gen", seed, 30, "plan.lp", "dec", cwd=room)
-        report, status = run("solve", "plan.lp", "--steps", 40, cwd=room)
-        if status not in (0, 5) or "\nvalue " not in report and status == 5:
-            continue
-        (room / "cert").unlink(missing_ok=True)
-        names = [line for line in report.split("\n") if line]
-        random.Random(seed).shuffle(names[3 if status == 5 else 1:])
-        out, _, _ = started(room, report, "--steps", 0)
-        value = next(line for line in names if line.split()[0] in ("optimal", "value")).split()[1]
-        assert f" {value}\n" in out.split("\n", 3)[0] + "\n" + "\n".join(out.split("\n")[1:3]) + "\n"
+def test_cuts_are_added_to_a_point(room):
+    out, _, _ = started(room, OPTIMAL, "--steps", 0, "--cuts", 4)
+    assert out.startswith("budget 0\nbound ")
+    assert "\ncut " in (room / "cert").read_text()
+
+
+@pytest.mark.parametrize("seed", range(1, 7))
+def test_reports_begin_a_search(room, seed):
+    """The report of a search that was stopped is a point to begin with."""
+    run("gen", seed, 40, "plan.lp", "dec", cwd=room)
+    report, status = run("solve", "plan.lp", "--steps", 40, cwd=room)
+    values = [line.split()[1] for line in report.split("\n")[:3] if line.split()[0] in ("optimal", "value")]
+    if not values:
+        pytest.skip("no point was found")
+    out, _, _ = started(room, report, "--steps", 0)
+    assert f"value {values[0]}" in out.split("\n") or f"optimal {values[0]}" in out.split("\n")
+    assert run("check", "plan.lp", "cert", cwd=room)[1] == 0 and status in (0, 5)
+
+
+def test_a_race_begins_with_a_point(room):
+    (room / "point").write_text(OPTIMAL)
+    ran = subprocess.run([sys.executable, TOOL, "plan.lp", "--start", "point", "--time", "5"], cwd=room, capture_output=True, text=True, check=False,
+                         timeout=60)
+    assert (ran.stdout, ran.returncode) == ("optimal 0\n" + OPTIMAL, 0)
