@@ -4,7 +4,7 @@
     bench/refused_memory.py [PROGRAM [WORKED]]
 
 PROGRAM is the program to run, or else release/bprice; WORKED is the program of crates/test_scripts, as the gate leaves it in
-crates/test_scripts/out/worked. The script wants a C compiler, `cc`.
+crates/test_scripts/out/test_scripts. The script wants a C compiler, `cc`.
 
 A run whose Nth request is refused must either end as it ends with ample memory, with the same status, output and files, or with status 9,
 nothing printed, and its files as they were before; of `gen` the LP file may hold its whole text, and of `solve` and
