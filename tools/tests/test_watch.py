@@ -43,7 +43,7 @@ def knapsack(rows, columns):
 @pytest.fixture(name="room")
 def room_fixture(tmp_path):
     (tmp_path / "hard.lp").write_text(market_split(4, 40))
-    (tmp_path / "bag.lp").write_text(knapsack(5, 60))
+    (tmp_path / "bag.lp").write_text(knapsack(8, 120))
     (tmp_path / "easy.lp").write_text("Maximize\n obj: 3 x + 2 y\nSubject To\n c: 2 x + 2 y <= 7\nBounds\n x <= 2\n y <= 9\nGenerals\n x y\nEnd\n")
     return tmp_path
 
